@@ -1,4 +1,4 @@
--- Lemmas of states: numbers and runs of taken chunks, tables, and what a sound stack says of the
+-- Lemmas of states: numbers, runs and tries of taken chunks, tables, and what a sound stack says of the
 -- devices that have them.
 pub mod BlockLemmas
 pub mod FoundLines
@@ -10,4 +10,5 @@ pub mod RingLemmas
 pub mod RunLemmas
 pub mod SortedLemmas
 pub mod TableLemmas
+pub mod TrieLemmas
 pub mod WithinPlaces

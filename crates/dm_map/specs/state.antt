@@ -3,9 +3,11 @@
 pub mod Blocks
 pub mod Counts
 pub mod Fitting
+pub mod Links
 pub mod Runs
 pub mod Snapshots
 pub mod State
 pub mod Tables
+pub mod Trie
 pub mod Usage
 pub mod Walker

@@ -1,8 +1,9 @@
-//! Stacks for tests, and what a mapper tells after a request.
+//! Stacks for tests, what a mapper tells after a request, and how a chunk is taken that may be.
 
 use crate::mapper::Mapper;
 use crate::pieces::piece_list::PieceList;
 use crate::state::run_taken::RunTaken;
+use crate::state::taken::Taken;
 use crate::state::usage::Usage;
 use dm_stack::Stack;
 use dm_table::{parse_disks, parse_request, parse_table};
@@ -38,4 +39,11 @@ pub(crate) fn told_after(
         None => None,
     };
     (usage, (mapper.searches(), mapper.probes()))
+}
+
+/// Takes a chunk unless it was taken.
+pub(crate) fn offer<T: Taken>(taken: &mut T, chunk: u64) {
+    if taken.is_valid() && !taken.is_full() && taken.find(chunk).is_none() {
+        taken.take(chunk);
+    }
 }

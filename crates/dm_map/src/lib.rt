@@ -25,5 +25,6 @@ pub use pieces::sink::Sink;
 pub use state::plain_taken::PlainTaken;
 pub use state::run_taken::RunTaken;
 pub use state::taken::Taken;
+pub use state::trie_taken::TrieTaken;
 pub use state::usage::Usage;
 pub use walk::levels::levels_are_enough;

@@ -24,8 +24,8 @@ use crate::state::tables::empty_tables;
 use crate::state::taken::Taken;
 use crate::state::usage::{Usage, usage_of};
 use crate::state::walker::Walker;
-use crate::walk::range::{fail, map_range};
-use dm_stack::{DeviceId, Looker, Lower, MOST_DEPTH};
+use crate::walk::range::{fail, map_top};
+use dm_stack::{DeviceId, Looker};
 use dm_table::{Op, Request};
 use std::alloc::{AllocError, Global};
 use std::fmt;
@@ -205,6 +205,7 @@ impl<'s, T: Taken> Mapper<'s, T> {
 
     /// Hands over the units of a request, whose fields are passed one by one: that keeps them in registers.
     /// Stopping at a fault is left to the caller.
+    #[inline(always)]
     fn map_request<S: Sink>(
         &mut self,
         op: Op,
@@ -228,8 +229,7 @@ impl<'s, T: Taken> Mapper<'s, T> {
         if passes_end(start, len, end) {
             return fail(len, sink);
         }
-        let lower = Lower::Device(device);
-        map_range(&mut self.walker, op, MOST_DEPTH, lower, start, len, sink)
+        map_top(&mut self.walker, op, device, start, len, sink)
     }
 }
 

@@ -5,5 +5,6 @@ pub(crate) mod plain_taken;
 pub(crate) mod run_taken;
 pub(crate) mod tables;
 pub(crate) mod taken;
+pub(crate) mod trie_taken;
 pub(crate) mod usage;
 pub(crate) mod walker;

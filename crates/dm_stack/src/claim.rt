@@ -75,6 +75,7 @@ fn add_lines(
     Ok(())
 }
 
+/// Adds the claims of a line of a device, one for each of its spans.
 fn add_line(
     claims: &mut Vec<Claim>,
     stack: &Indexed,
@@ -128,18 +129,21 @@ pub(crate) fn is_named(stack: &Indexed, device: DeviceId) -> bool
         .any(|other| lines_name(stack, other.lines.as_slice(), device))
 }
 
+/// Whether one of these lines names a device.
 fn lines_name(stack: &Indexed, lines: &[Line], device: DeviceId) -> bool
     ensures { result ≡ list_any (line_names stack.now device) lines.now }
 {
     lines.iter().any(|line| line_names(stack, line, device))
 }
 
+/// Whether a line names a device.
 fn line_names(stack: &Indexed, line: &Line, device: DeviceId) -> bool
     ensures { result ≡ line_names stack.now device line.now }
 {
     Spans::of(line).any(|span| is_device(stack, span.to, device))
 }
 
+/// Whether what a line names is this device.
 fn is_device(stack: &Indexed, to: &DevRef, device: DeviceId) -> bool
     ensures { result ≡ is_device device (lower_of stack.now to.now) }
 {

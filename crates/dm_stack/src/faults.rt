@@ -36,6 +36,7 @@ pub(crate) fn or_out_of_memory<T>(made: Result<T, AllocError>) -> Result<T, Load
 pub(crate) trait Placed {
     ghost place_of: { Self → Place };
 
+    /// Where it stands in the source.
     fn place(&self) -> Place
         ensures { result ≡ place_of self.now };
 }

@@ -48,6 +48,7 @@ fn next_depths(alloc: Global, links: &[Vec<usize>], depths: &[u32]) -> Result<Ve
     Ok(next)
 }
 
+/// One more than the greatest of the depths of devices that a device names, up to 33.
 fn depth_over(named: &[usize], depths: &[u32]) -> u32
     requires closed { All (λ e. e < length depths.now) named.now }
     requires bounded { All (λ depth. depth ≤ 33) depths.now }

@@ -24,6 +24,7 @@ impl Model for DeviceId {
 }
 
 impl DeviceId {
+    /// The id at a position in the order of the load, from 0.
     pub(crate) fn new(index: usize) -> DeviceId
         ensures { result ≡ index }
     {
@@ -55,6 +56,7 @@ impl Model for DiskId {
 }
 
 impl DiskId {
+    /// The id at a position in the order of the load, from 0.
     pub(crate) fn new(index: usize) -> DiskId
         ensures { result ≡ index }
     {

@@ -37,6 +37,7 @@ impl<'a> Model for Indexed<'a> {
 }
 
 impl<'a> Indexed<'a> {
+    /// Devices and disks with the index of their names.
     pub(crate) fn new(
         devices: &'a [DeviceSpec],
         disks: &'a [Disk],

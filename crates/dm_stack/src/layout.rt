@@ -23,6 +23,7 @@ pub(crate) fn check_lengths(devices: &[DeviceSpec], disks: &[Disk]) -> Result<()
     check_each(LoadKind::Empty, disks, |disk| disk.len == 0)
 }
 
+/// Fails at the first device without lines, or line without sectors.
 fn check_line_lengths(devices: &[DeviceSpec]) -> Result<(), LoadFault>
     ensures { result_err result ≡ first_or (flat_map empty_in devices.now) None }
 {
@@ -32,6 +33,7 @@ fn check_line_lengths(devices: &[DeviceSpec]) -> Result<(), LoadFault>
     Ok(())
 }
 
+/// Fails where a device has no lines, or at its first line without sectors.
 fn check_lengths_in(device: &DeviceSpec) -> Result<(), LoadFault>
     ensures { result_err result ≡ first_or (empty_in device.now) None }
 {
@@ -58,6 +60,7 @@ pub(crate) fn check_starts(devices: &[DeviceSpec]) -> Result<(), LoadFault>
     Ok(())
 }
 
+/// Fails at the first line of a device that does not start where the one before it ends.
 fn check_starts_in(lines: &[Line]) -> Result<(), LoadFault>
     requires { HaveSmallEnds lines.now }
     ensures { result_err result ≡ first_or (misplaced_in lines.now) None }

@@ -104,6 +104,7 @@ fn is_large(line: &Line) -> bool
         || has_far_span(line)
 }
 
+/// Whether a line names an offset above the greatest length.
 fn has_far_span(line: &Line) -> bool
     ensures { result ≡ list_any is_far (spans line.now) }
 {

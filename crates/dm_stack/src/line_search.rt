@@ -1,12 +1,13 @@
 //! The line of a sector, found by halving over the starts of a device's lines.
 //!
-//! Lines are found nowhere else, and each comparison of a start with the sector is counted here. It goes over
-//! the lines of the sector's bucket (`found_table`), and the first of them is never compared, since the
-//! sector is at its start or after it. Of more than three lines, the one that was found last is remembered,
-//! with the sector at which it ends. A range that goes on there, as over many lines, is in the next line, and
-//! no start is compared.
+//! Lines are found nowhere else, and each comparison of a start with the sector is one call of `starts_by`,
+//! which counts it. A search goes over the lines of the sector's bucket (`found_table`), and the first of them
+//! is never compared, since the sector is at its start or after it. Of more than three lines, the one that was
+//! found last is remembered, with the sector at which it ends. A range that goes on there, as over many lines,
+//! is in the next line. Whether it does is asked of that sector alone, once a search: no line is looked at for
+//! it, and it isn't counted.
 
-ghost use Rattle.std.specs.Prelude.{◌≡◌, ◌⊎◌, ◌<◌, ◌≤◌, ◌+◌, ◌^◌, length};
+ghost use Rattle.std.specs.Prelude.{◌≡◌, ◌⊎◌, ◌<◌, ◌≤◌, ◌+◌, ◌^◌, length, nat_le};
 ghost use Rattle.dm_stack.specs.LineSearch.{EndsAt, Finds, EndsAreSmall, StartsAfter, StartsBy};
 
 use crate::found_line::FoundLine;
@@ -22,7 +23,7 @@ pub(crate) struct LastLine {
 }
 
 impl LastLine {
-    /// That of no search yet. No sector of a device is at its end.
+    /// That of no search yet: its end lies past every device, so that no sector comes right after it.
     pub(crate) fn none() -> LastLine
         ensures { result.end + 1 ≡ 2 ^ 64 }
     {
@@ -68,15 +69,31 @@ fn find_of_few(lines: &[FoundLine], sector: u64) -> (usize, u64)
     requires few { length lines.now < 4 }
     ensures { Finds lines.now sector result }
 {
+    let mut comparisons = 0;
     if lines.len() == 2 {
-        return (usize::from(lines[1].start <= sector), 1);
+        let is_past_first = starts_by(lines[1].start, sector, &mut comparisons);
+        return (usize::from(is_past_first), comparisons);
     }
     if lines.len() == 3 {
-        let is_past_first = lines[1].start <= sector;
-        let is_past_second = is_past_first & (lines[2].start <= sector);
-        return (usize::from(is_past_first) + usize::from(is_past_second), 2);
+        let is_past_first = starts_by(lines[1].start, sector, &mut comparisons);
+        let is_past_second = is_past_first & starts_by(lines[2].start, sector, &mut comparisons);
+        return (
+            usize::from(is_past_first) + usize::from(is_past_second),
+            comparisons,
+        );
     }
-    (0, 0)
+    (0, comparisons)
+}
+
+/// Whether a line with this start starts at a sector or before it: one more comparison.
+#[inline(always)]
+fn starts_by(start: u64, sector: u64, comparisons: &mut u64) -> bool
+    requires { comparisons.old + 1 < 2 ^ 64 }
+    ensures starts { result ≡ nat_le start sector }
+    ensures counted { comparisons.new ≡ comparisons.old + 1 }
+{
+    *comparisons += 1;
+    start <= sector
 }
 
 /// The same among many lines, out of the way of those that have few.
@@ -114,7 +131,7 @@ fn after_last(table: &FoundTable, device: DeviceId, last: &LastLine, sector: u64
     ensures { Finds table.now sector result }
 {
     if last.end == sector && last.device == device {
-        // The next line's index is a number, since that line is there.
+        // That line is in the list, so adding 1 to its index can't overflow.
         let lines = table.lines();
         prove!(last.index < lines.len());
         return (last.index + 1, 0);
@@ -134,8 +151,7 @@ fn search(lines: &[FoundLine], range: (usize, usize), sector: u64) -> (usize, u6
     let mut comparisons = 0;
     while count > 1 {
         let half = count / 2;
-        comparisons += 1;
-        if lines[index + half].start <= sector {
+        if starts_by(lines[index + half].start, sector, &mut comparisons) {
             index += half;
             count -= half;
         } else {

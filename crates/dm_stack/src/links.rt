@@ -24,6 +24,7 @@ pub(crate) fn links(alloc: Global, stack: &Indexed) -> Result<Vec<Vec<usize>>, A
     Ok(links)
 }
 
+/// The devices that lines name, as positions in the stack.
 fn lines_links(alloc: Global, stack: &Indexed, lines: &[Line]) -> Result<Vec<usize>, AllocError>
     ensures { IfOk result (λ links. links.items ≡ flat_map (line_links stack.now) lines.now) }
 {
@@ -34,6 +35,7 @@ fn lines_links(alloc: Global, stack: &Indexed, lines: &[Line]) -> Result<Vec<usi
     Ok(links)
 }
 
+/// Adds the devices that a line names.
 fn add_line(links: &mut Vec<usize>, stack: &Indexed, line: &Line) -> Result<(), AllocError>
     ensures { OnOk result (links.new.items ≡ links.old.items ++ line_links stack.now line.now) }
 {

@@ -2,6 +2,7 @@
 //!
 //! A line is found in no other way, so a bound on a looker's count is one on the work of mapping.
 //! No call hands out the stack, and a looker is not copied: its count is that of all its searches.
+//! Whoever has the line of an origin has its snapshots too (`FoundOrigin::over`), without a search.
 
 ghost use Rattle.std.specs.Prelude.{◌≡◌, ℕ, ◌+◌, ◌-◌, ◌*◌, ◌<◌, ◌≤◌, Some, length};
 ghost use Rattle.dm_stack.specs.Below.{HoldsSoundly, found_at};

@@ -19,6 +19,7 @@ use std::alloc::Global;
 trait Named {
     ghost name_of: { Self → List ℕ };
 
+    /// The name that stands in the source.
     fn name(&self) -> &str
         ensures { result.now ≡ name_of self.now };
 }

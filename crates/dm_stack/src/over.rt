@@ -47,6 +47,7 @@ fn add_lines(
     Ok(())
 }
 
+/// Adds a device to the snapshots of their origins, if its line is that of a snapshot.
 fn add_line(
     over: &mut Vec<FoundOver>,
     stack: &Indexed,

@@ -24,12 +24,14 @@ pub(crate) fn check_ranges(stack: &Indexed) -> Result<(), LoadFault>
     })
 }
 
+/// Whether a line passes the end of something that it names.
 fn passes_end(stack: &Indexed, line: &Line) -> bool
     ensures { result ≡ passes_end stack.now line.now }
 {
     Spans::of(line).any(|span| is_past(stack, &span))
 }
 
+/// Whether a span passes the end of what it names; one without a length takes it whole.
 fn is_past(stack: &Indexed, span: &Span<'_>) -> bool
     ensures { result ≡ is_past stack.now span.now }
 {

@@ -34,6 +34,7 @@ pub(crate) fn check_references(stack: &Indexed) -> Result<(), LoadFault>
     })
 }
 
+/// Whether a line names a device or a disk that is not there.
 fn is_unknown(stack: &Indexed, line: &Line) -> bool
     ensures { result ≡ is_unknown stack.now line.now }
 {
@@ -80,6 +81,7 @@ fn table(
     FoundTable::from_vec(alloc, by_ids)
 }
 
+/// A target by ids.
 fn target(
     alloc: Global,
     stack: &Indexed,
@@ -115,6 +117,7 @@ fn target(
     }
 }
 
+/// The columns of a striped line by ids.
 fn columns_by_ids(
     alloc: Global,
     stack: &Indexed,

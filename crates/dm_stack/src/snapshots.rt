@@ -32,6 +32,7 @@ pub(crate) fn check_snapshots(stack: &Indexed) -> Result<(), LoadFault>
     Ok(())
 }
 
+/// Fails at the first line of a device that is no fit snapshot, or no fit line of an origin.
 fn check_snapshots_in(stack: &Indexed, lines: &[Line]) -> Result<(), LoadFault>
     ensures { result_err result ≡ first_or (bad_snapshots_in stack.now lines.now) None }
 {
@@ -41,6 +42,7 @@ fn check_snapshots_in(stack: &Indexed, lines: &[Line]) -> Result<(), LoadFault>
     })
 }
 
+/// Whether the target of a line, among so many of its device, is such a one.
 fn is_bad_snapshot(stack: &Indexed, lines: usize, len: u64, target: &Target) -> bool
     ensures { result ≡ is_bad_snapshot stack.now lines len target.now }
 {
@@ -84,6 +86,7 @@ fn add_snapshot(ids: &mut Vec<DeviceId>, id: usize, lines: &[Line]) -> Result<()
     Ok(())
 }
 
+/// Whether one of these lines is that of a snapshot.
 fn has_snapshot(lines: &[Line]) -> bool
     ensures { result ≡ has_snapshot lines.now }
 {

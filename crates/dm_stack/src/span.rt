@@ -2,7 +2,7 @@
 //!
 //! Unknown names, offsets, ranges, cycles, depths and claims are checked on spans, so these checks
 //! know no target: a new target says what it names here, in `span_at`, and in `target_spans`
-//! (`specs/Span` of `dm_table`). No memory is taken.
+//! (`specs/tables/Span` of `dm_table`). No memory is taken.
 
 ghost use Rattle.std.specs.Prelude.{◌≡◌, ◌+◌, ◌/◌, ◌<◌, ◌^◌, IfSome, drop, length, map, slice_get};
 ghost use Rattle.std.specs.Iterator.{YieldsFirst, item_count};

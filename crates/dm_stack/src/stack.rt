@@ -253,7 +253,7 @@ impl Stack {
             → IsFirstClash all found → IsFirstClash all other → found ≡ other }
     {
         let claims = claims(alloc, &self.indexed())?;
-        // An id is at most the count: that of a name that is not there.
+        // A name that is not there would have the count as its id, so ids are at most that.
         first_clash(
             alloc,
             &claims,

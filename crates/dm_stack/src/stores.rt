@@ -53,6 +53,8 @@ fn store_links(
     Ok(marked)
 }
 
+/// The devices that a device names, and itself if a store may not be made of it, so that it is on a
+/// ring.
 fn store_links_of(may: bool, id: usize, links: &Vec<usize>) -> Result<Vec<usize>, AllocError>
     ensures { IfOk result (λ marked. marked.items ≡ store_links_of may id links.now.items) }
 {
@@ -70,12 +72,14 @@ fn may_store(device: &DeviceSpec) -> bool
     !device.ro && are_plain(device.lines.as_slice())
 }
 
+/// Whether a store may be made of all of these lines.
 fn are_plain(lines: &[Line]) -> bool
     ensures { result ≡ list_all (λ line. is_plain line.target) lines.now }
 {
     lines.iter().all(|line| is_plain(&line.target))
 }
 
+/// Whether a store may be made of a line with this target.
 fn is_plain(target: &Target) -> bool
     ensures { result ≡ is_plain target.now }
 {
@@ -97,6 +101,7 @@ pub(crate) fn check_stores(stack: &Indexed, depths: &[u32]) -> Result<(), LoadFa
     })
 }
 
+/// Whether a target is a snapshot whose store may not be one.
 fn has_deep_store(stack: &Indexed, depths: &[u32], target: &Target) -> bool
     ensures { result ≡ has_deep_store stack.now depths.now target.now }
 {
@@ -106,6 +111,7 @@ fn has_deep_store(stack: &Indexed, depths: &[u32], target: &Target) -> bool
     }
 }
 
+/// Whether the depth that a store was found to have is one that a device may have.
 fn is_shallow(depths: &[u32], lower: Lower) -> bool
     ensures { result ≡ is_shallow depths.now lower }
 {

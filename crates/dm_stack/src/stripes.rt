@@ -24,6 +24,7 @@ pub(crate) fn check_stripes(devices: &[DeviceSpec]) -> Result<(), LoadFault>
     check_lines(LoadKind::Stripe, devices, has_bad_stripes)
 }
 
+/// Whether a line is striped, and its columns and chunks do not divide it.
 fn has_bad_stripes(line: &Line) -> bool
     ensures { result ≡ has_bad_stripes line.now line.now.target }
 {

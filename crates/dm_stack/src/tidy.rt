@@ -141,6 +141,7 @@ fn meets(one: &Claim, other: &Claim) -> bool
         && !may_share(one.kind, other.kind)
 }
 
+/// Whether two claims are on the same device or disk.
 fn is_same_lower(one: Lower, other: Lower) -> bool
     ensures { result ≡ is_same_lower one other }
 {

@@ -112,7 +112,7 @@ all_at P [] i d all within = absurd (omega (arith, within))
 all_at P (x ∷ xs) zero d all within = all.0
 all_at P (x ∷ xs) (suc i) d all within = all_at P xs i d all.1 (omega (arith, within))
 
-number_distinct : (xs : List ℕ) (i d : ℕ) → IsDistinct nat_eq xs → i < length xs → number_in (get_or xs i d) xs ≡ Some i
+pub number_distinct : (xs : List ℕ) (i d : ℕ) → IsDistinct nat_eq xs → i < length xs → number_in (get_or xs i d) xs ≡ Some i
 unfolding IsDistinct
 number_distinct [] i d distinct within = absurd (omega (arith, within))
 number_distinct (x ∷ xs) zero d distinct within = rw (eq-eqb x x refl) refl

@@ -168,7 +168,7 @@ line_at : (stack : Description) (state : State) (levels fewer device sector : �
 unfolding path
 line_at stack state levels fewer device sector line more found = rw (more, found) refl
 
-lines_apart : (stack : Description) (state : State) (levels fewer device at : ℕ) (line : FoundLine) → levels ≡ suc fewer → LineBefore stack device at → at < line.start + line.len → found_at stack device at ≡ Some line
+pub lines_apart : (stack : Description) (state : State) (levels fewer device at : ℕ) (line : FoundLine) → levels ≡ suc fewer → LineBefore stack device at → at < line.start + line.len → found_at stack device at ≡ Some line
     → ((other : ℕ) → line.start ≤ other → other < line.start + line.len → found_at stack device other ≡ Some line)
     → is_same_path (path stack state levels (Device device) (at - 1)) (path stack state levels (Device device) at) ≡ false
 lines_apart stack state levels fewer device at line more last before found all =

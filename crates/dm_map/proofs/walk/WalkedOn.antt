@@ -85,6 +85,17 @@ cut_on took left stack room faults both fault (Err cause) old middle new before 
   looked = added_then before.looked between.looked after.looked one.looked two.looked;
 }
 
+-- the last ones, whatever came of them
+pub walked_last : {S F : Type 0} (took left : S → List BlockUnit → S → Type 0) (stack : S → Description) (room faults : S → ℕ) (both : (a b c : S) (us vs : List BlockUnit) → took a us b → took b vs c → took a (us ++ vs) c)
+    (cut : (a b c : S) (us vs : List BlockUnit) → took a us b → left b vs c → left a (us ++ vs) c) (result : Result (Unit {0}) F) (old middle new : S) (before between after : WalkerView) (step : State → ℕ → Step) (sector m n all : ℕ) → m + n ≡ all
+    → IsWalked took left stack room faults going_on old middle before between (steps step before.state sector m) m → IsWalked took left stack room faults result middle new between after (steps step between.state (sector + m) n) n
+    → IsWalked took left stack room faults result old new before after (steps step before.state sector all) all
+walked_last took left stack room faults both cut (Ok done) old middle new before between after step sector m n all is one two =
+    let walk = walked_on took left stack room faults both done old middle new before between after step sector m n all is one two in
+    record { took = walk.took; state = walk.state; kept = walk.kept; room = walk.room; left = tt; faults = walk.faults; stack = walk.stack; looked = walk.looked }
+walked_last took left stack room faults both cut (Err fault) old middle new before between after step sector m n all is one two =
+    cut_on took left stack room faults cut fault (Err fault) old middle new before between after step sector m n all refl (omega (arith, is)) one two
+
 -- a walk after a look, which changes nothing but the counts
 pub walked_after_look : {S F : Type 0} (took left : S → List BlockUnit → S → Type 0) (stack : S → Description) (room faults : S → ℕ) (result : Result (Unit {0}) F) (old new : S) (before looked after : WalkerView) (step : Step) (len : ℕ) → stack_state looked ≡ stack_state before
     → AreAdded before.looked looked.looked → IsWalked took left stack room faults result old new looked after step len → IsWalked took left stack room faults result old new before after step len

@@ -15,6 +15,10 @@ use Rattle.dm_map.specs.state.Walker.{WalkerView}
 abbrev pub IsBounded : (before after : WalkerView) → Op → (levels : ℕ) → (paths : ℕ → List PathStep) → (sector len : ℕ) → Type 0
 IsBounded before after op levels paths sector len = op ≡ Read → IsSound before.stack → after.looked.searches ≤ before.looked.searches + levels * stretches paths sector len
 
+-- and one that begins after a look-up of its first line, which is counted among these
+abbrev pub IsBoundedFrom : (looked after : WalkerView) → Op → (levels : ℕ) → (paths : ℕ → List PathStep) → (sector len : ℕ) → Type 0
+IsBoundedFrom looked after op levels paths sector len = op ≡ Read → IsSound looked.stack → after.looked.searches + 1 ≤ looked.looked.searches + levels * stretches paths sector len
+
 -- the paths of the sectors of a line of a device, by their distance from its start, with at most this many levels of devices below it
 abbrev pub line_paths : Description → State → (levels device : ℕ) → FoundLine → ℕ → List PathStep
 line_paths stack state levels device line distance = line_path state device line distance (λ to lower. path stack state levels to lower)

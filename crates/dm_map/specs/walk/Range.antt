@@ -1,14 +1,15 @@
 -- What a walk down a stack hands over: the steps of ranges and of lines.
-use Rattle.std.specs.Prelude.{ℕ, ◌≡◌, ◌+◌, ◌≤◌, Bool, false, List, [], ◌∷◌, Result, OnOk, OnErr}
+use Rattle.std.specs.Prelude.{ℕ, ◌≡◌, ◌+◌, ◌≤◌, ◌<◌, Bool, false, List, [], ◌∷◌, Some, Result, OnOk, OnErr}
 use Rattle.dm_table.specs.declared.requests.request.Op.{Op}
 use Rattle.dm_table.specs.declared.requests.request.Op.TheVariants as ops
 use Rattle.dm_table.specs.io.DeviceIo.{fault_of}
 use Rattle.dm_stack.specs.declared.id.Lower.{Lower}
 use Rattle.dm_stack.specs.declared.found_columns.FoundColumn.{FoundColumn}
+use Rattle.dm_stack.specs.declared.found_line.FoundLine.{FoundLine}
 use Rattle.dm_stack.specs.declared.found_line.FoundOrigin.{FoundOrigin}
 use Rattle.dm_stack.specs.declared.found_line.FoundTarget.{FoundTarget}
 use Rattle.dm_stack.specs.Description.{Description, is_ro_at, lower_len}
-use Rattle.dm_stack.specs.Below.{Below, below_stripes, below_target}
+use Rattle.dm_stack.specs.Below.{Below, HoldsSoundly, below_stripes, below_target, found_at}
 use Rattle.dm_stack.specs.Over.{snapshots_over}
 use Rattle.dm_map.specs.state.Counts.{AreAdded}
 use Rattle.dm_map.specs.pieces.Sink.{OfBeginning}
@@ -70,6 +71,11 @@ refuses stack ops.Write device = is_ro_at stack device
 pub record HasRoomFor {S : Type 0} (stack_of : S → Description) (room_of : S → ℕ) (sink : S) (of : Description) (len : ℕ) : Type 0 where
   pub stack : stack_of sink ≡ of
   pub room : len ≤ room_of sink
+
+-- the line that a look-up finds for a sector of a device: sound in itself, and that of each other sector that it has
+pub record IsLineOf (stack : Description) (device : ℕ) (line : FoundLine) (sector : ℕ) : Type 0 where
+  pub holds : HoldsSoundly stack device line sector
+  pub all : (other : ℕ) → line.start ≤ other → other < line.start + line.len → found_at stack device other ≡ Some line
 
 -- a sink took the units of a step of len sectors, and the walk is in the state after it; or the sink failed at a beginning of them
 pub record IsWalked {S F : Type 0} (takes leaves : S → List BlockUnit → S → Type 0) (stack_of : S → Description) (room_of faults_of : S → ℕ) (result : Result (Unit {0}) F) (old new : S) (before after : WalkerView) (step : Step) (len : ℕ) : Type 0 where

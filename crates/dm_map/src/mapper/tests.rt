@@ -3,13 +3,20 @@
 use crate::fixtures::{stack_of, told_after};
 
 /// Tables, disks, a request, and its searches and comparisons.
-static ROWS: [(&str, &str, &str, (u64, u64)); 10] = [
+static ROWS: [(&str, &str, &str, (u64, u64)); 11] = [
     // One stretch of two levels, however long.
     (
         "a: 0 1048576 linear sda 0\nb: 0 1048576 linear /dev/mapper/a 0\n",
         "sda 1048576\n",
         "R b 0 1048576",
         (2, 0),
+    ),
+    // One line of three, which are compared one by one but for the first.
+    (
+        "a: 0 1 zero\na: 1 1 zero\na: 2 1 zero\n",
+        "",
+        "R a 0 1",
+        (1, 2),
     ),
     // One line of four, which is one of two in its bucket; all of them, of which those after the first are
     // not compared; and none for what passes the end.

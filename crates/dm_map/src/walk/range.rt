@@ -8,7 +8,7 @@
 //! read, how often it searches: at most once a level for each stretch of sectors with one path
 //! (`specs/walk/Path`).
 
-ghost use Rattle.std.specs.Prelude.{◌≡◌, ℕ, ◌+◌, ◌-◌, ◌<◌, ◌≤◌, Some, length};
+ghost use Rattle.std.specs.Prelude.{◌≡◌, ℕ, ◌+◌, ◌-◌, ◌<◌, ◌≤◌, Some, false, length};
 ghost use Rattle.dm_table.specs.declared.requests.request.Op.TheVariants.{Write};
 ghost use Rattle.dm_stack.specs.Below.{found_at, IsTargetSound};
 ghost use Rattle.dm_stack.specs.Description.{Description, device_len, lower_len};
@@ -16,8 +16,9 @@ ghost use Rattle.dm_stack.specs.Depth.{lower_depth};
 ghost use Rattle.dm_stack.specs.Soundness.{depth_of};
 ghost use Rattle.dm_stack.specs.declared.found_line.FoundTarget.TheVariants.{Origin, Snapshot, Striped};
 ghost use Rattle.dm_stack.specs.declared.id.Lower.TheVariants.{Device};
+ghost use Rattle.dm_stack.specs.declared.graph.TheConstants.{MOST_DEPTH};
 ghost use Rattle.dm_stack.specs.declared.limits.TheConstants.{MOST_LENGTH};
-ghost use Rattle.dm_map.specs.walk.Bound.{IsBounded, IsLineBounded, IsTargetBounded};
+ghost use Rattle.dm_map.specs.walk.Bound.{IsBounded, IsBoundedFrom, IsLineBounded, IsTargetBounded};
 ghost use Rattle.dm_map.specs.walk.Path.{path};
 ghost use Rattle.dm_map.specs.walk.SnapshotWrites.{write_snapshot};
 ghost use Rattle.dm_map.specs.walk.Steps.{steps};
@@ -25,7 +26,7 @@ ghost use Rattle.dm_map.specs.pieces.Units.{diskless_len, piece_len, units_in, u
 ghost use Rattle.dm_map.specs.pieces.Units.{Fails, IsOnDisk, IsOnDisks};
 ghost use Rattle.dm_map.specs.walk.Range.{disk_unit, zero_unit, refuses};
 ghost use Rattle.dm_map.specs.walk.Range.{range_step, line_step, origin_step, stripes_step};
-ghost use Rattle.dm_map.specs.walk.Range.{AreInOrigin, IsHanded, HasRoomFor, IsWalked};
+ghost use Rattle.dm_map.specs.walk.Range.{AreInOrigin, IsHanded, IsLineOf, HasRoomFor, IsWalked};
 ghost use Rattle.dm_map.specs.walk.Chunk.{AreInChunk, AreInSnapshot};
 ghost use Rattle.dm_map.specs.walk.Stripe.{AreInStripes};
 
@@ -40,7 +41,7 @@ use crate::walk::stripe::{next_chunk, position_at};
 use crate::walk::take_chunk::{is_refused, take_chunk, write_store};
 use dm_stack::{
     DeviceId, DiskId, Divisor, FoundColumn, FoundLine, FoundOrigin, FoundSnapshot, FoundTarget,
-    Lower,
+    Lower, MOST_DEPTH,
 };
 use dm_table::Op;
 
@@ -76,6 +77,94 @@ pub(crate) fn map_range<S: Sink, T: Taken>(
     }
 }
 
+/// Hands over the units of sectors of a request's device, through as many levels as there may be. Those
+/// of a line on a disk, as mostly, cost no call.
+#[inline(always)]
+pub(crate) fn map_top<S: Sink, T: Taken>(
+    walker: &mut Walker<'_, T>,
+    op: Op,
+    device: DeviceId,
+    sector: u64,
+    len: u64,
+    sink: &mut S,
+) -> Result<(), S::Fault>
+    requires some { 1 ≤ len }
+    requires inside { sector + len ≤ device_len walker.old.stack device }
+    requires sink { HasRoomFor S.stack S.room sink.old walker.old.stack len }
+    ensures walked { IsWalked S.took S.left S.stack S.room S.faults
+        result sink.old sink.new walker.old walker.new
+        (range_step walker.old.stack op MOST_DEPTH (Device device) walker.old.state sector len) len }
+    ensures bounded { IsBounded walker.old walker.new op (depth_of walker.old.stack device)
+        (path walker.old.stack walker.old.state MOST_DEPTH (Device device)) sector len }
+{
+    if refuses(walker, op, device) {
+        return fail(len, sink);
+    }
+    let line = walker.look(device, sector);
+    let distance = sector - line.start;
+    if let FoundTarget::Linear {
+        to: Lower::Disk(disk),
+        offset,
+    } = &line.target
+        && len <= line.len - distance
+    {
+        let start = sector_at(walker, Lower::Disk(*disk), *offset, distance);
+        return sink.piece(disk_piece(op, *disk, start, len));
+    }
+    map_from(walker, op, device, line, sector, len, sink)
+}
+
+/// Hands over the units of sectors of a request's device that doesn't refuse them, from the line of the
+/// first one on, which was found.
+///
+/// It is never inlined, so that what comes before it has the registers to itself.
+#[inline(never)]
+fn map_from<S: Sink, T: Taken>(
+    walker: &mut Walker<'_, T>,
+    op: Op,
+    device: DeviceId,
+    line: &FoundLine,
+    sector: u64,
+    len: u64,
+    sink: &mut S,
+) -> Result<(), S::Fault>
+    requires passes { refuses walker.old.stack op device ≡ false }
+    requires some { 1 ≤ len }
+    requires inside { sector + len ≤ device_len walker.old.stack device }
+    requires line { IsLineOf walker.old.stack device line.now sector }
+    requires sink { HasRoomFor S.stack S.room sink.old walker.old.stack len }
+    ensures walked { IsWalked S.took S.left S.stack S.room S.faults
+        result sink.old sink.new walker.old walker.new
+        (range_step walker.old.stack op MOST_DEPTH (Device device) walker.old.state sector len) len }
+    ensures bounded { IsBoundedFrom walker.old walker.new op (depth_of walker.old.stack device)
+        (path walker.old.stack walker.old.state MOST_DEPTH (Device device)) sector len }
+{
+    let distance = sector - line.start;
+    let part = part_in(line, distance, len);
+    map_line(
+        walker,
+        op,
+        MOST_DEPTH - 1,
+        device,
+        line,
+        distance,
+        part,
+        sink,
+    )?;
+    if part == len {
+        return Ok(());
+    }
+    map_device(
+        walker,
+        op,
+        MOST_DEPTH,
+        device,
+        sector + part,
+        len - part,
+        sink,
+    )
+}
+
 /// Hands over the units of sectors of a device, line by line. A read-only device fails a write of
 /// all of them.
 #[cycle(walk)]
@@ -102,20 +191,24 @@ fn map_device<S: Sink, T: Taken>(
     }
     let mut at = sector;
     let mut left = len;
-    while left > 0 {
+    'lines: loop {
         let line = walker.look(device, at);
         let distance = at - line.start;
         let part = part_in(line, distance, left);
+        if part == left {
+            // The last line, mostly the only one, takes no call of its own.
+            return map_line(walker, op, levels - 1, device, line, distance, part, sink);
+        }
         map_line(walker, op, levels - 1, device, line, distance, part, sink)?;
         at += part;
         left -= part;
     }
-    Ok(())
 }
 
 /// Hands over the units of sectors of a line of this device at a distance from its start, through at
 /// most this many levels of devices below it.
 #[cycle(walk)]
+#[inline(always)]
 fn map_line<S: Sink, T: Taken>(
     walker: &mut Walker<'_, T>,
     op: Op,
@@ -163,9 +256,47 @@ fn map_line<S: Sink, T: Taken>(
     }
 }
 
-/// Hands over the units of sectors of a striped line at a distance from its start, chunk by chunk.
+/// Hands over the units of sectors of a striped line at a distance from its start. Those of one chunk
+/// are a range of their column.
 #[cycle(walk)]
+#[inline(always)]
 fn map_stripes<S: Sink, T: Taken>(
+    walker: &mut Walker<'_, T>,
+    op: Op,
+    levels: u32,
+    chunk_size: &Divisor,
+    columns: &[FoundColumn],
+    count: &Divisor,
+    distance: u64,
+    len: u64,
+    sink: &mut S,
+) -> Result<(), S::Fault>
+    requires some { 1 ≤ len }
+    requires inside { AreInStripes walker.old.stack chunk_size.now columns.now distance len }
+    requires count { count.now ≡ length columns.now }
+    requires sink { HasRoomFor S.stack S.room sink.old walker.old.stack len }
+    ensures walked { IsWalked S.took S.left S.stack S.room S.faults
+        result sink.old sink.new walker.old walker.new
+        (stripes_step walker.old.stack op levels chunk_size.now columns.now walker.old.state distance
+        len) len }
+    ensures bounded { (device : ℕ) → IsTargetBounded walker.old walker.new op levels device
+        (Striped chunk_size.now columns.now) distance len }
+{
+    let position = position_at(chunk_size, count, distance);
+    if len <= chunk_size.value() - position.past {
+        let column = columns[position.column];
+        let sector = sector_at(walker, column.to, column.offset, position.in_column());
+        return map_range(walker, op, levels, column.to, sector, len, sink);
+    }
+    map_chunks(
+        walker, op, levels, chunk_size, columns, count, distance, len, sink,
+    )
+}
+
+/// The same chunk by chunk. It is never inlined, so that its loop has the registers to itself.
+#[cycle(walk)]
+#[inline(never)]
+fn map_chunks<S: Sink, T: Taken>(
     walker: &mut Walker<'_, T>,
     op: Op,
     levels: u32,

@@ -1,7 +1,9 @@
-//! That runs are counted and found, and answer as a plain list does.
+//! That runs are counted and found, and that runs and tries answer as a plain list does.
 
 use super::*;
+use crate::fixtures::offer;
 use crate::state::plain_taken::PlainTaken;
+use crate::state::trie_taken::TrieTaken;
 use std::test::Fail;
 
 /// An order in which chunks are taken.
@@ -10,77 +12,151 @@ struct Takes {
     count: u64,
     /// This many chunks in a row,
     row: u64,
-    /// and then this much further, modulo 65,537.
+    /// each this much after the one before,
+    apart: u64,
+    /// and then from the first one this much further,
     step: u64,
+    /// modulo this.
+    modulus: u64,
     runs: usize,
     /// How many comparisons the finds of the test make together, each by plain halving.
     comparisons: u64,
+    /// How many bits they test together, from slots that are the least power of two for the chunks.
+    bits: u64,
 }
 
-static TAKES: [Takes; 8] = [
+static TAKES: [Takes; 12] = [
     Takes {
         name: "rising",
         count: 9_000,
         row: 1,
+        apart: 1,
         step: 1,
+        modulus: 65_537,
         runs: 1,
         comparisons: 1_075,
+        bits: 0,
     },
     Takes {
         name: "falling",
         count: 16_385,
         row: 1,
+        apart: 1,
         step: 65_536,
+        modulus: 65_537,
         runs: 16_385,
         comparisons: 15_856,
+        bits: 1,
     },
     Takes {
         name: "every second",
         count: 3_000,
         row: 1,
+        apart: 1,
         step: 2,
+        modulus: 65_537,
         runs: 3_000,
-        comparisons: 11_888,
+        comparisons: 11_892,
+        bits: 375,
     },
     Takes {
         name: "random",
         count: 3_000,
         row: 1,
+        apart: 1,
         step: 40_503,
+        modulus: 65_537,
         runs: 3_000,
-        comparisons: 12_510,
+        comparisons: 12_515,
+        bits: 224,
     },
     Takes {
         name: "random rows",
         count: 4_000,
         row: 4,
+        apart: 1,
         step: 40_503,
+        modulus: 65_537,
         runs: 1_000,
-        comparisons: 10_718,
+        comparisons: 10_722,
+        bits: 143,
     },
     Takes {
         name: "one block less one",
         count: 8_191,
         row: 1,
+        apart: 1,
         step: 65_535,
+        modulus: 65_537,
         runs: 8_191,
         comparisons: 13_975,
+        bits: 269,
     },
     Takes {
         name: "one block",
         count: 8_192,
         row: 1,
+        apart: 1,
         step: 65_535,
+        modulus: 65_537,
         runs: 8_192,
         comparisons: 14_781,
+        bits: 269,
     },
     Takes {
         name: "one block and one",
         count: 8_193,
         row: 1,
+        apart: 1,
         step: 65_535,
+        modulus: 65_537,
         runs: 8_193,
         comparisons: 14_781,
+        bits: 0,
+    },
+    Takes {
+        name: "one slot",
+        count: 2_000,
+        row: 1,
+        apart: 1,
+        step: 4_096,
+        modulus: 1 << 50,
+        runs: 2_000,
+        comparisons: 11_303,
+        bits: 5_893,
+    },
+    Takes {
+        name: "one bit apart",
+        count: 3_000,
+        row: 2,
+        apart: 1 << 40,
+        step: 3,
+        modulus: 1 << 50,
+        runs: 3_000,
+        comparisons: 11_865,
+        bits: 394,
+    },
+    Takes {
+        name: "spread over 2^50",
+        count: 4_096,
+        row: 1,
+        apart: 1,
+        step: 1 << 38,
+        modulus: 1 << 50,
+        runs: 4_096,
+        comparisons: 13_438,
+        bits: 6_456,
+    },
+    Takes {
+        name: "wrapped",
+        count: 3_000,
+        row: 1,
+        apart: 1,
+        step: 11_400_714_819_323_198_485,
+        modulus: u64::MAX,
+        runs: 3_000,
+        comparisons: 12_709,
+        bits: 0,
     },
 ];
 
@@ -88,14 +164,10 @@ static TAKES: [Takes; 8] = [
 fn chunk_of(takes: &Takes, number: u64) -> u64 {
     let row = number.checked_div(takes.row).unwrap_or(0);
     let within = number.checked_rem(takes.row).unwrap_or(0);
-    row.wrapping_mul(takes.step).wrapping_add(within) % 65_537
-}
-
-/// Takes a chunk unless it was taken.
-fn offer<T: Taken>(taken: &mut T, chunk: u64) {
-    if taken.is_valid() && !taken.is_full() && taken.find(chunk).is_none() {
-        taken.take(chunk);
-    }
+    let from = row.wrapping_mul(takes.step);
+    from.wrapping_add(within.wrapping_mul(takes.apart))
+        .checked_rem(takes.modulus)
+        .unwrap_or(0)
 }
 
 #[test]
@@ -127,27 +199,46 @@ fn chunks_are_found_by_their_runs(rt: HostRuntime) {
     assert!(&rt; !taken.is_valid(), "lost");
 }
 
+/// A chunk that is looked for: in turn any, and one that is taken as some number or would be.
+fn looked_for(takes: &Takes, part: u64) -> u64 {
+    if part.is_multiple_of(2) {
+        part.wrapping_mul(61)
+    } else {
+        chunk_of(takes, part.wrapping_mul(61))
+    }
+}
+
 #[test]
-fn runs_answer_as_a_plain_list(rt: HostRuntime) {
+fn runs_and_tries_answer_as_a_plain_list(rt: HostRuntime) {
     for takes in &TAKES {
-        let mut runs = RunTaken::with_places(rt.alloc(), takes.count as usize).expect(&rt, "runs");
-        let mut plain = PlainTaken::with_places(rt.alloc(), takes.count as usize).expect(
-            &rt, "list",
-        );
+        let places = takes.count as usize;
+        let mut runs = RunTaken::with_places(rt.alloc(), places).expect(&rt, "runs");
+        let mut trie = TrieTaken::with_places(rt.alloc(), places).expect(&rt, "a trie");
+        let mut plain = PlainTaken::with_places(rt.alloc(), places).expect(&rt, "a list");
         for number in 0..takes.count {
             let chunk = chunk_of(takes, number);
             offer(&mut runs, chunk);
+            offer(&mut trie, chunk);
             offer(&mut plain, chunk);
         }
-        let mut comparisons = 0;
+        let (mut comparisons, mut single, mut bits) = (0, 0, 0);
         for part in 0..1_075 {
-            let chunk = part * 61;
-            let number = runs.find_counted(chunk, &mut comparisons);
-            assert_eq!(&rt; number, plain.find(chunk), "{}: {chunk}", takes.name);
-            assert_eq!(&rt; number, runs.find(chunk), "{}: {chunk}", takes.name);
+            let chunk = looked_for(takes, part);
+            let number = plain.find(chunk);
+            let by_runs = runs.find_counted(chunk, &mut comparisons);
+            let by_trie = trie.find_counted(chunk, &mut single, &mut bits);
+            assert_eq!(&rt; by_runs, number, "{}: {chunk}", takes.name);
+            assert_eq!(&rt; by_trie, number, "{}: {chunk}", takes.name);
+            assert_eq!(&rt; runs.find(chunk), number, "{}: {chunk}", takes.name);
         }
         assert_eq!(&rt; comparisons, takes.comparisons, "{}", takes.name);
+        assert_eq!(&rt; bits, takes.bits, "{}", takes.name);
         assert_eq!(&rt; runs.runs(), takes.runs, "{}", takes.name);
-        assert_eq!(&rt; runs.count(), plain.count(), "{}", takes.name);
+        assert_eq!(&rt;
+            (runs.count(), trie.count()),
+            (plain.count(), plain.count()),
+            "{}",
+            takes.name
+        );
     }
 }

@@ -22,7 +22,7 @@ returns-then-passes_end-clause-walked g c =
 
 pub returns-clause-walked : goal.returns-clause-walked
 returns-clause-walked g c =
-    let a = c.args in let walk = c.map_range in
+    let a = c.args in let walk = c.map_top in
     let inside : nat_lt (device_len c.self.inside.walker.stack a.device) (a.start + a.len) ≡ false = ap (λ end. nat_lt end (a.start + a.len)) (sym c.len-end.ensures.len) ∙ sym c.passes_end.ensures ∙ c.if-passes_end.false in
     subst (λ (m : MapperView). IsWalked g.S.Sink.took g.S.Sink.left g.S.Sink.stack g.S.Sink.room g.S.Sink.faults walk.result a.sink.now walk.new.sink (walker_of m) walk.new.walker (request_step m.stack a.op a.device a.start a.len m.state) a.len) c.self.view_is (rw inside walk.ensures.walked)
 
@@ -31,5 +31,5 @@ returns-clause-bounded g c =
     let a = c.args in let m = a.self.now in
     let inside : nat_lt (device_len m.stack a.device) (a.start + a.len) ≡ false = ap (λ x. nat_lt (device_len x.stack a.device) (a.start + a.len)) (sym c.self.view_is) ∙ ap (λ end. nat_lt end (a.start + a.len)) (sym c.len-end.ensures.len) ∙ sym c.passes_end.ensures ∙ c.if-passes_end.false in
     let sound = subst (λ (x : MapperView). IsSound x.stack) c.self.view_is c.is_sound.ensures in
-    let bounded = subst (λ (x : MapperView). IsBounded (walker_of x) c.map_range.new.walker a.op (depth_of x.stack a.device) (path x.stack x.state MOST_DEPTH (Device a.device)) a.start a.len) c.self.view_is c.map_range.ensures.bounded in
-    request_bound (walker_of m) c.map_range.new.walker a.op a.device a.start a.len sound c.requires.device inside bounded
+    let bounded = subst (λ (x : MapperView). IsBounded (walker_of x) c.map_top.new.walker a.op (depth_of x.stack a.device) (path x.stack x.state MOST_DEPTH (Device a.device)) a.start a.len) c.self.view_is c.map_top.ensures.bounded in
+    request_bound (walker_of m) c.map_top.new.walker a.op a.device a.start a.len sound c.requires.device inside bounded

@@ -23,7 +23,7 @@ use Rattle.dm_map.specs.walk.Mapping.{sector_step}
 use Rattle.dm_map.specs.walk.Steps.{keep}
 use Rattle.dm_map.specs.state.Walker.{StackState, WalkerView, stack_state}
 use Rattle.dm_map.specs.walk.Range.{below_step, disk_unit, zero_unit, refuses, origin_step, range_step, line_step, served_sector, stripes_step, target_step, AreInOrigin, IsWalked}
-use Rattle.dm_map.specs.walk.Stripe.{IsStripePosition}
+use Rattle.dm_map.specs.walk.Stripe.{AreInStripes, IsStripePosition}
 use Rattle.dm_map.proofs.walk.Bounds.{FirstOfChunk, bound_more, chunk_bound, chunks_on, first_next, line_before, line_kept, linear_bound, lines_on, origin_bound, range_kept, stripe_bound, stripes_kept}
 use Rattle.dm_map.proofs.walk.Chunks.{chunk_read, in_one_chunk, in_snapshot, lost_read, write_line_step}
 use Rattle.dm_map.proofs.state.InStack.{device_there, lower_small}
@@ -31,7 +31,7 @@ use Rattle.dm_map.proofs.walk.Ranges.{range_deepest, range_disk, range_refused, 
 use Rattle.dm_map.proofs.walk.OriginParts.{line_overs, part_walked, serve_failed}
 use Rattle.dm_map.proofs.walk.Rows.{walked_as, walked_piece}
 use Rattle.dm_map.proofs.walk.Stripes.{column_inside, position_small}
-use Rattle.dm_map.proofs.walk.WalkedOn.{cut_on, going_on, walked_after_look, walked_none, walked_on}
+use Rattle.dm_map.proofs.walk.WalkedOn.{cut_on, going_on, walked_after_look, walked_last, walked_none, walked_on}
 use Rattle.dm_map.proofs.walk.range.+walk.Goals as goal
 use Rattle.dm_map.proofs.walk.range.+walk.Goals.{map_device-then-levels-eq0-via-then-levels-eq0, map_device-then-levels-eq0-via-else-levels-eq0+then-refuses}
 
@@ -61,7 +61,7 @@ map_device-returns-then-levels-eq0-clause-walked g t c =
 
 pub map_device-look-line-requires-clause-device : goal.map_device-look-line-requires-clause-device
 map_device-look-line-requires-clause-device g t c =
-    subst (λ (s : Description). c.args.device < length s.devices) (sym c.loop-left.invariant.walked.stack) (device_there c.args.walker.now.stack c.args.device c.args.sector (omega arith))
+    subst (λ (s : Description). c.args.device < length s.devices) (sym c.lines.invariant.walked.stack) (device_there c.args.walker.now.stack c.args.device c.args.sector (omega arith))
 
 -- what a line hands over after a look is the next part of the device's range
 line_walked : {S F : Type 0} (took left : S → List BlockUnit → S → Type 0) (stack_of : S → Description) (room faults : S → ℕ) (result : Result (Unit {0}) F) (old new : S)
@@ -76,38 +76,56 @@ line_walked took left stack_of room faults result old new stack before looked af
     (ap (λ (v : StackState). line_step v.stack op fewer device line.target v.state (at - line.start) n) same ∙ ap (λ (s : Description). line_step s op fewer device line.target before.state (at - line.start) n) is
     ∙ sym (range_line stack op levels fewer device at n before.state line more passes holds.from each) ∙ ap (λ (p : ℕ). range_step stack op levels (Device device) before.state p n) position) walk)
 
+pub map_device-returns-then-part-left-clause-walked : goal.map_device-returns-then-part-left-clause-walked
+map_device-returns-then-part-left-clause-walked g t c =
+    let a = c.args in let w = a.walker.now in let l = c.lines in let n = c.part_in-part.result in let done = a.len - l.left in
+    walked_last g.S.Sink.took g.S.Sink.left g.S.Sink.stack g.S.Sink.room g.S.Sink.faults g.met.S.Sink.took_then_took g.met.S.Sink.took_then_left c.map_line.result a.sink.now l.sink c.map_line.new.sink w l.walker c.map_line.new.walker
+    (sector_step w.stack a.op a.levels (Device a.device)) a.sector done n a.len (omega (arith, c.if-part-left.true, l.invariant.within)) l.invariant.walked
+    (line_walked g.S.Sink.took g.S.Sink.left g.S.Sink.stack g.S.Sink.room g.S.Sink.faults c.map_line.result l.sink c.map_line.new.sink w.stack l.walker c.look-line.new.self c.map_line.new.walker a.op a.levels (a.levels - 1) a.device a.sector l.at done n c.look-line.result.now
+    l.invariant.walked.stack (omega (arith, c.if-levels-eq0.false)) (sym c.refuses.ensures ∙ c.if-refuses.false) (omega (arith, l.invariant.position, l.invariant.within)) c.look-line.ensures.holds (omega (arith, c.part_in-part.ensures))
+    c.look-line.ensures.all c.look-line.ensures.same c.look-line.ensures.looked c.map_line.ensures.walked)
+
+pub map_device-returns-then-part-left-clause-bounded : goal.map_device-returns-then-part-left-clause-bounded
+map_device-returns-then-part-left-clause-bounded g t c =
+    let a = c.args in let w = a.walker.now in let l = c.lines in let n = c.part_in-part.result in let done = a.len - l.left in
+    bound_more w c.map_line.new.walker a.op (depth_of w.stack a.device) a.sector (done + n) a.len (path w.stack w.state a.levels (Device a.device)) (omega (arith, c.part_in-part.ensures, l.invariant.within))
+    (lines_on w l.walker c.look-line.new.self c.map_line.new.walker a.op a.levels (a.levels - 1) a.device a.sector l.at done n l.left c.look-line.result.now (omega (arith, c.if-levels-eq0.false)) l.invariant.walked.stack
+    (λ is. l.invariant.walked.state ∙ range_kept w.stack a.op a.levels (Device a.device) w.state a.sector done is) c.look-line.ensures.same c.look-line.ensures.one (omega (arith, l.invariant.position, l.invariant.within))
+    (λ later. l.invariant.edge later) c.look-line.ensures.holds c.part_in-part.ensures l.invariant.some c.look-line.ensures.all l.invariant.bounded c.map_line.ensures.bounded)
+
 pub map_device-returns-in_err-map_line-clause-walked : goal.map_device-returns-in_err-map_line-clause-walked
 map_device-returns-in_err-map_line-clause-walked g t c =
-    let a = c.args in let w = a.walker.now in let l = c.loop-left in let n = c.part_in-part.result in let done = a.len - l.left in
-    cut_on g.S.Sink.took g.S.Sink.left g.S.Sink.stack g.S.Sink.room g.S.Sink.faults g.met.S.Sink.took_then_left _ c.from_residual.result a.sink.now l.sink c.map_line.new.sink w l.walker c.map_line.new.walker
+    let a = c.args in let w = a.walker.now in let l = c.lines in let n = c.part_in-part.result in let done = a.len - l.left in
+    cut_on g.S.Sink.took g.S.Sink.left g.S.Sink.stack g.S.Sink.room g.S.Sink.faults g.met.S.Sink.took_then_left _ c.from_residual.result a.sink.now l.sink c.map_line-in-lines.new.sink w l.walker c.map_line-in-lines.new.walker
     (sector_step w.stack a.op a.levels (Device a.device)) a.sector done n a.len c.from_residual.ensures.0 (omega (arith, c.part_in-part.ensures, l.invariant.within)) l.invariant.walked
-    (line_walked g.S.Sink.took g.S.Sink.left g.S.Sink.stack g.S.Sink.room g.S.Sink.faults _ l.sink c.map_line.new.sink w.stack l.walker c.look-line.new.self c.map_line.new.walker a.op a.levels (a.levels - 1) a.device a.sector l.at done n c.look-line.result.now
+    (line_walked g.S.Sink.took g.S.Sink.left g.S.Sink.stack g.S.Sink.room g.S.Sink.faults _ l.sink c.map_line-in-lines.new.sink w.stack l.walker c.look-line.new.self c.map_line-in-lines.new.walker a.op a.levels (a.levels - 1) a.device a.sector l.at done n c.look-line.result.now
     l.invariant.walked.stack (omega (arith, c.if-levels-eq0.false)) (sym c.refuses.ensures ∙ c.if-refuses.false) (omega (arith, l.invariant.position, l.invariant.within)) c.look-line.ensures.holds (omega (arith, c.part_in-part.ensures))
     c.look-line.ensures.all c.look-line.ensures.same c.look-line.ensures.looked c.in_err-map_line.ensures.walked)
 
 pub map_device-returns-in_err-map_line-clause-bounded : goal.map_device-returns-in_err-map_line-clause-bounded
 map_device-returns-in_err-map_line-clause-bounded g t c =
-    let a = c.args in let w = a.walker.now in let l = c.loop-left in let n = c.part_in-part.result in let done = a.len - l.left in
-    bound_more w c.map_line.new.walker a.op (depth_of w.stack a.device) a.sector (done + n) a.len (path w.stack w.state a.levels (Device a.device)) (omega (arith, c.part_in-part.ensures, l.invariant.within))
-    (lines_on w l.walker c.look-line.new.self c.map_line.new.walker a.op a.levels (a.levels - 1) a.device a.sector l.at done n l.left c.look-line.result.now (omega (arith, c.if-levels-eq0.false)) l.invariant.walked.stack
+    let a = c.args in let w = a.walker.now in let l = c.lines in let n = c.part_in-part.result in let done = a.len - l.left in
+    bound_more w c.map_line-in-lines.new.walker a.op (depth_of w.stack a.device) a.sector (done + n) a.len (path w.stack w.state a.levels (Device a.device)) (omega (arith, c.part_in-part.ensures, l.invariant.within))
+    (lines_on w l.walker c.look-line.new.self c.map_line-in-lines.new.walker a.op a.levels (a.levels - 1) a.device a.sector l.at done n l.left c.look-line.result.now (omega (arith, c.if-levels-eq0.false)) l.invariant.walked.stack
     (λ is. l.invariant.walked.state ∙ range_kept w.stack a.op a.levels (Device a.device) w.state a.sector done is) c.look-line.ensures.same c.look-line.ensures.one (omega (arith, l.invariant.position, l.invariant.within))
-    (λ later. l.invariant.edge later c.loop-left-test.true) c.look-line.ensures.holds c.part_in-part.ensures c.loop-left-test.true c.look-line.ensures.all l.invariant.bounded c.in_err-map_line.ensures.bounded)
+    (λ later. l.invariant.edge later) c.look-line.ensures.holds c.part_in-part.ensures l.invariant.some c.look-line.ensures.all l.invariant.bounded c.in_err-map_line.ensures.bounded)
 
-pub map_device-loop-left-preserved : goal.map_device-loop-left-preserved
-map_device-loop-left-preserved g t c =
-    let a = c.args in let w = a.walker.now in let l = c.loop-left in let n = c.part_in-part.result in let done = a.len - l.left in
+pub map_device-lines-preserved : goal.map_device-lines-preserved
+map_device-lines-preserved g t c =
+    let a = c.args in let w = a.walker.now in let l = c.lines in let n = c.part_in-part.result in let done = a.len - l.left in
     let on : done + n ≡ a.len - (l.left - n) = omega (arith, c.part_in-part.ensures, l.invariant.within) in
     record {
-      walked = walked_on g.S.Sink.took g.S.Sink.left g.S.Sink.stack g.S.Sink.room g.S.Sink.faults g.met.S.Sink.took_then_took _ a.sink.now l.sink c.map_line.new.sink w l.walker c.map_line.new.walker (sector_step w.stack a.op a.levels (Device a.device)) a.sector done n _ on l.invariant.walked
-          (line_walked g.S.Sink.took g.S.Sink.left g.S.Sink.stack g.S.Sink.room g.S.Sink.faults _ l.sink c.map_line.new.sink w.stack l.walker c.look-line.new.self c.map_line.new.walker a.op a.levels (a.levels - 1) a.device a.sector l.at done n c.look-line.result.now
+      walked = walked_on g.S.Sink.took g.S.Sink.left g.S.Sink.stack g.S.Sink.room g.S.Sink.faults g.met.S.Sink.took_then_took _ a.sink.now l.sink c.map_line-in-lines.new.sink w l.walker c.map_line-in-lines.new.walker (sector_step w.stack a.op a.levels (Device a.device)) a.sector done n _ on l.invariant.walked
+          (line_walked g.S.Sink.took g.S.Sink.left g.S.Sink.stack g.S.Sink.room g.S.Sink.faults _ l.sink c.map_line-in-lines.new.sink w.stack l.walker c.look-line.new.self c.map_line-in-lines.new.walker a.op a.levels (a.levels - 1) a.device a.sector l.at done n c.look-line.result.now
           l.invariant.walked.stack (omega (arith, c.if-levels-eq0.false)) (sym c.refuses.ensures ∙ c.if-refuses.false) (omega (arith, l.invariant.position, l.invariant.within)) c.look-line.ensures.holds (omega (arith, c.part_in-part.ensures))
           c.look-line.ensures.all c.look-line.ensures.same c.look-line.ensures.looked c.in_ok-map_line.ensures.walked);
+      some = omega (arith, c.part_in-part.ensures, l.invariant.some, c.if-part-left.false);
       within = omega (arith, l.invariant.within);
       position = omega (arith, l.invariant.position, c.part_in-part.ensures);
-      edge = λ later more. line_before w.stack l.walker.stack a.device l.at n l.left c.look-line.result.now l.invariant.walked.stack c.look-line.ensures.holds c.part_in-part.ensures (omega (arith, more)) c.look-line.ensures.all;
-      bounded = rw on at (lines_on w l.walker c.look-line.new.self c.map_line.new.walker a.op a.levels (a.levels - 1) a.device a.sector l.at done n l.left c.look-line.result.now (omega (arith, c.if-levels-eq0.false)) l.invariant.walked.stack
+      edge = λ later. line_before w.stack l.walker.stack a.device l.at n l.left c.look-line.result.now l.invariant.walked.stack c.look-line.ensures.holds c.part_in-part.ensures (omega (arith, c.part_in-part.ensures, c.if-part-left.false)) c.look-line.ensures.all;
+      bounded = rw on at (lines_on w l.walker c.look-line.new.self c.map_line-in-lines.new.walker a.op a.levels (a.levels - 1) a.device a.sector l.at done n l.left c.look-line.result.now (omega (arith, c.if-levels-eq0.false)) l.invariant.walked.stack
           (λ is. l.invariant.walked.state ∙ range_kept w.stack a.op a.levels (Device a.device) w.state a.sector done is) c.look-line.ensures.same c.look-line.ensures.one (omega (arith, l.invariant.position, l.invariant.within))
-          (λ later. l.invariant.edge later c.loop-left-test.true) c.look-line.ensures.holds c.part_in-part.ensures c.loop-left-test.true c.look-line.ensures.all l.invariant.bounded c.in_ok-map_line.ensures.bounded);
+          (λ later. l.invariant.edge later) c.look-line.ensures.holds c.part_in-part.ensures l.invariant.some c.look-line.ensures.all l.invariant.bounded c.in_ok-map_line.ensures.bounded);
     }
 
 -- A line, by its target
@@ -157,31 +175,7 @@ map_line-returns-in-Error-clause-walked g t c =
 
 -- Stripes
 
-pub map_stripes-in_column-requires : goal.map_stripes-in_column-requires
-map_stripes-in_column-requires g t c =
-    let a = c.args in let l = c.loop-left in let lies = c.requires.inside in
-    let at = l.invariant.position c.loop-left-test.true in
-    let small = position_small a.chunk_size.now (length a.columns.now) (a.distance + (a.len - l.left)) l.position lies.stripes.some at in
-    omega (arith, small, lies.inside, lies.small, l.invariant.within)
-
-pub map_stripes-sector_at-sector-requires : goal.map_stripes-sector_at-sector-requires
-map_stripes-sector_at-sector-requires g t c =
-    let a = c.args in let l = c.loop-left in let column = c.index-columns-position.result in let at = l.invariant.position c.loop-left-test.true in
-    let some : 1 ≤ c.min-part.result = omega (arith, c.min-part.ensures, c.loop-left-test.true, at.past, c.requires.inside.stripes.chunk_some) in
-    let inside = column_inside a.walker.now.stack a.chunk_size.now a.distance a.len (a.len - l.left) c.min-part.result a.columns.now column l.position c.requires.inside (omega (arith, c.loop-left-test.true, l.invariant.within)) at
-    (omega (arith, c.min-part.ensures)) c.index-columns-position.is in
-    subst (λ (s : Description). column.offset + c.in_column.result < lower_len s column.to) (sym l.invariant.walked.stack) (let e : column.offset + c.in_column.result < lower_len a.walker.now.stack column.to = omega (arith, inside, some, c.in_column.ensures) in e)
-
-pub map_stripes-map_range-requires : goal.map_stripes-map_range-requires
-map_stripes-map_range-requires g t c κs within =
-    let a = c.args in let l = c.loop-left in let column = c.index-columns-position.result in let at = l.invariant.position c.loop-left-test.true in
-    let some : 1 ≤ c.min-part.result = omega (arith, c.min-part.ensures, c.loop-left-test.true, at.past, c.requires.inside.stripes.chunk_some) in
-    let inside = column_inside a.walker.now.stack a.chunk_size.now a.distance a.len (a.len - l.left) c.min-part.result a.columns.now column l.position c.requires.inside (omega (arith, c.loop-left-test.true, l.invariant.within)) at
-    (omega (arith, c.min-part.ensures)) c.index-columns-position.is in
-    let there : c.sector_at-sector.result + c.min-part.result ≤ lower_len l.walker.stack column.to = subst (λ (s : Description). c.sector_at-sector.result + c.min-part.result ≤ lower_len s column.to) (sym l.invariant.walked.stack) (omega (arith, inside, c.sector_at-sector.ensures, c.in_column.ensures)) in
-    search rules
-
--- what a column hands over is the next part of the stripes
+-- what a column hands over is a part of the stripes
 column_walked : {S F : Type 0} (took left : S → List BlockUnit → S → Type 0) (stack_of : S → Description) (room faults : S → ℕ) (result : Result (Unit {0}) F) (old new : S)
     (stack : Description) (before after : WalkerView) (op : Op) (levels chunk_size at n sector : ℕ) (columns : List FoundColumn) (column : FoundColumn) (position : StripePosition) → before.stack ≡ stack → 0 < length columns → 0 < chunk_size
     → IsStripePosition chunk_size (length columns) at position → n ≤ chunk_size - position.past → column ≡ get_or columns position.column column → sector ≡ column.offset + (position.chunk_start + position.past)
@@ -201,16 +195,84 @@ column_bounded first before after op levels device chunk_size distance done n se
     (λ read. state_is ∙ stripes_kept first.stack op levels chunk_size columns first.state distance done read) edge n_some so_far
     (stripe_bound before after op levels device chunk_size columns line column position (distance + done) sector n (subst (λ (s : Description). found_at s device line.start ≡ Some line) (sym same) found) kind some chunk_some at n_some most is sector_is next)
 
-pub map_stripes-returns-in_err-map_range-clause-walked : goal.map_stripes-returns-in_err-map_range-clause-walked
-map_stripes-returns-in_err-map_range-clause-walked g t c =
+-- those of one chunk lie in what their column names
+in_one_column : (stack : Description) (chunk_size distance len : ℕ) (columns : List FoundColumn) (column : FoundColumn) (position : StripePosition) → AreInStripes stack chunk_size columns distance len → 1 ≤ len → IsStripePosition chunk_size (length columns) distance position → len ≤ chunk_size - position.past
+    → column ≡ get_or columns position.column column → column.offset + (position.chunk_start + position.past) + len ≤ lower_len stack column.to
+in_one_column stack chunk_size distance len columns column position lies some at most is =
+    column_inside stack chunk_size distance len 0 len columns column position lies some (subst (λ (d : ℕ). IsStripePosition chunk_size (length columns) d position) (let e : distance ≡ distance + 0 = omega arith in e) at) most is
+
+pub map_stripes-in_column-requires : goal.map_stripes-in_column-requires
+map_stripes-in_column-requires g t c =
+    let a = c.args in let lies = c.requires.inside in
+    let at : IsStripePosition a.chunk_size.now (length a.columns.now) a.distance c.position_at-position.result = subst (λ (n : ℕ). IsStripePosition a.chunk_size.now n a.distance c.position_at-position.result) c.requires.count c.position_at-position.ensures in
+    let small = position_small a.chunk_size.now (length a.columns.now) a.distance c.position_at-position.result lies.stripes.some at in
+    omega (arith, small, lies.inside, lies.small)
+
+pub map_stripes-sector_at-sector-requires : goal.map_stripes-sector_at-sector-requires
+map_stripes-sector_at-sector-requires g t c =
+    let a = c.args in let column = c.index-columns-position.result in
+    let at : IsStripePosition a.chunk_size.now (length a.columns.now) a.distance c.position_at-position.result = subst (λ (n : ℕ). IsStripePosition a.chunk_size.now n a.distance c.position_at-position.result) c.requires.count c.position_at-position.ensures in
+    let inside = in_one_column a.walker.now.stack a.chunk_size.now a.distance a.len a.columns.now column c.position_at-position.result c.requires.inside c.requires.some at (omega (arith, c.if-len-value.true, c.value.ensures)) c.index-columns-position.is in
+    omega (arith, inside, c.requires.some, c.in_column.ensures)
+
+pub map_stripes-map_range-requires : goal.map_stripes-map_range-requires
+map_stripes-map_range-requires g t c κs within =
+    let a = c.args in let column = c.index-columns-position.result in
+    let at : IsStripePosition a.chunk_size.now (length a.columns.now) a.distance c.position_at-position.result = subst (λ (n : ℕ). IsStripePosition a.chunk_size.now n a.distance c.position_at-position.result) c.requires.count c.position_at-position.ensures in
+    let inside = in_one_column a.walker.now.stack a.chunk_size.now a.distance a.len a.columns.now column c.position_at-position.result c.requires.inside c.requires.some at (omega (arith, c.if-len-value.true, c.value.ensures)) c.index-columns-position.is in
+    let there : c.sector_at-sector.result + a.len ≤ lower_len a.walker.now.stack column.to = omega (arith, inside, c.sector_at-sector.ensures, c.in_column.ensures) in
+    search rules
+
+pub map_stripes-returns-then-len-value-clause-walked : goal.map_stripes-returns-then-len-value-clause-walked
+map_stripes-returns-then-len-value-clause-walked g t c =
+    let a = c.args in let w = a.walker.now in let column = c.index-columns-position.result in let stripes = c.requires.inside.stripes in
+    let at : IsStripePosition a.chunk_size.now (length a.columns.now) a.distance c.position_at-position.result = subst (λ (n : ℕ). IsStripePosition a.chunk_size.now n a.distance c.position_at-position.result) c.requires.count c.position_at-position.ensures in
+    column_walked g.S.Sink.took g.S.Sink.left g.S.Sink.stack g.S.Sink.room g.S.Sink.faults c.map_range.result a.sink.now c.map_range.new.sink w.stack w c.map_range.new.walker a.op a.levels a.chunk_size.now a.distance a.len c.sector_at-sector.result a.columns.now column c.position_at-position.result
+    refl stripes.some stripes.chunk_some at (omega (arith, c.if-len-value.true, c.value.ensures)) c.index-columns-position.is (c.sector_at-sector.ensures ∙ ap (λ (p : ℕ). column.offset + p) c.in_column.ensures) c.map_range.ensures.walked
+
+pub map_stripes-returns-then-len-value-clause-bounded : goal.map_stripes-returns-then-len-value-clause-bounded
+map_stripes-returns-then-len-value-clause-bounded g t c device line found kind =
+    let a = c.args in let column = c.index-columns-position.result in let stripes = c.requires.inside.stripes in
+    let at : IsStripePosition a.chunk_size.now (length a.columns.now) a.distance c.position_at-position.result = subst (λ (n : ℕ). IsStripePosition a.chunk_size.now n a.distance c.position_at-position.result) c.requires.count c.position_at-position.ensures in
+    stripe_bound a.walker.now c.map_range.new.walker a.op a.levels device a.chunk_size.now a.columns.now line column c.position_at-position.result a.distance c.sector_at-sector.result a.len found kind stripes.some stripes.chunk_some at c.requires.some
+    (omega (arith, c.if-len-value.true, c.value.ensures)) c.index-columns-position.is (c.sector_at-sector.ensures ∙ ap (λ (p : ℕ). column.offset + p) c.in_column.ensures) c.map_range.ensures.bounded
+
+-- Chunk by chunk
+
+pub map_chunks-in_column-requires : goal.map_chunks-in_column-requires
+map_chunks-in_column-requires g t c =
+    let a = c.args in let l = c.loop-left in let lies = c.requires.inside in
+    let at = l.invariant.position c.loop-left-test.true in
+    let small = position_small a.chunk_size.now (length a.columns.now) (a.distance + (a.len - l.left)) l.position lies.stripes.some at in
+    omega (arith, small, lies.inside, lies.small, l.invariant.within)
+
+pub map_chunks-sector_at-sector-requires : goal.map_chunks-sector_at-sector-requires
+map_chunks-sector_at-sector-requires g t c =
+    let a = c.args in let l = c.loop-left in let column = c.index-columns-position.result in let at = l.invariant.position c.loop-left-test.true in
+    let some : 1 ≤ c.min-part.result = omega (arith, c.min-part.ensures, c.loop-left-test.true, at.past, c.requires.inside.stripes.chunk_some) in
+    let inside = column_inside a.walker.now.stack a.chunk_size.now a.distance a.len (a.len - l.left) c.min-part.result a.columns.now column l.position c.requires.inside (omega (arith, c.loop-left-test.true, l.invariant.within)) at
+    (omega (arith, c.min-part.ensures)) c.index-columns-position.is in
+    subst (λ (s : Description). column.offset + c.in_column.result < lower_len s column.to) (sym l.invariant.walked.stack) (let e : column.offset + c.in_column.result < lower_len a.walker.now.stack column.to = omega (arith, inside, some, c.in_column.ensures) in e)
+
+pub map_chunks-map_range-requires : goal.map_chunks-map_range-requires
+map_chunks-map_range-requires g t c κs within =
+    let a = c.args in let l = c.loop-left in let column = c.index-columns-position.result in let at = l.invariant.position c.loop-left-test.true in
+    let some : 1 ≤ c.min-part.result = omega (arith, c.min-part.ensures, c.loop-left-test.true, at.past, c.requires.inside.stripes.chunk_some) in
+    let inside = column_inside a.walker.now.stack a.chunk_size.now a.distance a.len (a.len - l.left) c.min-part.result a.columns.now column l.position c.requires.inside (omega (arith, c.loop-left-test.true, l.invariant.within)) at
+    (omega (arith, c.min-part.ensures)) c.index-columns-position.is in
+    let there : c.sector_at-sector.result + c.min-part.result ≤ lower_len l.walker.stack column.to = subst (λ (s : Description). c.sector_at-sector.result + c.min-part.result ≤ lower_len s column.to) (sym l.invariant.walked.stack) (omega (arith, inside, c.sector_at-sector.ensures, c.in_column.ensures)) in
+    search rules
+
+pub map_chunks-returns-in_err-map_range-clause-walked : goal.map_chunks-returns-in_err-map_range-clause-walked
+map_chunks-returns-in_err-map_range-clause-walked g t c =
     let a = c.args in let w = a.walker.now in let l = c.loop-left in let column = c.index-columns-position.result in let n = c.min-part.result in let done = a.len - l.left in let stripes = c.requires.inside.stripes in
     cut_on g.S.Sink.took g.S.Sink.left g.S.Sink.stack g.S.Sink.room g.S.Sink.faults g.met.S.Sink.took_then_left _ c.from_residual.result a.sink.now l.sink c.map_range.new.sink w l.walker c.map_range.new.walker
     (λ after position. below_step w.stack a.op a.levels (below_stripes a.chunk_size.now a.columns.now position) after) a.distance done n a.len c.from_residual.ensures.0 (omega (arith, c.min-part.ensures, l.invariant.within)) l.invariant.walked
     (column_walked g.S.Sink.took g.S.Sink.left g.S.Sink.stack g.S.Sink.room g.S.Sink.faults _ l.sink c.map_range.new.sink w.stack l.walker c.map_range.new.walker a.op a.levels a.chunk_size.now (a.distance + done) n c.sector_at-sector.result a.columns.now column l.position
     l.invariant.walked.stack stripes.some stripes.chunk_some (l.invariant.position c.loop-left-test.true) (omega (arith, c.min-part.ensures)) c.index-columns-position.is (c.sector_at-sector.ensures ∙ ap (λ (p : ℕ). column.offset + p) c.in_column.ensures) c.in_err-map_range.ensures.walked)
 
-pub map_stripes-returns-in_err-map_range-clause-bounded : goal.map_stripes-returns-in_err-map_range-clause-bounded
-map_stripes-returns-in_err-map_range-clause-bounded g t c device line found kind =
+pub map_chunks-returns-in_err-map_range-clause-bounded : goal.map_chunks-returns-in_err-map_range-clause-bounded
+map_chunks-returns-in_err-map_range-clause-bounded g t c device line found kind =
     let a = c.args in let w = a.walker.now in let l = c.loop-left in let column = c.index-columns-position.result in let n = c.min-part.result in let done = a.len - l.left in let stripes = c.requires.inside.stripes in
     let at = l.invariant.position c.loop-left-test.true in
     bound_more w c.map_range.new.walker a.op (depth_of w.stack device - 1) a.distance (done + n) a.len (line_paths w.stack w.state a.levels device line) (omega (arith, c.min-part.ensures, l.invariant.within))
@@ -218,15 +280,15 @@ map_stripes-returns-in_err-map_range-clause-bounded g t c device line found kind
     stripes.some stripes.chunk_some at (omega (arith, c.min-part.ensures, c.loop-left-test.true, at.past, stripes.chunk_some)) (omega (arith, c.min-part.ensures)) c.index-columns-position.is (c.sector_at-sector.ensures ∙ ap (λ (p : ℕ). column.offset + p) c.in_column.ensures)
     found kind c.in_err-map_range.ensures.bounded (l.invariant.bounded device line found kind))
 
-pub map_stripes-next_chunk-position-requires-clause-small : goal.map_stripes-next_chunk-position-requires-clause-small
-map_stripes-next_chunk-position-requires-clause-small g t c =
+pub map_chunks-next_chunk-position-requires-clause-small : goal.map_chunks-next_chunk-position-requires-clause-small
+map_chunks-next_chunk-position-requires-clause-small g t c =
     let a = c.args in let l = c.loop-left in let lies = c.requires.inside in
     let at = l.invariant.position c.loop-left-test.true in
     let small = position_small a.chunk_size.now (length a.columns.now) (a.distance + (a.len - l.left)) l.position lies.stripes.some at in
     omega (arith, small, lies.inside, lies.small, lies.stripes.chunk_small, l.invariant.within)
 
-pub map_stripes-loop-left-preserved : goal.map_stripes-loop-left-preserved
-map_stripes-loop-left-preserved g t c =
+pub map_chunks-loop-left-preserved : goal.map_chunks-loop-left-preserved
+map_chunks-loop-left-preserved g t c =
     let a = c.args in let w = a.walker.now in let l = c.loop-left in let column = c.index-columns-position.result in let n = c.min-part.result in let done = a.len - l.left in let stripes = c.requires.inside.stripes in
     let on : done + n ≡ a.len - (l.left - n) = omega (arith, c.min-part.ensures, l.invariant.within) in
     let at = l.invariant.position c.loop-left-test.true in

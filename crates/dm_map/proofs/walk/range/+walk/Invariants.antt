@@ -20,8 +20,11 @@ decreases-map_device g l = 5 * l.levels
 abbrev pub decreases-map_line : goal.decreases-map_line
 decreases-map_line g l = 5 * l.levels + 4
 
+abbrev pub decreases-map_chunks : goal.decreases-map_chunks
+decreases-map_chunks g l = 5 * l.levels + 2
+
 abbrev pub decreases-map_stripes : goal.decreases-map_stripes
-decreases-map_stripes g l = 5 * l.levels + 2
+decreases-map_stripes g l = 5 * l.levels + 3
 
 abbrev pub decreases-map_snapshot : goal.decreases-map_snapshot
 decreases-map_snapshot g l = 5 * l.levels + 3
@@ -35,20 +38,21 @@ decreases-map_origin g l = 5 * l.levels + 3
 abbrev pub decreases-write_origin : goal.decreases-write_origin
 decreases-write_origin g l = 5 * l.levels + 2
 
-abbrev pub invariant-map_device-loop-left : goal.invariant-map_device-loop-left
-invariant-map_device-loop-left g l = record {
+abbrev pub invariant-map_device-lines : goal.invariant-map_device-lines
+invariant-map_device-lines g l = record {
   walked : IsWalked g.S.Sink.took g.S.Sink.left g.S.Sink.stack g.S.Sink.room g.S.Sink.faults going_on l.fn.sink l.sink l.fn.walker l.walker (range_step l.fn.walker.stack l.op l.levels (Device l.device) l.fn.walker.state l.sector (l.len - l.left)) (l.len - l.left);
+  some : 1 ≤ l.left;
   within : l.left ≤ l.len;
   position : l.at + l.left ≡ l.sector + l.len;
-  edge : 0 < l.len - l.left → 0 < l.left → LineBefore l.fn.walker.stack l.device l.at;
+  edge : 0 < l.len - l.left → LineBefore l.fn.walker.stack l.device l.at;
   bounded : IsBounded l.fn.walker l.walker l.op (depth_of l.fn.walker.stack l.device) (path l.fn.walker.stack l.fn.walker.state l.levels (Device l.device)) l.sector (l.len - l.left);
 }
 
-abbrev pub decreases-map_device-loop-left : goal.decreases-map_device-loop-left
-decreases-map_device-loop-left g l = l.left
+abbrev pub decreases-map_device-lines : goal.decreases-map_device-lines
+decreases-map_device-lines g l = l.left
 
-abbrev pub invariant-map_stripes-loop-left : goal.invariant-map_stripes-loop-left
-invariant-map_stripes-loop-left g l = record {
+abbrev pub invariant-map_chunks-loop-left : goal.invariant-map_chunks-loop-left
+invariant-map_chunks-loop-left g l = record {
   walked : IsWalked g.S.Sink.took g.S.Sink.left g.S.Sink.stack g.S.Sink.room g.S.Sink.faults going_on l.fn.sink l.sink l.fn.walker l.walker (stripes_step l.fn.walker.stack l.op l.levels l.chunk_size l.columns l.fn.walker.state l.distance (l.len - l.left)) (l.len - l.left);
   within : l.left ≤ l.len;
   position : 0 < l.left → IsStripePosition l.chunk_size (length l.columns) (l.distance + (l.len - l.left)) l.position;
@@ -56,8 +60,8 @@ invariant-map_stripes-loop-left g l = record {
   bounded : (device : ℕ) → IsTargetBounded l.fn.walker l.walker l.op l.levels device (Striped l.chunk_size l.columns) l.distance (l.len - l.left);
 }
 
-abbrev pub decreases-map_stripes-loop-left : goal.decreases-map_stripes-loop-left
-decreases-map_stripes-loop-left g l = l.left
+abbrev pub decreases-map_chunks-loop-left : goal.decreases-map_chunks-loop-left
+decreases-map_chunks-loop-left g l = l.left
 
 abbrev pub invariant-map_snapshot-loop-left : goal.invariant-map_snapshot-loop-left
 invariant-map_snapshot-loop-left g l = record {

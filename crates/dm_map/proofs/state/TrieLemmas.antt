@@ -1,0 +1,527 @@
+-- The ways of a trie of taken chunks.
+use Rattle.std.proofs.Common.{◌≡◌, ℕ, zero, suc, ◌+◌, ◌-◌, ◌%◌, ◌^◌, ◌<◌, ◌≤◌, true, false, List, [], ◌∷◌, ◌++◌, Some, None, cond, length, get_or, replicate, set, nat_eq, refl, sym, ap, subst, ◌∙◌, inl, inr, arith, w64}
+use Rattle.std.specs.Int.{bit_at, trailing_zeros}
+use Rattle.std.specs.Int.Bits.{bit_and, bit_xor}
+use Rattle.std.specs.List.{AllByRecursion, IsDistinct, list_any}
+use Rattle.std.proofs.Math.Logic.{∥∥₁_elim}
+use Rattle.std.proofs.Props.{props}
+use Rattle.std.proofs.lemmas.Bool.{cases_eq, cases_lt, eq-eqb, eqb-true, false_from_ne_true, le-ltb, lt-ltb, ne_eqb, or_cases, or_parts}
+use Rattle.std.proofs.lemmas.List.{get_or_append_left, get_or_push, get_or_read, get_or-replicate, get_or-set_other, get_or-set_same, length-replicate, length-set, length_push}
+use Rattle.std.specs.Prelude.{◌⊎◌, nat_lt}
+use Rattle.dm_map.specs.state.Snapshots.{number_in}
+use Rattle.dm_map.proofs.state.RunLemmas.{number_distinct}
+use Rattle.std.proofs.lemmas.Map.Steps.{length-le_from_distinct_below}
+use Rattle.std.proofs.lemmas.Nat.{and_le_r, xor_lt}
+use Rattle.std.proofs.lemmas.Nat.Bits.{bit_at-lt, bit_at-trailing_zeros, bit_at-zero, bit_at_xor, same_from_bits}
+use Rattle.dm_map.specs.declared.state.trie_taken.link.Node.{Node}
+use Rattle.dm_map.specs.declared.state.trie_taken.link.Node.TheVariants.{Empty, Number, Fork}
+use Rattle.dm_map.specs.state.Trie.{Agree, Fits, HasMarks, IsFork, IsNumber, IsSide, IsTrie, Marks, chunk_at, end_of, is_fork, next_at, node_at, way}
+
+-- Steps
+
+pub way-zero : (nodes : List Node) (chunk start : ℕ) → way nodes chunk start 0 ≡ start
+unfolding way
+way-zero nodes chunk start = refl
+
+pub way-suc : (nodes : List Node) (chunk start steps : ℕ) → way nodes chunk start (suc steps) ≡ next_at chunk (way nodes chunk start steps) (node_at nodes (way nodes chunk start steps))
+unfolding way
+way-suc nodes chunk start steps = refl
+
+pub next_stays : (chunk at : ℕ) (node : Node) → is_fork node ≡ false → next_at chunk at node ≡ at
+next_stays chunk at Empty not_there = refl
+next_stays chunk at (Number number) not_there = refl
+next_stays chunk at (Fork bit pair) not_there = absurd cc
+
+stays_for : (nodes : List Node) (chunk start steps more : ℕ) → is_fork (node_at nodes (way nodes chunk start steps)) ≡ false → way nodes chunk start (steps + more) ≡ way nodes chunk start steps
+stays_for nodes chunk start steps zero not_there = let e : steps + 0 ≡ steps = omega arith in ap (way nodes chunk start) e
+stays_for nodes chunk start steps (suc more) not_there =
+    let e : steps + suc more ≡ suc (steps + more) = omega arith in
+    let before = stays_for nodes chunk start steps more not_there in
+    ap (way nodes chunk start) e
+    ∙ way-suc nodes chunk start (steps + more)
+    ∙ ap (λ at. next_at chunk at (node_at nodes at)) before
+    ∙ next_stays chunk (way nodes chunk start steps) _ not_there
+
+-- what is no fork is the end
+pub stays : (nodes : List Node) (chunk start steps all : ℕ) → steps ≤ all → is_fork (node_at nodes (way nodes chunk start steps)) ≡ false → way nodes chunk start all ≡ way nodes chunk start steps
+stays nodes chunk start steps all few not_there =
+    let e : all ≡ steps + (all - steps) = omega (arith, few) in
+    ap (way nodes chunk start) e ∙ stays_for nodes chunk start steps (all - steps) not_there
+
+-- Bits that are tested
+
+all_other : (bit : ℕ) (bits : List ℕ) → list_any (nat_eq bit) bits ≡ false → AllByRecursion (λ y. nat_eq bit y ≡ false) bits
+all_other bit [] not_there = tt
+all_other bit (x ∷ bits) not_there = let parts = or_parts (nat_eq bit x) (list_any (nat_eq bit) bits) not_there in (parts.0, all_other bit bits parts.1)
+
+distinct_cons : (bit : ℕ) (bits : List ℕ) → list_any (nat_eq bit) bits ≡ false → IsDistinct nat_eq bits → IsDistinct nat_eq (bit ∷ bits)
+unfolding IsDistinct
+distinct_cons bit bits not_there distinct = (all_other bit bits not_there, distinct)
+
+distinct_none : IsDistinct nat_eq []
+unfolding IsDistinct
+distinct_none = tt
+
+small_cons : (first : ℕ) (bits : List ℕ) → first < 64 → ((bit : ℕ) → list_any (nat_eq bit) bits ≡ true → bit < 64) → (bit : ℕ) → list_any (nat_eq bit) (first ∷ bits) ≡ true → bit < 64
+small_cons first bits here small bit there = elim (or_cases (nat_eq bit first) (list_any (nat_eq bit) bits) there) [
+  | inl is ↦ omega (arith, eqb-true bit first is, here)
+  | inr later ↦ small bit later
+]
+
+pub agree_cons : (first : ℕ) (bits : List ℕ) (chunk other : ℕ) → bit_at chunk first ≡ bit_at other first → Agree bits chunk other → Agree (first ∷ bits) chunk other
+agree_cons first bits chunk other here agree bit there = elim (or_cases (nat_eq bit first) (list_any (nat_eq bit) bits) there) [
+  | inl is ↦ let e = eqb-true bit first is in ap (bit_at chunk) e ∙ here ∙ ap (bit_at other) (sym e)
+  | inr later ↦ agree bit later
+]
+
+-- a chunk on its way
+pub record OnWay (nodes : List Node) (marks : Marks) (chunk at steps : ℕ) : Type 0 where
+  pub within : at < length nodes
+  pub distinct : IsDistinct nat_eq (marks.tested at)
+  pub small : (bit : ℕ) → list_any (nat_eq bit) (marks.tested at) ≡ true → bit < 64
+  pub agree : Agree (marks.tested at) chunk (marks.like at)
+  pub count : is_fork (node_at nodes at) ≡ true → length (marks.tested at) ≡ steps
+
+on_start : (chunks : List ℕ) (nodes : List Node) (mask : ℕ) (trie : HasMarks chunks nodes mask) → mask < length nodes → (chunk : ℕ) → OnWay nodes trie.marks chunk (bit_and chunk mask) 0
+on_start chunks nodes mask trie slots chunk =
+    let at = bit_and chunk mask in
+    let low : at ≤ mask = and_le_r chunk mask in
+    let none : trie.marks.tested at ≡ [] = trie.start at low in
+    record {
+      within = omega (arith, low, slots);
+      distinct = subst (IsDistinct nat_eq) (sym none) distinct_none;
+      small = λ bit there. let not_there : false ≡ true = rw none at there in absurd cc;
+      agree = λ bit there. let not_there : false ≡ true = rw none at there in absurd cc;
+      count = λ _. ap length none;
+    }
+
+on_next : (chunks : List ℕ) (nodes : List Node) (marks : Marks) (chunk at steps : ℕ) (node : Node) → node_at nodes at ≡ node → Fits marks chunks (length nodes) at node → OnWay nodes marks chunk at steps → OnWay nodes marks chunk (next_at chunk at node) (suc steps)
+on_next chunks nodes marks chunk at steps Empty is fits here = record { within = here.within; distinct = here.distinct; small = here.small; agree = here.agree; count = λ fork. let not_there : false ≡ true = sym (ap is_fork is) ∙ fork in absurd cc }
+on_next chunks nodes marks chunk at steps (Number number) is fits here = record { within = here.within; distinct = here.distinct; small = here.small; agree = here.agree; count = λ fork. let not_there : false ≡ true = sym (ap is_fork is) ∙ fork in absurd cc }
+on_next chunks nodes marks chunk at steps (Fork bit pair) is fits here =
+    let value = bit_at chunk bit in
+    let below : value < 2 = bit_at-lt chunk bit in
+    let side = fits.sides value below in
+    let distinct : IsDistinct nat_eq (bit ∷ marks.tested at) = distinct_cons bit (marks.tested at) fits.fresh here.distinct in
+    let agree : Agree (bit ∷ marks.tested at) chunk (marks.like (pair + value)) =
+    agree_cons bit (marks.tested at) chunk (marks.like (pair + value)) (sym side.parted) (λ other there. here.agree other there ∙ sym (side.agree other there)) in
+    record {
+      within = omega (arith, fits.within, below);
+      distinct = subst (IsDistinct nat_eq) (sym side.tested) distinct;
+      small = λ other there. small_cons bit (marks.tested at) fits.small here.small other (rw side.tested at there);
+      agree = subst (λ bits. Agree bits chunk (marks.like (pair + value))) (sym side.tested) agree;
+      count = λ _. ap length side.tested ∙ ap suc (here.count (ap is_fork is));
+    }
+
+pub on_way : (chunks : List ℕ) (nodes : List Node) (mask : ℕ) (trie : HasMarks chunks nodes mask) → mask < length nodes → (chunk steps : ℕ) → OnWay nodes trie.marks chunk (way nodes chunk (bit_and chunk mask) steps) steps
+on_way chunks nodes mask trie slots chunk zero = subst (λ at. OnWay nodes trie.marks chunk at 0) (sym (way-zero nodes chunk (bit_and chunk mask))) (on_start chunks nodes mask trie slots chunk)
+on_way chunks nodes mask trie slots chunk (suc steps) =
+    let at = way nodes chunk (bit_and chunk mask) steps in
+    let here = on_way chunks nodes mask trie slots chunk steps in
+    subst (λ at. OnWay nodes trie.marks chunk at (suc steps)) (sym (way-suc nodes chunk (bit_and chunk mask) steps)) (on_next chunks nodes trie.marks chunk at steps (node_at nodes at) refl (trie.fits at here.within) here)
+
+-- a fork has a bit that is left to test
+pub record Ahead (nodes : List Node) (steps bit pair : ℕ) : Type 0 where
+  pub few : steps < 64
+  pub small : bit < 64
+  pub within : pair + 1 < length nodes
+
+ahead_on : (chunks : List ℕ) (nodes : List Node) (marks : Marks) (chunk at steps bit pair : ℕ) → OnWay nodes marks chunk at steps → node_at nodes at ≡ Fork bit pair → Fits marks chunks (length nodes) at (Fork bit pair) → Ahead nodes steps bit pair
+ahead_on chunks nodes marks chunk at steps bit pair here is fits =
+    let count : length (marks.tested at) ≡ steps = here.count (ap is_fork is) in
+    let most : length (bit ∷ marks.tested at) ≤ 64 = length-le_from_distinct_below (bit ∷ marks.tested at) 64 (distinct_cons bit (marks.tested at) fits.fresh here.distinct) (small_cons bit (marks.tested at) fits.small here.small) in
+    record { few = omega (arith, count, most); small = fits.small; within = fits.within }
+
+pub ahead : (chunks : List ℕ) (nodes : List Node) (mask chunk steps bit pair : ℕ) → HasMarks chunks nodes mask → mask < length nodes → node_at nodes (way nodes chunk (bit_and chunk mask) steps) ≡ Fork bit pair → Ahead nodes steps bit pair
+ahead chunks nodes mask chunk steps bit pair trie slots is =
+    let at = way nodes chunk (bit_and chunk mask) steps in
+    let here = on_way chunks nodes mask trie slots chunk steps in
+    ahead_on chunks nodes trie.marks chunk at steps bit pair here is (subst (Fits trie.marks chunks (length nodes) at) is (trie.fits at here.within))
+
+-- a way has come to its end after 64 steps
+pub no_fork : (node : Node) → ((bit pair : ℕ) → node ≡ Fork bit pair → ⊥) → is_fork node ≡ false
+no_fork Empty not_there = refl
+no_fork (Number number) not_there = refl
+no_fork (Fork bit pair) not_there = absurd (not_there bit pair refl)
+
+pub end_is : (chunks : List ℕ) (nodes : List Node) (mask chunk : ℕ) → HasMarks chunks nodes mask → mask < length nodes → is_fork (node_at nodes (end_of nodes mask chunk)) ≡ false
+end_is chunks nodes mask chunk trie slots =
+    no_fork _ (λ bit pair is. let more = ahead chunks nodes mask chunk 64 bit pair trie slots is in absurd (omega (arith, more.few)))
+
+-- a number at an end is that of a taken chunk, and no chunk that was taken has another
+number_on : (chunks : List ℕ) (nodes : List Node) (mask : ℕ) (trie : HasMarks chunks nodes mask) → mask < length nodes → (chunk number : ℕ) → node_at nodes (end_of nodes mask chunk) ≡ Number number → IsNumber trie.marks chunks (end_of nodes mask chunk) number
+number_on chunks nodes mask trie slots chunk number is =
+    let at = end_of nodes mask chunk in
+    let here = on_way chunks nodes mask trie slots chunk 64 in
+    subst (Fits trie.marks chunks (length nodes) at) is (trie.fits at here.within)
+
+-- a chunk that is at no index isn't there
+number_absent : (chunk : ℕ) (chunks : List ℕ) → ((number : ℕ) → number < length chunks → chunk_at chunks number ≡ chunk → ⊥) → number_in chunk chunks ≡ None
+number_absent chunk [] none = refl
+number_absent chunk (first ∷ chunks) none =
+    rw (ne_eqb first chunk (none 0 (omega arith)), number_absent chunk chunks (λ number within is. none (suc number) (omega (arith, within)) is)) refl
+
+-- a chunk that isn't there is no other one
+pub fresh_apart : (xs : List ℕ) (i chunk : ℕ) → IsDistinct nat_eq xs → i < length xs → number_in chunk xs ≡ None → get_or xs i 0 ≡ chunk → ⊥
+fresh_apart xs i chunk distinct within none is =
+    let found : number_in chunk xs ≡ Some i = ap (λ c. number_in c xs) (sym is) ∙ number_distinct xs i 0 distinct within in
+    let wrong : None ≡ Some i = sym none ∙ found in
+    absurd cc
+
+-- Nothing is taken
+
+pub no_trie : (slots mask : ℕ) → IsTrie [] (replicate slots Empty) mask
+no_trie slots mask =
+    record {
+      marked = record {
+        marks = record { tested = λ _. []; like = λ _. 0 };
+        start = λ _ _. refl;
+        fits = λ at within. subst (Fits (record { tested = λ _. []; like = λ _. 0 }) [] (length (replicate slots Empty)) at) (sym (get_or-replicate slots at Empty Empty (omega (arith, within, length-replicate slots Empty)))) tt;
+      };
+      ends = λ number within. absurd (omega (arith, within));
+    }
+
+-- A chunk that is taken
+
+-- a number in the place of nothing changes no way
+put_way : (nodes after : List Node) (here : ℕ) → is_fork (node_at nodes here) ≡ false → is_fork (node_at after here) ≡ false → ((at : ℕ) → (at ≡ here → ⊥) → node_at after at ≡ node_at nodes at)
+    → (chunk start steps : ℕ) → way after chunk start steps ≡ way nodes chunk start steps
+put_way nodes after here before now others chunk start zero = way-zero after chunk start ∙ sym (way-zero nodes chunk start)
+put_way nodes after here before now others chunk start (suc steps) =
+    let at = way nodes chunk start steps in
+    let same = put_way nodes after here before now others chunk start steps in
+    let next : next_at chunk at (node_at after at) ≡ next_at chunk at (node_at nodes at) = elim (cases_eq at here) [
+      | inl is ↦ next_stays chunk at (node_at after at) (ap (λ p. is_fork (node_at after p)) is ∙ now) ∙ sym (next_stays chunk at (node_at nodes at) (ap (λ p. is_fork (node_at nodes p)) is ∙ before))
+      | inr other ↦ ap (next_at chunk at) (others at other)
+    ] in
+    way-suc after chunk start steps ∙ ap (λ p. next_at chunk p (node_at after p)) same ∙ next ∙ sym (way-suc nodes chunk start steps)
+
+-- what fits fits on where there is more
+chunk_before : (chunks : List ℕ) (chunk number : ℕ) → number < length chunks → chunk_at (chunks ++ chunk ∷ []) number ≡ chunk_at chunks number
+chunk_before chunks chunk number within = get_or_append_left chunks (chunk ∷ []) 0 number within
+
+chunk_last : (chunks : List ℕ) (chunk : ℕ) → chunk_at (chunks ++ chunk ∷ []) (length chunks) ≡ chunk
+chunk_last chunks chunk = get_or_push chunks chunk 0 (length chunks) refl
+
+fits_on : (marks : Marks) (chunks : List ℕ) (chunk count at : ℕ) (node : Node) → Fits marks chunks count at node → Fits marks (chunks ++ chunk ∷ []) count at node
+fits_on marks chunks chunk count at Empty fits = tt
+fits_on marks chunks chunk count at (Number number) fits =
+    record {
+      within = omega (arith, fits.within, length_push chunks chunk);
+      agree = subst (λ other. Agree (marks.tested at) other (marks.like at)) (sym (chunk_before chunks chunk number fits.within)) fits.agree;
+    }
+fits_on marks chunks chunk count at (Fork bit pair) fits = fits
+
+fits_last : (marks : Marks) (chunks : List ℕ) (chunk at : ℕ) → Agree (marks.tested at) chunk (marks.like at) → IsNumber marks (chunks ++ chunk ∷ []) at (length chunks)
+fits_last marks chunks chunk at agree =
+    record {
+      within = omega (arith, length_push chunks chunk);
+      agree = subst (λ other. Agree (marks.tested at) other (marks.like at)) (sym (chunk_last chunks chunk)) agree;
+    }
+
+-- where the ways of all chunks end, if those that were there end as they did and the new one at its number
+ends_on : (chunks : List ℕ) (chunk : ℕ) (at : ℕ → Node) → ((number : ℕ) → number < length chunks → at (chunk_at chunks number) ≡ Number number) → at chunk ≡ Number (length chunks)
+    → (number : ℕ) → number < length (chunks ++ chunk ∷ []) → at (chunk_at (chunks ++ chunk ∷ []) number) ≡ Number number
+ends_on chunks chunk at before new number within = elim (cases_lt number (length chunks)) [
+  | inl below ↦ ap at (chunk_before chunks chunk number below) ∙ before number below
+  | inr past ↦
+      let last : number ≡ length chunks = omega (arith, past, within, length_push chunks chunk) in
+      ap (λ n. at (chunk_at (chunks ++ chunk ∷ []) n)) last ∙ ap at (chunk_last chunks chunk) ∙ new ∙ ap Number (sym last)
+]
+
+pub put_trie : (chunks : List ℕ) (nodes : List Node) (mask chunk : ℕ) → IsTrie chunks nodes mask → mask < length nodes → node_at nodes (end_of nodes mask chunk) ≡ Empty
+    → IsTrie (chunks ++ chunk ∷ []) (set nodes (end_of nodes mask chunk) (Number (length chunks))) mask
+put_trie chunks nodes mask chunk trie slots empty =
+    let here = end_of nodes mask chunk in
+    let after = set nodes here (Number (length chunks)) in
+    let on = on_way chunks nodes mask trie.marked slots chunk 64 in
+    let within : here < length nodes = on.within in
+    let count : length after ≡ length nodes = length-set nodes here (Number (length chunks)) in
+    let now : node_at after here ≡ Number (length chunks) = get_or-set_same nodes here (Number (length chunks)) Empty within in
+    let others : (at : ℕ) → (at ≡ here → ⊥) → node_at after at ≡ node_at nodes at = λ at other. get_or-set_other nodes here at (Number (length chunks)) Empty other in
+    let same : (other : ℕ) → end_of after mask other ≡ end_of nodes mask other = λ other. put_way nodes after here (ap is_fork empty) (ap is_fork now) others other (bit_and other mask) 64 in
+    let marks = trie.marked.marks in
+    let fits : (at : ℕ) → at < length after → Fits marks (chunks ++ chunk ∷ []) (length after) at (node_at after at) = λ at there. let there' : at < length nodes = omega (arith, there, count) in elim (cases_eq at here) [
+      | inl is ↦ subst (Fits marks (chunks ++ chunk ∷ []) (length after) at) (sym (ap (node_at after) is ∙ now))
+          (fits_last marks chunks chunk at (subst (λ p. Agree (marks.tested p) chunk (marks.like p)) (sym is) on.agree))
+      | inr other ↦ subst (λ n. Fits marks (chunks ++ chunk ∷ []) n at (node_at after at)) (sym count)
+          (subst (Fits marks (chunks ++ chunk ∷ []) (length nodes) at) (sym (others at other)) (fits_on marks chunks chunk (length nodes) at (node_at nodes at) (trie.marked.fits at there')))
+    ] in
+    record {
+      marked = record { marks = marks; start = trie.marked.start; fits = fits };
+      ends = ends_on chunks chunk (λ other. node_at after (end_of after mask other))
+          (λ number below. elim (cases_eq (end_of nodes mask (chunk_at chunks number)) here) [
+            | inl is ↦ let no : Empty ≡ Number number = sym empty ∙ ap (node_at nodes) (sym is) ∙ trie.ends number below in absurd cc
+            | inr other ↦ ap (node_at after) (same (chunk_at chunks number)) ∙ others _ other ∙ trie.ends number below
+          ])
+          (ap (node_at after) (same chunk) ∙ now);
+    }
+
+-- a fork in the place of a number: a way that ended there goes on to one of its links, and no other way changes
+part_way : (nodes after : List Node) (here bit chunk start : ℕ) → is_fork (node_at nodes here) ≡ false → node_at after here ≡ Fork bit (length nodes) → ((at : ℕ) → at < length nodes → (at ≡ here → ⊥) → node_at after at ≡ node_at nodes at)
+    → is_fork (node_at after (length nodes + bit_at chunk bit)) ≡ false → ((steps : ℕ) → way nodes chunk start steps < length nodes)
+    → (steps : ℕ) → (way after chunk start steps ≡ way nodes chunk start steps) ⊎ ((way nodes chunk start steps ≡ here) × (way after chunk start steps ≡ length nodes + bit_at chunk bit))
+part_way nodes after here bit chunk start before now others leaf within zero = inl (way-zero after chunk start ∙ sym (way-zero nodes chunk start))
+part_way nodes after here bit chunk start before now others leaf within (suc steps) =
+    let at = way nodes chunk start steps in
+    let old = way-suc nodes chunk start steps in
+    let new = way-suc after chunk start steps in
+    elim (part_way nodes after here bit chunk start before now others leaf within steps) [
+      | inl same ↦
+          let next : way after chunk start (suc steps) ≡ next_at chunk at (node_at after at) = new ∙ ap (λ p. next_at chunk p (node_at after p)) same in
+          elim (cases_eq at here) [
+            | inl is ↦ inr (
+              old ∙ next_stays chunk at (node_at nodes at) (ap (λ p. is_fork (node_at nodes p)) is ∙ before) ∙ is,
+              next ∙ ap (λ p. next_at chunk p (node_at after p)) is ∙ ap (next_at chunk here) now,
+            )
+            | inr other ↦ inl (next ∙ ap (next_at chunk at) (others at (within steps) other) ∙ sym old)
+          ]
+      | inr past ↦ inr (
+        old ∙ next_stays chunk at (node_at nodes at) (ap (λ p. is_fork (node_at nodes p)) past.0 ∙ before) ∙ past.0,
+        new ∙ ap (λ p. next_at chunk p (node_at after p)) past.1 ∙ next_stays chunk (length nodes + bit_at chunk bit) (node_at after (length nodes + bit_at chunk bit)) leaf,
+      )
+    ]
+
+-- the nodes with a fork on a bit at an index, whose links are new, and lead to the number of either chunk
+pub record IsParted (nodes after : List Node) (here bit chunk other new old : ℕ) : Type 0 where
+  pub count : length after ≡ length nodes + 2
+  pub fork : node_at after here ≡ Fork bit (length nodes)
+  pub mine : node_at after (length nodes + bit_at chunk bit) ≡ Number new
+  pub theirs : node_at after (length nodes + bit_at other bit) ≡ Number old
+  pub others : (at : ℕ) → at < length nodes → (at ≡ here → ⊥) → node_at after at ≡ node_at nodes at
+
+-- marks of the new links beside those that there were
+record AreMore (marks after : Marks) (count here bit chunk other : ℕ) : Type 0 where
+  tested : (at : ℕ) → at < count → after.tested at ≡ marks.tested at
+  like : (at : ℕ) → at < count → after.like at ≡ marks.like at
+  longer : (at : ℕ) → count ≤ at → after.tested at ≡ bit ∷ marks.tested here
+  mine : after.like (count + bit_at chunk bit) ≡ chunk
+  theirs : after.like (count + bit_at other bit) ≡ other
+
+more_marks : (marks : Marks) (count here bit chunk other : ℕ) → Marks
+more_marks marks count here bit chunk other = record {
+  tested = λ at. cond (nat_lt at count) (marks.tested at) (bit ∷ marks.tested here);
+  like = λ at. cond (nat_lt at count) (marks.like at) (cond (nat_eq at (count + bit_at chunk bit)) chunk other);
+}
+
+more_are : (marks : Marks) (count here bit chunk other : ℕ) → (bit_at chunk bit ≡ bit_at other bit → ⊥) → AreMore marks (more_marks marks count here bit chunk other) count here bit chunk other
+unfolding more_marks
+more_are marks count here bit chunk other apart =
+    record {
+      tested = λ at below. rw (lt-ltb at count below) refl;
+      like = λ at below. rw (lt-ltb at count below) refl;
+      longer = λ at past. rw (le-ltb at count past) refl;
+      mine = rw (le-ltb (count + bit_at chunk bit) count (omega arith), eq-eqb (count + bit_at chunk bit) (count + bit_at chunk bit) refl) refl;
+      theirs = rw (le-ltb (count + bit_at other bit) count (omega arith), ne_eqb (count + bit_at other bit) (count + bit_at chunk bit) (λ e. apart (omega (arith, e)))) refl;
+    }
+
+agree_moved : (bits now : List ℕ) (x y z w : ℕ) → now ≡ bits → z ≡ x → w ≡ y → Agree bits x y → Agree now z w
+agree_moved bits now x y z w same left right agree bit there =
+    ap (λ c. bit_at c bit) left ∙ agree bit (subst (λ l. list_any (nat_eq bit) l ≡ true) same there) ∙ sym (ap (λ c. bit_at c bit) right)
+
+fits_more : (marks after : Marks) (chunks : List ℕ) (new count here bit chunk other at : ℕ) (node : Node) → AreMore marks after count here bit chunk other → at < count → Fits marks chunks count at node → Fits after (chunks ++ new ∷ []) (count + 2) at node
+fits_more marks after chunks new count here bit chunk other at Empty more below fits = tt
+fits_more marks after chunks new count here bit chunk other at (Number number) more below fits =
+    record {
+      within = omega (arith, fits.within, length_push chunks new);
+      agree = agree_moved (marks.tested at) (after.tested at) (chunk_at chunks number) (marks.like at) _ _ (more.tested at below) (chunk_before chunks new number fits.within) (more.like at below) fits.agree;
+    }
+fits_more marks after chunks new count here bit chunk other at (Fork test pair) more below fits =
+    record {
+      within = omega (arith, fits.within);
+      small = fits.small;
+      fresh = ap (list_any (nat_eq test)) (more.tested at below) ∙ fits.fresh;
+      sides = λ value two.
+          let side = fits.sides value two in
+          let there : pair + value < count = omega (arith, fits.within, two) in
+          record {
+            tested = more.tested (pair + value) there ∙ side.tested ∙ ap (λ l. test ∷ l) (sym (more.tested at below));
+            agree = agree_moved (marks.tested at) (after.tested at) (marks.like (pair + value)) (marks.like at) _ _ (more.tested at below) (more.like (pair + value) there) (more.like at below) side.agree;
+            parted = ap (λ c. bit_at c test) (more.like (pair + value) there) ∙ side.parted;
+          };
+    }
+
+-- what comes after the new fork for one value of its bit
+new_side : (marks after : Marks) (count here bit chunk other value which : ℕ) → AreMore marks after count here bit chunk other → here < count → value ≡ bit_at which bit → after.like (count + bit_at which bit) ≡ which → Agree (marks.tested here) which (marks.like here) → IsSide after here bit count value
+new_side marks after count here bit chunk other value which more below is like agree =
+    let same : after.like (count + value) ≡ which = ap (λ v. after.like (count + v)) is ∙ like in
+    record {
+      tested = more.longer (count + value) (omega arith) ∙ ap (λ l. bit ∷ l) (sym (more.tested here below));
+      agree = agree_moved (marks.tested here) (after.tested here) which (marks.like here) _ _ (more.tested here below) same (more.like here below) agree;
+      parted = ap (λ c. bit_at c bit) same ∙ sym is;
+    }
+
+new_number : (after : Marks) (chunks : List ℕ) (at number which : ℕ) → number < length chunks → chunk_at chunks number ≡ which → after.like at ≡ which → IsNumber after chunks at number
+new_number after chunks at number which within is like = record { within = within; agree = λ bit there. ap (λ c. bit_at c bit) (is ∙ sym like) }
+
+-- two bits that differ are all values
+one_of : (value a b : ℕ) → value < 2 → a < 2 → b < 2 → (a ≡ b → ⊥) → (value ≡ a) ⊎ (value ≡ b)
+one_of value a b two left right apart = elim (cases_eq value a) [
+  | inl is ↦ inl is
+  | inr other ↦ elim (cases_eq value b) [ inl is ↦ inr is | inr none ↦ absurd (omega (arith, two, left, right, apart, other, none)) ]
+]
+
+part_marks : (chunks : List ℕ) (nodes after : List Node) (mask here bit chunk other number : ℕ) (trie : HasMarks chunks nodes mask) → mask < length nodes → bit < 64 → (bit_at chunk bit ≡ bit_at other bit → ⊥)
+    → OnWay nodes trie.marks chunk here 64 → IsNumber trie.marks chunks here number → chunk_at chunks number ≡ other → IsParted nodes after here bit chunk other (length chunks) number → HasMarks (chunks ++ chunk ∷ []) after mask
+part_marks chunks nodes after mask here bit chunk other number trie slots small apart on at_number other_is parted =
+    let marks = trie.marks in
+    let count = length nodes in
+    let all = chunks ++ chunk ∷ [] in
+    let now = more_marks marks count here bit chunk other in
+    let more = more_are marks count here bit chunk other apart in
+    let below : here < count = on.within in
+    let theirs : Agree (marks.tested here) other (marks.like here) = subst (λ c. Agree (marks.tested here) c (marks.like here)) other_is at_number.agree in
+    let fresh : list_any (nat_eq bit) (marks.tested here) ≡ false = false_from_ne_true (list_any (nat_eq bit) (marks.tested here)) (λ t. apart (on.agree bit t ∙ sym (theirs bit t))) in
+    let fork : IsFork now (count + 2) here bit count =
+    record {
+      within = omega arith;
+      small = small;
+      fresh = ap (list_any (nat_eq bit)) (more.tested here below) ∙ fresh;
+      sides = λ value two. elim (one_of value (bit_at chunk bit) (bit_at other bit) two (bit_at-lt chunk bit) (bit_at-lt other bit) apart) [
+        | inl is ↦ new_side marks now count here bit chunk other value chunk more below is more.mine on.agree
+        | inr is ↦ new_side marks now count here bit chunk other value other more below is more.theirs theirs
+      ];
+    } in
+    let long = length_push chunks chunk in
+    let mine : IsNumber now all (count + bit_at chunk bit) (length chunks) = new_number now all (count + bit_at chunk bit) (length chunks) chunk (omega (arith, long)) (chunk_last chunks chunk) more.mine in
+    let their : IsNumber now all (count + bit_at other bit) number = new_number now all (count + bit_at other bit) number other (omega (arith, long, at_number.within)) (chunk_before chunks chunk number at_number.within ∙ other_is) more.theirs in
+    let fits : (at : ℕ) → at < count + 2 → Fits now all (count + 2) at (node_at after at) = λ at there. elim (cases_lt at count) [
+      | inl old ↦ elim (cases_eq at here) [
+        | inl is ↦ subst (λ p. Fits now all (count + 2) p (node_at after p)) (sym is) (subst (Fits now all (count + 2) here) (sym parted.fork) fork)
+        | inr another ↦ subst (Fits now all (count + 2) at) (sym (parted.others at old another)) (fits_more marks now chunks chunk count here bit chunk other at (node_at nodes at) more old (trie.fits at old))
+      ]
+      | inr past ↦
+          let is : at ≡ count + (at - count) = omega (arith, past) in
+          let two : at - count < 2 = omega (arith, past, there) in
+          elim (one_of (at - count) (bit_at chunk bit) (bit_at other bit) two (bit_at-lt chunk bit) (bit_at-lt other bit) apart) [
+            | inl v ↦ subst (λ p. Fits now all (count + 2) p (node_at after p)) (sym (is ∙ ap (λ n. count + n) v)) (subst (Fits now all (count + 2) (count + bit_at chunk bit)) (sym parted.mine) mine)
+            | inr v ↦ subst (λ p. Fits now all (count + 2) p (node_at after p)) (sym (is ∙ ap (λ n. count + n) v)) (subst (Fits now all (count + 2) (count + bit_at other bit)) (sym parted.theirs) their)
+          ]
+    ] in
+    record {
+      marks = now;
+      start = λ at low. more.tested at (omega (arith, low, slots)) ∙ trie.start at low;
+      fits = subst (λ n. (at : ℕ) → at < n → Fits now all n at (node_at after at)) (sym parted.count) fits;
+    }
+
+pub part_trie : (chunks : List ℕ) (nodes after : List Node) (mask bit chunk other number : ℕ) → IsTrie chunks nodes mask → mask < length nodes → bit < 64 → (bit_at chunk bit ≡ bit_at other bit → ⊥)
+    → node_at nodes (end_of nodes mask chunk) ≡ Number number → chunk_at chunks number ≡ other → IsParted nodes after (end_of nodes mask chunk) bit chunk other (length chunks) number → IsTrie (chunks ++ chunk ∷ []) after mask
+part_trie chunks nodes after mask bit chunk other number trie slots small apart is other_is parted =
+    let here = end_of nodes mask chunk in
+    let count = length nodes in
+    let on = on_way chunks nodes mask trie.marked slots chunk 64 in
+    let at_number = number_on chunks nodes mask trie.marked slots chunk number is in
+    let marked = part_marks chunks nodes after mask here bit chunk other number trie.marked slots small apart on at_number other_is parted in
+    let wide : mask < length after = omega (arith, slots, parted.count) in
+    let stops : (c : ℕ) → end_of after mask c ≡ here → ⊥ = λ c e.
+    let more = ahead (chunks ++ chunk ∷ []) after mask c 64 bit count marked wide (ap (node_at after) e ∙ parted.fork) in absurd (omega (arith, more.few)) in
+    let ways : (c : ℕ) → is_fork (node_at after (count + bit_at c bit)) ≡ false → (end_of after mask c ≡ end_of nodes mask c) ⊎ ((end_of nodes mask c ≡ here) × (end_of after mask c ≡ count + bit_at c bit)) =
+    λ c leaf. part_way nodes after here bit c (bit_and c mask) (ap is_fork is) parted.fork parted.others leaf (λ steps. (on_way chunks nodes mask trie.marked slots c steps).within) 64 in
+    let leaf : (c : ℕ) → is_fork (node_at after (count + bit_at c bit)) ≡ false = λ c. elim (one_of (bit_at c bit) (bit_at chunk bit) (bit_at other bit) (bit_at-lt c bit) (bit_at-lt chunk bit) (bit_at-lt other bit) apart) [
+      | inl v ↦ ap (λ n. is_fork (node_at after (count + n))) v ∙ ap is_fork parted.mine
+      | inr v ↦ ap (λ n. is_fork (node_at after (count + n))) v ∙ ap is_fork parted.theirs
+    ] in
+    record {
+      marked = marked;
+      ends = ends_on chunks chunk (λ c. node_at after (end_of after mask c))
+          (λ n below.
+          let c = chunk_at chunks n in
+          let old : node_at nodes (end_of nodes mask c) ≡ Number n = trie.ends n below in
+          elim (ways c (leaf c)) [
+            | inl same ↦ ap (node_at after) same ∙ parted.others (end_of nodes mask c) (on_way chunks nodes mask trie.marked slots c 64).within (λ e. stops c (same ∙ e)) ∙ old
+            | inr past ↦
+                let number_is : Number number ≡ Number n = sym is ∙ ap (node_at nodes) (sym past.0) ∙ old in
+                let e : number ≡ n = cc in
+                let c_is : c ≡ other = ap (chunk_at chunks) (sym e) ∙ other_is in
+                ap (node_at after) past.1 ∙ ap (λ x. node_at after (count + bit_at x bit)) c_is ∙ parted.theirs ∙ number_is
+          ])
+          (elim (ways chunk (leaf chunk)) [
+            | inl same ↦ absurd (stops chunk same)
+            | inr past ↦ ap (node_at after) past.1 ∙ parted.mine
+          ]);
+    }
+
+-- the lowest bit in which two numbers differ
+same_bit : (a b : ℕ) → a < 2 → b < 2 → (a + b) % 2 ≡ 0 → a ≡ b
+same_bit a b left right even = omega (arith, left, right, even)
+
+xor_some : (a b : ℕ) → (a ≡ b → ⊥) → 0 < bit_xor a b
+xor_some a b differ = elim (cases_lt 0 (bit_xor a b)) [
+  | inl some ↦ some
+  | inr none ↦
+      let zeros : bit_xor a b ≡ 0 = omega (arith, none) in
+      let bits : (i : ℕ) → bit_at a i ≡ bit_at b i = λ i.
+      same_bit (bit_at a i) (bit_at b i) (bit_at-lt a i) (bit_at-lt b i) (sym (bit_at_xor a b i) ∙ ap (λ n. bit_at n i) zeros ∙ bit_at-zero i) in
+      absurd (differ (same_from_bits a b bits))
+]
+
+even_not_one : (a : ℕ) → (a + a) % 2 ≡ 1 → ⊥
+even_not_one a odd = omega (arith, odd)
+
+pub lowest_apart : (chunk other : ℕ) → chunk < 2 ^ 64 → other < 2 ^ 64 → (other ≡ chunk → ⊥) → (trailing_zeros w64 (bit_xor other chunk) < 64) × (bit_at chunk (trailing_zeros w64 (bit_xor other chunk)) ≡ bit_at other (trailing_zeros w64 (bit_xor other chunk)) → ⊥)
+lowest_apart chunk other low high differ =
+    let both = bit_xor other chunk in
+    let some : 0 < both = xor_some other chunk differ in
+    let within : both < 2 ^ 64 = xor_lt 64 other chunk high low in
+    let bit = trailing_zeros w64 both in
+    let lowest = bit_at-trailing_zeros w64 both some within in
+    let one : bit_at both bit ≡ 1 = lowest.1 in
+    let sum : bit_at both bit ≡ (bit_at other bit + bit_at chunk bit) % 2 = bit_at_xor other chunk bit in
+    (lowest.0, λ same. even_not_one (bit_at chunk bit) (ap (λ n. (n + bit_at chunk bit) % 2) same ∙ sym sum ∙ one))
+
+last_two : (nodes : List Node) (node : Node) (value : ℕ) → value < 2 → node_at ((nodes ++ node ∷ []) ++ node ∷ []) (length nodes + value) ≡ node
+last_two nodes node value two = elim (cases_eq value 0) [
+  | inl first ↦
+      let at : length nodes + value ≡ length nodes = omega (arith, first) in
+      ap (node_at ((nodes ++ node ∷ []) ++ node ∷ [])) at ∙ get_or_append_left (nodes ++ node ∷ []) (node ∷ []) Empty (length nodes) (omega (arith, length_push nodes node)) ∙ get_or_push nodes node Empty (length nodes) refl
+  | inr second ↦ get_or_push (nodes ++ node ∷ []) node Empty (length nodes + value) (omega (arith, length_push nodes node, two, second))
+]
+
+-- the nodes that the fork makes
+pub is_parted : (nodes : List Node) (here bit chunk other mine theirs : ℕ) → here < length nodes → (bit_at chunk bit ≡ bit_at other bit → ⊥)
+    → IsParted nodes (set (set ((nodes ++ Number theirs ∷ []) ++ Number theirs ∷ []) (length nodes + bit_at chunk bit) (Number mine)) here (Fork bit (length nodes))) here bit chunk other mine theirs
+is_parted nodes here bit chunk other mine theirs within apart =
+    let count = length nodes in
+    let value = bit_at chunk bit in
+    let both = (nodes ++ Number theirs ∷ []) ++ Number theirs ∷ [] in
+    let one = set both (count + value) (Number mine) in
+    let long : length both ≡ count + 2 = omega (arith, length_push (nodes ++ Number theirs ∷ []) (Number theirs), length_push nodes (Number theirs)) in
+    let same : length one ≡ length both = length-set both (count + value) (Number mine) in
+    let two : value < 2 = bit_at-lt chunk bit in
+    let two' : bit_at other bit < 2 = bit_at-lt other bit in
+    record {
+      count = length-set one here (Fork bit count) ∙ same ∙ long;
+      fork = get_or-set_same one here (Fork bit count) Empty (omega (arith, within, same, long));
+      mine = get_or-set_other one here (count + value) (Fork bit count) Empty (λ e. omega (arith, e, within)) ∙ get_or-set_same both (count + value) (Number mine) Empty (omega (arith, long, two));
+      theirs = get_or-set_other one here (count + bit_at other bit) (Fork bit count) Empty (λ e. omega (arith, e, within))
+          ∙ get_or-set_other both (count + value) (count + bit_at other bit) (Number mine) Empty (λ e. apart (omega (arith, e)))
+          ∙ last_two nodes (Number theirs) (bit_at other bit) two';
+      others = λ at below other. get_or-set_other one here at (Fork bit count) Empty other
+          ∙ get_or-set_other both (count + value) at (Number mine) Empty (λ e. omega (arith, e, below))
+          ∙ get_or_append_left (nodes ++ Number theirs ∷ []) (Number theirs ∷ []) Empty at (omega (arith, below, length_push nodes (Number theirs)))
+          ∙ get_or_append_left nodes (Number theirs ∷ []) Empty at below;
+    }
+
+-- The same of what merely is a trie
+
+pub end_within : (chunks : List ℕ) (nodes : List Node) (mask chunk : ℕ) → ∥ IsTrie chunks nodes mask ∥₁ → mask < length nodes → end_of nodes mask chunk < length nodes
+end_within chunks nodes mask chunk leads slots = ∥∥₁_elim leads (hlevel props) (λ trie. (on_way chunks nodes mask trie.marked slots chunk 64).within)
+
+pub end_stops : (chunks : List ℕ) (nodes : List Node) (mask chunk bit pair : ℕ) → ∥ IsTrie chunks nodes mask ∥₁ → mask < length nodes → node_at nodes (end_of nodes mask chunk) ≡ Fork bit pair → ⊥
+end_stops chunks nodes mask chunk bit pair leads slots is = ∥∥₁_elim leads (hlevel props) (λ trie. let more = ahead chunks nodes mask chunk 64 bit pair trie.marked slots is in absurd (omega (arith, more.few)))
+
+pub bit_ahead : (chunks : List ℕ) (nodes : List Node) (mask chunk steps bit pair : ℕ) → ∥ IsTrie chunks nodes mask ∥₁ → mask < length nodes → node_at nodes (way nodes chunk (bit_and chunk mask) steps) ≡ Fork bit pair → (steps < 64) × (bit < 64) × (pair + 1 < length nodes)
+bit_ahead chunks nodes mask chunk steps bit pair leads slots is =
+    ∥∥₁_elim leads (hlevel props) (λ trie. let more = ahead chunks nodes mask chunk steps bit pair trie.marked slots is in (more.few, more.small, more.within))
+
+pub number_within : (chunks : List ℕ) (nodes : List Node) (mask chunk number : ℕ) → ∥ IsTrie chunks nodes mask ∥₁ → mask < length nodes → node_at nodes (end_of nodes mask chunk) ≡ Number number → number < length chunks
+number_within chunks nodes mask chunk number leads slots is = ∥∥₁_elim leads (hlevel props) (λ trie. (number_on chunks nodes mask trie.marked slots chunk number is).within)
+
+-- a chunk that isn't where its way ends was not taken
+pub not_taken : (chunks : List ℕ) (nodes : List Node) (mask chunk : ℕ) → ∥ IsTrie chunks nodes mask ∥₁ → ((number : ℕ) → chunk_at chunks number ≡ chunk → node_at nodes (end_of nodes mask chunk) ≡ Number number → ⊥) → number_in chunk chunks ≡ None
+not_taken chunks nodes mask chunk leads none =
+    number_absent chunk chunks (λ number within is. ∥∥₁_elim leads (hlevel props) (λ trie. none number is (ap (λ x. node_at nodes (end_of nodes mask x)) (sym is) ∙ trie.ends number within)))
+
+-- the node that was read
+pub node_read : (nodes : List Node) (at : ℕ) (seen node : Node) → at < length nodes → seen ≡ get_or nodes at seen → node ≡ seen → node_at nodes at ≡ node
+node_read nodes at seen node within read is = sym (get_or_read nodes at seen within read Empty) ∙ sym is

@@ -1,0 +1,61 @@
+use Rattle.std.proofs.Common.{◌≡◌, ◌∙◌, ◌+◌, false, ap, bit_and, sym, arith, add-one}
+use Rattle.std.proofs.lemmas.Nat.{and_le_r}
+use Rattle.std.proofs.lemmas.Nat.Bits.{bit_at-lt}
+use Rattle.dm_map.specs.declared.state.trie_taken.link.Node.TheVariants.{Fork}
+use Rattle.dm_map.specs.state.Trie.{is_fork, next_at, node_at, way}
+use Rattle.dm_map.proofs.state.TrieLemmas.{bit_ahead, no_fork, node_read, stays, way-suc, way-zero}
+use Rattle.dm_map.proofs.state.trie_taken.TrieTaken.end_of.Goals as goal
+
+pub loop-bit-init : goal.loop-bit-init
+loop-bit-init c =
+    let taken = c.args.self.now in
+    record {
+      there = sym (way-zero taken.links.items c.args.chunk (bit_and c.args.chunk taken.mask));
+      within = omega (arith, and_le_r c.args.chunk taken.mask, taken.slots);
+      few = omega arith;
+    }
+
+pub bit_of-requires : goal.bit_of-requires
+bit_of-requires c =
+    let taken = c.args.self.now in
+    let nodes = taken.links.items in
+    let l = c.loop-bit in
+    let is : node_at nodes l.at ≡ Fork c.in-Fork.bit c.in-Fork.pair = node_read nodes l.at c.index.result.now c.node.result l.invariant.within c.index.ensures c.node.ensures ∙ c.in-Fork.is in
+    (bit_ahead taken.chunks.items nodes taken.mask c.args.chunk l.tested c.in-Fork.bit c.in-Fork.pair taken.leads taken.slots (ap (node_at nodes) (sym l.invariant.there) ∙ is)).1
+
+pub loop-bit-smaller : goal.loop-bit-smaller
+loop-bit-smaller c =
+    let taken = c.args.self.now in
+    let nodes = taken.links.items in
+    let l = c.loop-bit in
+    let is : node_at nodes l.at ≡ Fork c.in-Fork.bit c.in-Fork.pair = node_read nodes l.at c.index.result.now c.node.result l.invariant.within c.index.ensures c.node.ensures ∙ c.in-Fork.is in
+    let more = bit_ahead taken.chunks.items nodes taken.mask c.args.chunk l.tested c.in-Fork.bit c.in-Fork.pair taken.leads taken.slots (ap (node_at nodes) (sym l.invariant.there) ∙ is) in
+    omega (arith, more.0)
+
+pub loop-bit-preserved : goal.loop-bit-preserved
+loop-bit-preserved c =
+    let taken = c.args.self.now in
+    let nodes = taken.links.items in
+    let l = c.loop-bit in
+    let is : node_at nodes l.at ≡ Fork c.in-Fork.bit c.in-Fork.pair = node_read nodes l.at c.index.result.now c.node.result l.invariant.within c.index.ensures c.node.ensures ∙ c.in-Fork.is in
+    let more = bit_ahead taken.chunks.items nodes taken.mask c.args.chunk l.tested c.in-Fork.bit c.in-Fork.pair taken.leads taken.slots (ap (node_at nodes) (sym l.invariant.there) ∙ is) in
+    let next : way nodes c.args.chunk (bit_and c.args.chunk taken.mask) (l.tested + 1) ≡ next_at c.args.chunk l.at (node_at nodes l.at) =
+    ap (way nodes c.args.chunk (bit_and c.args.chunk taken.mask)) (add-one l.tested) ∙ way-suc nodes c.args.chunk (bit_and c.args.chunk taken.mask) l.tested ∙ ap (λ at. next_at c.args.chunk at (node_at nodes at)) (sym l.invariant.there) in
+    record {
+      there = ap (λ bit. c.in-Fork.pair + bit) c.bit_of.ensures ∙ sym (next ∙ ap (next_at c.args.chunk l.at) is);
+      within = omega (arith, more.2, c.bit_of.ensures, bit_at-lt c.args.chunk c.in-Fork.bit);
+      few = omega (arith, more.0);
+    }
+
+pub returns : goal.returns
+returns c =
+    let taken = c.args.self.now in
+    let nodes = taken.links.items in
+    let l = c.loop-bit in
+    let is : node_at nodes l.at ≡ c.node.result = node_read nodes l.at c.index.result.now c.node.result l.invariant.within c.index.ensures c.node.ensures in
+    let none : is_fork (node_at nodes l.at) ≡ false = ap is_fork is ∙ no_fork c.node.result c.in_default.not-Fork in
+    let there = l.invariant.there in
+    record {
+      at = there ∙ sym (stays nodes c.args.chunk (bit_and c.args.chunk taken.mask) l.tested 64 l.invariant.few (ap (λ at. is_fork (node_at nodes at)) (sym there) ∙ none));
+      few = l.invariant.few;
+    }

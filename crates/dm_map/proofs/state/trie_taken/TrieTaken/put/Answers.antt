@@ -1,0 +1,37 @@
+use Rattle.std.proofs.Common.{◌≡◌, ◌∙◌, [], ◌∷◌, ◌++◌, ap, length, set, subst, arith}
+use Rattle.std.proofs.Math.Logic.{∥∥₁_map}
+use Rattle.std.proofs.lemmas.List.{length-set, length_push}
+use Rattle.dm_map.specs.declared.state.trie_taken.link.Node.TheVariants.{Empty, Number}
+use Rattle.dm_map.specs.state.Trie.{IsTrie, end_of, node_at}
+use Rattle.dm_map.proofs.state.Numbers.{distinct_more}
+use Rattle.dm_map.proofs.state.TrieLemmas.{end_within, put_trie}
+use Rattle.dm_map.proofs.state.trie_taken.TrieTaken.put.Goals as goal
+
+pub index_mut-requires : goal.index_mut-requires
+index_mut-requires c =
+    let taken = c.args.self.now in
+    let within = end_within taken.chunks.items taken.links.items taken.mask c.args.chunk taken.leads taken.slots in
+    omega (arith, within, c.requires.at, taken.links.ok)
+
+pub invariant_of-self : goal.invariant_of-self
+invariant_of-self c =
+    let taken = c.args.self.now in
+    let chunks = taken.chunks.items in
+    let nodes = taken.links.items in
+    let items = c.push_reserved.ensures.items in
+    let more = ap length items ∙ length_push chunks c.args.chunk in
+    let empty = subst (λ at. node_at nodes at ≡ Empty) c.requires.at c.requires.empty in
+    let made : ∥ IsTrie (chunks ++ c.args.chunk ∷ []) (set nodes (end_of nodes taken.mask c.args.chunk) (Number (length chunks))) taken.mask ∥₁ =
+    ∥∥₁_map taken.leads (λ trie. put_trie chunks nodes taken.mask c.args.chunk trie taken.slots empty) in
+    let number : c.number.result ≡ Number (length chunks) = c.number.ensures ∙ ap Number (c.len.ensures ∙ taken.chunks.ok.0) in
+    let same = length-set nodes c.args.at c.number.result in
+    record {
+      reserved = omega (arith, taken.reserved, c.push_reserved.ensures.capacity);
+      room = taken.room;
+      small = taken.small;
+      slots = omega (arith, taken.slots, same);
+      forks = omega (arith, taken.forks, same, more);
+      fits = omega (arith, c.requires.room, more);
+      once = rw items (distinct_more c.args.chunk chunks taken.once c.requires.fresh);
+      leads = rw (items, c.requires.at, number) made;
+    }

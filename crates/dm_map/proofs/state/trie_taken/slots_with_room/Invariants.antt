@@ -1,0 +1,9 @@
+use Rattle.std.proofs.Common.{◌≡◌, ◌≤◌, replicate, vec_capacity}
+use Rattle.dm_map.specs.declared.state.trie_taken.link.Node.TheVariants.{Empty}
+use Rattle.dm_map.proofs.state.trie_taken.slots_with_room.Given as goal
+
+abbrev pub invariant-loop-slot : goal.invariant-loop-slot
+invariant-loop-slot l = record {
+  items : l.links.items ≡ replicate l._slot Empty;
+  room : l.room ≤ vec_capacity l.links;
+}

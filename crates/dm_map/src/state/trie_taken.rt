@@ -1,0 +1,206 @@
+//! Taken chunks as a trie: for snapshots with many of them, in whatever order.
+//!
+//! The chunks lie in the order in which they were taken. A table, by the low bits of a chunk, and below
+//! it forks that test one bit each, lead from a chunk to the number of the only one that it may be. A
+//! chunk whose way ends at another one's number puts a fork there; nothing else is ever moved.
+
+ghost use Rattle.std.specs.Prelude.{◌≡◌, ◌<◌, ◌≤◌, ◌+◌, ◌*◌, ◌^◌, ◌++◌, ◌∷◌, [], None, length, nat_eq, replicate, vec_capacity, IfOk};
+ghost use Rattle.std.specs.List.{IsDistinct};
+ghost use Rattle.std.specs.Int.{bit_at};
+ghost use Rattle.std.proofs.lemmas.Map.Keys.{IsDistinct-prop};
+ghost use Rattle.dm_map.specs.declared.state.trie_taken.link.Node.TheVariants.{Empty, Number};
+ghost use Rattle.dm_map.specs.state.Snapshots.{number_in};
+ghost use Rattle.dm_map.specs.state.Trie.{IsTrie, end_of, node_at};
+
+mod link;
+#[cfg(test)]
+mod tests;
+
+use crate::state::taken::Taken;
+use crate::state::trie_taken::link::{Link, Node};
+use std::alloc::{AllocError, Global};
+
+/// How many places there can be, so that the index of each link fits a fork.
+const MOST_PLACES: usize = 1 << 23;
+
+/// The chunks and a trie of their numbers.
+///
+/// A chunk is found by at most 64 tests of a bit and one comparison. To take one costs as many tests, and
+/// four links are written at most. That holds for whatever chunks: those that have their low bits in
+/// common make a tree of forks.
+///
+/// All memory is reserved by `with_places`: 20 to 24 bytes for each place. The table, 4 to 8 of them, is
+/// written then; the chunk itself, 8, and the links of a fork, as many, only when a chunk is taken. It
+/// refuses more than 2²³ places as too much memory.
+#[derive(Drop)]
+pub struct TrieTaken {
+    chunks: Vec<u64>,
+    /// The table, and then the two links of each fork.
+    links: Vec<Link>,
+    /// The bits of a chunk that say where in the table its way begins.
+    mask: u64,
+    places: usize,
+    valid: bool,
+    ghost reserved: { places ≤ vec_capacity chunks },
+    ghost room: { mask + 1 + 2 * places ≤ vec_capacity links },
+    ghost small: { mask + 1 + 2 * places < 2 ^ 25 },
+    ghost slots: { mask < length links.items },
+    ghost forks: { length links.items ≤ mask + 1 + 2 * length chunks.items },
+    ghost fits: { length chunks.items ≤ places },
+    ghost once: { IsDistinct nat_eq chunks.items } by { IsDistinct-prop nat_eq chunks.items },
+    ghost leads: { ∥ IsTrie chunks.items links.items mask ∥₁ },
+}
+
+impl TrieTaken {
+    /// The number of a chunk that was taken, from 0, as `find` answers it.
+    ///
+    /// To `comparisons` it adds how often the chunk was compared with a taken one: once at most. To `bits`
+    /// it adds how many bits of it were tested: 64 at most. Each stays once it is the greatest number.
+    pub fn find_counted(&self, chunk: u64, comparisons: &mut u64, bits: &mut u64) -> Option<usize>
+        ensures found { result ≡ number_in chunk (⟦<TrieTaken as Taken>⟧.chunks self.now) }
+        ensures compared { comparisons.old ≤ comparisons.new }
+        ensures once { comparisons.new ≤ comparisons.old + 1 }
+        ensures tested { bits.old ≤ bits.new }
+        ensures few { bits.new ≤ bits.old + 64 }
+    {
+        let (at, tested) = self.end_of(chunk);
+        *bits = bits.saturating_add(tested);
+        let Node::Number(number) = self.links[at].node() else {
+            return None;
+        };
+        *comparisons = comparisons.saturating_add(1);
+        if self.chunks[number as usize] == chunk {
+            Some(number as usize)
+        } else {
+            None
+        }
+    }
+
+    /// Where the way of a chunk ends, and how many bits are tested on it.
+    fn end_of(&self, chunk: u64) -> (usize, u64)
+        ensures at { result.0 ≡ end_of self.now.links.items self.now.mask chunk }
+        ensures few { result.1 ≤ 64 }
+    {
+        let mut at = (chunk & self.mask) as usize;
+        let mut tested = 0;
+        while let Node::Fork(bit, pair) = self.links[at].node() {
+            at = pair as usize + bit_of(chunk, bit);
+            tested += 1;
+        }
+        (at, tested)
+    }
+
+    /// Takes a chunk whose way ends at nothing.
+    fn put(&mut self, at: usize, chunk: u64)
+        requires room { length self.old.chunks.items < self.old.places }
+        requires fresh { number_in chunk self.old.chunks.items ≡ None }
+        requires at { at ≡ end_of self.old.links.items self.old.mask chunk }
+        requires empty { node_at self.old.links.items at ≡ Empty }
+        ensures chunks { self.new.chunks.items ≡ self.old.chunks.items ++ chunk ∷ [] }
+        ensures places { self.new.places ≡ self.old.places }
+        ensures valid { self.new.valid ≡ self.old.valid }
+    {
+        self.links[at] = Link::number(self.chunks.len() as u32);
+        self.chunks.push_reserved(chunk);
+    }
+
+    /// Takes a chunk whose way ends at the number of another one: puts a fork there, on the lowest bit in
+    /// which the two differ. Either number is behind one of its links.
+    fn part(&mut self, at: usize, other: u32, chunk: u64)
+        requires room { length self.old.chunks.items < self.old.places }
+        requires fresh { number_in chunk self.old.chunks.items ≡ None }
+        requires at { at ≡ end_of self.old.links.items self.old.mask chunk }
+        requires other { node_at self.old.links.items at ≡ Number other }
+        ensures chunks { self.new.chunks.items ≡ self.old.chunks.items ++ chunk ∷ [] }
+        ensures places { self.new.places ≡ self.old.places }
+        ensures valid { self.new.valid ≡ self.old.valid }
+    {
+        let there = self.chunks[other as usize];
+        let bit = (there ^ chunk).trailing_zeros();
+        let pair = self.links.len();
+        self.links.push_reserved(Link::number(other));
+        self.links.push_reserved(Link::number(other));
+        self.links[pair + bit_of(chunk, bit)] = Link::number(self.chunks.len() as u32);
+        self.links[at] = Link::fork(bit, pair as u32);
+        self.chunks.push_reserved(chunk);
+    }
+}
+
+impl Taken for TrieTaken {
+    ghost chunks = { λ taken. taken.chunks.items };
+
+    ghost places = { λ taken. taken.places };
+
+    ghost valid = { λ taken. taken.valid };
+
+    fn with_places(alloc: Global, count: usize) -> Result<TrieTaken, AllocError> {
+        if count > MOST_PLACES {
+            return Err(AllocError);
+        }
+        let slots = count.next_power_of_two();
+        Ok(TrieTaken {
+            chunks: Vec::with_capacity(alloc, count)?,
+            links: slots_with_room(alloc, slots, slots + 2 * count)?,
+            mask: slots as u64 - 1,
+            places: count,
+            valid: true,
+        })
+    }
+
+    fn find(&self, chunk: u64) -> Option<usize> {
+        let mut comparisons = 0;
+        let mut bits = 0;
+        self.find_counted(chunk, &mut comparisons, &mut bits)
+    }
+
+    fn count(&self) -> usize {
+        self.chunks.len()
+    }
+
+    fn is_full(&self) -> bool {
+        self.chunks.len() == self.places
+    }
+
+    fn is_valid(&self) -> bool {
+        self.valid
+    }
+
+    fn take(&mut self, chunk: u64) {
+        let (at, _) = self.end_of(chunk);
+        match self.links[at].node() {
+            Node::Empty => self.put(at, chunk),
+            Node::Number(other) => self.part(at, other, chunk),
+            // No way goes on after 64 bits.
+            Node::Fork(_, _) => unreachable!(),
+        }
+    }
+
+    fn invalidate(&mut self) {
+        self.valid = false;
+    }
+
+    ghost fits = { λ taken. taken.fits };
+
+    ghost once = { λ taken. taken.once };
+}
+
+/// This many links to nothing, with room for more.
+fn slots_with_room(alloc: Global, slots: usize, room: usize) -> Result<Vec<Link>, AllocError>
+    requires { slots ≤ room }
+    ensures items { IfOk result (λ links. links.items ≡ replicate slots Empty) }
+    ensures room { IfOk result (λ links. room ≤ vec_capacity links) }
+{
+    let mut links = Vec::with_capacity(alloc, room)?;
+    for _slot in 0..slots {
+        links.push_reserved(Link::empty());
+    }
+    Ok(links)
+}
+
+/// A bit of a chunk, 0 or 1.
+fn bit_of(chunk: u64, bit: u32) -> usize
+    requires { bit < 64 }
+    ensures { result ≡ bit_at chunk bit }
+{
+    ((chunk >> bit) & 1) as usize
+}
