@@ -10,6 +10,7 @@ pub mod PlayedLemmas
 pub mod RerunLemmas
 pub mod RunLemmas
 pub mod RunTextLemmas
+pub mod StoredLemmas
 pub mod UnitPlays
 pub mod WorkedReplays
 pub mod WorldLemmas

@@ -1,6 +1,5 @@
 -- What a read of a top device answers, where no claims meet: what the device would hold alone, or an error.
 use Rattle.std.proofs.Common.{◌≡◌, ◌⊎◌, inl, inr, ℕ, zero, suc, ◌+◌, Bool, true, false, cond, List, [], ◌∷◌, Option, None, nat_lt, replicate, refl, sym, ap, subst}
-use Rattle.std.specs.List.{AllByRecursion}
 use Rattle.dm_table.specs.declared.requests.request.Op.TheVariants as ops
 use Rattle.dm_stack.specs.declared.graph.TheConstants.{MOST_DEPTH}
 use Rattle.dm_stack.specs.declared.id.Lower.TheVariants.{Device}
@@ -13,12 +12,10 @@ use Rattle.dm_map.specs.state.State.{State}
 use Rattle.dm_map.specs.walk.Steps.{keep, steps}
 use Rattle.dm_map.specs.pieces.Units.{BlockUnit, ReadOf, Zeros, Fails}
 use Rattle.dm_map.proofs.ChunkOutcomes.{IsRead, Sector, Nothing, Fault, is_read}
-use Rattle.dm_replay.specs.declared.asked_request.AskedRequest.{AskedRequest}
 use Rattle.dm_replay.specs.declared.value.Value.{Value}
 use Rattle.dm_replay.specs.declared.value.Value.TheVariants as value
 use Rattle.dm_replay.specs.Histories.{Asked, World, asked_answers, world_after}
-use Rattle.dm_replay.specs.Replay.{IsKept}
-use Rattle.dm_replay.specs.Reruns.{all_asked}
+use Rattle.dm_replay.specs.Replay.{AreOfTops}
 use Rattle.dm_replay.specs.Rows.{AreOfRow, Rows, read_answer, rows_after}
 use Rattle.dm_replay.specs.Values.{Gives, Failed, Values, played_answers}
 use Rattle.dm_replay.proofs.OwnWorlds.{AreAlone, IsOwn, answer_of, own_after, read_same}
@@ -81,8 +78,8 @@ request_of_row stack state number device start len values rows each = by_end (na
     by_end true = errors_of_row number device start len values rows
     by_end false = reads_of_row stack state number device start len values rows each
 
-pub own_answers : (stack : Description) (all : List AskedRequest) (asked : Asked) → AreAlone stack → IsTidy stack → AllByRecursion (IsKept stack) all → IsTop stack asked.device → asked.stopped_after ≡ None → asked.op ≡ ops.Read
-    → AreOfRow (rows_after stack (all_asked all)) asked.device asked.start (asked_answers stack (world_after stack (all_asked all)) asked)
+pub own_answers : (stack : Description) (all : List Asked) (asked : Asked) → AreAlone stack → IsTidy stack → AreOfTops stack all → IsTop stack asked.device → asked.stopped_after ≡ None → asked.op ≡ ops.Read
+    → AreOfRow (rows_after stack all) asked.device asked.start (asked_answers stack (world_after stack all) asked)
 own_answers stack all asked law tidy each top whole reads =
-    let world = world_after stack (all_asked all) in let rows = rows_after stack (all_asked all) in
+    let world = world_after stack all in let rows = rows_after stack all in
     rw (whole, reads) (request_of_row stack world.state asked.number asked.device asked.start asked.len world.values rows (are_read stack world rows asked.device top (own_after stack all law tidy each)))

@@ -1,6 +1,5 @@
 -- Worlds in which each top device has what it would have alone, or errors: they stay so where no claims meet.
 use Rattle.std.proofs.Common.{◌≡◌, ℕ, suc, ◌≤◌, ◌==◌, ◌&&◌, Bool, true, false, cond, List, [], ◌∷◌, Option, Some, None, refl}
-use Rattle.std.specs.List.{AllByRecursion}
 use Rattle.dm_table.specs.declared.requests.request.Op.{Op}
 use Rattle.dm_stack.specs.declared.id.Lower.TheVariants.{Device}
 use Rattle.dm_stack.specs.Claims.{IsTidy, IsTop}
@@ -12,12 +11,10 @@ use Rattle.dm_map.specs.walk.SnapshotWrites.{read}
 use Rattle.dm_map.specs.state.State.{State, start_state}
 use Rattle.dm_map.specs.own.Stops.{stopped_state, stopped_units}
 use Rattle.dm_map.specs.pieces.Units.{BlockUnit, ReadOf, WriteOf}
-use Rattle.dm_replay.specs.declared.asked_request.AskedRequest.{AskedRequest}
 use Rattle.dm_replay.specs.declared.value.Value.{Value}
 use Rattle.dm_replay.specs.declared.value.Value.TheVariants as value
 use Rattle.dm_replay.specs.Histories.{Asked, World, asked_step, asked_units, first_world, left_state, next_world, played_of, world_after, world_from}
-use Rattle.dm_replay.specs.Replay.{IsKept}
-use Rattle.dm_replay.specs.Reruns.{all_asked, asked_of}
+use Rattle.dm_replay.specs.Replay.{AreOfTops}
 use Rattle.dm_replay.specs.Rows.{Rows, read_answer, row_unit, row_units, rows_after, rows_from}
 use Rattle.dm_replay.specs.Values.{Answer, Gives, Failed, Values, old_values}
 
@@ -104,15 +101,14 @@ own_next stack world asked rows law tidy top was = by_stop asked.stopped_after
           same = rows_same asked.number asked.device asked.start units rows was.kept was.same;
         }
 
-own_from : (stack : Description) (world : World) (all : List AskedRequest) (rows : Rows) → AreAlone stack → IsTidy stack → AllByRecursion (IsKept stack) all → IsOwn stack world rows
-    → IsOwn stack (world_from stack world (all_asked all)) (rows_from stack world (all_asked all) rows)
+own_from : (stack : Description) (world : World) (all : List Asked) (rows : Rows) → AreAlone stack → IsTidy stack → AreOfTops stack all → IsOwn stack world rows
+    → IsOwn stack (world_from stack world all) (rows_from stack world all rows)
 unfolding world_from rows_from
 own_from stack world [] rows law tidy each was = was
-own_from stack world (kept ∷ later) rows law tidy each was =
-    let asked = asked_of kept in
-    own_from stack (next_world stack world asked) later (row_units asked.number asked.device asked.start (asked_units stack asked world.state) rows) law tidy each.1 (own_next stack world asked rows law tidy each.0.top was)
+own_from stack world (asked ∷ later) rows law tidy each was =
+    own_from stack (next_world stack world asked) later (row_units asked.number asked.device asked.start (asked_units stack asked world.state) rows) law tidy each.1 (own_next stack world asked rows law tidy each.0 was)
 
-pub own_after : (stack : Description) (all : List AskedRequest) → AreAlone stack → IsTidy stack → AllByRecursion (IsKept stack) all → IsOwn stack (world_after stack (all_asked all)) (rows_after stack (all_asked all))
+pub own_after : (stack : Description) (all : List Asked) → AreAlone stack → IsTidy stack → AreOfTops stack all → IsOwn stack (world_after stack all) (rows_after stack all)
 own_after stack all law tidy each = own_from stack (first_world stack) all _ law tidy each (record {
   kept = first_kept value.Zero stack old_values;
   own = law.begins value.Zero old_values;

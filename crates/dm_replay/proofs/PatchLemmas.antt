@@ -85,19 +85,19 @@ pub within_from : (on start len disk sector : ℕ) → is_within on start len di
 within_from on start len disk sector has = grind (arith, nat_tests)
 
 -- sectors that a patch has go on in it from the first of them
-pub in_patch : (values : Values) (patch : Patch) (disk start n : ℕ) (first : Value) → is_within patch.disk patch.start patch.len disk start ≡ true → start + n ≤ patch.start + patch.len → first ≡ further patch.first (start - patch.start)
+pub in_patch : (values : Values) (patch : Patch) (disk start n : ℕ) (first : Value) → is_within patch.disk patch.start patch.values.len disk start ≡ true → start + n ≤ patch.start + patch.values.len → first ≡ further patch.values.first (start - patch.start)
     → HoldOn (patched values patch) disk start n first
 in_patch values patch disk start n first has fits is i more =
-    let from = within_from patch.disk patch.start patch.len disk start has in
-    ap (λ (on : ℕ). patched values patch on (start + i)) (within_disk patch.disk patch.start patch.len disk start has)
-    ∙ ranged_in values patch.disk patch.start patch.len patch.first (start + i) (omega (arith, from)) (omega (arith, fits, more))
-    ∙ ap (further patch.first) (let e : start + i - patch.start ≡ start - patch.start + i = omega (arith, from) in e)
-    ∙ sym (further_twice patch.first (start - patch.start) i)
+    let from = within_from patch.disk patch.start patch.values.len disk start has in
+    ap (λ (on : ℕ). patched values patch on (start + i)) (within_disk patch.disk patch.start patch.values.len disk start has)
+    ∙ ranged_in values patch.disk patch.start patch.values.len patch.values.first (start + i) (omega (arith, from)) (omega (arith, fits, more))
+    ∙ ap (further patch.values.first) (let e : start + i - patch.start ≡ start - patch.start + i = omega (arith, from) in e)
+    ∙ sym (further_twice patch.values.first (start - patch.start) i)
     ∙ ap (λ (x : Value). further x i) (sym is)
 
 -- a sector that it doesn't have holds what it did
-pub out_of_patch : (values : Values) (patch : Patch) (disk sector : ℕ) → is_within patch.disk patch.start patch.len disk sector ≡ false → patched values patch disk sector ≡ values disk sector
-out_of_patch values patch disk sector out = ap (λ (b : Bool). cond b (further patch.first (sector - patch.start)) (values disk sector)) out
+pub out_of_patch : (values : Values) (patch : Patch) (disk sector : ℕ) → is_within patch.disk patch.start patch.values.len disk sector ≡ false → patched values patch disk sector ≡ values disk sector
+out_of_patch values patch disk sector out = ap (λ (b : Bool). cond b (further patch.values.first (sector - patch.start)) (values disk sector)) out
 
 -- the last of the first patches counts
 pub newest : (patches : List Patch) (older : ℕ) (patch : Patch) → 0 < older → older ≤ length patches → patch ≡ get_or patches (older - 1) patch → values_in (take older patches) ≡ patched (values_in (take (older - 1) patches)) patch

@@ -19,7 +19,7 @@ use Rattle.dm_replay.specs.declared.player.Player.{Player}
 use Rattle.dm_replay.specs.declared.playing.Playing.{Playing}
 use Rattle.dm_replay.specs.declared.value_run.ValueRun.{ValueRun}
 use Rattle.dm_replay.specs.OfDisks.{AreUnitsOf, AreValuesOf}
-use Rattle.dm_replay.specs.Patches.{values_in}
+use Rattle.dm_replay.specs.Stored.{values_of}
 use Rattle.dm_replay.specs.Player.{HasPlayed}
 use Rattle.dm_replay.specs.Runs.{flat}
 use Rattle.dm_replay.specs.Values.{Values, played, played_answers}
@@ -72,7 +72,7 @@ abbrev pub units_asked : Description → Request → (device : ℕ) → State �
 units_asked stack request device state = (request_step stack request.op device request.start request.len state).units
 
 abbrev held : Playing → Values
-held p = values_in p.values.patches.items
+held p = values_of p.values.disks.items
 
 -- what units leave that are played from where a playback began
 begun_values : (old begun ended : Playing) (number first : ℕ) (units : List BlockUnit) → begun ≡ record { values = old.values; number = number; next = first; runs = [] } → HasPlayed begun units ended
@@ -83,10 +83,10 @@ begun_values old begun ended number first units begun_is has disk sector =
 -- the values that a playback leaves
 pub playback_values : (old begun ended new : Playing) (stack : Description) (request : Request) (device first : ℕ) (state : State) → first ≡ min request.start (device_len stack device)
     → begun ≡ record { values = old.values; number = request.number; next = first; runs = [] } → new.values ≡ ended.values → HasPlayed begun (units_asked stack request device state) ended
-    → (disk sector : ℕ) → values_in new.values.patches.items disk sector ≡ played request.number request.start (units_asked stack request device state) (values_in old.values.patches.items) disk sector
+    → (disk sector : ℕ) → values_of new.values.disks.items disk sector ≡ played request.number request.start (units_asked stack request device state) (values_of old.values.disks.items) disk sector
 playback_values old begun ended new stack request device first state first_is begun_is new_is has disk sector =
     let units = units_asked stack request device state in
-    ap (λ (values : DiskValues). values_in values.patches.items disk sector) new_is
+    ap (λ (values : DiskValues). values_of values.disks.items disk sector) new_is
     ∙ begun_values old begun ended request.number first units begun_is has disk sector
     ∙ ap (λ (k : ℕ). played request.number k units (held old) disk sector) first_is
     ∙ ap (λ (values : Values). values disk sector) (played_from stack request.op device request.start request.len request.number state (held old) request.at_least).0
@@ -104,7 +104,7 @@ front_values old begun ended stack request device count first state first_is beg
 -- and what it answers
 pub playback_answers : (old begun ended : Playing) (runs : List ValueRun) (stack : Description) (request : Request) (device first : ℕ) (state : State) → first ≡ min request.start (device_len stack device)
     → begun ≡ record { values = old.values; number = request.number; next = first; runs = [] } → runs ≡ ended.runs → HasPlayed begun (units_asked stack request device state) ended
-    → flat runs ≡ played_answers request.number request.start (units_asked stack request device state) (values_in old.values.patches.items)
+    → flat runs ≡ played_answers request.number request.start (units_asked stack request device state) (values_of old.values.disks.items)
 playback_answers old begun ended runs stack request device first state first_is begun_is runs_is has =
     let units = units_asked stack request device state in
     ap flat runs_is

@@ -8,7 +8,7 @@ use Rattle.dm_replay.specs.declared.playing.Playing.{Playing}
 use Rattle.dm_replay.specs.declared.value.Value.{Value}
 use Rattle.dm_replay.specs.declared.value.Value.TheVariants as value
 use Rattle.dm_replay.specs.declared.value_run.ValueRun.{ValueRun}
-use Rattle.dm_replay.specs.Patches.{values_in}
+use Rattle.dm_replay.specs.Stored.{values_of}
 use Rattle.dm_replay.specs.Player.{HasPlayed}
 use Rattle.dm_replay.specs.laws.Play.{played_both}
 use Rattle.dm_replay.specs.Ranges.{CanCopyAtOnce, HoldOn, ranged}
@@ -17,7 +17,7 @@ use Rattle.dm_replay.specs.Values.{Answer, Gives, Failed, Values, played, played
 use Rattle.dm_replay.proofs.UnitPlays.{reads_played, reads_answer, reads_past, zeros_played, zeros_answer, zeros_past, drops_played, drops_answer, drops_past, fails_played, fails_answer, fails_past, writes_played, writes_answer, writes_past, fills_played, fills_answer, fills_past, copies_played, copies_answer, copies_past}
 
 abbrev held : Playing → Values
-held p = values_in p.values.patches.items
+held p = values_of p.values.disks.items
 
 -- a run was answered, and nothing else changed
 pub record HasAnswered (old new : Playing) (first : Answer) (n : ℕ) : Type 0 where
@@ -37,7 +37,7 @@ run_answered old new run first n first_is len_is values_is runs_is next_is numbe
 -- units that change no values and answer this
 answered : (old new : Playing) (units : List BlockUnit) (first : Answer) (n : ℕ) → HasAnswered old new first n → played old.number old.next units (held old) ≡ held old → played_answers old.number old.next units (held old) ≡ answers_in first n → sector_past units old.next ≡ old.next + n → HasPlayed old units new
 answered old new units first n has none answers past = record {
-  values_are = λ disk sector. ap (λ (values : DiskValues). values_in values.patches.items disk sector) has.values_same ∙ ap (λ (values : Values). values disk sector) (sym none);
+  values_are = λ disk sector. ap (λ (values : DiskValues). values_of values.disks.items disk sector) has.values_same ∙ ap (λ (values : Values). values disk sector) (sym none);
   answers_are = has.runs_are ∙ ap (λ (rest : List Answer). flat old.runs ++ rest) (sym answers);
   next_is = has.next_more ∙ sym past;
   number_is = has.number_same;
@@ -58,14 +58,14 @@ error_played old new n has = answered old new (units_in Fails n) Failed n has (f
 
 -- a range was stored
 abbrev pub HasStored : (before after : DiskValues) → (disk start len : ℕ) → Value → Type 0
-HasStored before after disk start len first = (on sector : ℕ) → values_in after.patches.items on sector ≡ ranged (values_in before.patches.items) disk start len first on sector
+HasStored before after disk start len first = (on sector : ℕ) → values_of after.disks.items on sector ≡ ranged (values_of before.disks.items) disk start len first on sector
 
 pub write_played : (old between : Playing) (after : DiskValues) (disk start n : ℕ) → HasAnswered old between (Gives (value.Wrote old.number old.next)) n → HasStored between.values after disk start n (value.Wrote old.number old.next)
     → HasPlayed old (units_in (WriteOf disk start) n) (record { values = after; number = between.number; next = between.next; runs = between.runs })
 write_played old between after disk start n has stores = record {
   values_are = λ on sector.
       stores on sector
-      ∙ ap (λ (values : DiskValues). ranged (values_in values.patches.items) disk start n (value.Wrote old.number old.next) on sector) has.values_same
+      ∙ ap (λ (values : DiskValues). ranged (values_of values.disks.items) disk start n (value.Wrote old.number old.next) on sector) has.values_same
       ∙ sym (writes_played old.number old.next disk start n (held old) on sector);
   answers_are = has.runs_are ∙ ap (λ (rest : List Answer). flat old.runs ++ rest) (sym (writes_answer old.number old.next disk start n (held old)));
   next_is = has.next_more ∙ sym (writes_past disk start n old.next);

@@ -14,8 +14,8 @@ use Rattle.dm_map.specs.state.State.{State, start_state}
 use Rattle.dm_map.specs.walk.Steps.{keep, steps}
 use Rattle.dm_map.specs.own.Stops.{stopped_state, stopped_units}
 use Rattle.dm_map.specs.pieces.Units.{BlockUnit, Fails}
-use Rattle.dm_replay.specs.declared.asked_request.AskedRequest.{AskedRequest}
-use Rattle.dm_replay.specs.Reruns.{rerun_from, rerun_step}
+use Rattle.dm_replay.specs.declared.kept_write.KeptWrite.{KeptWrite}
+use Rattle.dm_replay.specs.Reruns.{rerun_from, rerun_step, with_request}
 
 -- Requests that change no state
 
@@ -93,25 +93,31 @@ rerun_halted stack op device start len count next whole state is few whole_is = 
         ap (λ (past : Bool). (cond past (keep (replicate whole Fails) state) (steps step state start whole)).state) (not_past end start whole within)
         ∙ ap (λ (n : ℕ). (steps step state start n).state) same
 
--- Requests in a row
+-- Writes in a row
 
--- a mapper in the state after requests, and a sink of its stack
-pub record IsRerun (stack sink : Description) (mapper : MapperView) (all : List AskedRequest) : Type 0 where
+-- a mapper in the state after writes, and a sink of its stack
+pub record IsRerun (stack sink : Description) (mapper : MapperView) (all : List KeptWrite) : Type 0 where
   pub going : mapper.stopped ≡ false
   pub of : mapper.stack ≡ stack
   pub same : sink ≡ stack
   pub state : mapper.state ≡ rerun_from stack (start_state stack) all
 
-pub rerun-push : (stack : Description) (state : State) (all : List AskedRequest) (kept : AskedRequest) → rerun_from stack state (all ++ kept ∷ []) ≡ rerun_step stack kept (rerun_from stack state all)
+pub rerun-push : (stack : Description) (state : State) (all : List KeptWrite) (kept : KeptWrite) → rerun_from stack state (all ++ kept ∷ []) ≡ rerun_step stack kept (rerun_from stack state all)
 unfolding rerun_from
 rerun-push stack state [] kept = refl
 rerun-push stack state (first ∷ all) kept = rerun-push stack (rerun_step stack first state) all kept
 
-pub rerun_first : (stack sink : Description) (mapper : MapperView) (all : List AskedRequest) → mapper.stopped ≡ false → mapper.stack ≡ stack → sink ≡ stack → mapper.state ≡ start_state stack → IsRerun stack sink mapper (take 0 all)
+-- of one request more, which may be a read
+pub rerun_more : (stack : Description) (op : Op) (write : KeptWrite) (writes : List KeptWrite) (before after : State) → rerun_from stack (start_state stack) writes ≡ before → (request_step stack op write.device write.start write.whole before).state ≡ after
+    → rerun_from stack (start_state stack) (with_request op write writes) ≡ after
+rerun_more stack ops.Read write writes before after is step = is ∙ sym (read_mapped stack write.device write.start write.whole before) ∙ step
+rerun_more stack ops.Write write writes before after is step = rerun-push stack (start_state stack) writes write ∙ ap (rerun_step stack write) is ∙ step
+
+pub rerun_first : (stack sink : Description) (mapper : MapperView) (all : List KeptWrite) → mapper.stopped ≡ false → mapper.stack ≡ stack → sink ≡ stack → mapper.state ≡ start_state stack → IsRerun stack sink mapper (take 0 all)
 unfolding rerun_from
 rerun_first stack sink mapper all going of same state = record { going = going; of = of; same = same; state = state }
 
-pub rerun_next : (stack sink newer : Description) (mapper later : MapperView) (all : List AskedRequest) (i : ℕ) (kept : AskedRequest) → i < length all → kept ≡ get_or all i kept → IsRerun stack sink mapper (take i all)
+pub rerun_next : (stack sink newer : Description) (mapper later : MapperView) (all : List KeptWrite) (i : ℕ) (kept : KeptWrite) → i < length all → kept ≡ get_or all i kept → IsRerun stack sink mapper (take i all)
     → later.stopped ≡ false → later.stack ≡ mapper.stack → newer ≡ sink → later.state ≡ rerun_step mapper.stack kept mapper.state
     → IsRerun stack newer later (take (i + 1) all)
 rerun_next stack sink newer mapper later all i kept within is was going of same state = record {
@@ -122,5 +128,5 @@ rerun_next stack sink newer mapper later all i kept within is was going of same 
       ∙ ap (λ (of : Description). rerun_step of kept mapper.state) was.of
       ∙ ap (rerun_step stack kept) was.state
       ∙ sym (rerun-push stack (start_state stack) (take i all) kept)
-      ∙ ap (rerun_from stack (start_state stack)) (sym (take_more all i kept within ∙ ap (λ (x : AskedRequest). take i all ++ x ∷ []) (sym is)));
+      ∙ ap (rerun_from stack (start_state stack)) (sym (take_more all i kept within ∙ ap (λ (x : KeptWrite). take i all ++ x ∷ []) (sym is)));
 }

@@ -9,5 +9,6 @@ pub mod Reruns
 pub mod Rows
 pub mod RunText
 pub mod Runs
+pub mod Stored
 pub mod Values
 pub mod laws

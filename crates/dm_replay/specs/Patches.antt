@@ -6,7 +6,7 @@ use Rattle.dm_replay.specs.Ranges.{HoldOn, ranged}
 use Rattle.dm_replay.specs.Values.{Values, old_values}
 
 abbrev pub patched : Values → Patch → Values
-patched values patch = ranged values patch.disk patch.start patch.len patch.first
+patched values patch = ranged values patch.disk patch.start patch.values.len patch.values.first
 
 -- one patch after the other
 abbrev pub overlaid : Values → List Patch → Values

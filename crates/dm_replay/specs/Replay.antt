@@ -8,14 +8,14 @@ use Rattle.dm_stack.specs.Claims.{IsClash, IsTidy, IsTop, claims}
 use Rattle.dm_stack.specs.Description.{Description, device_id, is_same}
 use Rattle.dm_map.specs.Mapper.{MapperView}
 use Rattle.dm_map.specs.state.State.{start_state}
-use Rattle.dm_replay.specs.declared.asked_request.AskedRequest.{AskedRequest}
-use Rattle.dm_replay.specs.declared.patch.Patch.{Patch}
+use Rattle.dm_replay.specs.declared.kept_write.KeptWrite.{KeptWrite}
+use Rattle.dm_replay.specs.declared.range_values.RangeValues.{RangeValues}
 use Rattle.dm_replay.specs.declared.replay_fault.ReplayFault.{ReplayFault}
 use Rattle.dm_replay.specs.declared.replay_fault.ReplayFault.TheVariants as faults
 use Rattle.dm_replay.specs.Histories.{Asked, world_after}
 use Rattle.dm_replay.specs.OfDisks.{AreValuesOf}
-use Rattle.dm_replay.specs.Patches.{values_in}
-use Rattle.dm_replay.specs.Reruns.{all_asked, kept_request, rerun_from}
+use Rattle.dm_replay.specs.Stored.{values_of}
+use Rattle.dm_replay.specs.Reruns.{kept_request, rerun_from}
 
 -- a replay: its stack, the requests that it accepted, and whether it stopped
 pub record Replaying : Type 0 where
@@ -65,24 +65,29 @@ IsNotHalted faults.Memory name old = (old.stopped ≡ false) × HasTop old.stack
 IsNotHalted faults.NotTop name old = (old.stopped ≡ false) × (HasTop old.stack name → ⊥)
 IsNotHalted faults.Stopped name old = old.stopped ≡ true
 
--- a request of a top device of the stack, of which no more sectors are whole than a request has
-pub record IsKept (of : Description) (kept : AskedRequest) : Type 0 where
+-- a write to a top device of the stack, of which no more sectors are whole than a request has
+pub record IsKept (of : Description) (kept : KeptWrite) : Type 0 where
   pub there : kept.device < length of.devices
   pub top : IsTop of kept.device
   pub few : kept.whole ≤ MOST_SECTORS
 
--- what a replay keeps is the world after its requests; where they are mapped once more, they leave its state
-pub record IsGoing (of : Description) (mapper : MapperView) (disks : Description) (patches : List Patch) (all : List AskedRequest) : Type 0 where
+-- requests of top devices
+abbrev pub AreOfTops : Description → List Asked → Type 0
+AreOfTops of all = AllByRecursion (λ asked. IsTop of asked.device) all
+
+-- what a replay keeps is the world after its requests; where its writes are mapped once more, they leave its state
+pub record IsGoing (of : Description) (mapper : MapperView) (disks : Description) (ranges : List (List (ℕ × RangeValues))) (all : List Asked) (writes : List KeptWrite) : Type 0 where
   pub maps : mapper.stopped ≡ false
   pub mapper_stack : mapper.stack ≡ of
   pub player_stack : disks ≡ of
-  pub state_is : mapper.state ≡ (world_after of (all_asked all)).state
-  pub values_are : (disk sector : ℕ) → values_in patches disk sector ≡ (world_after of (all_asked all)).values disk sector
-  pub disks_are : AreValuesOf (length of.disks) (values_in patches)
-  pub asked_are : AllByRecursion (IsKept of) all
-  pub rerun_is : rerun_from of (start_state of) all ≡ (world_after of (all_asked all)).state
+  pub state_is : mapper.state ≡ (world_after of all).state
+  pub values_are : (disk sector : ℕ) → values_of ranges disk sector ≡ (world_after of all).values disk sector
+  pub disks_are : AreValuesOf (length of.disks) (values_of ranges)
+  pub asked_are : AreOfTops of all
+  pub kept_are : AllByRecursion (IsKept of) writes
+  pub rerun_is : rerun_from of (start_state of) writes ≡ (world_after of all).state
 
 -- unless it stopped; no claims of its stack meet
-pub record IsReplay (of : Description) (mapper : MapperView) (disks : Description) (patches : List Patch) (all : List AskedRequest) (ended : Bool) : Type 0 where
+pub record IsReplay (of : Description) (mapper : MapperView) (disks : Description) (ranges : List (List (ℕ × RangeValues))) (all : List Asked) (writes : List KeptWrite) (ended : Bool) : Type 0 where
   pub tidy : IsTidy of
-  pub going : ended ≡ false → IsGoing of mapper disks patches all
+  pub going : ended ≡ false → IsGoing of mapper disks ranges all writes

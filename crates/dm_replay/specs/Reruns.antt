@@ -1,10 +1,13 @@
--- The requests that a replay keeps, and the state that they leave where they are mapped once more.
-use Rattle.std.specs.Prelude.{ℕ, List, [], ◌∷◌, Option, map}
+-- The requests that a replay accepted, and the state that its writes leave where they are mapped once more.
+use Rattle.std.specs.Prelude.{ℕ, List, [], ◌∷◌, ◌++◌, Option, map}
+use Rattle.dm_table.specs.declared.requests.request.Op.{Op}
+use Rattle.dm_table.specs.declared.requests.request.Op.TheVariants as ops
 use Rattle.dm_table.specs.declared.requests.request.Request.{Request}
 use Rattle.dm_stack.specs.Description.{Description}
 use Rattle.dm_map.specs.walk.Mapping.{request_step}
 use Rattle.dm_map.specs.state.State.{State}
 use Rattle.dm_replay.specs.declared.asked_request.AskedRequest.{AskedRequest}
+use Rattle.dm_replay.specs.declared.kept_write.KeptWrite.{KeptWrite}
 use Rattle.dm_replay.specs.Histories.{Asked}
 
 -- a request of a device, played to its end or stopped after this many units
@@ -17,11 +20,16 @@ asked_of kept = record { number = kept.number; op = kept.op; device = kept.devic
 abbrev pub all_asked : List AskedRequest → List Asked
 all_asked kept = map asked_of kept
 
--- its sectors that were whole, mapped once more
-abbrev pub rerun_step : Description → AskedRequest → State → State
-rerun_step stack kept state = (request_step stack kept.op kept.device kept.start kept.whole state).state
+-- the writes that are kept after one request more: a read changes no state
+abbrev pub with_request : Op → KeptWrite → List KeptWrite → List KeptWrite
+with_request ops.Read write writes = writes
+with_request ops.Write write writes = writes ++ write ∷ []
 
--- and those of requests, one after the other
-unfoldable pub rerun_from : Description → State → List AskedRequest → State
+-- the sectors of a write that were whole, mapped once more
+abbrev pub rerun_step : Description → KeptWrite → State → State
+rerun_step stack kept state = (request_step stack ops.Write kept.device kept.start kept.whole state).state
+
+-- and those of writes, one after the other
+unfoldable pub rerun_from : Description → State → List KeptWrite → State
 rerun_from stack state [] = state
 rerun_from stack state (kept ∷ later) = rerun_from stack (rerun_step stack kept state) later

@@ -15,21 +15,16 @@ pub(crate) struct AskedRequest {
     pub start: u64,
     pub len: u64,
     pub stopped_after: Option<u64>,
-    /// How many of its sectors count for the state that it left: those whose units were all played, if
-    /// it lies inside its device.
-    pub whole: u64,
 }
 
 impl AskedRequest {
-    /// A request of this device, of which the first sectors were whole.
+    /// A request of this device.
     pub(crate) fn new(
         request: &Request<'_>,
         device: DeviceId,
         stopped_after: Option<u64>,
-        whole: u64,
     ) -> AskedRequest
-        ensures asked { asked_of result ≡ kept_request request.now device stopped_after }
-        ensures whole { result.whole ≡ whole }
+        ensures { asked_of result ≡ kept_request request.now device stopped_after }
     {
         AskedRequest {
             number: request.number,
@@ -38,7 +33,6 @@ impl AskedRequest {
             start: request.start,
             len: request.len,
             stopped_after,
-            whole,
         }
     }
 }

@@ -1,15 +1,14 @@
 //! The values of all sectors of disks.
 //!
-//! What was stored is kept as ranges, the newest last. So memory grows with what was stored, however
-//! long the disks are.
+//! Each disk has its ranges, up to the last one in which something was stored. So memory grows with
+//! what was stored, however long the disks are.
 
-ghost use Rattle.std.specs.Prelude.{◌≡◌, ◌+◌, ◌<◌, ◌≤◌, ◌^◌, ◌-◌, ℕ, [], OnOk};
-ghost use Rattle.dm_replay.specs.Patches.{AreFirst, values_in};
-ghost use Rattle.dm_replay.specs.Ranges.{ranged};
-ghost use Rattle.dm_replay.specs.Values.{further};
+ghost use Rattle.std.specs.Prelude.{◌≡◌, ℕ, ◌<◌, [], length, OnOk};
+ghost use Rattle.dm_replay.specs.Stored.{values_of};
 
-use crate::patch::Patch;
+use crate::disk_ranges::DiskRanges;
 use crate::range_values::RangeValues;
+use crate::sector_values::SectorValues;
 use crate::value::Value;
 use dm_stack::DiskId;
 use std::alloc::{AllocError, Global};
@@ -17,89 +16,55 @@ use std::alloc::{AllocError, Global};
 /// What the sectors of disks hold: at the start, what they held before.
 #[derive(Drop)]
 pub(crate) struct DiskValues {
-    pub patches: Vec<Patch>,
+    alloc: Global,
+    pub disks: Vec<DiskRanges>,
 }
 
 impl DiskValues {
     /// The values at the start. No memory is taken.
     pub(crate) fn new(alloc: Global) -> DiskValues
-        ensures { result.patches.items ≡ [] }
+        ensures { result.disks.items ≡ [] }
     {
         DiskValues {
-            patches: Vec::new(alloc),
+            alloc,
+            disks: Vec::new(alloc),
         }
-    }
-
-    /// The first sectors of a range whose values go on from that of the first: as far as no newer
-    /// patch begins.
-    ///
-    /// Cost: linear in the patches that are newer than the one that has the first sector. No memory
-    /// is taken.
-    pub(crate) fn first_values(&self, disk: DiskId, start: u64, len: u64) -> RangeValues
-        requires some { 1 ≤ len }
-        requires small { start + len < 2 ^ 64 }
-        ensures { AreFirst (values_in self.now.patches.items) disk start len result }
-    {
-        let patches = self.patches.as_slice();
-        let mut older = patches.len();
-        let mut left = len;
-        while older > 0 {
-            let patch = patches[older - 1];
-            if patch.has(disk, start) {
-                return rest_of(&patch, start, left);
-            }
-            left = patch.sectors_before(disk, start, left);
-            older -= 1;
-        }
-        RangeValues {
-            first: Value::Old {
-                disk,
-                sector: start,
-            },
-            len: left,
-        }
-    }
-
-    /// Stores the values of a range in the sectors of a disk from `start` on.
-    ///
-    /// # Errors
-    ///
-    /// `AllocError` where it is out of memory: nothing changes.
-    pub(crate) fn store(
-        &mut self,
-        disk: DiskId,
-        start: u64,
-        range: RangeValues,
-    ) -> Result<(), AllocError>
-        requires { start + range.len < 2 ^ 64 }
-        ensures { OnOk result
-            ((on sector : ℕ) → values_in self.new.patches.items on sector
-            ≡ ranged (values_in self.old.patches.items) disk start range.len range.first on sector) }
-    {
-        let first: Value = range.first;
-        self.patches.push(Patch {
-            disk,
-            start,
-            len: range.len,
-            first,
-        })?;
-        Ok(())
     }
 }
 
-/// The first sectors of a range of `len` sectors that a patch has, which has the first of them.
-fn rest_of(patch: &Patch, start: u64, len: u64) -> RangeValues
-    requires some { 1 ≤ len }
-    requires from { patch.now.start ≤ start }
-    requires before { start < patch.now.start + patch.now.len }
-    ensures some { 1 ≤ result.len }
-    ensures most { result.len ≤ len }
-    ensures within { start + result.len ≤ patch.now.start + patch.now.len }
-    ensures first { result.first ≡ further patch.now.first (start - patch.now.start) }
+/// Adds disks of which nothing is stored, until there is one of this index.
+fn reach(alloc: Global, disks: &mut Vec<DiskRanges>, index: usize) -> Result<(), AllocError>
+    ensures there { OnOk result (index < length disks.new.items) }
+    ensures same { (disk sector : ℕ) → values_of disks.new.items disk sector
+        ≡ values_of disks.old.items disk sector }
 {
-    let past = start - patch.start;
-    RangeValues {
-        first: patch.first.further(past),
-        len: len.min(patch.len - past),
+    while disks.len() <= index {
+        disks.push(DiskRanges::new(alloc))?;
+    }
+    Ok(())
+}
+
+impl SectorValues for DiskValues {
+    ghost values = { λ all. values_of all.disks.items };
+
+    /// Cost: logarithmic in the ranges of the disk. No memory is taken.
+    fn first_values(&self, disk: DiskId, start: u64, len: u64) -> RangeValues {
+        let index = disk.index();
+        if index < self.disks.len() {
+            return self.disks[index].first_values(disk, start, len);
+        }
+        let first = Value::Old {
+            disk,
+            sector: start,
+        };
+        RangeValues { first, len }
+    }
+
+    /// Cost: logarithmic in the ranges of the disk, for each of them that it touches.
+    fn store(&mut self, disk: DiskId, start: u64, range: RangeValues) -> Result<(), AllocError> {
+        let index = disk.index();
+        reach(self.alloc, &mut self.disks, index)?;
+        self.disks[index].store(start, range)?;
+        Ok(())
     }
 }

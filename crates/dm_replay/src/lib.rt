@@ -2,13 +2,17 @@
 //!
 //! A `Replay` plays the units of requests, one request after the other, on disks whose sectors hold
 //! what was there before, and answers what each sector of a request reads or stores. No table of
-//! sectors is made: what it keeps grows with the pieces that were stored.
+//! sectors is made: what it keeps grows with the ranges that were stored.
 #![tactic(auto)]
 
 mod asked_request;
+mod disk_ranges;
 mod disk_values;
+mod ghost_asked;
 mod halting;
+mod kept_write;
 mod patch;
+mod patch_list;
 mod playback;
 mod player;
 mod playing;
@@ -17,6 +21,7 @@ mod replay;
 mod replay_fault;
 mod rerun;
 mod run_text;
+mod sector_values;
 mod value;
 mod value_run;
 mod value_runs;

@@ -7,7 +7,7 @@ ghost use Rattle.dm_map.specs.own.Contents.{sector_past};
 ghost use Rattle.dm_map.specs.walk.Mapping.{request_step};
 ghost use Rattle.dm_map.specs.own.Stops.{stopped_units};
 ghost use Rattle.dm_replay.specs.OfDisks.{AreValuesOf, IsRunOf};
-ghost use Rattle.dm_replay.specs.Patches.{values_in};
+ghost use Rattle.dm_replay.specs.Stored.{values_of};
 ghost use Rattle.dm_replay.specs.Runs.{AreMaximal, flat};
 ghost use Rattle.dm_replay.specs.Values.{played, played_answers};
 
@@ -35,7 +35,7 @@ pub(crate) fn play_request<T: Taken>(
     requires stack { player.old.stack.now ≡ mapper.old.stack }
     requires device { device < length mapper.old.stack.devices }
     requires disks { AreValuesOf (length mapper.old.stack.disks)
-        (values_in player.old.playing.values.patches.items) }
+        (values_of player.old.playing.values.disks.items) }
     ensures stack { mapper.new.stack ≡ mapper.old.stack }
     ensures same_stack { OnOk result (player.new.stack.now ≡ player.old.stack.now) }
     ensures going { OnOk result (mapper.new.stopped ≡ false) }
@@ -43,17 +43,17 @@ pub(crate) fn play_request<T: Taken>(
         (mapper.new.state ≡ (request_step mapper.old.stack request.now.op device request.now.start
         request.now.len mapper.old.state).state) }
     ensures values { OnOk result
-        ((disk sector : ℕ) → values_in player.new.playing.values.patches.items disk sector
+        ((disk sector : ℕ) → values_of player.new.playing.values.disks.items disk sector
         ≡ played request.now.number request.now.start
         (request_step mapper.old.stack request.now.op device request.now.start request.now.len
-        mapper.old.state).units (values_in player.old.playing.values.patches.items) disk sector) }
+        mapper.old.state).units (values_of player.old.playing.values.disks.items) disk sector) }
     ensures answers { IfOk result (λ runs. flat runs.items
         ≡ played_answers request.now.number request.now.start
         (request_step mapper.old.stack request.now.op device request.now.start request.now.len
-        mapper.old.state).units (values_in player.old.playing.values.patches.items)) }
+        mapper.old.state).units (values_of player.old.playing.values.disks.items)) }
     ensures maximal { IfOk result (λ runs. AreMaximal runs.items) }
     ensures disks { OnOk result
-        (AreValuesOf (length mapper.old.stack.disks) (values_in player.new.playing.values.patches.items)) }
+        (AreValuesOf (length mapper.old.stack.disks) (values_of player.new.playing.values.disks.items)) }
     ensures runs_disks { IfOk result
         (λ runs. AllByRecursion (IsRunOf (length mapper.old.stack.disks)) runs.items) }
 {
@@ -82,20 +82,20 @@ pub(crate) fn play_front<'s, T: Taken>(
     requires going { mapper.stopped ≡ false }
     requires stack { player.stack.now ≡ mapper.stack }
     requires device { device < length mapper.stack.devices }
-    requires disks { AreValuesOf (length mapper.stack.disks) (values_in player.playing.values.patches.items) }
+    requires disks { AreValuesOf (length mapper.stack.disks) (values_of player.playing.values.disks.items) }
     ensures stack { IfOk result (λ later. later.stack.now ≡ player.entry.stack.now) }
     ensures next { IfOk result (λ later. later.playing.next
         ≡ sector_past (stopped_units mapper.entry.stack request.now.op device request.now.start
         request.now.len units mapper.entry.state)
         (min request.now.start (device_len mapper.entry.stack device))) }
     ensures values { IfOk result
-        (λ later. (disk sector : ℕ) → values_in later.playing.values.patches.items disk sector
+        (λ later. (disk sector : ℕ) → values_of later.playing.values.disks.items disk sector
         ≡ played request.now.number request.now.start
         (stopped_units mapper.entry.stack request.now.op device request.now.start request.now.len units
-        mapper.entry.state) (values_in player.entry.playing.values.patches.items) disk sector) }
+        mapper.entry.state) (values_of player.entry.playing.values.disks.items) disk sector) }
     ensures disks { IfOk result
         (λ later. AreValuesOf (length mapper.entry.stack.disks)
-        (values_in later.playing.values.patches.items)) }
+        (values_of later.playing.values.disks.items)) }
 {
     let first = request.start.min(player.stack.len(device));
     player.begin(alloc, request.number, first);

@@ -30,7 +30,7 @@ impl<'s> Player<'s> {
     /// A player on the disks of a stack, as they are at the start. No memory is taken.
     pub(crate) fn new(alloc: Global, stack: &'s Stack) -> Player<'s>
         ensures stack { result.stack.now ≡ stack.now }
-        ensures patches { result.playing.values.patches.items ≡ [] }
+        ensures ranges { result.playing.values.disks.items ≡ [] }
     {
         Player {
             stack,

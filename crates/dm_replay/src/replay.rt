@@ -18,7 +18,8 @@ ghost use Rattle.dm_replay.specs.Runs.{AreMaximal, flat};
 #[cfg(test)]
 mod tests;
 
-use crate::asked_request::AskedRequest;
+use crate::ghost_asked::GhostAsked;
+use crate::kept_write::{KeptWrite, keep};
 use crate::playback::{play_front, play_request};
 use crate::player::Player;
 use crate::replay_fault::ReplayFault;
@@ -38,21 +39,21 @@ pub struct Replay<'s, T: Taken> {
     stack: &'s Stack,
     mapper: Mapper<'s, T>,
     player: Player<'s>,
-    asked: Vec<AskedRequest>,
+    asked: GhostAsked,
+    writes: Vec<KeptWrite>,
     stopped: bool,
 }
 
 impl<'s, T: Taken> Model for Replay<'s, T> {
     ghost use Rattle.dm_replay.specs.Replay.{IsReplay, Replaying};
-    ghost use Rattle.dm_replay.specs.Reruns.{all_asked};
 
     ghost Value = { Replaying };
 
     ghost view = { λ replay.
-        record { stack = replay.stack.now; asked = all_asked replay.asked.items; stopped = replay.stopped } };
+        record { stack = replay.stack.now; asked = replay.asked.asked; stopped = replay.stopped } };
 
     ghost invariant = { λ replay. IsReplay replay.stack.now replay.mapper replay.player.stack.now
-        replay.player.playing.values.patches.items replay.asked.items replay.stopped };
+        replay.player.playing.values.disks.items replay.asked.asked replay.writes.items replay.stopped };
 }
 
 impl<'s, T: Taken> Replay<'s, T> {
@@ -73,7 +74,8 @@ impl<'s, T: Taken> Replay<'s, T> {
                 stack,
                 mapper,
                 player: Player::new(alloc, stack),
-                asked: Vec::new(alloc),
+                asked: GhostAsked::new(),
+                writes: Vec::new(alloc),
                 stopped: false,
             }),
             Err(_) => Err(ReplayFault::Memory),
@@ -83,9 +85,10 @@ impl<'s, T: Taken> Replay<'s, T> {
     /// Plays a request of a top device, and returns what each of its sectors answered, in maximal
     /// runs: what a read gave, what a write stored, or that it failed.
     ///
-    /// Cost: that of mapping the request, and for each range of sectors that is read or copied at once
-    /// time linear in the ranges that were stored since it was. Memory grows with the ranges that were
-    /// stored and with the requests, however long the disks are.
+    /// Cost: that of mapping the request, and about `log n` steps at `n` ranges that hold what was
+    /// stored, for each of them that is read, copied or stored over. Ranges that go on from each other
+    /// are one. Memory grows with these ranges, of 40 bytes each besides the room that a map leaves, and
+    /// with the writes, of 24 bytes each, or twice that while their list grows. Reads aren't kept.
     ///
     /// # Errors
     ///
@@ -130,10 +133,13 @@ impl<'s, T: Taken> Replay<'s, T> {
         else {
             return Err(ReplayFault::Memory);
         };
-        let Ok(()) = self
-            .asked
-            .push(AskedRequest::new(request, device, None, request.len))
-        else {
+        self.asked.add(request, device, None);
+        let write = KeptWrite {
+            device,
+            start: request.start,
+            whole: request.len,
+        };
+        let Ok(()) = keep(&mut self.writes, request.op, write) else {
             return Err(ReplayFault::Memory);
         };
         self.stopped = false;
@@ -171,6 +177,7 @@ impl<'s, T: Taken> Replay<'s, T> {
             mapper,
             player,
             mut asked,
+            mut writes,
             stopped,
         } = self;
         if stopped {
@@ -184,10 +191,17 @@ impl<'s, T: Taken> Replay<'s, T> {
             return Err(ReplayFault::Memory);
         };
         let whole = whole_sectors(stack, device, request, player.playing.next);
-        let Ok(()) = asked.push(AskedRequest::new(request, device, Some(units), whole)) else {
+        asked.add(request, device, Some(units));
+        let start = request.start;
+        let write = KeptWrite {
+            device,
+            start,
+            whole,
+        };
+        let Ok(()) = keep(&mut writes, request.op, write) else {
             return Err(ReplayFault::Memory);
         };
-        let Ok(mapper) = rerun(alloc, stack, &asked) else {
+        let Ok(mapper) = rerun(alloc, stack, &writes) else {
             return Err(ReplayFault::Memory);
         };
         Ok(Replay {
@@ -195,6 +209,7 @@ impl<'s, T: Taken> Replay<'s, T> {
             mapper,
             player,
             asked,
+            writes,
             stopped: false,
         })
     }

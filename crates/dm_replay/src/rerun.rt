@@ -1,6 +1,6 @@
-//! Reruns: a mapper in the state that kept requests left.
+//! Reruns: a mapper in the state that kept writes left.
 //!
-//! A mapper whose sink failed maps nothing more. So a new one maps what was whole of each request, to
+//! A mapper whose sink failed maps nothing more. So a new one maps what was whole of each write, to
 //! a sink that takes everything and does nothing.
 
 ghost use Rattle.std.specs.Prelude.{◌≡◌, false, IfOk};
@@ -9,7 +9,7 @@ ghost use Rattle.dm_map.specs.state.State.{start_state};
 ghost use Rattle.dm_replay.specs.Replay.{IsKept};
 ghost use Rattle.dm_replay.specs.Reruns.{rerun_from, rerun_step};
 
-use crate::asked_request::AskedRequest;
+use crate::kept_write::KeptWrite;
 use dm_map::{MapFault, Mapper, Piece, Sink, Taken};
 use dm_stack::Stack;
 use dm_table::{Op, Request};
@@ -48,9 +48,9 @@ impl Sink for Discard<'_> {
     ghost took_then_left = { λ a b c us vs first second. second };
 }
 
-/// A mapper of a stack in the state that requests of its devices left.
+/// A mapper of a stack in the state that writes to its devices left.
 ///
-/// Cost: that of mapping their writes once more.
+/// Cost: that of mapping them once more.
 ///
 /// # Errors
 ///
@@ -58,24 +58,24 @@ impl Sink for Discard<'_> {
 pub(crate) fn rerun<'s, T: Taken>(
     alloc: Global,
     stack: &'s Stack,
-    all: &[AskedRequest],
+    writes: &[KeptWrite],
 ) -> Result<Mapper<'s, T>, AllocError>
-    requires { AllByRecursion (IsKept stack.now) all.now }
+    requires { AllByRecursion (IsKept stack.now) writes.now }
     ensures stack { IfOk result (λ mapper. mapper.stack ≡ stack.now) }
     ensures going { IfOk result (λ mapper. mapper.stopped ≡ false) }
     ensures state { IfOk result
-        (λ mapper. mapper.state ≡ rerun_from stack.now (start_state stack.now) all.now) }
+        (λ mapper. mapper.state ≡ rerun_from stack.now (start_state stack.now) writes.now) }
 {
     let mut mapper = Mapper::new(alloc, stack.looker())?;
     let mut discard = Discard { stack };
-    for kept in all {
+    for kept in writes {
         map_again(kept, &mut mapper, &mut discard);
     }
     Ok(mapper)
 }
 
-/// Maps once more what was whole of a request. A read changes no state.
-fn map_again<T: Taken>(kept: &AskedRequest, mapper: &mut Mapper<'_, T>, discard: &mut Discard<'_>)
+/// Maps once more what was whole of a write.
+fn map_again<T: Taken>(kept: &KeptWrite, mapper: &mut Mapper<'_, T>, discard: &mut Discard<'_>)
     requires going { mapper.old.stopped ≡ false }
     requires stack { discard.old.stack.now ≡ mapper.old.stack }
     requires kept { IsKept mapper.old.stack kept.now }
@@ -87,21 +87,16 @@ fn map_again<T: Taken>(kept: &AskedRequest, mapper: &mut Mapper<'_, T>, discard:
     if kept.whole == 0 {
         return;
     }
-    match kept.op {
-        Op::Read => {}
-        Op::Write => {
-            let request = Request {
-                number: kept.number,
-                op: kept.op,
-                device: "",
-                start: kept.start,
-                len: kept.whole,
-            };
-            match mapper.request(&request, kept.device, discard) {
-                Ok(()) => {}
-                Err(MapFault::Sink(())) => unreachable!(),
-                Err(MapFault::Stopped) => unreachable!(),
-            }
-        }
+    let request = Request {
+        number: 0,
+        op: Op::Write,
+        device: "",
+        start: kept.start,
+        len: kept.whole,
+    };
+    match mapper.request(&request, kept.device, discard) {
+        Ok(()) => {}
+        Err(MapFault::Sink(())) => unreachable!(),
+        Err(MapFault::Stopped) => unreachable!(),
     }
 }

@@ -7,7 +7,7 @@ use Rattle.dm_map.specs.laws.Contents.{past-append, unit_cong, played_cong as va
 use Rattle.dm_replay.specs.declared.playing.Playing.{Playing}
 use Rattle.dm_replay.specs.declared.value.Value.{Value}
 use Rattle.dm_replay.specs.declared.value.Value.TheVariants as value
-use Rattle.dm_replay.specs.Patches.{values_in}
+use Rattle.dm_replay.specs.Stored.{values_of}
 use Rattle.dm_replay.specs.Player.{HasPlayed}
 use Rattle.dm_replay.specs.Runs.{flat}
 use Rattle.dm_replay.specs.Values.{Answer, Gives, Values, played_unit, unit_answers, played, played_answers}
@@ -53,8 +53,8 @@ played_nothing a = record { values_are = λ disk sector. refl; answers_are = sym
 
 pub played_both : (a b c : Playing) (units more : List BlockUnit) → HasPlayed a units b → HasPlayed b more c → HasPlayed a (units ++ more) c
 played_both a b c units more first second =
-    let held = values_in a.values.patches.items in
-    let left = values_in b.values.patches.items in
+    let held = values_of a.values.disks.items in
+    let left = values_of b.values.disks.items in
     let between = played a.number a.next units held in
     let past = sector_past units a.next in
     record {

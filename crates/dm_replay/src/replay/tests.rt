@@ -9,8 +9,9 @@ use super::*;
 use crate::run_text::write_runs;
 use dm_map::PlainTaken;
 use dm_table::{Op, ShortOut, parse_concise, parse_disks, parse_request, parse_table};
+use std::fs;
 use std::process::Abort;
-use stops::{LONG_STOPS, SMALL_STOPS, STOPS};
+use stops::STOPS;
 
 mod stops;
 
@@ -289,39 +290,27 @@ fn answers_after_stops(rt: HostRuntime) {
 }
 
 #[test]
-fn answers_after_stops_of_random_stacks(rt: HostRuntime) {
+fn answers_after_stops_of_stacks(rt: HostRuntime) {
     for row in STOPS.split('#') {
         answers_as_written(&rt, rt.alloc(), row);
     }
 }
 
-/// The stop is put in place of the `*`, for each of the counts that a row begins with.
+/// More rows are read where the test runs, if they are there: `tests/outside/halts.py` writes them.
 #[test]
-fn answers_after_each_stop_of_small_stacks(rt: HostRuntime) {
-    let alloc = rt.alloc();
-    for row in SMALL_STOPS.split('#') {
-        let (counts, row) = row.split_once('|').expect(&rt, "counts");
-        let (first, end) = counts.split_once(' ').expect(&rt, "two counts");
-        let first = first.parse::<u64>().expect(&rt, "a first count");
-        let end = end.parse::<u64>().expect(&rt, "an end");
-        let (before, after) = row.split_once('*').expect(&rt, "a stop");
-        for units in first..end {
-            let row = format!(in alloc; "{before}{units}{after}").expect(&rt, "a row");
-            answers_as_written(&rt, alloc, row.as_str());
-        }
-    }
-}
-
-#[test]
-fn answers_after_stops_of_the_longest_request(rt: HostRuntime) {
-    for row in LONG_STOPS.split('#') {
+fn answers_after_stops_of_a_file(rt: HostRuntime) {
+    let Ok(rows) = fs::read_to_string(&rt, "stops") else {
+        return;
+    };
+    for row in rows.as_str().split('#') {
         answers_as_written(&rt, rt.alloc(), row);
     }
 }
 
-/// Plays a row of devices, disks, requests and the lines of what they answer.
+/// Plays a row: what it shows, devices, disks, requests and the lines of what they answer.
 fn answers_as_written(rt: &impl Abort, alloc: Global, row: &str) {
-    let (source, rest) = row.split_once('|').expect(rt, "devices");
+    let (_, rest) = row.split_once('|').expect(rt, "what it shows");
+    let (source, rest) = rest.split_once('|').expect(rt, "devices");
     let (disks, rest) = rest.split_once('|').expect(rt, "disks");
     let (requests, want) = rest.split_once('|').expect(rt, "requests");
     let devices = parse_concise(alloc, source.as_bytes()).expect(rt, source);

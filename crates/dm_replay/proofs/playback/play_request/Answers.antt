@@ -1,7 +1,7 @@
 use Rattle.std.proofs.Common.{length, min, ap, ◌∙◌, subst}
 use Rattle.dm_stack.specs.Description.{Description, device_len}
 use Rattle.dm_replay.specs.OfDisks.{AreUnitsOf}
-use Rattle.dm_replay.specs.Patches.{values_in}
+use Rattle.dm_replay.specs.Stored.{values_of}
 use Rattle.dm_replay.specs.Values.{played}
 use Rattle.dm_replay.proofs.OfDiskLemmas.{played_of, runs_played_of, same_of}
 use Rattle.dm_replay.proofs.Playbacks.{playback_answers, playback_values, units_asked}
@@ -26,8 +26,8 @@ returns-in-Ok-clause-disks g c =
     let a = c.args in let r = a.request.now in let units = units_asked a.mapper.now.stack r a.device a.mapper.now.state in let disks = length a.mapper.now.stack.disks in
     let first = c.min-first.ensures ∙ ap (min r.start) (c.len.ensures.len ∙ ap (λ (stack : Description). device_len stack a.device) c.requires.stack) in
     let on = subst (λ (stack : Description). AreUnitsOf (length stack.disks) units) (ap (λ s. s.now) c.begin.ensures.stack ∙ c.requires.stack) c.in-Ok.ensures.took.1 in
-    let held = values_in a.player.now.playing.values.patches.items in
-    same_of disks (played r.number r.start units held) (values_in c.take_runs.new.self.playing.values.patches.items)
+    let held = values_of a.player.now.playing.values.disks.items in
+    same_of disks (played r.number r.start units held) (values_of c.take_runs.new.self.playing.values.disks.items)
     (playback_values a.player.now.playing c.begin.new.self.playing c.request.new.sink.playing c.take_runs.new.self.playing a.mapper.now.stack r a.device c.min-first.result a.mapper.now.state
     first c.begin.ensures.playing c.take_runs.ensures.values c.in-Ok.ensures.took.0)
     (played_of disks r.number r.start units held on c.requires.disks)
@@ -37,7 +37,7 @@ returns-in-Ok-clause-runs_disks g c =
     let a = c.args in let r = a.request.now in let units = units_asked a.mapper.now.stack r a.device a.mapper.now.state in let disks = length a.mapper.now.stack.disks in
     let first = c.min-first.ensures ∙ ap (min r.start) (c.len.ensures.len ∙ ap (λ (stack : Description). device_len stack a.device) c.requires.stack) in
     let on = subst (λ (stack : Description). AreUnitsOf (length stack.disks) units) (ap (λ s. s.now) c.begin.ensures.stack ∙ c.requires.stack) c.in-Ok.ensures.took.1 in
-    runs_played_of disks r.number r.start units (values_in a.player.now.playing.values.patches.items) c.take_runs.result.items
+    runs_played_of disks r.number r.start units (values_of a.player.now.playing.values.disks.items) c.take_runs.result.items
     (playback_answers a.player.now.playing c.begin.new.self.playing c.request.new.sink.playing c.take_runs.result.items a.mapper.now.stack r a.device c.min-first.result a.mapper.now.state
     first c.begin.ensures.playing c.take_runs.ensures.runs c.in-Ok.ensures.took.0)
     c.take_runs.ensures.maximal.some on c.requires.disks

@@ -10,15 +10,15 @@ pub map_again-requires-clause-kept : goal.map_again-requires-clause-kept
 map_again-requires-clause-kept g c =
     let stack = c.args.stack.now in
     subst (λ (of : Description). IsKept of c.kept-item.result) (sym c.loop-kept.invariant.of)
-    (each_at (IsKept stack) c.args.all.now c.loop-kept.kept-index c.kept-item.result c.loop-kept-test.true c.kept-item.is c.requires)
+    (each_at (IsKept stack) c.args.writes.now c.loop-kept.kept-index c.kept-item.result c.loop-kept-test.true c.kept-item.is c.requires)
 
 pub loop-kept-init : goal.loop-kept-init
 loop-kept-init g c =
     let stack = c.args.stack.now in let made = c.in_ok-mapper.ensures in let looked = c.looker.ensures.stack in
-    rerun_first stack stack _ c.args.all.now made.going (made.stack ∙ looked) refl (made.state ∙ ap start_state looked)
+    rerun_first stack stack _ c.args.writes.now made.going (made.stack ∙ looked) refl (made.state ∙ ap start_state looked)
 
 pub loop-kept-preserved : goal.loop-kept-preserved
 loop-kept-preserved g c =
     let l = c.loop-kept in let did = c.map_again.ensures in
-    rerun_next c.args.stack.now l.discard.stack.now c.map_again.new.discard.stack.now l.mapper c.map_again.new.mapper c.args.all.now l.kept-index c.kept-item.result c.loop-kept-test.true c.kept-item.is l.invariant
+    rerun_next c.args.stack.now l.discard.stack.now c.map_again.new.discard.stack.now l.mapper c.map_again.new.mapper c.args.writes.now l.kept-index c.kept-item.result c.loop-kept-test.true c.kept-item.is l.invariant
     did.going did.stack did.discard did.state

@@ -1,16 +1,16 @@
-use Rattle.std.proofs.Common.{◌∷◌, [], ℕ, List, Some, sym, ap, ◌∙◌, subst}
+use Rattle.std.proofs.Common.{◌∷◌, ◌++◌, [], ℕ, List, Some, sym, ap, ◌∙◌, subst}
 use Rattle.std.specs.List.{AllByRecursion}
-use Rattle.dm_stack.proofs.HandedOn.{all_append}
 use Rattle.dm_map.specs.state.State.{start_state}
-use Rattle.dm_replay.specs.declared.asked_request.AskedRequest.{AskedRequest}
+use Rattle.dm_replay.specs.declared.kept_write.KeptWrite.{KeptWrite}
+use Rattle.dm_replay.specs.Histories.{Asked}
 use Rattle.dm_replay.specs.Replay.{HasTop, IsGoing, IsKept, Replaying, halted_request}
 use Rattle.dm_replay.specs.Reruns.{kept_request, rerun_from}
 use Rattle.dm_replay.proofs.NamedLemmas.{named_id, named_there}
-use Rattle.dm_replay.proofs.WorldLemmas.{are_whole, asked_list, few_whole, going_halted, is_kept, next_start}
+use Rattle.dm_replay.proofs.WorldLemmas.{are_whole, few_whole, going_halted, is_kept, kept_more, next_start, write_of}
 use Rattle.dm_replay.proofs.replay.Replay.halt.Goals as goal
 
-pub returns-in_default-push-clause-fault : goal.returns-in_default-push-clause-fault
-returns-in_default-push-clause-fault g c =
+pub returns-in_default-keep-clause-fault : goal.returns-in_default-keep-clause-fault
+returns-in_default-keep-clause-fault g c =
     let found = c.in-Some.ensures.some in (
       ap (λ (r : Replaying). r.stopped) (sym c.self.view_is) ∙ c.if-stopped.false,
       subst (λ (r : Replaying). HasTop r.stack c.args.request.now.device.now) c.self.view_is (record { id = c.in-Some.device; named = found.0; top = found.1 }),
@@ -31,34 +31,36 @@ whole_sectors-whole-requires-clause-next g c =
 pub rerun-requires : goal.rerun-requires
 rerun-requires g c =
     let inside = c.self.inside in let request = c.args.request.now in let device = c.in-Some.device in let going = c.self.invariant.going c.if-stopped.false in
-    let law = c.requests_are_alone.ensures in let kept = c.new.result in
-    let few = few_whole inside.stack.now inside.mapper inside.asked.items request device c.args.units (record { begins = law.start; stays = law.request; stops = law.stopped; few = law.few })
+    let law = c.requests_are_alone.ensures in let size = c.whole_sectors-whole.result in
+    let few = few_whole inside.stack.now inside.mapper inside.asked.asked request device c.args.units (record { begins = law.start; stays = law.request; stops = law.stopped; few = law.few })
     c.self.invariant.tidy going.asked_are c.in-Some.ensures.some.1 going.mapper_stack going.state_is in
-    let whole = are_whole inside.stack.now inside.mapper request device c.args.units c.in-Ok.player.playing.next kept.whole going.mapper_stack c.in-Ok.ensures.next few (c.new.ensures.whole ∙ c.whole_sectors-whole.ensures) in
-    let one = is_kept inside.stack.now kept request device (Some c.args.units) c.new.ensures.asked (named_there inside.stack.now request.device.now device c.in-Some.ensures.some.0) c.in-Some.ensures.some.1 whole.few in
-    subst (λ (all : List AskedRequest). AllByRecursion (IsKept inside.stack.now) all) (sym (c.deref.ensures.value ∙ c.in-Ok-push.ensures.items)) (all_append (IsKept inside.stack.now) inside.asked.items (kept ∷ []) going.asked_are (one, tt))
+    let whole = are_whole inside.stack.now inside.mapper request device c.args.units c.in-Ok.player.playing.next size going.mapper_stack c.in-Ok.ensures.next few c.whole_sectors-whole.ensures in
+    let one = is_kept inside.stack.now request device size (named_there inside.stack.now request.device.now device c.in-Some.ensures.some.0) c.in-Some.ensures.some.1 whole.few in
+    subst (λ (writes : List KeptWrite). AllByRecursion (IsKept inside.stack.now) writes) (sym (c.deref.ensures.value ∙ c.in-Ok-keep.ensures)) (kept_more inside.stack.now request.op (write_of request device size) inside.writes.items one going.kept_are)
 
 pub invariant_of-result : goal.invariant_of-result
 invariant_of-result g c =
     let inside = c.self.inside in let request = c.args.request.now in let device = c.in-Some.device in let did = c.in-Ok.ensures in let going = c.self.invariant.going c.if-stopped.false in
-    let law = c.requests_are_alone.ensures in let kept = c.new.result in let player = c.in-Ok.player in let again = c.in-Ok-rerun.ensures in
-    let few = few_whole inside.stack.now inside.mapper inside.asked.items request device c.args.units (record { begins = law.start; stays = law.request; stops = law.stopped; few = law.few })
+    let law = c.requests_are_alone.ensures in let size = c.whole_sectors-whole.result in let player = c.in-Ok.player in let again = c.in-Ok-rerun.ensures in
+    let few = few_whole inside.stack.now inside.mapper inside.asked.asked request device c.args.units (record { begins = law.start; stays = law.request; stops = law.stopped; few = law.few })
     c.self.invariant.tidy going.asked_are c.in-Some.ensures.some.1 going.mapper_stack going.state_is in
-    let whole = are_whole inside.stack.now inside.mapper request device c.args.units player.playing.next kept.whole going.mapper_stack did.next few (c.new.ensures.whole ∙ c.whole_sectors-whole.ensures) in
-    let one = is_kept inside.stack.now kept request device (Some c.args.units) c.new.ensures.asked (named_there inside.stack.now request.device.now device c.in-Some.ensures.some.0) c.in-Some.ensures.some.1 whole.few in
+    let whole = are_whole inside.stack.now inside.mapper request device c.args.units player.playing.next size going.mapper_stack did.next few c.whole_sectors-whole.ensures in
+    let one = is_kept inside.stack.now request device size (named_there inside.stack.now request.device.now device c.in-Some.ensures.some.0) c.in-Some.ensures.some.1 whole.few in
     record {
       tidy = c.self.invariant.tidy;
-      going = λ _. subst (λ (all : List AskedRequest). IsGoing inside.stack.now c.in-Ok-rerun.mapper player.stack.now player.playing.values.patches.items all) (sym c.in-Ok-push.ensures.items)
-          (going_halted inside.stack.now inside.player.stack.now player.stack.now inside.mapper c.in-Ok-rerun.mapper inside.player.playing.values.patches.items player.playing.values.patches.items inside.asked.items kept request device c.args.units
-          c.new.ensures.asked one going again.going again.stack did.stack
-          (again.state ∙ ap (rerun_from inside.stack.now (start_state inside.stack.now)) (c.deref.ensures.value ∙ c.in-Ok-push.ensures.items)) did.values did.disks whole.again);
+      going = λ _. subst (λ (all : List Asked). IsGoing inside.stack.now c.in-Ok-rerun.mapper player.stack.now player.playing.values.disks.items all c.keep.new.writes.items) (sym c.add.ensures)
+          (subst (λ (writes : List KeptWrite). IsGoing inside.stack.now c.in-Ok-rerun.mapper player.stack.now player.playing.values.disks.items (inside.asked.asked ++ kept_request request device (Some c.args.units) ∷ []) writes) (sym c.in-Ok-keep.ensures)
+          (going_halted inside.stack.now inside.player.stack.now player.stack.now inside.mapper c.in-Ok-rerun.mapper inside.player.playing.values.disks.items player.playing.values.disks.items inside.asked.asked inside.writes.items request device c.args.units size
+          one going again.going again.stack did.stack
+          (again.state ∙ ap (rerun_from inside.stack.now (start_state inside.stack.now)) (c.deref.ensures.value ∙ c.in-Ok-keep.ensures)) did.values did.disks whole));
     }
 
 pub returns-clause-asked : goal.returns-clause-asked
 returns-clause-asked g c =
     let inside = c.self.inside in let request = c.args.request.now in
-    asked_list inside.asked.items _ c.args.self.asked c.new.result (halted_request c.args.self.stack request c.args.units) c.in-Ok-push.ensures.items (ap (λ (r : Replaying). r.asked) c.self.view_is)
-    (c.new.ensures.asked ∙ ap (λ (id : ℕ). kept_request request id (Some c.args.units)) (named_id inside.stack.now request.device.now c.in-Some.device c.in-Some.ensures.some.0) ∙ ap (λ (r : Replaying). halted_request r.stack request c.args.units) c.self.view_is)
+    c.add.ensures
+    ∙ ap (λ (id : ℕ). inside.asked.asked ++ kept_request request id (Some c.args.units) ∷ []) (named_id inside.stack.now request.device.now c.in-Some.device c.in-Some.ensures.some.0)
+    ∙ ap (λ (r : Replaying). r.asked ++ halted_request r.stack request c.args.units ∷ []) c.self.view_is
 
 pub returns-clause-top : goal.returns-clause-top
 returns-clause-top g c =

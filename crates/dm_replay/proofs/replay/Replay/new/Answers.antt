@@ -1,6 +1,7 @@
-use Rattle.std.proofs.Common.{List, sym, ap, ◌∙◌, subst}
+use Rattle.std.proofs.Common.{List, [], sym, ap, ◌∙◌, subst}
 use Rattle.dm_map.specs.state.State.{start_state}
-use Rattle.dm_replay.specs.declared.asked_request.AskedRequest.{AskedRequest}
+use Rattle.dm_replay.specs.declared.kept_write.KeptWrite.{KeptWrite}
+use Rattle.dm_replay.specs.Histories.{Asked}
 use Rattle.dm_replay.specs.Replay.{IsGoing}
 use Rattle.dm_replay.proofs.WorldLemmas.{going_first}
 use Rattle.dm_replay.proofs.replay.Replay.new.Goals as goal
@@ -10,6 +11,7 @@ invariant_of-result g c =
     let stack = c.args.stack.now in let made = c.in-Ok.ensures in let player = c.new-in-Ok in
     record {
       tidy = c.in_ok-refuse_clash.ensures.tidy;
-      going = λ _. subst (λ (all : List AskedRequest). IsGoing stack c.in-Ok.mapper player.result.stack.now player.result.playing.values.patches.items all) (sym c.new-in-Ok-2.ensures.items)
-          (going_first stack player.result.stack.now c.in-Ok.mapper player.result.playing.values.patches.items made.going (made.stack ∙ c.looker.ensures.stack) (made.state ∙ ap start_state c.looker.ensures.stack) player.ensures.stack player.ensures.patches);
+      going = λ _. subst (λ (all : List Asked). IsGoing stack c.in-Ok.mapper player.result.stack.now player.result.playing.values.disks.items all c.new-in-Ok-3.result.items) (sym c.new-in-Ok-2.ensures)
+          (subst (λ (writes : List KeptWrite). IsGoing stack c.in-Ok.mapper player.result.stack.now player.result.playing.values.disks.items [] writes) (sym c.new-in-Ok-3.ensures.items)
+          (going_first stack player.result.stack.now c.in-Ok.mapper player.result.playing.values.disks.items made.going (made.stack ∙ c.looker.ensures.stack) (made.state ∙ ap start_state c.looker.ensures.stack) player.ensures.stack player.ensures.ranges));
     }

@@ -3,7 +3,7 @@ use Rattle.dm_replay.specs.declared.patch.Patch.{Patch}
 use Rattle.dm_replay.specs.Patches.{values_in}
 use Rattle.dm_replay.specs.Values.{Values}
 use Rattle.dm_replay.proofs.PatchLemmas.{values_in-push}
-use Rattle.dm_replay.proofs.disk_values.DiskValues.store.Goals as goal
+use Rattle.dm_replay.proofs.patch_list.PatchListSectorValues.store.Goals as goal
 
 pub returns : goal.returns
 returns c on sector =

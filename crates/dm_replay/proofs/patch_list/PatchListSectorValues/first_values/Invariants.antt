@@ -1,7 +1,7 @@
 -- the sectors that are left hold what the older patches say
 use Rattle.std.proofs.Common.{◌≡◌, ◌+◌, ◌<◌, ◌≤◌, ℕ, length, take}
 use Rattle.dm_replay.specs.Patches.{values_in}
-use Rattle.dm_replay.proofs.disk_values.DiskValues.first_values.Given as goal
+use Rattle.dm_replay.proofs.patch_list.PatchListSectorValues.first_values.Given as goal
 
 abbrev pub invariant-loop-older : goal.invariant-loop-older
 invariant-loop-older l = record {

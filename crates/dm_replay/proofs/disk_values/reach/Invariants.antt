@@ -1,0 +1,10 @@
+-- what is stored is as before
+use Rattle.std.proofs.Common.{◌≡◌, ◌-◌, ◌+◌, ℕ, length}
+use Rattle.dm_replay.specs.Stored.{values_of}
+use Rattle.dm_replay.proofs.disk_values.reach.Given as goal
+
+abbrev pub invariant-loop-alloc : goal.invariant-loop-alloc
+invariant-loop-alloc l = (disk sector : ℕ) → values_of l.disks.items disk sector ≡ values_of l.initial.disks.items disk sector
+
+abbrev pub decreases-loop-alloc : goal.decreases-loop-alloc
+decreases-loop-alloc l = l.index + 1 - length l.disks.items

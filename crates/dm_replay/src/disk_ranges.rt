@@ -1,0 +1,217 @@
+//! What was stored in the sectors of a disk.
+//!
+//! Ranges that have no sector in common are in a map by their first sector. Of those that begin before a
+//! sector only the last can reach it, so a look-up finds it. Ranges that go on from each other are joined.
+
+ghost use Rattle.std.specs.Prelude.{◌≡◌, ℕ, ◌+◌, ◌<◌, ◌≤◌, ◌^◌, None, [], OnOk, IfSome};
+ghost use Rattle.dm_replay.specs.Patches.{AreFirst};
+ghost use Rattle.dm_replay.specs.Stored.{AreApart, Has, IsBare, IsCleared, IsCut, IsFirstFrom, IsLastBefore, KeepsCuts, KeepsStored, NoneFrom, Shows, Stored, held, spanned, stored_in};
+
+use crate::range_values::RangeValues;
+use crate::value::Value;
+use dm_stack::DiskId;
+use std::alloc::{AllocError, Global};
+use std::collections::BTreeMap;
+use std::marker::Model;
+
+/// What was stored in each sector of a disk, if anything was.
+#[derive(Drop)]
+pub(crate) struct DiskRanges {
+    ranges: BTreeMap<u64, RangeValues>,
+}
+
+impl Model for DiskRanges {
+    ghost use Rattle.std.specs.Prelude.{ℕ, List};
+    ghost use Rattle.dm_replay.specs.declared.range_values.RangeValues.{RangeValues};
+    ghost use Rattle.dm_replay.specs.Stored.{AreApart};
+
+    ghost Value = { List (ℕ × RangeValues) };
+
+    ghost view = { λ all. all.ranges.entries };
+
+    ghost invariant = { λ all. AreApart all.ranges };
+}
+
+impl DiskRanges {
+    /// Nothing is stored. No memory is taken.
+    pub(crate) fn new(alloc: Global) -> DiskRanges
+        ensures { result ≡ [] }
+    {
+        DiskRanges {
+            ranges: BTreeMap::new(alloc),
+        }
+    }
+
+    /// The first sectors of a range whose values go on from that of the first, on the disk of this id: up
+    /// to the end of what was stored there, or to what was stored next.
+    ///
+    /// Cost: about `log n` steps at `n` ranges. No memory is taken.
+    pub(crate) fn first_values(&self, disk: DiskId, start: u64, len: u64) -> RangeValues
+        requires some { 1 ≤ len }
+        requires small { start + len < 2 ^ 64 }
+        ensures { AreFirst (λ (on sector : ℕ). held on (stored_in self.now sector) sector) disk start len result }
+    {
+        if let Some((from, range)) = range_with(&self.ranges, start) {
+            return range.rest(start - from, len);
+        }
+        RangeValues {
+            first: Value::Old {
+                disk,
+                sector: start,
+            },
+            len: bare_len(&self.ranges, start, len),
+        }
+    }
+
+    /// Stores the values of a range in the sectors from `start` on.
+    ///
+    /// Cost: about `log n` steps at `n` ranges, for each of them that it touches.
+    ///
+    /// # Errors
+    ///
+    /// `AllocError` where it is out of memory: a part of what was stored there may be lost.
+    pub(crate) fn store(&mut self, start: u64, range: RangeValues) -> Result<(), AllocError>
+        requires { start + range.len < 2 ^ 64 }
+        ensures { OnOk result
+            ((sector : ℕ) → stored_in self.new sector
+            ≡ spanned (stored_in self.old) start range.len range.first sector) }
+    {
+        store_in(&mut self.ranges, start, range)?;
+        Ok(())
+    }
+}
+
+/// Stores the values of a range in the sectors from `start` on.
+fn store_in(
+    ranges: &mut BTreeMap<u64, RangeValues>,
+    start: u64,
+    range: RangeValues,
+) -> Result<(), AllocError>
+    requires small { start + range.len < 2 ^ 64 }
+    requires apart { AreApart ranges.old }
+    ensures apart { AreApart ranges.new }
+    ensures stored { OnOk result
+        ((stored : Stored) → Shows ranges.old stored
+        → Shows ranges.new (spanned stored start range.len range.first)) }
+{
+    if range.len == 0 {
+        return Ok(());
+    }
+    let first: Value = range.first;
+    let len = range.len;
+    let end = start + len;
+    cut(ranges, start)?;
+    cut(ranges, end)?;
+    clear(ranges, start, end);
+    ranges.insert(start, RangeValues { first, len })?;
+    join(ranges, start)?;
+    join(ranges, end)?;
+    Ok(())
+}
+
+/// The last range that begins before a sector, and where.
+fn last_before(ranges: &BTreeMap<u64, RangeValues>, sector: u64) -> Option<(u64, RangeValues)>
+    ensures some { IfSome result (λ found. IsLastBefore ranges.now sector found.0 found.1) }
+    ensures none { result ≡ None → NoneFrom ranges.now 0 sector }
+{
+    match ranges.range(..sector).next_back() {
+        Some((start, range)) => Some((*start, *range)),
+        None => None,
+    }
+}
+
+/// Where the first range begins that begins from a sector on, before an end.
+fn first_from(ranges: &BTreeMap<u64, RangeValues>, start: u64, end: u64) -> Option<u64>
+    requires { start ≤ end }
+    ensures some { IfSome result (IsFirstFrom ranges.now start end) }
+    ensures none { result ≡ None → NoneFrom ranges.now start end }
+{
+    match ranges.range(start..end).next() {
+        Some((first, _)) => Some(*first),
+        None => None,
+    }
+}
+
+/// The range that has a sector, and where it begins.
+fn range_with(ranges: &BTreeMap<u64, RangeValues>, sector: u64) -> Option<(u64, RangeValues)>
+    requires small { sector + 1 < 2 ^ 64 }
+    requires apart { AreApart ranges.now }
+    ensures some { IfSome result (λ found. Has ranges.now sector found.0 found.1) }
+    ensures none { result ≡ None → IsBare ranges.now sector }
+{
+    let (start, range) = last_before(ranges, sector + 1)?;
+    if sector - start < range.len {
+        Some((start, range))
+    } else {
+        None
+    }
+}
+
+/// How many of `len` sectors come before the next range, where none has the first.
+fn bare_len(ranges: &BTreeMap<u64, RangeValues>, start: u64, len: u64) -> u64
+    requires some { 1 ≤ len }
+    requires small { start + len < 2 ^ 64 }
+    requires apart { AreApart ranges.now }
+    requires bare { IsBare ranges.now start }
+    ensures some { 1 ≤ result }
+    ensures most { result ≤ len }
+    ensures bare { (i : ℕ) → i < result → IsBare ranges.now (start + i) }
+{
+    match first_from(ranges, start, start + len) {
+        Some(next) => next - start,
+        None => len,
+    }
+}
+
+/// Cuts the range that goes on over a sector from the one before it, if there is one.
+fn cut(ranges: &mut BTreeMap<u64, RangeValues>, sector: u64) -> Result<(), AllocError>
+    requires { AreApart ranges.old }
+    ensures apart { AreApart ranges.new }
+    ensures same { OnOk result (KeepsStored ranges.old ranges.new) }
+    ensures cuts { OnOk result (KeepsCuts ranges.old ranges.new) }
+    ensures cut { OnOk result (IsCut ranges.new sector) }
+{
+    let Some((start, range)) = last_before(ranges, sector) else {
+        return Ok(());
+    };
+    let front = sector - start;
+    if front >= range.len {
+        return Ok(());
+    }
+    ranges.insert(start, range.with_len(front))?;
+    ranges.insert(sector, range.rest(front, range.len - front))?;
+    Ok(())
+}
+
+/// Takes out the ranges that begin from a sector on, before an end.
+fn clear(ranges: &mut BTreeMap<u64, RangeValues>, start: u64, end: u64)
+    requires order { start ≤ end }
+    requires apart { AreApart ranges.old }
+    ensures apart { AreApart ranges.new }
+    ensures none { NoneFrom ranges.new start end }
+    ensures cleared { IsCleared ranges.old ranges.new start end }
+{
+    while let Some(at) = first_from(ranges, start, end) {
+        ranges.remove(&at);
+    }
+}
+
+/// Joins the range that begins at a sector to the one that ends there, if it goes on from that.
+fn join(ranges: &mut BTreeMap<u64, RangeValues>, sector: u64) -> Result<(), AllocError>
+    requires { AreApart ranges.old }
+    ensures apart { AreApart ranges.new }
+    ensures same { OnOk result (KeepsStored ranges.old ranges.new) }
+{
+    let Some((start, range)) = last_before(ranges, sector) else {
+        return Ok(());
+    };
+    let Some(after) = ranges.get(&sector).copied() else {
+        return Ok(());
+    };
+    if start + range.len != sector || !range.joins(&after) {
+        return Ok(());
+    }
+    ranges.remove(&sector);
+    ranges.insert(start, range.with_len(range.len + after.len))?;
+    Ok(())
+}
