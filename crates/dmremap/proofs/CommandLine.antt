@@ -1,31 +1,34 @@
 -- What clap's clauses say of the program's own command line.
-use Rattle.std.proofs.Common.{◌≡◌, ◌∙◌, Bool, List, Option, Some, None, is_some, [], ◌∷◌, true, false, true≢false, ap, ap₂, refl, subst, sym, inl, inr, cond, option_and_then}
-use Rattle.clap.specs.Kinds.{HasKind, IsAmong, Kinds, or_else}
-use Rattle.clap.specs.Words.{App, HasMatchesOf, Row, Rule, Text, fault_of, first_of, first_value, found_of, is_simple, is_simple_and_free, kind_of, matches_of, new_app, rows_of, subcommand_of, subcommand_rows_of, with_rule}
+use Rattle.std.proofs.Common.{◌≡◌, ◌∙◌, Bool, List, Option, Result, Ok, Err, IfOk, Some, None, option_map, [], ◌&&◌, not, true, false, true≢false, ap, ap₂, refl, subst, sym, inl, inr, cond}
+use Rattle.clap.specs.Kinds.{HasKind}
+use Rattle.clap.specs.Words.{AddsSubcommand, App, HasMatchesOf, Row, Text, app_of, fault_of, found_of, is_simple, is_simple_and_free, kind_of, rows_of, shape_of, subcommand_rows_of, with_subcommand}
+use Rattle.clap.specs.declared.builder.command.Command.{Command}
+use Rattle.clap.specs.declared.builder.command.Command.TheViews.{out-Command}
 use Rattle.clap.specs.declared.builder.value_parser.ValueParser.{ValueParser}
 use Rattle.clap.specs.declared.error.Error.{Error}
 use Rattle.clap.specs.declared.parser.matches.ArgMatches.{ArgMatches}
-use Rattle.clap.specs.declared.parser.matches.Found.{Found}
-use Rattle.clap.specs.declared.error.kind.ErrorKind.{ErrorKind}
-use Rattle.clap.specs.declared.error.kind.ErrorKind.TheVariants as kind
 use Rattle.clap.proofs.OnLiterals.{clap_on_literals}
-use Rattle.clap.proofs.WalkLemmas.{first_value-rows}
 use Rattle.dmremap.specs.Job.{JobWords}
-use Rattle.dmremap.specs.Words.{IsFaultOf, IsRefused, IsTaken, TakesFormats, command_line, fault_from, has_lone_hyphen, has_status, is_memory, refusal_of, job_in, job_of, three_app}
+use Rattle.dmremap.specs.declared.words.Lack.{Lack}
+use Rattle.dmremap.specs.Words.{HasApp, IsTaken, IsUntaken, TakesFormats, command_line, fault_from, is_memory, said_by, said_in}
 use Rattle.dmremap.specs.declared.words.WordsFault.TheVariants.{Words, Memory}
 
--- a command with three arguments, by their rules
-pub same_three : (name : Text) (a b c a' b' c' : Rule) → a ≡ a' → b ≡ b' → c ≡ c' → three_app name a b c ≡ three_app name a' b' c'
-same_three name a b c a' b' c' a_is b_is c_is = ap₂ with_rule (ap₂ with_rule (ap (with_rule (new_app name)) a_is) b_is) c_is
+-- a command that a parse reads as a plain one has no global argument
+third : (a b c d : Bool) → (a && (b && (not c && d))) ≡ true → c ≡ false
+third true true false d e = refl
+third true true true d e = absurd (true≢false (sym e))
+third true false c d e = absurd (true≢false (sym e))
+third false b c d e = absurd (true≢false (sym e))
 
--- what three arguments give, by what was read of each
-pub by_three : {X : Type 0} (from : Option Text → Option Text → Option Text → X) (found : Found) (a b c : Text) (x y z : Option Text)
-    → x ≡ first_value found a → y ≡ first_value found b → z ≡ first_value found c
-    → from x y z ≡ from (first_of a (rows_of found)) (first_of b (rows_of found)) (first_of c (rows_of found))
-by_three from found a b c x y z x_is y_is z_is =
-    ap (λ (t : Option Text). from t y z) (x_is ∙ first_value-rows found a)
-    ∙ ap (λ (t : Option Text). from (first_of a (rows_of found)) t z) (y_is ∙ first_value-rows found b)
-    ∙ ap (from (first_of a (rows_of found)) (first_of b (rows_of found))) (z_is ∙ first_value-rows found c)
+plain_local : (command : Command) → (shape_of command).is_plain ≡ true → (out-Command command).has_globals ≡ false
+plain_local command plain = third _ _ _ _ plain
+
+-- a command was added to the line
+pub command_added : {E : Type 0} (app added : App) (line command : Command) (result : Result Command E) → app_of line ≡ app → app_of command ≡ added → added.top.is_plain ≡ true
+    → IfOk result (AddsSubcommand line command) → HasApp (with_subcommand app added.top) result
+command_added app added line command (Ok longer) line_is command_is plain adds =
+    adds.shape (plain_local command (ap (λ (a : App). a.top.is_plain) command_is ∙ plain)) ∙ ap₂ (λ (a b : App). with_subcommand a b.top) line_is command_is
+command_added app added line command (Err fault) line_is command_is plain adds = tt
 
 -- clap's matches are those that the definitions compute, whatever the parser of FORMAT
 pub simple : (parser : ValueParser) → is_simple (command_line parser) ≡ true
@@ -37,69 +40,40 @@ pub simple_and_free : (parser : ValueParser) → is_simple_and_free (command_lin
 unfolding clap_on_literals
 simple_and_free parser = refl
 
--- a kind of the first list is one of the two
-among_first : (k : ErrorKind) (first second : Kinds) → IsAmong k first → IsAmong k (or_else first second)
-among_first k [] second among = absurd among
-among_first k (x ∷ xs) second among = among
-
--- an error that clap's clause allows is the fault that it becomes, where no lone hyphen was found
-pub refused : (parser : ValueParser) (words : List Text) (error : Error) → has_lone_hyphen words ≡ false → TakesFormats parser → HasKind (fault_of (command_line parser) words) error
-    → IsFaultOf words (fault_from error)
-refused parser words error no_hyphen formats has_kind = go (is_memory (kind_of error)) refl
+-- an error that clap's clause allows is the fault that it becomes
+pub refused : (parser : ValueParser) (line : App) (words : List Text) (error : Error) → TakesFormats parser
+    → (is_simple_and_free line ≡ true → HasKind (fault_of line words) error) → line ≡ command_line parser → IsUntaken words (fault_from error)
+refused parser line words error formats kinds line_is = go (is_memory (kind_of error)) refl
   where
-    go : (b : Bool) → is_memory (kind_of error) ≡ b → IsFaultOf words (cond b Memory (Words error))
+    go : (b : Bool) → is_memory (kind_of error) ≡ b → IsUntaken words (cond b Memory (Words error))
     go true e = tt
-    go false e = inr record {
-      hyphen = no_hyphen;
+    go false e = record {
       parser = parser;
       formats = formats;
-      among = elim has_kind [
+      among = elim (subst (λ (a : App). HasKind (fault_of a words) error) line_is (kinds (ap is_simple_and_free line_is ∙ simple_and_free parser))) [
         | inl memory ↦ absurd (true≢false (sym (ap is_memory memory) ∙ e))
-        | inr among ↦ among_first (kind_of error) _ _ among
+        | inr among ↦ among
       ];
       no_memory = λ memory. true≢false (sym (ap is_memory memory) ∙ e);
     }
 
--- the job that matches of the words give, by what these are
-job_of_matches : (line : App) (words : List Text) (matches : ArgMatches) (job : Option JobWords) → rows_of (found_of matches) ≡ matches_of line words → subcommand_rows_of matches ≡ subcommand_of line words
-    → job ≡ option_and_then (λ met. job_of (has_status (rows_of (found_of matches))) met.0 met.1) (subcommand_rows_of matches) → job ≡ job_in line words
-job_of_matches line words matches job top sub job_is =
-    job_is ∙ ap (λ (rows : List Row). option_and_then (λ met. job_of (has_status rows) met.0 met.1) (subcommand_rows_of matches)) top
-    ∙ ap (option_and_then (λ met. job_of (has_status (matches_of line words)) met.0 met.1)) sub
+-- what matches say, where there is a command
+pub said_met : {X : Type 0} (command_in : X → Text) (rows_in : X → List Row) (found : Option X) (rows : List Row) (command : Text) (given : List Row)
+    → Some command ≡ option_map command_in found → Some given ≡ option_map (λ (p : Text × List Row). p.1) (option_map (λ x. (command_in x, rows_in x)) found)
+    → said_by rows (Some (command, given)) ≡ said_by rows (option_map (λ x. (command_in x, rows_in x)) found)
+said_met command_in rows_in None rows command given named has = cc
+said_met command_in rows_in (Some x) rows command given named has =
+    let same : command ≡ command_in x = cc in let args : given ≡ rows_in x = cc in
+    ap₂ (λ (c : Text) (g : List Row). said_by rows (Some (c, g))) same args
 
--- the same of the command line of the program
-job_of_line : (parser : ValueParser) (line : App) (words : List Text) (matches : ArgMatches) (job : Option JobWords) → line ≡ command_line parser → HasMatchesOf line words matches
-    → job ≡ option_and_then (λ met. job_of (has_status (rows_of (found_of matches))) met.0 met.1) (subcommand_rows_of matches) → job_in (command_line parser) words ≡ job
-job_of_line parser line words matches job line_is has_matches job_is =
-    let met = has_matches (ap is_simple line_is ∙ simple parser) in
-    sym (job_of_matches line words matches job met.0 met.1 job_is ∙ ap (λ (a : App). job_in a words) line_is)
-
--- words that clap takes, and whose matches give a job, are taken with that job
-pub taken : (parser : ValueParser) (line : App) (words : List Text) (job : JobWords) (matches : ArgMatches) → TakesFormats parser → line ≡ command_line parser
+-- words that clap takes say what its matches say
+pub taken : (parser : ValueParser) (line : App) (words : List Text) (said : Result JobWords Lack) (matches : ArgMatches) → TakesFormats parser
     → (is_simple_and_free line ≡ true → fault_of line words ≡ []) → HasMatchesOf line words matches
-    → Some job ≡ option_and_then (λ met. job_of (has_status (rows_of (found_of matches))) met.0 met.1) (subcommand_rows_of matches) → IsTaken words job
-taken parser line words job matches formats line_is kinds has_matches job_is = record {
+    → said ≡ said_by (rows_of (found_of matches)) (subcommand_rows_of matches) → line ≡ command_line parser → IsTaken words said
+taken parser line words said matches formats kinds has_matches said_is line_is = record {
   parser = parser;
   formats = formats;
   taken = ap (λ (a : App). fault_of a words) (sym line_is) ∙ kinds (ap is_simple_and_free line_is ∙ simple_and_free parser);
-  job = job_of_line parser line words matches (Some job) line_is has_matches job_is;
+  says = let met = has_matches (ap is_simple line_is ∙ simple parser) in
+      sym (said_is ∙ ap₂ said_by met.0 met.1 ∙ ap (λ (a : App). said_in a words) line_is);
 }
-
--- words that clap takes, and whose matches give no job, have an argument in a wrong place
-pub lacking : (parser : ValueParser) (line : App) (words : List Text) (error : Error) (matches : ArgMatches) → has_lone_hyphen words ≡ false
-    → TakesFormats parser → line ≡ command_line parser → (is_simple_and_free line ≡ true → fault_of line words ≡ []) → HasMatchesOf line words matches
-    → None ≡ option_and_then (λ met. job_of (has_status (rows_of (found_of matches))) met.0 met.1) (subcommand_rows_of matches) → kind_of error ≡ kind.UnknownArgument → IsRefused words error
-lacking parser line words error matches no_hyphen formats line_is kinds has_matches job_is kind_is =
-    let no_fault : fault_of (command_line parser) words ≡ [] =
-    ap (λ (a : App). fault_of a words) (sym line_is) ∙ kinds (ap is_simple_and_free line_is ∙ simple_and_free parser) in
-    let no_job : job_in (command_line parser) words ≡ None = job_of_line parser line words matches None line_is has_matches job_is in
-    let lacks : refusal_of (command_line parser) words ≡ kind.UnknownArgument ∷ [] =
-    ap (λ (ks : Kinds). or_else ks (cond (is_some (job_in (command_line parser) words)) [] (kind.UnknownArgument ∷ []))) no_fault
-    ∙ ap (λ (j : Option JobWords). cond (is_some j) [] (kind.UnknownArgument ∷ [])) no_job in
-    record {
-      hyphen = no_hyphen;
-      parser = parser;
-      formats = formats;
-      among = subst (IsAmong (kind_of error)) (sym lacks) (inl kind_is);
-      no_memory = λ memory. true≢false (sym (ap is_memory memory) ∙ ap is_memory kind_is);
-    }

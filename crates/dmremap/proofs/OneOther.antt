@@ -22,10 +22,10 @@ use Rattle.dmremap.specs.declared.exit.Exit.TheVariants as exits
 use Rattle.dmremap.specs.declared.exit.Refusal.TheVariants as refusals
 use Rattle.dmremap.specs.declared.job.Format.{Format}
 use Rattle.dmremap.specs.Exit.{IsPlain, load_status}
-use Rattle.dmremap.specs.Job.{TaskWords, map_words, print_words, check_words, replay_words, name_words, split_words}
+use Rattle.dmremap.specs.Job.{JobWords, format_of, map_words, print_words, check_words, replay_words, name_words, split_words}
 use Rattle.dmremap.specs.Load.{Load, PartsGive, RefusedBy, SoundAs}
-use Rattle.dmremap.specs.OtherWhole.{ReplaysFiles, ReplaysStack, TaskDoes}
-use Rattle.dmremap.specs.Printing.{IsPrinted, Prints, Refuses, ReportSays, Said, SplitSays, TaskSays, devices_said, line}
+use Rattle.dmremap.specs.OtherWhole.{ReplaysFiles, ReplaysStack, JobDoes}
+use Rattle.dmremap.specs.Printing.{IsPrinted, Prints, Refuses, ReportSays, Said, SplitSays, JobSays, devices_said, line}
 use Rattle.dmremap.specs.ReplayOutcome.{AreAnswered, IsAnswer, IsOfNone, IsPlayed, IsWhole, StopsAt, asked_of}
 use Rattle.dmremap.proofs.OneWhole.{one_load}
 
@@ -42,12 +42,12 @@ one_report_said : (load : Load) (a b : Said) → ReportSays load a → ReportSay
 one_report_said (RefusedBy fault) a b x y = sym x ∙ y
 one_report_said (SoundAs description) a b x y = sym x.2 ∙ ap Prints (one_report description x.0 y.0 x.1 y.1) ∙ y.2
 
-one_said : (asked : TaskWords) (source disks : Delivery) (a b : Said) → TaskSays asked source disks a → TaskSays asked source disks b → a ≡ b
-one_said (map_words files) source disks a b x y = absurd x
-one_said (replay_words files) source disks a b x y = absurd x
-one_said (print_words form files) source disks a b x y = sym x.is ∙ ap (devices_said form) (one_load files.format source disks x.load y.load x.loaded y.loaded) ∙ y.is
-one_said (check_words files) source disks a b x y =
-    one_report_said y.load a b (subst (λ (load : Load). ReportSays load a) (one_load files.format source disks x.load y.load x.loaded y.loaded) x.says) y.says
+one_said : (asked : JobWords) (source disks : Delivery) (a b : Said) → JobSays asked source disks a → JobSays asked source disks b → a ≡ b
+one_said (map_words from status) source disks a b x y = absurd x
+one_said (replay_words from) source disks a b x y = absurd x
+one_said (print_words form from) source disks a b x y = sym x.is ∙ ap (devices_said form) (one_load (format_of from) source disks x.load y.load x.loaded y.loaded) ∙ y.is
+one_said (check_words from) source disks a b x y =
+    one_report_said y.load a b (subst (λ (load : Load). ReportSays load a) (one_load (format_of from) source disks x.load y.load x.loaded y.loaded) x.says) y.says
 one_said (name_words parts) source disks a b x y = sym x ∙ y
 one_said (split_words name) source disks a b x y = one_split_said name a b x y
 
@@ -185,10 +185,10 @@ one_replay format source disks requests a b x y plain plain' is is' =
     let same : is.0 ≡ is'.0 = cc in
     one_of_stack is'.0 requests a b x y plain plain' (subst (λ (stack : Description). ReplaysStack stack requests x a) same is.2) is'.2
 
--- What every task does
+-- What every job does
 
-pub one_other : (asked : TaskWords) (source disks requests : Delivery) (a b : Exit) (x y : List ℕ) → IsPlain a → IsPlain b
-    → TaskDoes asked source disks requests x a → TaskDoes asked source disks requests y b → (a ≡ b) × (x ≡ y)
-one_other (map_words files) source disks requests a b x y plain plain' is is' = absurd is
-one_other (replay_words files) source disks requests a b x y plain plain' is is' = one_replay files.format source disks requests a b x y plain plain' is is'
-one_other asked source disks requests a b x y plain plain' is is' = one_printed (TaskSays asked source disks) (one_said asked source disks) a b x y plain plain' is is'
+pub one_other : (asked : JobWords) (source disks requests : Delivery) (a b : Exit) (x y : List ℕ) → IsPlain a → IsPlain b
+    → JobDoes asked source disks requests x a → JobDoes asked source disks requests y b → (a ≡ b) × (x ≡ y)
+one_other (map_words from status) source disks requests a b x y plain plain' is is' = absurd is
+one_other (replay_words from) source disks requests a b x y plain plain' is is' = one_replay (format_of from) source disks requests a b x y plain plain' is is'
+one_other asked source disks requests a b x y plain plain' is is' = one_printed (JobSays asked source disks) (one_said asked source disks) a b x y plain plain' is is'

@@ -31,10 +31,11 @@ says_printed Says text output (exits.Ended endings.WriteFault) says cut = (text,
 says_printed Says text output exit says is = absurd is
 
 -- the devices of a load
-pub stack_printed : (form : TableForm) (format : Format) (source disks : Delivery) (description : Description) (output : List ℕ) (exit : Exit) → PartsGive format source disks (SoundAs description)
+pub stack_printed : (form : TableForm) (format other : Format) (source disks : Delivery) (description : Description) (output : List ℕ) (exit : Exit) → other ≡ format → PartsGive other source disks (SoundAs description)
     → IsTextPrinted (written_as form description.devices) output exit → IsPrinted (FilesSay form format source disks) output exit
-stack_printed form format source disks description output exit gives printed =
-    says_printed (FilesSay form format source disks) (written_as form description.devices) output exit (record { load = SoundAs description; loaded = gives; is = refl }) printed
+stack_printed form format other source disks description output exit same gives printed =
+    let loaded = subst (λ (f : Format). PartsGive f source disks (SoundAs description)) same gives in
+    says_printed (FilesSay form format source disks) (written_as form description.devices) output exit (record { load = SoundAs description; loaded = loaded; is = refl }) printed
 
 -- what is said by one rule is said by another that it gives
 printed_more : (Says More : Said → Type 0) → ((said : Said) → Says said → More said) → (output : List ℕ) (exit : Exit) → IsPrinted Says output exit → IsPrinted More output exit
@@ -44,10 +45,11 @@ printed_more Says More more output (exits.Refused refusal) is = (is.0, λ six. m
 printed_more Says More more output exit is = absurd is
 
 -- the report of a load
-pub check_printed : (format : Format) (source disks : Delivery) (description : Description) (output : List ℕ) (exit : Exit) → PartsGive format source disks (SoundAs description)
+pub check_printed : (format other : Format) (source disks : Delivery) (description : Description) (output : List ℕ) (exit : Exit) → other ≡ format → PartsGive other source disks (SoundAs description)
     → IsPrinted (ReportSays (SoundAs description)) output exit → IsPrinted (CheckSays format source disks) output exit
-check_printed format source disks description output exit gives is =
-    printed_more (ReportSays (SoundAs description)) (CheckSays format source disks) (λ said says. record { load = SoundAs description; loaded = gives; says = says }) output exit is
+check_printed format other source disks description output exit same gives is =
+    let loaded = subst (λ (f : Format). PartsGive f source disks (SoundAs description)) same gives in
+    printed_more (ReportSays (SoundAs description)) (CheckSays format source disks) (λ said says. record { load = SoundAs description; loaded = loaded; says = says }) output exit is
 
 -- a name that is built
 pub name_printed : (parts : NameParts) (name output : List ℕ) (exit : Exit) → Ok name ≡ built parts → IsTextPrinted (line name) output exit

@@ -1,13 +1,13 @@
--- What the inputs of a run delivered, where the disk list may be missing.
+-- What the inputs of a run delivered, where one may be missing.
 use Rattle.std.specs.Prelude.{[], Option, None, Some}
-use Rattle.dm_table.specs.io.DeviceIo.{Open, Delivery, InputPast, delivery}
+use Rattle.dm_table.specs.io.DeviceIo.{Failed, Delivery, InputPast, delivery}
 use Rattle.dm_table.specs.io.Progress.{IsReadOn}
 
--- the delivery of an input that may be missing: nothing, where there is none
+-- the delivery of an input that may be missing: it is that of one that can't be read, where there is none
 abbrev pub delivery_if : {X : Type 0} → (past : X → InputPast) → (old new : Option X) → Delivery
 delivery_if past (Some old) (Some new) = delivery (past old) (past new)
-delivery_if past (Some old) None = record { bytes = []; stand = Open }
-delivery_if past None new = record { bytes = []; stand = Open }
+delivery_if past (Some old) None = record { bytes = []; stand = Failed }
+delivery_if past None new = record { bytes = []; stand = Failed }
 
 -- an input that may be missing was only read on, and not after an end or a fault
 abbrev pub IsReadOnIf : {X : Type 0} → (past : X → InputPast) → (old new : Option X) → Type 0

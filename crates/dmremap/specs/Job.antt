@@ -1,71 +1,63 @@
--- What a job says: its task with the texts of its words, and the files that this loads.
-use Rattle.std.specs.Prelude.{Bool, true, false, Option, None, Some, if◌then◌else◌, is_some, not, option_map}
-use Rattle.std.specs.Option.{option_map_or}
+-- What a job says: its command with the texts of its words, and the source that this loads.
+use Rattle.std.specs.Prelude.{Bool, Option, None, Some, option_map}
 use Rattle.clap.specs.Words.{Text}
 use Rattle.lvm_volume.specs.Names.{NameParts}
-use Rattle.dmremap.specs.declared.job.Files.{Files}
 use Rattle.dmremap.specs.declared.job.Format.{Format}
 use Rattle.dmremap.specs.declared.job.Format.TheVariants.{Lvm, Tables}
 use Rattle.dmremap.specs.declared.job.Job.{Job}
+use Rattle.dmremap.specs.declared.job.Job.TheVariants as job
+use Rattle.dmremap.specs.declared.job.Source.{Source}
+use Rattle.dmremap.specs.declared.job.Source.TheVariants as source
 use Rattle.dmremap.specs.declared.job.TableForm.{TableForm}
-use Rattle.dmremap.specs.declared.job.Task.{Task}
-use Rattle.dmremap.specs.declared.job.Task.TheVariants as task
 
--- files with their texts themselves
-pub record FileWords : Type 0 where
-  pub format : Format
-  pub file : Text
-  pub disks : Option Text
-
--- a task with its texts themselves
-pub data TaskWords : Type 0 where
-  map_words : FileWords → TaskWords
-  print_words : TableForm → FileWords → TaskWords
-  check_words : FileWords → TaskWords
-  replay_words : FileWords → TaskWords
-  name_words : NameParts → TaskWords
-  split_words : Text → TaskWords
-
--- the texts of files
-abbrev pub file_words : Files → FileWords
-file_words files = record { format = files.format; file = files.file.now; disks = option_map (λ d. d.now) files.disks }
-
--- the texts of a task
-abbrev pub words_of : Task → TaskWords
-words_of (task.Map files) = map_words (file_words files)
-words_of (task.Print form files) = print_words form (file_words files)
-words_of (task.Check files) = check_words (file_words files)
-words_of (task.Replay files) = replay_words (file_words files)
-words_of (task.Name vg lv layer) = name_words (record { vg = vg.now; lv = lv.now; layer = option_map (λ l. l.now) layer })
-words_of (task.SplitName name) = split_words name.now
+-- a source with its texts themselves
+pub data SourceWords : Type 0 where
+  lvm_words : (file : Text) → SourceWords
+  table_words : TableForm → (file disks : Text) → SourceWords
 
 -- a job with its texts themselves
-pub record JobWords : Type 0 where
-  pub task : TaskWords
-  pub status : Bool
+pub data JobWords : Type 0 where
+  map_words : SourceWords → (status : Bool) → JobWords
+  print_words : TableForm → SourceWords → JobWords
+  check_words : SourceWords → JobWords
+  replay_words : SourceWords → JobWords
+  name_words : NameParts → JobWords
+  split_words : Text → JobWords
+
+-- the texts of a source
+abbrev pub source_words : Source → SourceWords
+source_words (source.Lvm file) = lvm_words file.now
+source_words (source.Tables form file disks) = table_words form file.now disks.now
 
 -- the texts of a job
 abbrev pub job_words : Job → JobWords
-job_words job = record { task = words_of job.task; status = job.status }
+job_words (job.Map from status) = map_words (source_words from) status
+job_words (job.Print form from) = print_words form (source_words from)
+job_words (job.Check from) = check_words (source_words from)
+job_words (job.Replay from) = replay_words (source_words from)
+job_words (job.Name vg lv layer) = name_words (record { vg = vg.now; lv = lv.now; layer = option_map (λ l. l.now) layer })
+job_words (job.SplitName name) = split_words name.now
 
--- the files that a task loads, if it loads any
-abbrev pub files_of : TaskWords → Option FileWords
-files_of (map_words files) = Some files
-files_of (print_words form files) = Some files
-files_of (check_words files) = Some files
-files_of (replay_words files) = Some files
-files_of (name_words parts) = None
-files_of (split_words name) = None
+-- the source that a job loads, if it loads any
+abbrev pub source_of : JobWords → Option SourceWords
+source_of (map_words from status) = Some from
+source_of (print_words form from) = Some from
+source_of (check_words from) = Some from
+source_of (replay_words from) = Some from
+source_of (name_words parts) = None
+source_of (split_words name) = None
 
--- a list of disks goes with texts of this format
-abbrev pub has_disk_list : Format → Bool
-has_disk_list Lvm = false
-has_disk_list (Tables form) = true
+-- the file of a source
+abbrev pub file_of : SourceWords → Text
+file_of (lvm_words file) = file
+file_of (table_words form file disks) = file
 
--- DISKS is there exactly where the format asks for it
-abbrev pub has_its_disks : FileWords → Bool
-has_its_disks files = if has_disk_list files.format then is_some files.disks else not (is_some files.disks)
+-- the format of it
+abbrev pub format_of : SourceWords → Format
+format_of (lvm_words file) = Lvm
+format_of (table_words form file disks) = Tables form
 
--- so it is with the files of a task, where it loads any
-abbrev pub task_has_its_disks : TaskWords → Bool
-task_has_its_disks asked = option_map_or has_its_disks (files_of asked) true
+-- its list of disks, where its format has one
+abbrev pub disks_of : SourceWords → Option Text
+disks_of (lvm_words file) = None
+disks_of (table_words form file disks) = Some disks

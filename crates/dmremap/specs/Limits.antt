@@ -1,10 +1,11 @@
--- The figures of the limits.
+-- The figures of the limits and of the exit statuses.
 use Rattle.std.specs.Prelude.{◌≡◌, ◌+◌, ◌^◌}
 use Rattle.dm_table.specs.declared.load.part_input.TheConstants.{MOST_PART_BYTES}
 use Rattle.dm_stack.specs.declared.graph.TheConstants.{MOST_DEPTH}
 use Rattle.dm_stack.specs.declared.limits.TheConstants.{MOST_CHUNK, MOST_DEVICES, MOST_DISKS, MOST_LENGTH, MOST_LINES, MOST_STRIPES}
 use Rattle.dm_stream.specs.declared.lines.TheConstants.{MOST_LINE_BYTES}
 use Rattle.dm_stream.specs.declared.requests.TheConstants.{MOST_REQUESTS}
+use Rattle.dmremap.specs.declared.status.TheConstants.{STATUS_BAD_REQUEST, STATUS_DONE, STATUS_MEMORY, STATUS_READ_FAULT, STATUS_REFUSED, STATUS_WORDS, STATUS_WRITE_FAULT}
 
 pub record AreLimits : Type 0 where
   pub part_bytes : MOST_PART_BYTES ≡ 1048576
@@ -17,3 +18,10 @@ pub record AreLimits : Type 0 where
   pub length : MOST_LENGTH ≡ 2 ^ 50
   pub stripes : MOST_STRIPES ≡ 128
   pub chunk : MOST_CHUNK + 1 ≡ 2 ^ 32
+  pub done : STATUS_DONE ≡ 0
+  pub refused : STATUS_REFUSED ≡ 1
+  pub words : STATUS_WORDS ≡ 2
+  pub bad_request : STATUS_BAD_REQUEST ≡ 3
+  pub read_fault : STATUS_READ_FAULT ≡ 4
+  pub write_fault : STATUS_WRITE_FAULT ≡ 5
+  pub memory : STATUS_MEMORY ≡ 6

@@ -6,5 +6,5 @@ use Rattle.dmremap.specs.declared.part_file.Stage.TheVariants.{Ended, Open, Unop
 -- the bytes that a file has left where they are known: none once it was read to its end
 abbrev pub left_of : {F : Type 0} → (F → Option (List ℕ)) → Stage F → Option (List ℕ)
 left_of remaining Unopened = None
-left_of remaining (Open file) = remaining file
-left_of remaining Ended = Some []
+left_of remaining (Open file opened) = remaining file
+left_of remaining (Ended opened) = Some []

@@ -18,7 +18,7 @@ use Rattle.dmremap.specs.declared.job.TableForm.{TableForm}
 use Rattle.dmremap.specs.declared.job.TableForm.TheVariants.{Concise, Table}
 use Rattle.dmremap.specs.declared.status.TheConstants.{STATUS_MEMORY}
 use Rattle.dmremap.specs.Exit.{refusal_status}
-use Rattle.dmremap.specs.Job.{TaskWords, map_words, print_words, check_words, replay_words, name_words, split_words}
+use Rattle.dmremap.specs.Job.{JobWords, format_of, map_words, print_words, check_words, replay_words, name_words, split_words}
 use Rattle.dmremap.specs.Load.{Load, PartsGive, RefusedBy, SoundAs}
 
 -- ---- what there is to print
@@ -69,14 +69,14 @@ abbrev pub SplitSays : List ℕ → Said → Type 0
 SplitSays name (Prints text) = (parts : List ℕ) × IsSpaced name parts × (line parts ≡ text)
 SplitSays name (Refuses refusal) = ((p : NameParts) → Builds p name → ⊥) × (refusals.Split ≡ refusal)
 
--- a task says this, by what its files delivered; `map` and `replay`, which read requests, are none of these tasks
-abbrev pub TaskSays : TaskWords → (source disks : Delivery) → Said → Type 0
-TaskSays (map_words files) source disks said = ⊥
-TaskSays (replay_words files) source disks said = ⊥
-TaskSays (print_words form files) source disks said = FilesSay form files.format source disks said
-TaskSays (check_words files) source disks said = CheckSays files.format source disks said
-TaskSays (name_words parts) source disks said = name_said (built parts) ≡ said
-TaskSays (split_words name) source disks said = SplitSays name said
+-- a job says this, by what its files delivered; `map` and `replay`, which read requests, are none of these jobs
+abbrev pub JobSays : JobWords → (source disks : Delivery) → Said → Type 0
+JobSays (map_words from status) source disks said = ⊥
+JobSays (replay_words from) source disks said = ⊥
+JobSays (print_words form from) source disks said = FilesSay form (format_of from) source disks said
+JobSays (check_words from) source disks said = CheckSays (format_of from) source disks said
+JobSays (name_words parts) source disks said = name_said (built parts) ≡ said
+JobSays (split_words name) source disks said = SplitSays name said
 
 -- ---- what was printed
 

@@ -1,14 +1,14 @@
 -- The command line of the program, and the job or the refusal that words have by it.
-use Rattle.std.specs.Prelude.{◌≡◌, ◌≢◌, ◌⊎◌, ◌∷◌, [], ℕ, Bool, true, false, List, Option, Some, ⊤}
-use Rattle.std.specs.Prelude.{◌&&◌, ◌||◌, None, codes, drop, is_some, map, not, option_and_then, option_map}
+use Rattle.std.specs.Prelude.{◌≡◌, ◌≢◌, ◌⊎◌, ◌∷◌, [], ℕ, Bool, true, false, List, Option, Some, Result, Ok, Err, IfOk, ⊤}
+use Rattle.std.specs.Prelude.{◌&&◌, ◌||◌, None, codes, drop, map, not, option_map}
 use Rattle.std.specs.Prelude.{if◌then◌else◌}
 use Rattle.std.specs.Borrow.{Bor}
 use Rattle.std.specs.List.{before_first, list_any}
 use Rattle.std.specs.Option.{option_map_or}
 use Rattle.std.specs.Str.{bytes_eq}
-use Rattle.clap.specs.Kinds.{IsAmong, Kinds, or_else}
+use Rattle.clap.specs.Kinds.{IsAmong}
 use Rattle.clap.specs.Simple.{on_top}
-use Rattle.clap.specs.Words.{AddsSubcommand, App, Row, Rule, Text, app_of, fault_of, first_of, kind_of}
+use Rattle.clap.specs.Words.{App, Row, Rule, Text, app_of, fault_of, first_of, kind_of}
 use Rattle.clap.specs.Words.{matches_of, new_app, new_rule, subcommand_of, with_rule, with_subcommand}
 use Rattle.clap.specs.declared.builder.command.Command.{Command}
 use Rattle.clap.specs.declared.builder.ArgAction.{ArgAction}
@@ -18,12 +18,16 @@ use Rattle.clap.specs.declared.builder.value_parser.ValueParser.TheVariants.{Nam
 use Rattle.clap.specs.declared.error.Error.{Error}
 use Rattle.clap.specs.declared.error.kind.ErrorKind.{ErrorKind}
 use Rattle.clap.specs.declared.error.kind.ErrorKind.TheVariants as kind
-use Rattle.dmremap.specs.Job.{FileWords, JobWords, TaskWords, check_words, job_words, map_words, name_words, print_words, replay_words, split_words, task_has_its_disks, words_of}
+use Rattle.dmremap.specs.Job.{JobWords, SourceWords, check_words, job_words, lvm_words, map_words, name_words, print_words, replay_words, source_words, split_words, table_words}
 use Rattle.dmremap.specs.declared.job.Format.{Format}
 use Rattle.dmremap.specs.declared.job.Format.TheVariants.{Lvm, Tables}
 use Rattle.dmremap.specs.declared.job.Job.{Job}
+use Rattle.dmremap.specs.declared.job.Source.{Source}
 use Rattle.dmremap.specs.declared.job.TableForm.TheVariants.{Concise, Table}
 use Rattle.dmremap.specs.declared.status.TheConstants.{STATUS_DONE, STATUS_MEMORY, STATUS_WORDS}
+use Rattle.dmremap.specs.declared.words.Given.{Given}
+use Rattle.dmremap.specs.declared.words.Lack.{Lack}
+use Rattle.dmremap.specs.declared.words.Lack.TheVariants as lack
 use Rattle.dmremap.specs.declared.words.WordsFault.{WordsFault}
 use Rattle.dmremap.specs.declared.words.WordsFault.TheVariants.{Words, Disks, Memory}
 
@@ -74,12 +78,12 @@ abbrev pub three_app : Text → (first second third : Rule) → App
 three_app name first second third = with_rule (with_rule (with_rule (new_app name) first) second) third
 
 -- a command that loads files, `NAME FORMAT FILE [DISKS]`: clap lets DISKS be left out, since the formats differ in it
-abbrev pub source_app : Text → ValueParser → App
-source_app name parser = three_app name (format_rule parser) (required_rule (codes "file")) (optional_rule (codes "disks"))
+abbrev pub loading_app : Text → ValueParser → App
+loading_app name parser = three_app name (format_rule parser) (required_rule (codes "file")) (optional_rule (codes "disks"))
 
 -- `map FORMAT FILE [DISKS] [--status]`
 abbrev pub map_app : ValueParser → App
-map_app parser = with_rule (source_app (codes "map") parser) status_rule
+map_app parser = with_rule (loading_app (codes "map") parser) status_rule
 
 -- `name VG LV [LAYER]`
 abbrev pub name_app : App
@@ -110,71 +114,146 @@ with_commands line (command ∷ commands) = with_commands (with_subcommand line 
 -- the program with its commands
 abbrev pub command_line : ValueParser → App
 command_line parser = with_commands program_app
-    (map_app parser ∷ source_app (codes "table") parser ∷ source_app (codes "concise") parser
-    ∷ source_app (codes "check") parser ∷ source_app (codes "replay") parser ∷ name_app ∷ split_app ∷ [])
+    (map_app parser ∷ loading_app (codes "table") parser ∷ loading_app (codes "concise") parser
+    ∷ loading_app (codes "check") parser ∷ loading_app (codes "replay") parser ∷ name_app ∷ split_app ∷ [])
 
--- as a subcommand, the command is this one
-abbrev pub IsCommand : App → Command → Type 0
-IsCommand app command = (old new : Command) → AddsSubcommand old command new
-    → app_of new ≡ with_subcommand (app_of old) app.top
+-- a parse reads the command as this one, if there was memory to make it
+abbrev pub HasApp : {E : Type 0} → App → Result Command E → Type 0
+HasApp app result = IfOk result (λ command. app_of command ≡ app)
 
 -- ---- what words say
-
--- the files that these arguments say, of which the first two have to be there
-abbrev pub files_from : Option Text → Option Text → Option Text → Option FileWords
-files_from word file disks = option_and_then (λ format.
-    option_map (λ path. record { format = format; file = path; disks = disks }) file) (option_and_then format_named word)
-
--- the files that the matches of a command give
-abbrev pub files_in : List Row → Option FileWords
-files_in rows = files_from (first_of (codes "format") rows) (first_of (codes "file") rows)
-    (first_of (codes "disks") rows)
-
--- the task of `name` with these arguments, of which the first two have to be there
-abbrev pub name_from : Option Text → Option Text → Option Text → Option TaskWords
-name_from vg lv layer = option_and_then (λ group.
-    option_map (λ volume. name_words (record { vg = group; lv = volume; layer = layer })) lv) vg
-
--- the task that the matches of `name` give
-abbrev pub name_in : List Row → Option TaskWords
-name_in rows = name_from (first_of (codes "vg") rows) (first_of (codes "lv") rows) (first_of (codes "layer") rows)
-
--- the task that the matches of `splitname` give
-abbrev pub split_in : List Row → Option TaskWords
-split_in rows = option_map split_words (first_of (codes "name") rows)
-
--- the task that the matches of a command give
-abbrev pub task_of : Text → List Row → Option TaskWords
-task_of command rows =
-    if bytes_eq command (codes "map") then option_map map_words (files_in rows)
-    else (if bytes_eq command (codes "table") then option_map (print_words Table) (files_in rows)
-    else (if bytes_eq command (codes "concise") then option_map (print_words Concise) (files_in rows)
-    else (if bytes_eq command (codes "check") then option_map check_words (files_in rows)
-    else (if bytes_eq command (codes "replay") then option_map replay_words (files_in rows)
-    else (if bytes_eq command (codes "name") then name_in rows
-    else (if bytes_eq command (codes "splitname") then split_in rows else None))))))
 
 -- a flag that was given has this text, and one that was not has another
 abbrev pub has_flag : Text → List Row → Bool
 has_flag id rows = option_map_or (λ text. bytes_eq text (codes "true")) (first_of id rows) false
 
--- the flag that asks for status lines was given
-abbrev pub has_status : List Row → Bool
-has_status rows = has_flag (codes "status") rows
+-- what clap found in words: whether `--status` stands before the command or among its words, and the other texts
+pub record GivenWords : Type 0 where
+  pub early : Bool
+  pub command : Text
+  pub status : Bool
+  pub format : Option Text
+  pub file : Option Text
+  pub disks : Option Text
+  pub vg : Option Text
+  pub lv : Option Text
+  pub layer : Option Text
+  pub name : Option Text
 
--- it may stand before the command `map` that does not have it among its words
-abbrev pub takes_status : Text → List Row → Bool
-takes_status command rows = bytes_eq command (codes "map") && not (has_status rows)
+abbrev text_if : Option (Bor Text) → Option Text
+text_if word = option_map (λ w. w.now) word
 
--- the job that a command and its matches give, where the flag stands before them or not
-abbrev pub job_of : (before : Bool) → Text → List Row → Option JobWords
-job_of before command rows = if before && not (takes_status command rows) then None
-    else option_map (λ task. record { task = task; status = before || has_status rows }) (task_of command rows)
+-- the texts of what was found
+abbrev pub given_words : Given → GivenWords
+given_words given = record {
+  early = given.early;
+  command = given.command.now;
+  status = given.status;
+  format = text_if given.format;
+  file = text_if given.file;
+  disks = text_if given.disks;
+  vg = text_if given.vg;
+  lv = text_if given.lv;
+  layer = text_if given.layer;
+  name = text_if given.name;
+}
 
--- the job that clap's matches of the words give
-abbrev pub job_in : App → List Text → Option JobWords
-job_in line words =
-    option_and_then (λ met. job_of (has_status (matches_of line words)) met.0 met.1) (subcommand_of line words)
+-- what the matches of a command give
+abbrev pub given_in : (early : Bool) → Text → List Row → GivenWords
+given_in early command rows = record {
+  early = early;
+  command = command;
+  status = has_flag (codes "status") rows;
+  format = first_of (codes "format") rows;
+  file = first_of (codes "file") rows;
+  disks = first_of (codes "disks") rows;
+  vg = first_of (codes "vg") rows;
+  lv = first_of (codes "lv") rows;
+  layer = first_of (codes "layer") rows;
+  name = first_of (codes "name") rows;
+}
+
+-- the source of a format, which has a list of disks or none
+abbrev pub source_at : Format → Text → Option Text → Result SourceWords Lack
+source_at Lvm file None = Ok (lvm_words file)
+source_at Lvm file (Some disks) = Err lack.Disks
+source_at (Tables form) file None = Err lack.Disks
+source_at (Tables form) file (Some disks) = Ok (table_words form file disks)
+
+-- so is one whose format is named
+abbrev pub source_named : Option Format → Text → Option Text → Result SourceWords Lack
+source_named None file disks = Err lack.Place
+source_named (Some format) file disks = source_at format file disks
+
+-- the source that these words say, of which the first two have to be there
+abbrev pub source_if : Option Text → Option Text → Option Text → Result SourceWords Lack
+source_if None file disks = Err lack.Place
+source_if (Some word) None disks = Err lack.Place
+source_if (Some word) (Some file) disks = source_named (format_named word) file disks
+
+-- the source that was given
+abbrev pub source_from : GivenWords → Result SourceWords Lack
+source_from given = source_if given.format given.file given.disks
+
+-- the job of a command that loads a source; `map` alone is asked for status lines
+abbrev pub loading_job : Text → (status : Bool) → SourceWords → Result JobWords Lack
+loading_job command status from =
+    if bytes_eq command (codes "map") then Ok (map_words from status)
+    else (if bytes_eq command (codes "table") then Ok (print_words Table from)
+    else (if bytes_eq command (codes "concise") then Ok (print_words Concise from)
+    else (if bytes_eq command (codes "check") then Ok (check_words from)
+    else (if bytes_eq command (codes "replay") then Ok (replay_words from) else Err lack.Place))))
+
+-- the same where there may be no source
+abbrev pub loading_if : Text → (status : Bool) → Result SourceWords Lack → Result JobWords Lack
+loading_if command status (Ok from) = loading_job command status from
+loading_if command status (Err why) = Err why
+
+-- the job of `name` with these words, of which the first two have to be there
+abbrev pub name_if : Option Text → Option Text → Option Text → Result JobWords Lack
+name_if None lv layer = Err lack.Place
+name_if (Some vg) None layer = Err lack.Place
+name_if (Some vg) (Some lv) layer = Ok (name_words (record { vg = vg; lv = lv; layer = layer }))
+
+abbrev pub name_from : GivenWords → Result JobWords Lack
+name_from given = name_if given.vg given.lv given.layer
+
+-- the job of `splitname` with this word, which has to be there
+abbrev pub split_if : Option Text → Result JobWords Lack
+split_if None = Err lack.Place
+split_if (Some name) = Ok (split_words name)
+
+abbrev pub split_from : GivenWords → Result JobWords Lack
+split_from given = split_if given.name
+
+-- `--status` stands before a command that is not `map`, or has it among its words too
+abbrev pub is_misplaced : GivenWords → Bool
+is_misplaced given = given.early && (given.status || not (bytes_eq given.command (codes "map")))
+
+-- the job that was given
+abbrev pub job_from : GivenWords → Result JobWords Lack
+job_from given = if is_misplaced given then Err lack.Place
+    else (if bytes_eq given.command (codes "name") then name_from given
+    else (if bytes_eq given.command (codes "splitname") then split_from given
+    else loading_if given.command (given.early || given.status) (source_from given)))
+
+-- what matches say, and those of their command, if there is one
+abbrev pub said_by : List Row → Option (Text × List Row) → Result JobWords Lack
+said_by rows None = Err lack.Place
+said_by rows (Some met) = job_from (given_in (has_flag (codes "status") rows) met.0 met.1)
+
+-- what clap's matches of the words say
+abbrev pub said_in : App → List Text → Result JobWords Lack
+said_in line words = said_by (matches_of line words) (subcommand_of line words)
+
+-- a source or a job with its texts themselves, or why there is none
+abbrev pub source_said : Result Source Lack → Result SourceWords Lack
+source_said (Ok from) = Ok (source_words from)
+source_said (Err why) = Err why
+
+abbrev pub job_said : Result Job Lack → Result JobWords Lack
+job_said (Ok job) = Ok (job_words job)
+job_said (Err why) = Err why
 
 -- ---- what words give
 
@@ -187,56 +266,46 @@ lone_hyphen_in words = list_any (λ w. bytes_eq w (codes "-"))
 abbrev pub has_lone_hyphen : List Text → Bool
 has_lone_hyphen words = lone_hyphen_in (drop 1 words)
 
--- the kinds of a refusal: clap's, and an unknown argument at words that clap takes and that give no
--- job
-abbrev pub refusal_of : App → List Text → Kinds
-refusal_of line words = or_else (fault_of line words)
-    (if is_some (job_in line words) then [] else kind.UnknownArgument ∷ [])
-
--- clap takes the words, and its matches give this job
-pub record IsTaken (words : List Text) (asked : JobWords) : Type 0 where
+-- clap takes the words, and its matches say this
+pub record IsTaken (words : List Text) (said : Result JobWords Lack) : Type 0 where
   pub parser : ValueParser
   pub formats : TakesFormats parser
   pub taken : fault_of (command_line parser) words ≡ []
-  pub job : job_in (command_line parser) words ≡ Some asked
+  pub says : said_in (command_line parser) words ≡ said
 
--- clap refuses the words by this error, which is not that memory ran out; they have no lone hyphen
+-- the fault is an error of this kind, or memory ran out
+abbrev pub IsOfKind : ErrorKind → WordsFault → Type 0
+IsOfKind k (Words error) = kind_of error ≡ k
+IsOfKind k Disks = ⊥
+IsOfKind k Memory = ⊤
+
+-- clap refuses the words by this error, which is not that memory ran out
 pub record IsRefused (words : List Text) (error : Error) : Type 0 where
-  pub hyphen : has_lone_hyphen words ≡ false
   pub parser : ValueParser
   pub formats : TakesFormats parser
-  pub among : IsAmong (kind_of error) (refusal_of (command_line parser) words)
+  pub among : IsAmong (kind_of error) (fault_of (command_line parser) words)
   pub no_memory : kind_of error ≢ kind.OutOfMemory
 
--- a lone hyphen is refused as an unknown argument, whatever else the words are
-abbrev pub RefusesHyphen : List Text → Error → Type 0
-RefusesHyphen words error =
-    (has_lone_hyphen words ≡ true) × (kind_of error ≡ kind.UnknownArgument)
+-- clap refuses the words so, or memory ran out
+abbrev pub IsUntaken : List Text → WordsFault → Type 0
+IsUntaken words (Words error) = IsRefused words error
+IsUntaken words Disks = ⊥
+IsUntaken words Memory = ⊤
+
+-- the program itself refuses the words, as an unknown argument: a lone hyphen, whatever else the words are, or words that clap takes, with `--status` where it may not stand
+abbrev pub RefusesItself : List Text → Error → Type 0
+RefusesItself words error = (kind_of error ≡ kind.UnknownArgument) × ((has_lone_hyphen words ≡ true) ⊎ IsTaken words (Err lack.Place))
 
 -- the words ask for this job
 pub record IsJobOf (words : List Text) (job : Job) : Type 0 where
   pub hyphen : has_lone_hyphen words ≡ false
-  pub taken : IsTaken words (job_words job)
-  pub disks : task_has_its_disks (words_of job.task) ≡ true
+  pub taken : IsTaken words (Ok (job_words job))
 
--- the words ask for a job with DISKS missing or too much, and have no lone hyphen
-pub record LacksItsDisks (words : List Text) : Type 0 where
-  pub hyphen : has_lone_hyphen words ≡ false
-  pub asked : JobWords
-  pub taken : IsTaken words asked
-  pub disks : task_has_its_disks asked.task ≡ false
-
--- the words have this fault: they are text, and memory can run out at any words
+-- the words have this fault: they are text, and memory can run out at any words. DISKS is missing or too much only where there is no other
 abbrev pub IsFaultOf : List Text → WordsFault → Type 0
-IsFaultOf words (Words error) = RefusesHyphen words error ⊎ IsRefused words error
-IsFaultOf words Disks = LacksItsDisks words
+IsFaultOf words (Words error) = RefusesItself words error ⊎ ((has_lone_hyphen words ≡ false) × IsRefused words error)
+IsFaultOf words Disks = (has_lone_hyphen words ≡ false) × IsTaken words (Err lack.Disks)
 IsFaultOf words Memory = ⊤
-
--- the fault of arguments that are no text: an invalid value
-abbrev pub IsNotText : WordsFault → Type 0
-IsNotText (Words error) = kind_of error ≡ kind.InvalidValue
-IsNotText Disks = ⊥
-IsNotText Memory = ⊤
 
 -- ---- the exit status of a fault
 

@@ -1,13 +1,13 @@
 //! What the program is asked to do.
 //!
 //! A job holds what the words say and nothing that a file says, so that words are refused before a file
-//! is opened. A new command is a variant of `Task`, a new format one of `Format`.
+//! is opened. A new command is a variant of `Job`, a new format one of `Format` and of `Source`.
 
 ghost use Rattle.std.specs.Prelude.{◌≡◌, option_map};
-ghost use Rattle.dmremap.specs.Job.{file_words, files_of, has_disk_list, has_its_disks, task_has_its_disks, words_of};
+ghost use Rattle.dmremap.specs.Job.{disks_of, file_of, format_of, job_words, source_of, source_words};
 
 /// The form of a text of devices and their tables.
-#[derive(Clone, Copy, Debug)]
+#[derive(Clone, Copy)]
 pub enum TableForm {
     /// Lines `NAME: START LEN TYPE ARGS`, as the command `table` of dmsetup(8) prints them.
     Table,
@@ -16,7 +16,7 @@ pub enum TableForm {
 }
 
 /// The format of the text of FILE.
-#[derive(Clone, Copy, Debug)]
+#[derive(Clone, Copy)]
 pub enum Format {
     /// The metadata of a volume group of LVM2, as vgcfgbackup(8) writes it.
     Lvm,
@@ -24,25 +24,39 @@ pub enum Format {
     Tables(TableForm),
 }
 
-/// The files that a command loads. Paths are taken as given.
-#[derive(Clone, Copy, Debug)]
-pub struct Files<'a> {
-    pub format: Format,
-    pub file: &'a str,
-    pub disks: Option<&'a str>,
+/// The files that a command loads, each by its path, which is taken as given.
+#[derive(Clone, Copy)]
+pub enum Source<'a> {
+    /// Metadata, which says itself what its disks are.
+    Lvm {
+        file: &'a str,
+    },
+    /// Devices and their tables in a form, and the list of their disks.
+    Tables {
+        form: TableForm,
+        file: &'a str,
+        disks: &'a str,
+    },
 }
 
-/// What the program is asked to do. The texts are those of the words.
-#[derive(Clone, Copy, Debug)]
-pub enum Task<'a> {
-    /// Map the requests of the standard input through the tables of these files.
-    Map(Files<'a>),
-    /// Print the devices of these files in a form.
-    Print(TableForm, Files<'a>),
-    /// Check the devices of these files, and print whether two of their lines claim one sector.
-    Check(Files<'a>),
-    /// Replay the requests of the standard input on the disks of these files.
-    Replay(Files<'a>),
+/// What the words ask for. The texts are those of the words.
+#[derive(Clone, Copy)]
+pub enum Job<'a> {
+    /// Map the requests of the standard input through the tables of a source. Where `status` is true, the
+    /// status lines of snapshots follow the output.
+    Map {
+        source: Source<'a>,
+        status: bool,
+    },
+    /// Print the devices of a source in a form.
+    Print {
+        form: TableForm,
+        source: Source<'a>,
+    },
+    /// Check the devices of a source, and print whether two of their lines claim one sector.
+    Check(Source<'a>),
+    /// Replay the requests of the standard input on the disks of a source.
+    Replay(Source<'a>),
     /// Print the device mapper's name of a volume, or of a layer of it.
     Name {
         vg: &'a str,
@@ -53,59 +67,48 @@ pub enum Task<'a> {
     SplitName(&'a str),
 }
 
-/// What the words ask for.
-#[derive(Debug, Drop)]
-pub struct Job<'a> {
-    pub task: Task<'a>,
-    /// Whether the status lines of snapshots follow the output; `map` alone is asked for them.
-    pub status: bool,
-}
-
-impl Format {
-    /// Whether a list of disks goes with texts of this format.
-    pub fn has_disk_list(self) -> bool
-        ensures { result ≡ has_disk_list self }
+impl<'a> Source<'a> {
+    /// The format of its file.
+    pub fn format(self) -> Format
+        ensures { result ≡ format_of (source_words self.entry) }
     {
         match self {
-            Format::Lvm => false,
-            Format::Tables(_) => true,
+            Source::Lvm { .. } => Format::Lvm,
+            Source::Tables { form, .. } => Format::Tables(form),
+        }
+    }
+
+    /// The path of its file.
+    pub fn file(self) -> &'a str
+        ensures { result.now ≡ file_of (source_words self.entry) }
+    {
+        match self {
+            Source::Lvm { file } | Source::Tables { file, .. } => file,
+        }
+    }
+
+    /// The path of its list of disks, where its format has one.
+    pub fn disks(self) -> Option<&'a str>
+        ensures { option_map (λ d. d.now) result ≡ disks_of (source_words self.entry) }
+    {
+        match self {
+            Source::Lvm { .. } => None,
+            Source::Tables { disks, .. } => Some(disks),
         }
     }
 }
 
-impl<'a> Files<'a> {
-    /// Whether there is a disk list exactly where the format asks for it.
-    fn has_its_disks(self) -> bool
-        ensures { result ≡ has_its_disks (file_words self.entry) }
-    {
-        if self.format.has_disk_list() {
-            self.disks.is_some()
-        } else {
-            self.disks.is_none()
-        }
-    }
-}
-
-impl<'a> Task<'a> {
-    /// The files that it loads, if it loads any.
-    pub fn files(self) -> Option<Files<'a>>
-        ensures { option_map file_words result ≡ files_of (words_of self.entry) }
+impl<'a> Job<'a> {
+    /// The source that it loads, if it loads any.
+    pub fn source(self) -> Option<Source<'a>>
+        ensures { option_map source_words result ≡ source_of (job_words self.entry) }
     {
         match self {
-            Task::Map(files) | Task::Print(_, files) | Task::Check(files) | Task::Replay(files) =>
-                Some(files),
-            Task::Name { .. } | Task::SplitName(_) => None,
-        }
-    }
-
-    /// Whether its files, if it loads any, have a disk list exactly where they need one.
-    pub(crate) fn has_its_disks(self) -> bool
-        ensures { result ≡ task_has_its_disks (words_of self.entry) }
-    {
-        match self {
-            Task::Map(files) | Task::Print(_, files) | Task::Check(files) | Task::Replay(files) =>
-                files.has_its_disks(),
-            Task::Name { .. } | Task::SplitName(_) => true,
+            Job::Map { source, .. }
+            | Job::Print { source, .. }
+            | Job::Check(source)
+            | Job::Replay(source) => Some(source),
+            Job::Name { .. } | Job::SplitName(_) => None,
         }
     }
 }

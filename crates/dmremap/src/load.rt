@@ -5,36 +5,36 @@
 //! over what they describe. A new format is an arm of `load` here and of `PartsGive` in
 //! `specs/Load.antt`, and takes the parts that it has.
 
-ghost use Rattle.std.specs.Prelude.{◌≡◌, ◌≢◌, ◌++◌, IfOk, IfErr, IsSome, None, OnOk, Some, is_some};
+ghost use Rattle.std.specs.Prelude.{◌≡◌, ◌≢◌, ◌++◌, IfOk, IfErr, None, OnOk, Some};
 ghost use Rattle.dm_table.specs.io.DeviceIo.{delivery};
 ghost use Rattle.dm_table.specs.declared.load.place.Part.TheVariants.{Disks, Source};
-ghost use Rattle.dm_table.specs.declared.load.load_fault.LoadKind.TheVariants.{Memory};
+ghost use Rattle.dm_table.specs.declared.load.load_fault.LoadKind.TheVariants.{Memory, Read};
 ghost use Rattle.dm_table.specs.tables.DiskList.{disk_checks};
-ghost use Rattle.dm_table.specs.load.LoadFault.{first_fault};
+ghost use Rattle.dm_table.specs.load.LoadFault.{fault_at, first_fault};
 ghost use Rattle.dm_table.specs.load.PartInput.{Refuses, TextOf, part_read};
 ghost use Rattle.dm_table.specs.io.Progress.{IsReadOn};
 ghost use Rattle.dmremap.specs.Inputs.{IsReadOnIf, delivery_if};
 ghost use Rattle.dmremap.specs.Load.{Describes, DescribesDevices, Loads, device_checks, MetadataGives, MetadataPartGives, PartsGive, TextPartsGive, TextsGive};
-ghost use Rattle.dmremap.specs.Job.{has_disk_list};
 
 use crate::job::{Format, TableForm};
 use dm_stack::Stack;
 use dm_table::{
-    DeviceSpec, Disk, Input, LoadFault, Part, parse_concise, parse_disks, parse_table, read_part,
+    DeviceSpec, Disk, Input, LoadFault, LoadKind, Part, Place, parse_concise, parse_disks,
+    parse_table, read_part,
 };
 use lvm_volume::parse_metadata;
 use std::alloc::Global;
 
-/// What the source and the disk list give.
+/// What the source and the disk list give. Where the format has no disk list, none is read.
 ///
 /// `Memory` only where memory ran out; else the first fault of the first check that finds any.
+#[tactic(auto, using(crate::proofs::LoadLemmas::untouched))]
 pub(crate) fn load<S: Input, D: Input>(
     alloc: Global,
     format: Format,
     source: &mut S,
     disks: &mut Option<D>,
 ) -> Result<Stack, LoadFault>
-    requires { is_some disks.old ≡ has_disk_list format }
     ensures gives { Loads (PartsGive format (delivery (S.past source.old) (S.past source.new))
         (delivery_if D.past disks.old disks.new)) result }
     ensures source { IsReadOn (S.past source.old) (S.past source.new) }
@@ -46,6 +46,35 @@ pub(crate) fn load<S: Input, D: Input>(
     }
 }
 
+/// The same of a source that may be missing, which is refused as one that can't be read.
+#[tactic(auto, using(crate::proofs::LoadLemmas::untouched))]
+pub(crate) fn load_if<S: Input, D: Input>(
+    alloc: Global,
+    format: Format,
+    source: &mut Option<S>,
+    disks: &mut Option<D>,
+) -> Result<Stack, LoadFault>
+    ensures gives { Loads (PartsGive format (delivery_if S.past source.old source.new)
+        (delivery_if D.past disks.old disks.new)) result }
+    ensures source { IsReadOnIf S.past source.old source.new }
+    ensures disks { IsReadOnIf D.past disks.old disks.new }
+{
+    match source {
+        Some(source) => load(alloc, format, source, disks),
+        None => Err(unread(Part::Source)),
+    }
+}
+
+/// The fault of a part that can't be read.
+fn unread(part: Part) -> LoadFault
+    ensures { result ≡ fault_at part Read 0 }
+{
+    LoadFault {
+        kind: LoadKind::Read,
+        at: Place { part, number: 0 },
+    }
+}
+
 /// What a text of devices in a form and a disk list give.
 fn load_tables<S: Input, D: Input>(
     alloc: Global,
@@ -53,7 +82,6 @@ fn load_tables<S: Input, D: Input>(
     source: &mut S,
     disks: &mut Option<D>,
 ) -> Result<Stack, LoadFault>
-    requires { IsSome disks.old }
     ensures gives { Loads
         (TextPartsGive form (part_read Source (delivery (S.past source.old) (S.past source.new)))
         (part_read Disks (delivery_if D.past disks.old disks.new))) result }
@@ -65,9 +93,8 @@ fn load_tables<S: Input, D: Input>(
     load_texts(alloc, form, &source, &disks)
 }
 
-/// The text of a disk list that is there.
+/// The text of a disk list, which is refused where it is missing.
 fn read_disks<D: Input>(alloc: Global, disks: &mut Option<D>) -> Result<Vec<u8>, LoadFault>
-    requires { IsSome disks.old }
     ensures text { IfOk result
         (λ text. part_read Disks (delivery_if D.past disks.old disks.new) ≡ TextOf text.items) }
     ensures refused { IfErr result (λ fault. fault.kind ≢ Memory
@@ -76,7 +103,7 @@ fn read_disks<D: Input>(alloc: Global, disks: &mut Option<D>) -> Result<Vec<u8>,
 {
     match disks {
         Some(input) => read_part(alloc, Part::Disks, input),
-        None => unreachable!(),
+        None => Err(unread(Part::Disks)),
     }
 }
 

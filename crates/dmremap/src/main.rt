@@ -4,8 +4,8 @@
 //! work, and `main` joins them to the real files and streams and does nothing else.
 #![tactic(auto)]
 
-ghost use Rattle.std.specs.Prelude.{◌≡◌, is_some, true};
-ghost use Rattle.dmremap.specs.Job.{file_words, has_its_disks, task_has_its_disks, words_of};
+ghost use Rattle.std.specs.Prelude.{◌≡◌, true};
+ghost use Rattle.dmremap.specs.Job.{job_words};
 ghost use Rattle.dmremap.specs.OtherWhole.{is_other};
 
 mod exit;
@@ -17,37 +17,51 @@ mod other_whole;
 mod part_file;
 mod printing;
 mod replay_run;
+mod stack_room;
 mod status;
 mod words;
 
+use dm_stream::Ending;
 use dm_table::{Counted, Gathered};
-use job::{Files, Job, Task};
+use exit::Exit;
+use job::{Job, Source};
 use map_whole::map_whole;
 use other_whole::other_whole;
 use part_file::PartFile;
+use stack_room::has_stack_room;
+use status::STATUS_DONE;
 use std::io;
 use std::process::ExitCode;
 use words::{WordsFault, not_text, read_words};
 
 fn main(rt: HostRuntime) -> ExitCode {
-    let status = match answer(&rt) {
+    let status = match begin(&rt) {
         Ok(status) => status,
         Err(fault) => refuse(&rt, &fault),
     };
     ExitCode::from(status)
 }
 
-/// Does what the words ask for, and returns the exit status.
+/// Does what the words ask for, where the stack has room for it, and returns the exit status.
+fn begin(rt: &HostRuntime) -> Result<u8, WordsFault> {
+    if !has_stack_room(rt) {
+        return Err(WordsFault::Memory);
+    }
+    answer(rt)
+}
+
+/// Does what the words ask for, and returns the exit status. Its room on the stack is taken when it is
+/// called, and no sooner.
+#[inline(never)]
 fn answer(rt: &HostRuntime) -> Result<u8, WordsFault> {
     let arguments = arguments_of(rt)?;
     let words: Vec<&str> = arguments
         .iter()
         .map(|argument| argument.as_str())
         .collect(rt.alloc())?;
-    let job = read_words(rt.alloc(), words.as_slice())?;
-    match job.task {
-        Task::Map(files) => Ok(map_files(rt, files, job.status)),
-        _ => Ok(do_other(rt, &job)),
+    match read_words(rt.alloc(), words.as_slice())? {
+        Job::Map { source, status } => Ok(map_files(rt, source, status)),
+        job => Ok(do_other(rt, &job)),
     }
 }
 
@@ -60,17 +74,14 @@ fn arguments_of(rt: &HostRuntime) -> Result<Vec<String>, WordsFault> {
     }
 }
 
-/// Maps the requests of the standard input through the tables of files.
-fn map_files(rt: &HostRuntime, files: Files<'_>, status: bool) -> u8
-    requires disks { has_its_disks (file_words files) ≡ true }
-{
-    let mut disks = disk_list_of(rt, files);
+/// Maps the requests of the standard input through the tables of a source.
+fn map_files(rt: &HostRuntime, source: Source<'_>, status: bool) -> u8 {
     map_whole(
         rt.alloc(),
-        files.format,
+        source.format(),
         status,
-        &mut file_at(rt, files.file),
-        &mut disks,
+        &mut file_at(rt, source.file()),
+        &mut disks_at(rt, source),
         &mut Counted::new(rt.stdin()),
         &mut Gathered::new(Counted::new(rt.stdout())),
         &mut Counted::new(rt.stderr()),
@@ -79,11 +90,10 @@ fn map_files(rt: &HostRuntime, files: Files<'_>, status: bool) -> u8
 
 /// Does a job of another command.
 fn do_other<'r>(rt: &'r HostRuntime, job: &'r Job<'r>) -> u8
-    requires other { is_other (words_of job.now.task) ≡ true }
-    requires disks { task_has_its_disks (words_of job.now.task) ≡ true }
+    requires { is_other (job_words job.now) ≡ true }
 {
-    let (mut source, mut disks) = match job.task.files() {
-        Some(files) => parts_of(rt, files),
+    let (mut source, mut disks) = match job.source() {
+        Some(source) => (Some(file_at(rt, source.file())), disks_at(rt, source)),
         None => (None, None),
     };
     other_whole(
@@ -102,33 +112,25 @@ fn file_at<'r>(rt: &'r HostRuntime, path: &'r str) -> Counted<PartFile<'r, HostR
     Counted::new(PartFile::new(rt, path))
 }
 
-fn disk_list_of<'r>(
+/// The disk list of a source, where its format has one.
+fn disks_at<'r>(
     rt: &'r HostRuntime,
-    files: Files<'r>,
-) -> Option<Counted<PartFile<'r, HostRuntime>>>
-    ensures { is_some result ≡ is_some files.entry.disks }
-{
-    match files.disks {
+    source: Source<'r>,
+) -> Option<Counted<PartFile<'r, HostRuntime>>> {
+    match source.disks() {
         Some(path) => Some(file_at(rt, path)),
         None => None,
     }
 }
 
-fn parts_of<'r>(
-    rt: &'r HostRuntime,
-    files: Files<'r>,
-) -> (
-    Option<Counted<PartFile<'r, HostRuntime>>>,
-    Option<Counted<PartFile<'r, HostRuntime>>>,
-)
-    ensures source { is_some result.0 ≡ true }
-    ensures disks { is_some result.1 ≡ is_some files.entry.disks }
-{
-    (Some(file_at(rt, files.file)), disk_list_of(rt, files))
-}
-
-/// Prints why there is no job, and returns its exit status, whether or not it could be printed.
+/// Prints why there is no job, and returns its exit status. Help or the version that could not be printed
+/// is told as an output that could not be written; whether a message could be printed makes no difference.
 fn refuse(rt: &HostRuntime, fault: &WordsFault) -> u8 {
-    let _ = fault.print(rt);
-    fault.status()
+    let printed = fault.print(rt);
+    let status = fault.status();
+    if status == STATUS_DONE && printed.is_err() {
+        Exit::Ended(Ending::WriteFault).tell(&mut Counted::new(rt.stderr()))
+    } else {
+        status
+    }
 }

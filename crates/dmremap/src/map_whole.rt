@@ -4,7 +4,7 @@
 //! `map_whole` is the promise that the program makes. `main` hands in the real files and streams,
 //! tests hand in memory.
 
-ghost use Rattle.std.specs.Prelude.{◌≡◌, ◌≢◌, Bool, List, is_some};
+ghost use Rattle.std.specs.Prelude.{◌≡◌, ◌≢◌, Bool, List};
 ghost use Rattle.dm_table.specs.io.DeviceIo.{Delivery, delivery};
 ghost use Rattle.dm_table.specs.load.LoadMessage.{memory_message};
 ghost use Rattle.dm_table.specs.io.Progress.{IsReadOn};
@@ -17,7 +17,6 @@ ghost use Rattle.dm_stream.specs.Pieces.{AreFewest, fewest};
 ghost use Rattle.dmremap.specs.declared.job.Format.{Format};
 ghost use Rattle.dmremap.specs.declared.status.TheConstants.{STATUS_MEMORY, STATUS_WRITE_FAULT};
 ghost use Rattle.dmremap.specs.Inputs.{IsReadOnIf, delivery_if};
-ghost use Rattle.dmremap.specs.Job.{has_disk_list};
 ghost use Rattle.dmremap.specs.Limits.{AreLimits};
 ghost use Rattle.dmremap.specs.Streams.{MessagesTold, OutputWritten, RequestsRead};
 ghost use Rattle.dmremap.specs.Whole.{GiveWhole, IsFailedRun, IsWholeRun, Whole};
@@ -28,7 +27,7 @@ mod tests;
 use crate::exit::Exit;
 use crate::job::Format;
 use crate::load::load;
-use dm_map::{Mapper, RunTaken};
+use dm_map::{Mapper, TrieTaken};
 use dm_stream::run;
 use dm_table::{Input, LoadFault, Output, Part};
 use std::alloc::Global;
@@ -47,7 +46,8 @@ use std::alloc::Global;
 /// | 6 | memory ran out while loading; nothing was written or flushed |
 ///
 /// At most one message is written, after the output was flushed. A refused load has the message of
-/// its first fault. No memory is taken once the load is done.
+/// its first fault; a disk list that is missing where the format has one is refused as one that can't be
+/// read. No memory is taken once the load is done.
 ///
 /// Cost: near-linear in the source and the disk list; then in the requests, and for each request
 /// in its stretches times the binary digits of the line counts of the devices that they go through.
@@ -62,8 +62,6 @@ pub fn map_whole<S: Input, D: Input, Q: Input, W: Output, M: Output>(
     output: &mut W,
     messages: &mut M,
 ) -> u8
-    requires disks { is_some disks.old ≡ has_disk_list format }
-
     // What the deliveries give is one run.
     ensures one { (f : Format) (flag : Bool) (s d q : Delivery) (a b : Whole)
         → GiveWhole f flag s d q a → GiveWhole f flag s d q b → a ≡ b }
@@ -99,7 +97,7 @@ pub fn map_whole<S: Input, D: Input, Q: Input, W: Output, M: Output>(
         Ok(stack) => stack,
         Err(fault) => return Exit::unloaded(fault).tell(messages),
     };
-    match Mapper::<RunTaken>::new(alloc, stack.looker()) {
+    match Mapper::<TrieTaken>::new(alloc, stack.looker()) {
         Ok(mut mapper) => {
             Exit::Ended(run(&stack, &mut mapper, requests, output, messages, status)).status()
         }

@@ -2,31 +2,29 @@
 //!
 //! What comes out goes by the words and by the bytes that were delivered, and by nothing else, unless
 //! memory runs out. A command does its work in `answer`, which says how it would exit; then the output
-//! is closed, and the message told. A new command is an arm of `print` or `answer` here and of `TaskDoes`
+//! is closed, and the message told. A new command is an arm of `print` or `answer` here and of `JobDoes`
 //! in `specs/OtherWhole.antt`.
 
-ghost use Rattle.std.specs.Prelude.{◌≡◌, List, ℕ, IsSome, false, true, is_some};
+ghost use Rattle.std.specs.Prelude.{◌≡◌, List, ℕ, false, true};
 ghost use Rattle.dm_table.specs.io.DeviceIo.{Delivery, delivery, written_since};
 ghost use Rattle.dm_table.specs.io.Progress.{HasWritten};
 ghost use Rattle.dmremap.specs.declared.exit.Exit.{Exit};
 ghost use Rattle.dmremap.specs.Exit.{IsPlain, failed_writes, is_refused};
 ghost use Rattle.dmremap.specs.Inputs.{IsReadOnIf, delivery_if};
-ghost use Rattle.dmremap.specs.Job.{TaskWords, has_disk_list, words_of};
-ghost use Rattle.dmremap.specs.Load.{Loads, PartsGive};
-ghost use Rattle.dmremap.specs.OtherWhole.{ReplaysFiles, TaskDoes, has_list, has_requests, has_source, is_other};
-ghost use Rattle.dmremap.specs.Printing.{IsPrinted, TaskSays};
+ghost use Rattle.dmremap.specs.Job.{JobWords, job_words};
+ghost use Rattle.dmremap.specs.OtherWhole.{JobDoes, ReplaysFiles, has_requests, is_other};
+ghost use Rattle.dmremap.specs.Printing.{IsPrinted, JobSays};
 ghost use Rattle.dmremap.specs.Streams.{AskedBy, Exits, HasExited, MessagesTold, OutputWritten, RequestsRead};
 
 #[cfg(test)]
 mod tests;
 
 use crate::exit::Exit;
-use crate::job::{Format, Job, Task};
-use crate::load::load;
+use crate::job::{Format, Job};
+use crate::load::load_if;
 use crate::printing::{print_name, print_parts, print_report, print_stack};
 use crate::replay_run::replay_stack;
-use dm_stack::Stack;
-use dm_table::{Input, LoadFault, Output};
+use dm_table::{Input, Output};
 use std::alloc::Global;
 
 /// Does what a job asks for, of any command but `map`: prints the devices of a source in a form, once they
@@ -43,8 +41,8 @@ use std::alloc::Global;
 /// | 5 | writing or flushing the output failed |
 /// | 6 | memory ran out: nothing was written or flushed, or those before a request were answered |
 ///
-/// At most one message is written, after the output was flushed. The source is there for a command
-/// that loads files, and the disk list where their format has one. `replay` alone reads requests, and
+/// At most one message is written, after the output was flushed. A source or a disk list that is missing
+/// where a command asks for it is refused as one that can't be read. `replay` alone reads requests, and
 /// refuses an untidy stack before it reads any.
 ///
 /// Cost: near-linear in the source and the disk list, and linear in what is printed; for `replay` that of
@@ -60,15 +58,13 @@ pub fn other_whole<S: Input, D: Input, Q: Input, W: Output, M: Output>(
     output: &mut W,
     messages: &mut M,
 ) -> u8
-    requires other { is_other (words_of job.now.task) ≡ true }
-    requires source { is_some source.old ≡ has_source (words_of job.now.task) }
-    requires disks { is_some disks.old ≡ has_list (words_of job.now.task) }
+    requires other { is_other (job_words job.now) ≡ true }
 
     // It exits as the words and the deliveries say, and so goes what it wrote, its status and its
     // message. The output failed at a write or at the flush: then what was written is a beginning of
     // what there was to write, or all of it. Where the command was refused, also since there was no
     // memory to begin, nothing was written or flushed, and requests were not asked for.
-    ensures exits { (exit : Exit) × HasExited (TaskDoes (words_of job.now.task)
+    ensures exits { (exit : Exit) × HasExited (JobDoes (job_words job.now)
         (delivery_if S.past source.old source.new)
         (delivery_if D.past disks.old disks.new)
         (delivery (Q.past requests.old) (Q.past requests.new))) (W.past output.old) (W.past output.new) exit
@@ -77,55 +73,53 @@ pub fn other_whole<S: Input, D: Input, Q: Input, W: Output, M: Output>(
 
     // Unless the output failed or memory ran out, the words and the deliveries determine the exit and
     // what is written.
-    ensures one { (asked : TaskWords) (s d q : Delivery) (a b : Exit) (x y : List ℕ) → IsPlain a → IsPlain b
-        → TaskDoes asked s d q x a → TaskDoes asked s d q y b → (a ≡ b) × (x ≡ y) }
+    ensures one { (asked : JobWords) (s d q : Delivery) (a b : Exit) (x y : List ℕ) → IsPlain a → IsPlain b
+        → JobDoes asked s d q x a → JobDoes asked s d q y b → (a ≡ b) × (x ≡ y) }
 
     // Each input is only read on, and nothing is asked of it after an end or a fault.
     ensures source_read_on { IsReadOnIf S.past source.old source.new }
     ensures disks_read_on { IsReadOnIf D.past disks.old disks.new }
     // Only `replay` asks for requests.
-    ensures unasked { has_requests (words_of job.now.task) ≡ false
+    ensures unasked { has_requests (job_words job.now) ≡ false
         → Q.past requests.new ≡ Q.past requests.old }
     // The status says how requests were read, what came of the output, and that a failed output was told.
     ensures requests { RequestsRead result (Q.past requests.old) (Q.past requests.new) }
     ensures output { OutputWritten result (W.past output.old) (W.past output.new) }
     ensures messages { MessagesTold result (M.past messages.old) (M.past messages.new) }
 {
-    let exit = answer(alloc, job.task, source, disks, requests, &mut *output);
+    let exit = answer(alloc, *job, source, disks, requests, &mut *output);
     exit.finish(output, messages)
 }
 
-/// Does what a task asks for, and says how the command would exit. Nothing is flushed.
+/// Does what a job asks for, and says how the command would exit. Nothing is flushed.
 fn answer<S: Input, D: Input, Q: Input, W: Output>(
     alloc: Global,
-    task: Task<'_>,
+    job: Job<'_>,
     source: &mut Option<S>,
     disks: &mut Option<D>,
     requests: &mut Q,
     output: &mut W,
 ) -> Exit
-    requires other { is_other (words_of task) ≡ true }
-    requires source { is_some source.old ≡ has_source (words_of task) }
-    requires disks { is_some disks.old ≡ has_list (words_of task) }
-    ensures did { TaskDoes (words_of task.entry)
+    requires other { is_other (job_words job) ≡ true }
+    ensures did { JobDoes (job_words job.entry)
         (delivery_if S.past source.old source.new)
         (delivery_if D.past disks.old disks.new)
         (delivery (Q.past requests.old) (Q.past requests.new))
         (written_since (W.past output.old) (W.past output.new)) result }
     ensures writes { HasWritten (W.past output.old) (W.past output.new) (failed_writes result) }
     ensures asked { AskedBy (Q.past requests.old) (Q.past requests.new) result }
-    ensures unasked { has_requests (words_of task.entry) ≡ false
+    ensures unasked { has_requests (job_words job.entry) ≡ false
         → Q.past requests.new ≡ Q.past requests.old }
     ensures source { IsReadOnIf S.past source.old source.new }
     ensures disks { IsReadOnIf D.past disks.old disks.new }
 {
-    match task {
-        Task::Replay(files) => replay(alloc, files.format, source, disks, requests, output),
-        _ => print(alloc, task, source, disks, output),
+    match job {
+        Job::Replay(from) => replay(alloc, from.format(), source, disks, requests, output),
+        _ => print(alloc, job, source, disks, output),
     }
 }
 
-/// Replays requests on the disks of a source that is there.
+/// Replays requests on the disks of a source.
 fn replay<S: Input, D: Input, Q: Input, W: Output>(
     alloc: Global,
     format: Format,
@@ -134,8 +128,6 @@ fn replay<S: Input, D: Input, Q: Input, W: Output>(
     requests: &mut Q,
     output: &mut W,
 ) -> Exit
-    requires source { IsSome source.old }
-    requires disks { is_some disks.old ≡ has_disk_list format }
     ensures did { ReplaysFiles format
         (delivery_if S.past source.old source.new)
         (delivery_if D.past disks.old disks.new)
@@ -146,24 +138,23 @@ fn replay<S: Input, D: Input, Q: Input, W: Output>(
     ensures source { IsReadOnIf S.past source.old source.new }
     ensures disks { IsReadOnIf D.past disks.old disks.new }
 {
-    match load_source(alloc, format, source, disks) {
+    match load_if(alloc, format, source, disks) {
         Ok(stack) => replay_stack(alloc, &stack, requests, output),
         Err(fault) => Exit::unloaded(fault),
     }
 }
 
-/// Prints what a task without requests asks for.
+/// Prints what a job without requests asks for.
+#[tactic(auto, using(crate::proofs::LoadLemmas::untouched))]
 fn print<S: Input, D: Input, W: Output>(
     alloc: Global,
-    task: Task<'_>,
+    job: Job<'_>,
     source: &mut Option<S>,
     disks: &mut Option<D>,
     output: &mut W,
 ) -> Exit
-    requires unasked { has_requests (words_of task) ≡ false }
-    requires source { is_some source.old ≡ has_source (words_of task) }
-    requires disks { is_some disks.old ≡ has_list (words_of task) }
-    ensures printed { IsPrinted (TaskSays (words_of task.entry)
+    requires unasked { has_requests (job_words job) ≡ false }
+    ensures printed { IsPrinted (JobSays (job_words job.entry)
         (delivery_if S.past source.old source.new)
         (delivery_if D.past disks.old disks.new))
         (written_since (W.past output.old) (W.past output.new)) result }
@@ -171,37 +162,19 @@ fn print<S: Input, D: Input, W: Output>(
     ensures source { IsReadOnIf S.past source.old source.new }
     ensures disks { IsReadOnIf D.past disks.old disks.new }
 {
-    match task {
-        Task::Map(_) | Task::Replay(_) => unreachable!(),
-        Task::Print(form, files) => match load_source(alloc, files.format, source, disks) {
-            Ok(stack) => print_stack(form, stack, output),
-            Err(fault) => Exit::unloaded(fault),
-        },
-        Task::Check(files) => match load_source(alloc, files.format, source, disks) {
+    match job {
+        Job::Map { .. } | Job::Replay(_) => unreachable!(),
+        Job::Print { form, source: from } => {
+            match load_if(alloc, from.format(), source, disks) {
+                Ok(stack) => print_stack(form, stack, output),
+                Err(fault) => Exit::unloaded(fault),
+            }
+        }
+        Job::Check(from) => match load_if(alloc, from.format(), source, disks) {
             Ok(stack) => print_report(alloc, &stack, output),
             Err(fault) => Exit::unloaded(fault),
         },
-        Task::Name { vg, lv, layer } => print_name(alloc, vg, lv, layer, output),
-        Task::SplitName(name) => print_parts(alloc, name, output),
-    }
-}
-
-/// What a source that is there and the disk list give.
-fn load_source<S: Input, D: Input>(
-    alloc: Global,
-    format: Format,
-    source: &mut Option<S>,
-    disks: &mut Option<D>,
-) -> Result<Stack, LoadFault>
-    requires source { IsSome source.old }
-    requires disks { is_some disks.old ≡ has_disk_list format }
-    ensures gives { Loads (PartsGive format (delivery_if S.past source.old source.new)
-        (delivery_if D.past disks.old disks.new)) result }
-    ensures source { IsReadOnIf S.past source.old source.new }
-    ensures disks { IsReadOnIf D.past disks.old disks.new }
-{
-    match source {
-        Some(source) => load(alloc, format, source, disks),
-        None => unreachable!(),
+        Job::Name { vg, lv, layer } => print_name(alloc, vg, lv, layer, output),
+        Job::SplitName(name) => print_parts(alloc, name, output),
     }
 }

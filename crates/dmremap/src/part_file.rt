@@ -11,7 +11,10 @@ ghost use Rattle.std.specs.Io.{ReadsAtMost};
 ghost use Rattle.dmremap.specs.PartFile.{left_of};
 ghost use Rattle.dmremap.specs.declared.part_file.Stage.TheVariants.{Unopened};
 
-use std::fs::{File, Files};
+mod opened;
+
+use opened::{Opened, open};
+use std::fs::Files;
 use std::io;
 use std::io::Read;
 
@@ -29,9 +32,9 @@ pub(crate) enum Stage<F> {
     /// Nothing was asked of it, or it could not be opened.
     Unopened,
     /// It may have more.
-    Open(F),
+    Open(F, Opened),
     /// It was read to its end, and is closed.
-    Ended,
+    Ended(Opened),
 }
 
 impl<'r, R: Files> PartFile<'r, R> {
@@ -57,17 +60,18 @@ impl<'r, R: Files> Read for PartFile<'r, R> {
         ensures unopened { self.new.stage ≡ Unopened → IsErr result }
     {
         if let Stage::Unopened = self.stage {
-            self.stage = Stage::Open(File::open(self.files, self.path)?);
+            let (file, opened) = open(self.files, self.path)?;
+            self.stage = Stage::Open(file, opened);
         }
         match &mut self.stage {
-            Stage::Open(file) => {
+            Stage::Open(file, opened) => {
                 let read = file.read(buffer)?;
                 if read == 0 && !buffer.is_empty() {
-                    self.stage = Stage::Ended;
+                    self.stage = Stage::Ended(*opened);
                 }
                 Ok(read)
             }
-            Stage::Ended => Ok(0),
+            Stage::Ended(_) => Ok(0),
             Stage::Unopened => unreachable!(),
         }
     }

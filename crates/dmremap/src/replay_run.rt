@@ -16,7 +16,7 @@ ghost use Rattle.dmremap.specs.Streams.{AskedBy, HasMetBy};
 ghost use Rattle.std.proofs.Common.{refl, subst, ◌∙◌};
 
 use crate::exit::{Exit, Refusal};
-use dm_map::RunTaken;
+use dm_map::TrieTaken;
 use dm_replay::{Replay, ReplayFault, write_runs};
 use dm_stack::Stack;
 use dm_stream::{Ending, Handler, handle_requests};
@@ -32,7 +32,7 @@ struct RequestPlayer<'m, 's, W> {
 }
 
 impl<'s, W: Output> Handler for RequestPlayer<'_, 's, W> {
-    type Source = Replay<'s, RunTaken>;
+    type Source = Replay<'s, TrieTaken>;
 
     type Fault = Exit;
 
@@ -74,7 +74,7 @@ impl<'s, W: Output> Handler for RequestPlayer<'_, 's, W> {
 
     fn handle(
         &mut self,
-        replay: &mut Replay<'s, RunTaken>,
+        replay: &mut Replay<'s, TrieTaken>,
         request: &Request<'_>,
     ) -> Result<(), Exit> {
         match replay.request(self.alloc, request) {
@@ -96,7 +96,7 @@ impl<'s, W: Output> Handler for RequestPlayer<'_, 's, W> {
 /// Plays requests through a player, up to the first bad one, an end or a fault. Nothing is flushed.
 fn play_lines<'s, Q: Input, W: Output>(
     requests: &mut Q,
-    replay: &mut Replay<'s, RunTaken>,
+    replay: &mut Replay<'s, TrieTaken>,
     player: &mut RequestPlayer<'_, 's, W>,
 ) -> Exit
     requires new { replay.old ≡ new_replay player.old.stack.now }
@@ -117,7 +117,7 @@ fn play_lines<'s, Q: Input, W: Output>(
 fn play_requests<'s, Q: Input, W: Output>(
     alloc: Global,
     stack: &'s Stack,
-    replay: &mut Replay<'s, RunTaken>,
+    replay: &mut Replay<'s, TrieTaken>,
     requests: &mut Q,
     output: &mut W,
 ) -> Exit
@@ -153,7 +153,7 @@ pub(crate) fn replay_stack<Q: Input, W: Output>(
     ensures writes { HasWritten (W.past output.old) (W.past output.new) (failed_writes result) }
     ensures asked { AskedBy (Q.past requests.old) (Q.past requests.new) result }
 {
-    match Replay::<RunTaken>::new(alloc, stack) {
+    match Replay::<TrieTaken>::new(alloc, stack) {
         Ok(mut replay) => play_requests(alloc, stack, &mut replay, requests, output),
         Err(ReplayFault::Untidy) => Exit::Refused(Refusal::Untidy),
         Err(_) => Exit::unloaded(LoadFault::memory(Part::Source)),

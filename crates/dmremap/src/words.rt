@@ -1,24 +1,25 @@
 //! The words of the command line, as clap's builder reads them.
 //!
-//! A new command is a function beside `split_command`, the definition of its arguments and a line in
-//! `task_of`; one that loads files is a line in `program` and in `task_of`. A new format is a word of
-//! `FORMATS` and of `format_named`.
+//! The command line is made one word at a time, by functions that hold nothing else where memory runs out;
+//! what clap found is put into `Given`, and the job is read from there. A new command is a line in `program`
+//! and one in `job_from` or, if it loads a source, in `loading_job`. A new format is a word of `FORMATS` and
+//! of `format_named`.
 
-ghost use Rattle.std.specs.Prelude.{◌≡◌, IfErr, IfOk, Some, false, option_and_then, option_map};
+ghost use Rattle.std.specs.Prelude.{◌≡◌, IfErr, IfOk, Some, false, option_map, true};
 ghost use Rattle.clap.specs.Walk.{texts};
-ghost use Rattle.clap.specs.Words.{App, app_of, found_of, kind_of, rows_of, rule_of, subcommand_rows_of, with_subcommand};
+ghost use Rattle.clap.specs.Words.{App, Rule, app_of, found_of, kind_of, new_app, rows_of, rule_of, subcommand_rows_of, with_rule, with_subcommand};
 ghost use Rattle.clap.specs.declared.error.kind.ErrorKind.TheVariants as kind;
-ghost use Rattle.dmremap.specs.Job.{file_words, job_words, words_of};
-ghost use Rattle.dmremap.specs.Words.{IsCommand, TakesFormats, command_line, flag_rule, format_named, format_rule, map_app, name_app, optional_rule, required_rule, source_app, split_app, status_rule, three_app, version_rule};
-ghost use Rattle.dmremap.specs.Words.{files_in, has_flag, has_lone_hyphen, has_status, job_of, name_in, split_in, takes_status, task_of};
-ghost use Rattle.dmremap.specs.Words.{IsFaultOf, IsJobOf, IsNotText, fault_from, status_of};
+ghost use Rattle.dmremap.specs.Job.{source_words};
+ghost use Rattle.dmremap.specs.Words.{HasApp, TakesFormats, bare_app, command_line, flag_rule, format_named, format_rule, loading_app, map_app, name_app, optional_rule, program_app, required_rule, split_app, status_rule, version_rule};
+ghost use Rattle.dmremap.specs.Words.{given_in, given_words, has_flag, has_lone_hyphen, job_from, job_said, loading_job, name_from, said_by, source_at, source_from, source_said, split_from};
+ghost use Rattle.dmremap.specs.Words.{IsFaultOf, IsJobOf, IsOfKind, IsTaken, IsUntaken, fault_from, status_of};
 ghost use Rattle.dmremap.specs.declared.words.WordsFault.TheVariants as fault;
 
 #[cfg(test)]
 mod tests;
 
 use crate::help;
-use crate::job::{Files, Format, Job, TableForm, Task};
+use crate::job::{Format, Job, Source, TableForm};
 use crate::status::{STATUS_DONE, STATUS_MEMORY, STATUS_WORDS};
 use clap::builder::ValueParser;
 use clap::error::ErrorKind;
@@ -41,11 +42,73 @@ pub enum WordsFault {
     Memory,
 }
 
+/// Why words that clap takes give no job.
+#[derive(Clone, Copy)]
+enum Lack {
+    /// `--status` stands where it may not. There is no other reason: clap asks for the words of a command.
+    Place,
+    /// DISKS is missing, or there is no place for it.
+    Disks,
+}
+
+/// What clap found in words.
+#[derive(Clone, Copy)]
+struct Given<'a> {
+    /// Whether `--status` stands before the command.
+    early: bool,
+    command: &'a str,
+    /// Whether `--status` stands among the words of the command.
+    status: bool,
+    format: Option<&'a str>,
+    file: Option<&'a str>,
+    disks: Option<&'a str>,
+    vg: Option<&'a str>,
+    lv: Option<&'a str>,
+    layer: Option<&'a str>,
+    name: Option<&'a str>,
+}
+
 const NOT_TEXT: &str = "invalid UTF-8 was detected in one or more arguments";
+
+const LONE_HYPHEN: &str = "unexpected argument '-' found";
+
+const WRONG_STATUS: &str = "unexpected argument '--status' found: `map` alone takes it, once";
 
 const FORMATS: &[&str] = &["lvm", "concise", "table"];
 
-// The format that a word names.
+// ---- what clap found
+
+/// What clap found in the words of a command.
+fn given_in<'a>(early: bool, command: &'a str, found: &ArgMatches<'a>) -> Given<'a>
+    ensures { given_words result ≡ given_in early command.entry.now (rows_of (found_of found.now)) }
+{
+    Given {
+        early,
+        command,
+        status: has_flag(found, "status"),
+        format: found.get_str("format"),
+        file: found.get_str("file"),
+        disks: found.get_str("disks"),
+        vg: found.get_str("vg"),
+        lv: found.get_str("lv"),
+        layer: found.get_str("layer"),
+        name: found.get_str("name"),
+    }
+}
+
+/// Whether a flag was given.
+fn has_flag(found: &ArgMatches<'_>, id: &str) -> bool
+    ensures { result ≡ has_flag id.now (rows_of (found_of found.now)) }
+{
+    match found.get_str(id) {
+        Some(text) => text == "true",
+        None => false,
+    }
+}
+
+// ---- the job that this gives
+
+/// The format that a word names.
 fn format_named(word: &str) -> Option<Format>
     ensures { result ≡ format_named word.now }
 {
@@ -57,105 +120,112 @@ fn format_named(word: &str) -> Option<Format>
     }
 }
 
-// The files of a command with its arguments.
-fn files_in<'a>(given: &ArgMatches<'a>) -> Option<Files<'a>>
-    ensures { option_map file_words result ≡ files_in (rows_of (found_of given.now)) }
+/// The source of a format, with its list of disks if there is one.
+fn source_at<'a>(format: Format, file: &'a str, disks: Option<&'a str>) -> Result<Source<'a>, Lack>
+    ensures { source_said result
+        ≡ source_at format file.entry.now (option_map (λ d. d.now) disks.entry) }
 {
-    let word = given.get_str("format")?;
-    let format = format_named(word)?;
-    let file = given.get_str("file")?;
-    Some(Files {
-        format,
-        file,
-        disks: given.get_str("disks"),
-    })
+    match format {
+        Format::Lvm => match disks {
+            Some(_) => Err(Lack::Disks),
+            None => Ok(Source::Lvm { file }),
+        },
+        Format::Tables(form) => match disks {
+            Some(disks) => Ok(Source::Tables { form, file, disks }),
+            None => Err(Lack::Disks),
+        },
+    }
 }
 
-// The task of a command with its arguments. There is one wherever clap takes the words, since each
-// command's words are required, but no clause of clap's says so.
-fn task_of<'a>(command: &str, given: &ArgMatches<'a>) -> Option<Task<'a>>
-    ensures { option_map words_of result ≡ task_of command.now (rows_of (found_of given.now)) }
+/// The source that the words of a command give.
+fn source_from<'a>(given: Given<'a>) -> Result<Source<'a>, Lack>
+    ensures { source_said result ≡ source_from (given_words given.entry) }
+{
+    match (given.format, given.file) {
+        (Some(word), Some(file)) => match format_named(word) {
+            Some(format) => source_at(format, file, given.disks),
+            None => Err(Lack::Place),
+        },
+        _ => Err(Lack::Place),
+    }
+}
+
+/// The job of a command that loads this source.
+fn loading_job<'a>(command: &str, source: Source<'a>, status: bool) -> Result<Job<'a>, Lack>
+    ensures { job_said result
+        ≡ loading_job command.now status (source_words source.entry) }
 {
     match command {
-        "map" => Some(Task::Map(files_in(given)?)),
-        "table" => Some(Task::Print(TableForm::Table, files_in(given)?)),
-        "concise" => Some(Task::Print(TableForm::Concise, files_in(given)?)),
-        "check" => Some(Task::Check(files_in(given)?)),
-        "replay" => Some(Task::Replay(files_in(given)?)),
-        "name" => name_in(given),
-        "splitname" => split_in(given),
-        _ => None,
+        "map" => Ok(Job::Map { source, status }),
+        "table" => Ok(Job::Print {
+            form: TableForm::Table,
+            source,
+        }),
+        "concise" => Ok(Job::Print {
+            form: TableForm::Concise,
+            source,
+        }),
+        "check" => Ok(Job::Check(source)),
+        "replay" => Ok(Job::Replay(source)),
+        _ => Err(Lack::Place),
     }
 }
 
-// The task of `name` with its arguments.
-fn name_in<'a>(given: &ArgMatches<'a>) -> Option<Task<'a>>
-    ensures { option_map words_of result ≡ name_in (rows_of (found_of given.now)) }
+/// The job of `name` with its words.
+fn name_from<'a>(given: Given<'a>) -> Result<Job<'a>, Lack>
+    ensures { job_said result ≡ name_from (given_words given.entry) }
 {
-    let vg = given.get_str("vg")?;
-    let lv = given.get_str("lv")?;
-    Some(Task::Name {
-        vg,
-        lv,
-        layer: given.get_str("layer"),
-    })
-}
-
-// The task of `splitname` with its argument.
-fn split_in<'a>(given: &ArgMatches<'a>) -> Option<Task<'a>>
-    ensures { option_map words_of result ≡ split_in (rows_of (found_of given.now)) }
-{
-    let name = given.get_str("name")?;
-    Some(Task::SplitName(name))
-}
-
-// The job of the command that clap found, unless the flag before it does not go with it.
-fn job_in<'a>(matches: &ArgMatches<'a>) -> Option<Job<'a>>
-    ensures { option_map job_words result
-        ≡ option_and_then (λ met. job_of (has_status (rows_of (found_of matches.now))) met.0 met.1)
-        (subcommand_rows_of matches.now) }
-{
-    let (command, given) = matches.subcommand()?;
-    job_of(has_status(matches), command, given)
-}
-
-// The job of a command with its arguments, where the flag stands before them or not.
-fn job_of<'a>(before: bool, command: &str, given: &ArgMatches<'a>) -> Option<Job<'a>>
-    ensures { option_map job_words result ≡ job_of before command.now (rows_of (found_of given.now)) }
-{
-    if before && !takes_status(command, given) {
-        return None;
-    }
-    let task = task_of(command, given)?;
-    Some(Job {
-        task,
-        status: before || has_status(given),
-    })
-}
-
-// Whether the flag that asks for status lines was given.
-fn has_status(given: &ArgMatches<'_>) -> bool
-    ensures { result ≡ has_status (rows_of (found_of given.now)) }
-{
-    has_flag(given, "status")
-}
-
-// Whether that flag may stand before a command with its arguments: before `map`, which has it once.
-fn takes_status(command: &str, given: &ArgMatches<'_>) -> bool
-    ensures { result ≡ takes_status command.now (rows_of (found_of given.now)) }
-{
-    command == "map" && !has_status(given)
-}
-
-// Whether a flag was given.
-fn has_flag(given: &ArgMatches<'_>, id: &str) -> bool
-    ensures { result ≡ has_flag id.now (rows_of (found_of given.now)) }
-{
-    match given.get_str(id) {
-        Some(text) => text == "true",
-        None => false,
+    match (given.vg, given.lv) {
+        (Some(vg), Some(lv)) => Ok(Job::Name {
+            vg,
+            lv,
+            layer: given.layer,
+        }),
+        _ => Err(Lack::Place),
     }
 }
+
+/// The job of `splitname` with its word.
+fn split_from<'a>(given: Given<'a>) -> Result<Job<'a>, Lack>
+    ensures { job_said result ≡ split_from (given_words given.entry) }
+{
+    match given.name {
+        Some(name) => Ok(Job::SplitName(name)),
+        None => Err(Lack::Place),
+    }
+}
+
+/// The job that words give in which clap found this.
+fn job_from<'a>(given: Given<'a>) -> Result<Job<'a>, Lack>
+    ensures { job_said result ≡ job_from (given_words given.entry) }
+{
+    if given.early && (given.status || given.command != "map") {
+        return Err(Lack::Place);
+    }
+    match given.command {
+        "name" => name_from(given),
+        "splitname" => split_from(given),
+        command => match source_from(given) {
+            Ok(source) => loading_job(command, source, given.early || given.status),
+            Err(lack) => Err(lack),
+        },
+    }
+}
+
+/// The job that the words give in which clap found these matches.
+fn said_by<'a>(matches: &ArgMatches<'a>) -> Result<Job<'a>, Lack>
+    ensures { job_said result
+        ≡ said_by (rows_of (found_of matches.now)) (subcommand_rows_of matches.now) }
+{
+    match matches.subcommand() {
+        Some((command, found)) => {
+            job_from(given_in(has_flag(matches, "status"), command, found))
+        }
+        None => Err(Lack::Place),
+    }
+}
+
+// ---- faults
 
 impl WordsFault {
     /// The exit status: that of refused words, or of all done where help or the version was asked for.
@@ -204,14 +274,16 @@ impl From<AllocError> for WordsFault {
     }
 }
 
-// The words that FORMAT may be.
+// ---- the command line
+
+/// The words that FORMAT may be.
 fn format_parser<'a>() -> ValueParser<'a>
     ensures { TakesFormats result }
 {
     ValueParser::Names(FORMATS)
 }
 
-// A word that has to be there.
+/// A word that has to be there.
 fn required<'a>(alloc: Global, id: &'a str, value_name: &'a str, help: &'a str) -> Arg<'a>
     ensures rule { rule_of result ≡ required_rule id.entry.now }
     ensures local { result.global ≡ false }
@@ -222,7 +294,7 @@ fn required<'a>(alloc: Global, id: &'a str, value_name: &'a str, help: &'a str) 
         .required(true)
 }
 
-// A word that may be left out.
+/// A word that may be left out.
 fn optional<'a>(alloc: Global, id: &'a str, value_name: &'a str, help: &'a str) -> Arg<'a>
     ensures rule { rule_of result ≡ optional_rule id.entry.now }
     ensures local { result.global ≡ false }
@@ -230,6 +302,7 @@ fn optional<'a>(alloc: Global, id: &'a str, value_name: &'a str, help: &'a str) 
     Arg::new(alloc, id).value_name(value_name).help(help)
 }
 
+/// FORMAT, with the parser of its words.
 fn format_argument<'a>(alloc: Global, parser: ValueParser<'a>) -> Arg<'a>
     ensures rule { rule_of result ≡ format_rule parser.entry }
     ensures local { result.global ≡ false }
@@ -237,7 +310,7 @@ fn format_argument<'a>(alloc: Global, parser: ValueParser<'a>) -> Arg<'a>
     required(alloc, "format", "FORMAT", help::FORMAT_HELP).value_parser(parser)
 }
 
-// A flag, which may stand once.
+/// A flag, which may stand once.
 fn flag<'a>(alloc: Global, id: &'a str, action: ArgAction, help: &'a str) -> Arg<'a>
     ensures rule { rule_of result ≡ flag_rule id.entry.now action }
     ensures local { result.global ≡ false }
@@ -245,7 +318,7 @@ fn flag<'a>(alloc: Global, id: &'a str, action: ArgAction, help: &'a str) -> Arg
     Arg::new(alloc, id).long(id).action(action).help(help)
 }
 
-// The flag that asks for the version. It has no short form, unlike clap's own.
+/// The flag that asks for the version. It has no short form, unlike clap's own.
 fn version_flag<'a>(alloc: Global) -> Arg<'a>
     ensures rule { rule_of result ≡ version_rule }
     ensures local { result.global ≡ false }
@@ -253,7 +326,7 @@ fn version_flag<'a>(alloc: Global) -> Arg<'a>
     flag(alloc, "version", ArgAction::Version, help::VERSION_HELP)
 }
 
-// The flag that asks for status lines.
+/// The flag that asks for status lines.
 fn status_flag<'a>(alloc: Global, help: &'a str) -> Arg<'a>
     ensures rule { rule_of result ≡ status_rule }
     ensures local { result.global ≡ false }
@@ -261,171 +334,164 @@ fn status_flag<'a>(alloc: Global, help: &'a str) -> Arg<'a>
     flag(alloc, "status", ArgAction::SetTrue, help)
 }
 
-// `map FORMAT FILE [DISKS] [--status]`.
-fn map_command<'a>(alloc: Global, parser: ValueParser<'a>) -> Result<Command<'a>, AllocError>
-    ensures { IfOk result (IsCommand (map_app parser.entry)) }
+/// A command with what its help says, and without words.
+fn titled<'a>(alloc: Global, name: &'a str, about: &'a str, notes: &'a str) -> Command<'a>
+    ensures { app_of result ≡ new_app name.entry.now }
 {
-    Ok(
-        Command::new(alloc, "map")
-            .about(help::MAP_ABOUT)
-            .after_help(help::MAP_NOTES)
-            .arg(format_argument(alloc, parser))?
-            .arg(required(alloc, "file", "FILE", help::FILE_HELP))?
-            .arg(optional(alloc, "disks", "DISKS", help::DISKS_HELP))?
-            .arg(status_flag(alloc, help::STATUS_HELP))?,
-    )
+    Command::new(alloc, name).about(about).after_help(notes)
 }
 
-// A command with three arguments.
-fn three_command<'a>(
-    alloc: Global,
-    name: &'a str,
-    about: &'a str,
-    notes: &'a str,
-    first: Arg<'a>,
-    second: Arg<'a>,
-    third: Arg<'a>,
+/// A command with one more word, if there was memory for it.
+fn with_word<'a>(
+    command: Result<Command<'a>, AllocError>,
+    word: Arg<'a>,
 ) -> Result<Command<'a>, AllocError>
-    requires local { (first.global ≡ false) × (second.global ≡ false) × (third.global ≡ false) }
-    ensures { IfOk result
-        (IsCommand (three_app name.entry.now (rule_of first.entry) (rule_of second.entry)
-        (rule_of third.entry))) }
+    requires local { word.global ≡ false }
+    ensures { (app : App) (rule : Rule) → HasApp app command.entry → rule_of word.entry ≡ rule
+        → HasApp (with_rule app rule) result }
 {
-    Ok(
-        Command::new(alloc, name)
-            .about(about)
-            .after_help(notes)
-            .arg(first)?
-            .arg(second)?
-            .arg(third)?,
-    )
+    command?.arg(word)
 }
 
-// A command that loads files: `NAME FORMAT FILE [DISKS]`.
-fn source_command<'a>(
-    alloc: Global,
-    name: &'a str,
-    about: &'a str,
-    notes: &'a str,
-    parser: ValueParser<'a>,
-) -> Result<Command<'a>, AllocError>
-    ensures { IfOk result (IsCommand (source_app name.entry.now parser.entry)) }
-{
-    three_command(
-        alloc,
-        name,
-        about,
-        notes,
-        format_argument(alloc, parser),
-        required(alloc, "file", "FILE", help::FILE_HELP),
-        optional(alloc, "disks", "DISKS", help::DISKS_HELP),
-    )
-}
-
-// `name VG LV [LAYER]`.
-fn name_command<'a>(alloc: Global) -> Result<Command<'a>, AllocError>
-    ensures { IfOk result (IsCommand name_app) }
-{
-    three_command(
-        alloc,
-        "name",
-        help::NAME_ABOUT,
-        help::NAME_NOTES,
-        required(alloc, "vg", "VG", help::VG_HELP),
-        required(alloc, "lv", "LV", help::LV_HELP),
-        optional(alloc, "layer", "LAYER", help::LAYER_HELP),
-    )
-}
-
-// `splitname NAME`.
-fn split_command<'a>(alloc: Global) -> Result<Command<'a>, AllocError>
-    ensures { IfOk result (IsCommand split_app) }
-{
-    Ok(
-        Command::new(alloc, "splitname")
-            .about(help::SPLIT_ABOUT)
-            .after_help(help::SPLIT_NOTES)
-            .arg(required(alloc, "name", "NAME", help::NAME_HELP))?,
-    )
-}
-
-// The command line with one more command, if that was made. A step of `program` then holds nothing
-// that it has to drop where memory runs out.
+/// The command line with one more command, if there was memory for both.
 fn with_command<'a>(
-    line: Command<'a>,
+    line: Result<Command<'a>, AllocError>,
     command: Result<Command<'a>, AllocError>,
 ) -> Result<Command<'a>, AllocError>
-    ensures { (app : App) → IfOk command.entry (IsCommand app)
-        → IfOk result (λ longer. app_of longer ≡ with_subcommand (app_of line.entry) app.top) }
+    ensures { (app added : App) → HasApp app line.entry → HasApp added command.entry
+        → added.top.is_plain ≡ true → HasApp (with_subcommand app added.top) result }
 {
-    line.subcommand(command?)
+    line?.subcommand(command?)
 }
 
-// The whole command line.
-fn program<'a>(alloc: Global) -> Result<Command<'a>, AllocError>
-    ensures { IfOk result (λ c. (parser : _) × TakesFormats parser
-        × (app_of c ≡ command_line parser)) }
+/// A command that loads a source: `NAME FORMAT FILE [DISKS]`.
+fn loading_command<'a>(
+    alloc: Global,
+    parser: ValueParser<'a>,
+    name: &'a str,
+    about: &'a str,
+    notes: &'a str,
+) -> Result<Command<'a>, AllocError>
+    ensures { HasApp (loading_app name.entry.now parser.entry) result }
 {
-    let parser = format_parser();
-    let line = Command::new(alloc, "dmremap")
-        .about(help::ABOUT)
-        .after_help(help::NOTES)
+    let command = Ok(titled(alloc, name, about, notes));
+    let command = with_word(command, format_argument(alloc, parser));
+    let command = with_word(command, required(alloc, "file", "FILE", help::FILE_HELP));
+    with_word(command, optional(alloc, "disks", "DISKS", help::DISKS_HELP))
+}
+
+/// `map FORMAT FILE [DISKS] [--status]`.
+fn map_command<'a>(alloc: Global, parser: ValueParser<'a>) -> Result<Command<'a>, AllocError>
+    ensures { HasApp (map_app parser.entry) result }
+{
+    let command = loading_command(alloc, parser, "map", help::MAP_ABOUT, help::MAP_NOTES);
+    with_word(command, status_flag(alloc, help::STATUS_HELP))
+}
+
+/// `name VG LV [LAYER]`.
+fn name_command<'a>(alloc: Global) -> Result<Command<'a>, AllocError>
+    ensures { HasApp name_app result }
+{
+    let command = Ok(titled(alloc, "name", help::NAME_ABOUT, help::NAME_NOTES));
+    let command = with_word(command, required(alloc, "vg", "VG", help::VG_HELP));
+    let command = with_word(command, required(alloc, "lv", "LV", help::LV_HELP));
+    with_word(command, optional(alloc, "layer", "LAYER", help::LAYER_HELP))
+}
+
+/// `splitname NAME`.
+fn split_command<'a>(alloc: Global) -> Result<Command<'a>, AllocError>
+    ensures { HasApp split_app result }
+{
+    let command = Ok(titled(alloc, "splitname", help::SPLIT_ABOUT, help::SPLIT_NOTES));
+    with_word(command, required(alloc, "name", "NAME", help::NAME_HELP))
+}
+
+/// The program without flags and commands.
+fn bare_program<'a>(alloc: Global) -> Command<'a>
+    ensures { app_of result ≡ bare_app }
+{
+    titled(alloc, "dmremap", help::ABOUT, help::NOTES)
         .subcommand_required(true)
         .arg_required_else_help(true)
         .version(help::VERSION)
         .disable_version_flag(true)
-        .arg(status_flag(alloc, help::BEFORE_HELP))?
-        .arg(version_flag(alloc))?;
-    let line = with_command(line, map_command(alloc, parser))?;
+}
+
+/// The program with the flags that stand before the command.
+fn program_alone<'a>(alloc: Global) -> Result<Command<'a>, AllocError>
+    ensures { HasApp program_app result }
+{
+    let line = with_word(
+        Ok(bare_program(alloc)),
+        status_flag(alloc, help::BEFORE_HELP),
+    );
+    with_word(line, version_flag(alloc))
+}
+
+/// The whole command line.
+fn program<'a>(alloc: Global) -> Result<Command<'a>, AllocError>
+    ensures { (parser : _) × TakesFormats parser × HasApp (command_line parser) result }
+{
+    let parser = format_parser();
+    let line = with_command(program_alone(alloc), map_command(alloc, parser));
     let line = with_command(
         line,
-        source_command(alloc, "table", help::TABLE_ABOUT, help::TABLE_NOTES, parser),
-    )?;
+        loading_command(alloc, parser, "table", help::TABLE_ABOUT, help::TABLE_NOTES),
+    );
     let line = with_command(
         line,
-        source_command(
+        loading_command(
             alloc,
+            parser,
             "concise",
             help::CONCISE_ABOUT,
             help::CONCISE_NOTES,
-            parser,
         ),
-    )?;
+    );
     let line = with_command(
         line,
-        source_command(alloc, "check", help::CHECK_ABOUT, help::CHECK_NOTES, parser),
-    )?;
+        loading_command(alloc, parser, "check", help::CHECK_ABOUT, help::CHECK_NOTES),
+    );
     let line = with_command(
         line,
-        source_command(
+        loading_command(
             alloc,
+            parser,
             "replay",
             help::REPLAY_ABOUT,
             help::REPLAY_NOTES,
-            parser,
         ),
-    )?;
-    let line = with_command(line, name_command(alloc))?;
+    );
+    let line = with_command(line, name_command(alloc));
     with_command(line, split_command(alloc))
 }
 
+// ---- words
+
 /// The fault where an argument isn't UTF-8, so that there are no words to read.
 pub fn not_text(alloc: Global) -> WordsFault
-    ensures { IsNotText result }
+    ensures { IsOfKind kind.InvalidValue result }
 {
-    match not_text_error(alloc) {
+    refusal(alloc, ErrorKind::InvalidValue, NOT_TEXT)
+}
+
+/// A refusal by the program itself, in clap's form.
+fn refusal(alloc: Global, kind: ErrorKind, text: &str) -> WordsFault
+    ensures { IsOfKind kind result }
+{
+    match refusal_error(alloc, kind, text) {
         Ok(error) => WordsFault::Words(error),
         Err(AllocError) => WordsFault::Memory,
     }
 }
 
-fn not_text_error(alloc: Global) -> Result<clap::Error, AllocError>
-    ensures { IfOk result (λ error. kind_of error ≡ kind.InvalidValue) }
+fn refusal_error(alloc: Global, kind: ErrorKind, text: &str) -> Result<clap::Error, AllocError>
+    ensures { IfOk result (λ error. kind_of error ≡ kind) }
 {
-    program(alloc)?.error(ErrorKind::InvalidValue, NOT_TEXT)
+    program(alloc)?.error(kind, text)
 }
 
-// Whether a word after the program's name is a hyphen alone, before the first `--`.
+/// Whether a word after the program's name is a hyphen alone, before the first `--`.
 fn has_lone_hyphen(words: &[&str]) -> bool
     ensures { result ≡ has_lone_hyphen (texts words.now) }
 {
@@ -443,31 +509,32 @@ fn has_lone_hyphen(words: &[&str]) -> bool
     false
 }
 
+/// What the words say that clap takes.
+fn read_taken<'a>(alloc: Global, words: &'a [&'a str]) -> Result<Result<Job<'a>, Lack>, WordsFault>
+    ensures taken { IfOk result (λ said. IsTaken (texts words.now) (job_said said)) }
+    ensures untaken { IfErr result (IsUntaken (texts words.now)) }
+{
+    let matches = program(alloc)?.try_get_matches_from(words)?;
+    Ok(said_by(&matches))
+}
+
 /// The job that the words ask for, of which the first is the program's name. No file is opened.
 /// A hyphen alone, which clap would take as a value, is refused before the first `--`, whatever
 /// else the words are. DISKS that is missing, or not needed, is reported only where clap accepts the
 /// words. A request for help or the version is a refusal with that as its text, and no words at all are
 /// one with the help.
-/// The command line is built anew at each call, and the words are walked twice.
+/// The command line is built anew at each call, and once more for a refusal of the program's own; the words
+/// are walked twice.
 pub fn read_words<'a>(alloc: Global, words: &'a [&'a str]) -> Result<Job<'a>, WordsFault>
     ensures job { IfOk result (IsJobOf (texts words.now)) }
     ensures fault { IfErr result (IsFaultOf (texts words.now)) }
 {
-    let mut program = program(alloc)?;
     if has_lone_hyphen(words) {
-        let error = program.error(ErrorKind::UnknownArgument, "unexpected argument '-' found")?;
-        return Err(WordsFault::Words(error));
+        return Err(refusal(alloc, ErrorKind::UnknownArgument, LONE_HYPHEN));
     }
-    let matches = program.try_get_matches_from_mut(words)?;
-    let Some(job) = job_in(&matches) else {
-        let error = program.error(
-            ErrorKind::UnknownArgument,
-            "unexpected argument '--status' found: `map` alone takes it, once",
-        )?;
-        return Err(WordsFault::Words(error));
-    };
-    if !job.task.has_its_disks() {
-        return Err(WordsFault::Disks);
+    match read_taken(alloc, words)? {
+        Ok(job) => Ok(job),
+        Err(Lack::Place) => Err(refusal(alloc, ErrorKind::UnknownArgument, WRONG_STATUS)),
+        Err(Lack::Disks) => Err(WordsFault::Disks),
     }
-    Ok(job)
 }

@@ -4,12 +4,12 @@
 //! What is printed of which texts is tested on the built program (`tests/outside`). Here each command is
 //! called with ample memory, and its output and its messages fail after each of their bytes in turn.
 
-ghost use Rattle.std.specs.Prelude.{◌<◌, ◌≡◌, is_some, true};
-ghost use Rattle.dmremap.specs.Job.{words_of};
-ghost use Rattle.dmremap.specs.OtherWhole.{has_list, has_source, is_other};
+ghost use Rattle.std.specs.Prelude.{◌<◌, ◌≡◌, true};
+ghost use Rattle.dmremap.specs.Job.{job_words};
+ghost use Rattle.dmremap.specs.OtherWhole.{is_other};
 
 use super::*;
-use crate::job::{Files, TableForm};
+use crate::job::{Source, TableForm};
 use dm_table::{ShortIn, ShortOut};
 use std::process::Abort;
 
@@ -140,61 +140,37 @@ const STEADY: Streams = Streams {
     flush_fails: false,
 };
 
-/// The files of a task, of which no path is opened here.
-fn files_in(format: Format) -> Files<'static>
-    ensures { result.format ≡ format }
-{
-    Files {
-        format,
-        file: "",
-        disks: None,
+/// A source of a format, of which no path is opened here.
+fn source_in(format: Format) -> Source<'static> {
+    match format {
+        Format::Lvm => Source::Lvm { file: "" },
+        Format::Tables(form) => Source::Tables {
+            form,
+            file: "",
+            disks: "",
+        },
     }
 }
 
-fn task_of(asked: Asked) -> Task<'static>
-    ensures { is_other (words_of result) ≡ true }
+fn job_of(asked: Asked) -> Job<'static>
+    ensures { is_other (job_words result) ≡ true }
 {
     match asked {
-        Asked::Print(form, format) => Task::Print(form, files_in(format)),
-        Asked::Check => Task::Check(files_in(Format::Tables(TableForm::Table))),
-        Asked::Name(vg, lv) => Task::Name {
+        Asked::Print(form, format) => Job::Print {
+            form,
+            source: source_in(format),
+        },
+        Asked::Check => Job::Check(source_in(Format::Tables(TableForm::Table))),
+        Asked::Name(vg, lv) => Job::Name {
             vg,
             lv,
             layer: None,
         },
-        Asked::SplitName(name) => Task::SplitName(name),
+        Asked::SplitName(name) => Job::SplitName(name),
     }
 }
 
-/// The source, for a task that loads one.
-fn source_of<'a>(task: Task<'_>, text: &'a str) -> Option<ShortIn<'a>>
-    ensures { is_some result ≡ has_source (words_of task.entry) }
-{
-    match task {
-        Task::Map(_) | Task::Print(_, _) | Task::Check(_) | Task::Replay(_) => {
-            Some(ShortIn::new(text.as_bytes(), PLENTY))
-        }
-        Task::Name { .. } | Task::SplitName(_) => None,
-    }
-}
-
-/// The disk list, for a task whose format has one.
-fn disks_of<'a>(task: Task<'_>, text: &'a str) -> Option<ShortIn<'a>>
-    ensures { is_some result ≡ has_list (words_of task.entry) }
-{
-    match task {
-        Task::Map(files) | Task::Print(_, files) | Task::Check(files) | Task::Replay(files) => {
-            if files.format.has_disk_list() {
-                Some(ShortIn::new(text.as_bytes(), 1))
-            } else {
-                None
-            }
-        }
-        Task::Name { .. } | Task::SplitName(_) => None,
-    }
-}
-
-/// Runs a task over a source and disks, and asserts what is printed and told, and the status. Requests
+/// Runs a job over a source and disks, and asserts what is printed and told, and the status. Requests
 /// would fail.
 fn check(
     rt: &impl Abort,
@@ -204,7 +180,6 @@ fn check(
     streams: Streams,
     (printed, told, status): (&[u8], &[u8], u8),
 ) {
-    let task = task_of(asked);
     let step = streams.step.max(1);
     let made = if streams.flush_fails {
         ShortOut::failing_flush(alloc, step, streams.output)
@@ -215,12 +190,9 @@ fn check(
     let mut messages = ShortOut::new(alloc, step, streams.messages).expect(rt, "a message stream");
     let got = other_whole(
         alloc,
-        &Job {
-            task,
-            status: false,
-        },
-        &mut source_of(task, source),
-        &mut disks_of(task, disks),
+        &job_of(asked),
+        &mut Some(ShortIn::new(source.as_bytes(), PLENTY)),
+        &mut Some(ShortIn::new(disks.as_bytes(), 1)),
         &mut ShortIn::failing("R a 0 1\n".as_bytes(), 1, 0),
         &mut output,
         &mut messages,

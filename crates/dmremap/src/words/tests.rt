@@ -16,58 +16,89 @@ fn words_of<'a>(rt: &impl Abort, alloc: Global, line: &'a str) -> Vec<&'a str> {
     words
 }
 
-// The files of a table and of metadata, as a task shows them.
-const TABLE: &str = r#"Files { format: Tables(Table), file: "a.table", disks: Some("a.disks") }"#;
-
-const BACKUP: &str = r#"Files { format: Lvm, file: "vg0.backup", disks: None }"#;
-
-/// Words, how the task that they ask for begins, and its texts. Status lines are asked for where one
-/// of the words is `--status`, before, among or after the others.
-static TASKS: [(&str, &str, &str); 17] = [
-    ("map table a.table a.disks", "Map(", TABLE),
-    ("map table -- a.table a.disks", "Map(", TABLE),
-    ("map lvm vg0.backup", "Map(", BACKUP),
-    ("table lvm vg0.backup", "Print(Table, ", BACKUP),
-    ("concise table a.table a.disks", "Print(Concise, ", TABLE),
+/// Words, and the job that they ask for, in the words of `shown`.
+static JOBS: [(&str, &str); 17] = [
+    ("map table a.table a.disks", "map a.table a.disks"),
+    ("map table -- a.table a.disks", "map a.table a.disks"),
+    ("map lvm vg0.backup", "map lvm vg0.backup"),
+    ("table lvm vg0.backup", "table lvm vg0.backup"),
+    ("concise table a.table a.disks", "concise a.table a.disks"),
+    ("map concise f d", "map concise f d"),
+    ("check table a.table a.disks", "check a.table a.disks"),
+    ("replay table a.table a.disks", "replay a.table a.disks"),
+    ("map table -- - d", "map - d"),
+    ("name vg0 lv-1", "name vg0 lv-1"),
+    ("name vg0 -- -x real", "name vg0 -x real"),
+    ("splitname a-b", "splitname a-b"),
     (
-        "map concise f d",
-        "Map(",
-        r#"Files { format: Tables(Concise), file: "f", disks: Some("d") }"#,
-    ),
-    ("check table a.table a.disks", "Check(", TABLE),
-    ("replay table a.table a.disks", "Replay(", TABLE),
-    (
-        "map table -- - d",
-        "Map(",
-        r#"Files { format: Tables(Table), file: "-", disks: Some("d") }"#,
+        "map table a.table a.disks --status",
+        "status of a.table a.disks",
     ),
     (
-        "name vg0 lv-1",
-        "Name { ",
-        r#"vg: "vg0", lv: "lv-1", layer: None"#,
+        "map --status table a.table a.disks",
+        "status of a.table a.disks",
     ),
     (
-        "name vg0 -- -x real",
-        "Name { ",
-        r#"vg: "vg0", lv: "-x", layer: Some("real")"#,
+        "map table --status a.table -- a.disks",
+        "status of a.table a.disks",
     ),
-    ("splitname a-b", "SplitName(", r#""a-b""#),
-    ("map table a.table a.disks --status", "Map(", TABLE),
-    ("map --status table a.table a.disks", "Map(", TABLE),
-    ("map table --status a.table -- a.disks", "Map(", TABLE),
-    ("map lvm --status vg0.backup", "Map(", BACKUP),
-    ("--status map table a.table a.disks", "Map(", TABLE),
+    ("map lvm --status vg0.backup", "status of lvm vg0.backup"),
+    (
+        "--status map table a.table a.disks",
+        "status of a.table a.disks",
+    ),
 ];
 
+/// The form of tables, a table being that of most rows.
+fn shown_form(form: TableForm) -> &'static str {
+    match form {
+        TableForm::Table => "",
+        TableForm::Concise => "concise ",
+    }
+}
+
+/// A command and its source, as a text.
+fn shown_source(rt: &impl Abort, alloc: Global, command: &str, source: Source<'_>) -> String {
+    let text = match source {
+        Source::Lvm { file } => format!(in alloc; "{command} lvm {file}"),
+        Source::Tables { form, file, disks } => {
+            format!(in alloc; "{command} {}{file} {disks}", shown_form(form))
+        }
+    };
+    text.expect(rt, "a text")
+}
+
+/// A job as a text.
+fn shown(rt: &impl Abort, alloc: Global, job: Job<'_>) -> String {
+    let (command, source) = match job {
+        Job::Map { source, status } => (if status { "status of" } else { "map" }, source),
+        Job::Print { form, source } => match form {
+            TableForm::Table => ("table", source),
+            TableForm::Concise => ("concise", source),
+        },
+        Job::Check(source) => ("check", source),
+        Job::Replay(source) => ("replay", source),
+        Job::Name { vg, lv, layer } => {
+            let text = match layer {
+                Some(layer) => format!(in alloc; "name {vg} {lv} {layer}"),
+                None => format!(in alloc; "name {vg} {lv}"),
+            };
+            return text.expect(rt, "a text");
+        }
+        Job::SplitName(name) => return format!(in alloc; "splitname {name}").expect(rt, "a text"),
+    };
+    shown_source(rt, alloc, command, source)
+}
+
 #[test]
-fn tasks(rt: HostRuntime) {
+fn jobs(rt: HostRuntime) {
     let alloc = rt.alloc();
-    for &(line, task, texts) in &TASKS {
+    for &(line, wanted) in &JOBS {
         let words = words_of(&rt, alloc, line);
-        let job = read_words(alloc, &words).expect(&rt, "a job");
-        let shown = format!(in alloc; "{:?}", job.task).expect(&rt, "a text");
-        assert!(&rt; shown.starts_with(task) && shown.contains(texts), "{shown}");
-        assert_eq!(&rt; job.status, line.contains("--status"), "{line}");
+        match read_words(alloc, &words) {
+            Ok(job) => assert_eq!(&rt; shown(&rt, alloc, job).as_str(), wanted, "{line}"),
+            Err(fault) => panic!(&rt; "{line}: {fault}"),
+        }
     }
 }
 

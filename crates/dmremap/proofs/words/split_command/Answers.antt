@@ -1,12 +1,4 @@
-use Rattle.std.proofs.Common.{rules, ap, ap₂, codes, ◌≡◌, ◌∙◌}
-use Rattle.clap.specs.Simple.{app_of_fields}
-use Rattle.clap.specs.Words.{App, app_of, new_app, with_rule, with_subcommand}
-use Rattle.dmremap.specs.Words.{split_app}
 use Rattle.dmremap.proofs.words.split_command.Goals as goal
 
 pub returns : goal.returns
-returns c =
-    let bare : app_of c.after_help.result ≡ new_app (codes "splitname") =
-    ap app_of_fields c.after_help.ensures ∙ ap app_of_fields c.about.ensures ∙ c.new.ensures.app in
-    let shape : app_of c.in_ok-arg.field-0 ≡ split_app = c.in_ok-arg.ensures.shape c.required.ensures.local ∙ ap₂ with_rule bare c.required.ensures.rule in
-    λ old new adds. adds.shape (search rules) ∙ ap (λ (a : App). with_subcommand (app_of old) a.top) shape
+returns c = c.with_word.ensures _ _ c.titled.ensures c.required.ensures.rule

@@ -47,10 +47,7 @@ fn check(
     };
     let got = other_whole(
         alloc,
-        &Job {
-            task: Task::Replay(files_in(Format::Tables(TableForm::Table))),
-            status: false,
-        },
+        &Job::Replay(source_in(Format::Tables(TableForm::Table))),
         &mut Some(ShortIn::new(tables.as_bytes(), PLENTY)),
         &mut Some(ShortIn::new(disks.as_bytes(), 1)),
         &mut requests,
