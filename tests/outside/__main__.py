@@ -7,7 +7,7 @@ case that failed; the last line is `N passed, M failed`, and the status is 0 whe
 
 What the answers to requests are is proved. Here are the worked rows: texts, and the exact bytes,
 message and status that must come of them. And here is what a proof can't speak of: real files and
-streams, exit statuses as a shell gets them, the command line, large inputs, and the script ./dmremap.
+streams, exit statuses as a shell gets them, the command line, large inputs, and the scripts at the top.
 A new case is a row of a table in one of the modules beside this file.
 """
 
@@ -22,11 +22,13 @@ import answers
 import backups
 import completions
 import documents
+import field_lengths
 import files
 import groups
 import growths
 import halts
 import hostile
+import installs
 import kinds
 import launcher
 import limits
@@ -65,10 +67,12 @@ def main():
         # As root the cases of unreadable files run as nobody, who has to come to the program.
         os.chmod(room, 0o755)
         program = Program(shutil.copy(built, os.path.join(room, "dmremap")), room)
-        for part in (words, files, loads, backups, groups, records, printing, reports, request_lines, answers, ranges,
-                     snapshot_rows, snapshots, origins, kinds, replays, streams, limits, hostile, growths):
+        for part in (words, files, loads, backups, groups, records, printing, reports, request_lines, field_lengths,
+                     answers, ranges, snapshot_rows, snapshots, origins, kinds, replays, streams, limits, hostile,
+                     growths):
             part.check(tally, program)
         launcher.check(tally, program, TOP, built == BUILT)
+        installs.check(tally, program, TOP)
         documents.check(tally, program, TOP)
         manual.check(tally, program, TOP)
         completions.check(tally, program, TOP)

@@ -1,5 +1,5 @@
 """The documents: what they name and link to exists, the README is short, and the commands that the README
-and the tutorial show print what is shown there."""
+and the tutorial show print what is shown there. The heads of the sources' files name files that exist, too."""
 
 import glob
 import os
@@ -15,6 +15,15 @@ WORDS = re.compile(r"`([A-Z]\w*)` (?:\(((?:`\w+`(?:, )?)+)\)|(`\w+`))")
 # A link to a file of the repository, and perhaps a heading there, or to a heading of the document itself.
 LINK = re.compile(r"\]\((?!\w+:)([^)#\s]*)(?:#([^)\s]+))?\)")
 HEADING = re.compile(r"^#+ (.*)", re.M)
+# What a file of definitions declares: names, and the fields or constructors that are indented below them.
+DECLARED = re.compile(r"^(?:(?:abbrev|unfoldable|pub|record|data) )+(\w+)|^  (?:pub )?(\w+) :", re.M)
+# A file of definitions as a comment of its own crate names it, and perhaps of another crate.
+HEAD = re.compile(r"`specs/([\w/]+)(?:\.antt)?`(?: of `(\w+)`)?")
+COMMENT = re.compile(r"^ *(?://[/!]?|--) ?(.*)$", re.M)
+# A table of a document, of which one column has code, and a name of code.
+TABLE = re.compile(r"^\|(.*\| Code \|.*)\n\|[-|]+\n((?:\|.*\n)*)", re.M)
+NAME = re.compile(r"`(?:\w+/)*(\w+)`")
+ITEM = re.compile(r"^ *(?:pub(?:\(\w+\))? )?(?:const )?(?:fn|struct|enum|trait|const|static|type) (\w+)", re.M)
 
 README_BYTES = 10000
 # What a block of the tutorial begins with if its commands want more than the repository's files.
@@ -22,7 +31,9 @@ MARK = "# needs "
 
 
 def check(tally, program, top):
-    documents = [os.path.join(top, "README.md")] + sorted(glob.glob(os.path.join(top, "docs", "*.md")))
+    documents = [os.path.join(top, "README.md"), os.path.join(top, "benches", "RESULTS.md")]
+    documents += sorted(glob.glob(os.path.join(top, "docs", "*.md")))
+    code = code_of(top)
     for document in documents + [os.path.join(top, "docs", "dmremap.1")]:
         name = os.path.relpath(document, top)
         text = text_of(document)
@@ -32,8 +43,12 @@ def check(tally, program, top):
         tally.holds("files that %s names" % name, not lost, "there is no %s" % ", ".join(lost))
         lost = lost_words(text, top)
         tally.holds("definitions that %s names" % name, not lost, "there is no %s" % ", ".join(lost))
+        lost = lost_code(text, code)
+        tally.holds("code that %s names" % name, not lost, "there is no %s" % ", ".join(lost))
         lost = lost_links(text, document)
         tally.holds("links of %s" % name, not lost, "there is no %s" % ", ".join(lost))
+    lost = lost_heads(top)
+    tally.holds("definitions that comments name", not lost, "there is no %s" % ", ".join(lost))
     size = os.path.getsize(os.path.join(top, "README.md"))
     tally.holds("the size of README.md", size <= README_BYTES, "it has %d bytes" % size)
     for name in ("README.md", os.path.join("docs", "TUTORIAL.md")):
@@ -66,10 +81,39 @@ def lost_words(text, top):
     lost = []
     for name, several, one in WORDS.findall(text):
         files = glob.glob(os.path.join(top, "crates", "*", "specs", "**", name + ".antt"), recursive=True)
-        there = "".join(text_of(it) for it in files)
+        there = {word for it in files for pair in DECLARED.findall(text_of(it)) for word in pair}
         for word in re.findall(r"\w+", several or one):
-            if files and not re.search(r"\b%s\b" % word, there):
+            if files and word not in there and not os.path.isdir(os.path.join(top, "crates", word)):
                 lost.append("%s in %s" % (word, name))
+    return lost
+
+
+def code_of(top):
+    """The names of crates and modules, and of what they declare."""
+    crates = set(os.listdir(os.path.join(top, "crates")))
+    files = glob.glob(os.path.join(top, "crates", "*", "src", "**", "*.rt"), recursive=True)
+    stems = {os.path.basename(it)[:-len(".rt")] for it in files}
+    return (crates | stems).union(*(ITEM.findall(text_of(it)) for it in files))
+
+
+def lost_code(text, code):
+    """The names in columns for code that no module has and none declares."""
+    named = set()
+    for head, rows in TABLE.findall(text):
+        column = [it.strip() for it in head.split("|")].index("Code") + 1
+        cells = [row.split("|")[column].strip() for row in rows.splitlines()]
+        named |= {it for cell in cells if not cell.startswith("no code") for it in NAME.findall(cell)}
+    return sorted(named - code)
+
+
+def lost_heads(top):
+    """The files of definitions that comments of the sources name, and that aren't there."""
+    lost = []
+    for path in sorted(glob.glob(os.path.join(top, "crates", "*", "s*", "**", "*.*t"), recursive=True)):
+        crate = os.path.relpath(path, os.path.join(top, "crates")).split(os.sep)[0]
+        for name, other in HEAD.findall(" ".join(COMMENT.findall(text_of(path)))):
+            if not os.path.exists(os.path.join(top, "crates", other or crate, "specs", name + ".antt")):
+                lost.append("specs/%s of %s" % (name, os.path.relpath(path, top)))
     return lost
 
 

@@ -1,12 +1,9 @@
-"""Stops in replays, and what is answered after them, as tables of tests of dm_replay.
+"""Stops in replays, and what is answered after them, against the plain rules (`replays`).
 
-    python3 -B tests/outside/halts.py
-
-No command stops a request, so the crate's own tests play these. This writes the tables that they read:
-random stacks, requests and stops from fixed seeds; rows of `origins` and `kinds` with a stop after each
-unit; and stops in the longest request. The answers are those of the plain rules (`replays`). The test
-from outside sees that the tables are those that are written here, and refuses each growth of the crate's
-test of stops, which takes out of memory for an answer.
+No command stops a request, so the tests of dm_replay play these: one of them reads rows from a file, which is
+written here. There are random stacks, requests and stops from fixed seeds; rows of `origins` and `kinds` with a
+stop after each unit; and stops in the longest request. The rows that stand in the tests' own table have to be
+answered as the plain rules say, too. And each growth of the test that takes out of memory for an answer is refused.
 """
 
 import os
@@ -15,15 +12,18 @@ import shutil
 
 import kinds
 import origins
+import replays
 from growths import Shim
 from harness import Program
-from replays import first_units, lines, played, tidy_stack
+from replays import first_units, lines, played
 from snapshots import concise, plain
 
 STACKS = 100
 STOPS = 10
 TABLE = os.path.join("crates", "dm_replay", "src", "replay", "tests", "stops.rt")
 TESTS = os.path.join("crates", "dm_replay", "out", "dm_replay_tests")
+# The test that reads rows from a file, the file's name, and the test that may run out of memory.
+READER, ROWS_NAME = "replay::tests::answers_after_stops_of_a_file", "stops"
 TEST = "replay::tests::growths_may_be_refused"
 
 # Rows whose requests are stopped after each of their units. One is left out, whose request a replay refuses: the
@@ -42,15 +42,6 @@ LONG_STOPS = [
     2 * UNITS + 3 * 1024, 10 * UNITS + 5 * 1024 + 7, 20 * UNITS - 1, 31 * UNITS + COPIES + 1000, 63 * UNITS + COPIES,
     64 * UNITS, 100 * UNITS + 5000, 300 * UNITS + COPIES + 1,
 ]
-
-HEAD = """//! Stops in replays of stacks without a clash, and the lines of what is answered. `tests/outside/halts.py`
-//! writes this file, from a plain program over the rules.
-//!
-//! A table is one text, since a list of so many rows is more than a proof can go through. Each row but the
-//! first comes after a `#`, and has its parts with a `|` between them: devices as concise text, disks,
-//! requests, and the lines of what they answer. A request comes after the number of units after which it is
-//! stopped, and is then not answered, or after a hyphen.
-"""
 
 
 def asked_at_random(dice, stack, tops):
@@ -81,54 +72,54 @@ def answered(stack, asked):
     return wanted
 
 
-def row(source, disks, asked, wanted):
+def row(name, source, disks, asked, wanted):
+    """A row as the tests read it (`stops.rt`)."""
     given = "".join("%s %s %s %d %d\n" % (("-" if stop is None else stop,) + request) for request, stop in asked)
-    return "|".join([source + "\n", disks, given, wanted])
+    return "|".join(part + "\n" * (not part.endswith("\n")) for part in (name, source, disks, given)) + "|" + wanted
+
+
+def asked_in(given):
+    """The requests and stops of a row."""
+    for line in given.splitlines():
+        stop, op, name, start, length = line.split()
+        yield (op, name, int(start), int(length)), None if stop == "-" else int(stop)
 
 
 def random_rows():
     for seed in range(STACKS):
-        dice = random.Random(1000 + seed)
-        stack, tops = tidy_stack(dice)
-        disks = "".join("%s %d\n" % it for it in stack.disks.items())
-        asked = asked_at_random(dice, stack, tops)
-        yield row(concise(stack), disks, asked, answered(stack, asked))
+        for name, tidy_stack in ("snapshots", replays.tidy_stack), ("an origin", origins.tidy_stack):
+            dice = random.Random(1000 + seed)
+            stack, tops = tidy_stack(dice)
+            asked = asked_at_random(dice, stack, tops)
+            name = "a random stack with %s, %d" % (name, seed)
+            yield row(name, concise(stack), origins.disks_of(stack), asked, answered(stack, asked))
 
 
 def small_rows():
-    """A row for each stop of each request of the small ones, where those in a row that leave the same answers are
-    one: before it stand the first of them and the one past the last."""
+    """A row for each stop of each request of the small ones."""
     for source, disks, requests in SMALL:
-        given = [line.split() for line in requests.splitlines()]
-        given = [((op, name, int(start), int(length)), None) for op, name, start, length in given]
-        for index in range(len(given)):
-            first = 0
-            for after, wanted in answered_groups(source, disks, given, index):
-                asked = stopped(plain(source, disks), given, index, "*")
-                yield "%d %d|" % (first, after) + row(source, disks, asked, wanted)
-                first = after
-
-
-def answered_groups(source, disks, given, index):
-    """What is answered with a stop of one of the requests, after each count of its units: the first count after
-    those with the same answers, and the answers."""
-    before = plain(source, disks)
-    for request, _ in given[:index]:
-        before.request(*request)
-    groups = []
-    for count in range(len(before.request(*given[index][0])) + 1):
-        stack = plain(source, disks)
-        wanted = answered(stack, stopped(stack, given, index, count))
-        if groups and groups[-1][1] == wanted:
-            groups.pop()
-        groups.append((count + 1, wanted))
-    return groups
+        given = [request for request, _ in asked_in("".join("- %s\n" % it for it in requests.splitlines()))]
+        for index, request in enumerate(given):
+            stack = plain(source, disks)
+            for it in given[:index]:
+                stack.request(*it)
+            for units in range(len(stack.request(*request)) + 1):
+                stack = plain(source, disks)
+                asked = stopped(stack, given, index, units)
+                name = "request %d after %d units" % (index + 1, units)
+                yield row(name, source, disks, asked, answered(stack, asked))
 
 
 def stopped(stack, given, index, stop):
     """Requests of which one is stopped: after it all top devices are read, and at last once more."""
     all_read = reads(stack, origins.tops(stack))
-    return given[:index] + [(given[index][0], stop)] + all_read + given[index + 1:] + all_read
+    asked = [(it, None) for it in given]
+    return asked[:index] + [(given[index], stop)] + all_read + asked[index + 1:] + all_read
+
+
+def long_rows():
+    for units in LONG_STOPS:
+        yield row("the longest request after %d units" % units, *long_row(origins.LENGTH, origins.CHUNK, units))
 
 
 def long_row(length, chunk, count):
@@ -153,33 +144,42 @@ def long_row(length, chunk, count):
     return source, disks, asked, wanted
 
 
-def table():
-    tables = [
-        ("Random small stacks, each with ten stops.", "STOPS", random_rows()),
-        ("Stops after each unit of the requests of small stacks. A row begins with the counts from which on and up to\n"
-         "which, in place of the `*`, all is answered in the same way.", "SMALL_STOPS", small_rows()),
-        ("Stops of the longest request, a write of an origin with eight snapshots.", "LONG_STOPS",
-         (row(*long_row(origins.LENGTH, origins.CHUNK, count)) for count in LONG_STOPS)),
-    ]
-    text = HEAD
-    for said, name, rows in tables:
-        text += "\n/// %s\n" % said.replace("\n", "\n/// ")
-        text += 'pub(crate) static %s: &str = "\\\n%s";\n' % (name, "#".join(rows))
-    return text
-
-
 def check(tally, program, top):
-    with open(os.path.join(top, TABLE), encoding="ascii") as kept:
-        tally.holds("the stops of " + TABLE, kept.read() == table(), "they are not those that are written here")
+    check_table(tally, os.path.join(top, TABLE))
     for count in range(4 * 2 * (origins.SNAPSHOTS + 1) + 2):
         source, disks, asked, wanted = long_row(8, 2, count)
         got = answered(plain(source, disks), asked)
         tally.holds("a long write that is stopped after %d units" % count, got == wanted, "the plain rules give " + got)
     tests = os.path.join(top, TESTS)
     if os.access(tests, os.X_OK):
-        check_growths(tally, Shim(Program(shutil.copy(tests, program.room), program.room)))
+        tests = Program(shutil.copy(tests, program.room), program.room)
+        check_rows(tally, tests)
+        check_growths(tally, Shim(tests))
     else:
-        tally.skip("each growth of a stop", "there is no %s, which the gate leaves" % TESTS)
+        tally.skip("stops, and each growth of one", "there is no %s, which the gate leaves" % TESTS)
+
+
+def check_table(tally, path):
+    """The rows of the tests' own table."""
+    with open(path, encoding="ascii") as table:
+        rows = table.read().partition('"\\\n')[2].rpartition('";\n')[0].split("#")
+    tally.holds("the rows of " + TABLE, len(rows) > 10, "it has %d" % len(rows))
+    for name, source, disks, given, wanted in (it.split("|") for it in rows):
+        stack = plain(source.strip(), disks)
+        got = answered(stack, list(asked_in(given)))
+        tally.holds("in %s: %s" % (TABLE, name.strip()), got == wanted, "the plain rules give " + got)
+
+
+def check_rows(tally, tests):
+    """Has the tests play all rows, and one of which the answers are wrong."""
+    for name, rows in (("random stacks", random_rows()), ("small stacks", small_rows()), ("the longest request", long_rows())):
+        rows = list(rows)
+        tests.file(ROWS_NAME, "#".join(rows))
+        got = tests.run([READER], folder=tests.room)
+        tally.holds("%d rows of stops of %s" % (len(rows), name), got.status == 0, "%s, %r" % (got.status, got.out[-2000:]))
+    tests.file(ROWS_NAME, "#".join([*rows[:1], rows[0].replace("old base", "old other"), *rows[1:]]))
+    got = tests.run([READER], folder=tests.room)
+    tally.holds("a row of stops with wrong answers", got.status not in (0, None), "it passes")
 
 
 def check_growths(tally, shim):
@@ -192,7 +192,3 @@ def check_growths(tally, shim):
         wrong = [(first, it.status, it.out, it.err) for first, it in got if it.status or not it.refused]
         tally.holds("stops with " + name, asked > 0 and not wrong, "of %d growths %s" % (asked, wrong[:3]))
 
-
-if __name__ == "__main__":
-    with open(os.path.join(os.path.dirname(os.path.abspath(__file__)), "..", "..", TABLE), "w", encoding="ascii") as out:
-        out.write(table())

@@ -8,6 +8,8 @@ MIB = 1048576
 SECONDS = 10
 MEMORY = 256 << 20
 ZERO_LINES = "".join("a: %d 1 zero\n" % it for it in range(65537))
+CHUNKS = 65536
+ORIGIN = "o: 0 {0} snapshot-origin base\ns: 0 {0} snapshot base c N 1\nt: 0 {0} snapshot base d N 1\n".format(CHUNKS)
 HEAD = 'contents = "Text Format Volume Group" version = 1\n'
 
 
@@ -118,7 +120,36 @@ TAKEN = [
      "".join("%s 1\n" % one_hash(it) for it in range(1024)), "R a 128 1\n", "1 R %s 0 1\n" % one_hash(896)),
     ("all places", "table", "s: 0 64 snapshot base cow P 1\n", "base 64\ncow 4325378\n", "W s 0 1\n",
      "1 copy base 0 1 cow 2\n1 W cow 2 1\n"),
+    ("an origin that one of two snapshots has taken", "table", ORIGIN,
+     "".join("%s %d\n" % (it, CHUNKS) for it in ("base", "c", "d")), "W s 0 %d\nW o 0 %d\n" % (CHUNKS, CHUNKS),
+     "".join("1 copy base %d 1 c %d\n1 W c %d 1\n" % (it, it, it) for it in range(CHUNKS))
+     + "".join("2 copy base %d 1 d %d\n2 W base %d 1\n" % (it, it, it) for it in range(CHUNKS))),
+    ("64 snapshots that are lost", "table", "o: 0 {0} snapshot-origin base\n".format(MIB)
+     + "".join("s%d: 0 %d snapshot base c%d N 1\n" % (it, MIB, it) for it in range(64)),
+     "base %d\n" % MIB + "".join("c%d 1\n" % it for it in range(64)), "W o 0 %d\n" % MIB * 200,
+     "".join("1 copy base 0 1 c%d 0\n" % it for it in range(64))
+     + "".join("%d W base 0 %d\n" % (it, MIB) for it in range(1, 201))),
     ("1,024 volumes", "lvm", group(volumes(1024), 1), None, "R vg-v1023 0 1\n", "1 zero 1\n"),
+]
+
+# A snapshot on one disk with its store, of which each chunk is copied for one sector, and which is then read.
+COPIES = 64
+COPIED = [(it, 1024 * (it - 1)) for it in range(1, COPIES + 1)]
+READS = range(COPIES + 1, COPIES + 9)
+
+# What is replayed: the format, FILE, DISKS, the requests and the output.
+REPLAYED = [
+    ("chunks copied within a disk", "table", "b: 0 {0} linear sda 0\nc: 0 {0} linear sda {0}\n"
+     "s: 0 {0} snapshot /dev/mapper/b /dev/mapper/c N 1024\n".format(1024 * COPIES), "sda %d\n" % (2048 * COPIES),
+     "".join("W s %d 1\n" % start for _, start in COPIED) + "R s 0 %d\n" % (1024 * COPIES) * len(READS),
+     "".join("%d wrote %d %d 1\n" % (it, it, start) for it, start in COPIED)
+     + "".join("%d wrote %d %d 1\n%d old sda %d 1023\n" % (read, it, start, read, start + 1)
+               for read in READS for it, start in COPIED)),
+    ("1,048,576 sectors apart", "table", "a: 0 %d striped 128 1%s\n" % (
+        MIB, "".join(" base %d" % (MIB // 128 * it) for it in range(128))), "base %d\n" % MIB,
+     "W a 0 {0}\nR a 0 {0}\n".format(MIB), "1 wrote 1 0 {0}\n2 wrote 1 0 {0}\n".format(MIB)),
+    ("100,000 chunks of a sector", "table", "s: 0 100000 snapshot base cow P 1\n", "base 100000\ncow 200000\n",
+     "W s 0 100000\nR s 0 100000\n", "1 wrote 1 0 100000\n2 wrote 1 0 100000\n"),
 ]
 
 
@@ -129,15 +160,18 @@ def check(tally, program):
     for name, form, source, disks, requests, output in TAKEN:
         got = bounded(program, form, source, disks, requests)
         tally.same("%s, in the format %s" % (name, form), got, 0, output)
+    for name, form, source, disks, requests, output in REPLAYED:
+        got = bounded(program, form, source, disks, requests, "replay")
+        tally.same("%s, replayed" % name, got, 0, output)
 
 
-def bounded(program, form, source, disks, requests):
-    """Maps requests within the bounds; a run that passes the one of time ends by a signal, and one that
+def bounded(program, form, source, disks, requests, command="map"):
+    """Maps or replays requests within the bounds; a run that passes the one of time ends by a signal, and one that
     passes the other with status 6."""
     files = [program.file("hostile/source", source)]
     if disks is not None:
         files.append(program.file("hostile/disks", disks))
-    return program.run(["map", form, *files], given=requests, before=bind)
+    return program.run([command, form, *files], given=requests, before=bind)
 
 
 def bind():

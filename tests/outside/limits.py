@@ -1,13 +1,21 @@
-"""Large inputs up to their limits and one past them, many requests, and little memory."""
+"""Large inputs up to their limits and one past them, many requests, how much memory they take, and a small stack."""
 
+import os
+import re
 import resource
+import subprocess
 
 from harness import Outcome
+from streams import read_soon
 
 BYTES = 1048576
 LINES = 65536
 # 65,536 lines are there within 1 MiB only if most of them are short.
 ZERO_LINE = "a: %d 1 zero\n"
+# A store with all the places that there can be, 4,194,304, for chunks of 32 sectors: the header, 4,096 areas,
+# the chunks, and the next area. And how much memory may be touched while ten chunks are taken.
+PLACES_DISKS = "base 320\ncow %d\n" % (32 * (1 + 4096 + 4194304 + 1))
+MOST_TOUCHED = 24 << 10
 
 
 def check(tally, program):
@@ -16,7 +24,9 @@ def check(tally, program):
     check_sizes(tally, program)
     check_many_requests(tally, program)
     check_memory(tally, program)
+    check_touched_memory(tally, program)
     check_replay_memory(tally, program)
+    check_small_stack(tally, program)
 
 
 def check_counts(tally, program):
@@ -145,6 +155,23 @@ def check_memory(tally, program):
         tally.skip("status 6", "no limit here leaves room to start and too little to load")
 
 
+def check_touched_memory(tally, program):
+    """Of the memory that is reserved for chunks, little is touched before they are taken."""
+    words = [program.path, "map", "table", program.file("table", "s: 0 320 snapshot base cow P 32\n"),
+             program.file("disks", PLACES_DISKS)]
+    requests = "".join("W s %d 1\n" % (32 * it) for it in range(10)).encode()
+    answers = "".join("%d copy base %d 32 cow %d\n%d W cow %d 1\n" % (it + 1, 32 * it, 64 + 32 * it, it + 1, 64 + 32 * it)
+                      for it in range(10)).encode()
+    ran = subprocess.Popen(words, stdin=subprocess.PIPE, stdout=subprocess.PIPE, stderr=subprocess.PIPE, bufsize=0)
+    ran.stdin.write(requests)
+    wrote = read_soon(ran.stdout, len(answers))
+    with open("/proc/%d/status" % ran.pid) as it:
+        touched = int(re.search(r"VmHWM:\s+(\d+) kB", it.read())[1])
+    rest, message = ran.communicate()
+    tally.same("ten writes to a store of all places", Outcome(ran.returncode, wrote + rest, message), 0, answers)
+    tally.holds("the memory that they touch", touched < MOST_TOUCHED, "it is %d KiB" % touched)
+
+
 def check_replay_memory(tally, program):
     """A replay out of memory has answered the requests before, in full."""
     number = 100000
@@ -171,3 +198,27 @@ def check_replay_memory(tally, program):
 
 def limit_memory(limit):
     resource.setrlimit(resource.RLIMIT_AS, (limit, limit))
+
+
+def check_small_stack(tally, program):
+    """A stack with too little room is refused before a file is opened. The least one has room for snapshots of
+    snapshots as deep as they may be, each of a striped origin, and for the greatest environment that it allows."""
+    for size in (64, 128, 224, 511):
+        for words in (["map", "lvm", "missing"], ["--version"], []):
+            got = program.run(words, before=lambda: limit_stack(size << 10))
+            tally.same("%s with a stack of %d KiB" % (words, size), got, 6, "", "dmremap: memory\n")
+    table = "s0: 0 64 striped 2 8 sda 0 sdb 0\n" + "".join(
+        "s%d: 0 64 snapshot /dev/mapper/s%d c%d P 8\n" % (it, it - 1, it) for it in range(1, 32))
+    disks = "sda 32\nsdb 32\n" + "".join("c%d 128\n" % it for it in range(1, 32))
+    given = "W s31 0 64\nR s31 0 64\nW s30 0 64\n"
+    files = ["table", program.file("table", table), program.file("disks", disks)]
+    room = dict(os.environ, ROOM="r" * 100000)
+    for words in (["map", *files, "--status"], ["replay", *files], ["check", *files], ["concise", *files]):
+        wanted = program.run(words, given=given)
+        got = program.run(words, given=given, env=room, before=lambda: limit_stack(512 << 10))
+        tally.same("%s with a stack of 512 KiB" % words[0], got, wanted.status, wanted.out, wanted.err)
+        tally.holds("%s of a deep stack" % words[0], wanted.out, "it is refused: %r" % wanted.err)
+
+
+def limit_stack(limit):
+    resource.setrlimit(resource.RLIMIT_STACK, (limit, limit))

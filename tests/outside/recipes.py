@@ -214,8 +214,8 @@ def check_files(tally, program, scripts):
     owned = "d 0 = home 46\nd 0 5 = sda1 8 = home 46 = top 4\nd 9 1 = other 1\nd 9 2\nd 1 2 = in the store of home\nd 0 4 = home 0 until it is copied = t 1\n"
     others = "left out: 5 sectors that are not of home\n"
     tally.same("files", files(owned, "home", sample), 0, "home 46 1 /numbers.txt\nhome 46 5 /numbers.txt\nhome 0 4 in use\n", others)
-    tally.same("files of /dev/home/x", files(owned.replace("home", "home-x"), "/dev/home/x", sample), 0,
-               "home-x 46 1 /numbers.txt\nhome-x 46 5 /numbers.txt\nhome-x 0 4 in use\n", others.replace("home", "home-x"))
+    tally.same("files of /dev/pool/x", files(owned.replace("home", "pool-x"), "/dev/pool/x", sample), 0,
+               "pool-x 46 1 /numbers.txt\npool-x 46 5 /numbers.txt\npool-x 0 4 in use\n", others.replace("home", "pool-x"))
     tally.same("files across blocks", files("d 1 12 = home 51\n", "home", sample), 0,
                "home 51 1 /numbers.txt\nhome 52 2 /old\nhome 54 4 /old/copy.txt\nhome 54 4 /old/list.txt\nhome 58 2 /report.odt\nhome 60 3 unused\n")
     tally.same("files of a damaged system", files("d 1 12 = home 51\n", "home", sample, "--damaged"), 0,

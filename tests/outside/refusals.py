@@ -21,19 +21,21 @@ PLACES = {
     ("dm_map/pieces/piece_list", "piece", "self.pieces.push"): STD,
     ("dm_map/state/run_taken", "with_places", "count > u32::MAX as usize"):
         "none: so many places are refused as too much memory (docs/DECISIONS.md); a load allows 4,194,304",
+    ("dm_map/state/trie_taken", "with_places", "count > MOST_PLACES"):
+        "none: so many places are refused as too much memory (docs/DECISIONS.md); a load allows 4,194,304",
     ("dm_replay/playback", "play_front", "mapper.request"):
         "where the sink did not stop at the last unit asked for, its error is that of a growth",
     ("dm_replay/playback", "play_request", "mapper.request"):
         "its sink's error is that of a growth, and the mapper is going",
     ("dm_replay/playing", "answer", "self.next.checked_add"):
         "none: no request comes there, since it is played from 2^50 at most, and for 1,048,576 sectors at most",
-    ("dm_replay/replay", "halt", "asked.push"): STD,
+    ("dm_replay/replay", "halt", "keep"): OURS,
     ("dm_replay/replay", "halt", "play_front"): OURS,
     ("dm_replay/replay", "halt", "rerun"): OURS,
     ("dm_replay/replay", "new", "Mapper::new"): OURS,
     ("dm_replay/replay", "refuse_clash", "stack.tidy"): OURS,
+    ("dm_replay/replay", "request", "keep"): OURS + ": the push of a write that was played",
     ("dm_replay/replay", "request", "play_request"): OURS,
-    ("dm_replay/replay", "request", "self"): STD + ": the push of a request that was played",
     ("dm_replay/value_runs", "add", "last.len"):
         "none: no run comes there, since it has no more sectors than a request has, 1,048,576",
     ("dm_stack/faults", "or_out_of_memory", "made"): "its argument's only error is that of a growth",
@@ -47,33 +49,40 @@ PLACES = {
     ("dm_table/load/part_input", "read_part", "text.extend_from_slice"): STD,
     ("dm_table/load/reading", "read_lines", "read_each::<T>"): OURS,
     ("dm_table/load/text_checks", "check_text", "cut"): OURS,
-    ("dmremap/map_whole", "map_whole", "Mapper::<RunTaken>::new"): OURS,
+    ("dmremap/main", "begin", "!has_stack_room"): "the limit of the stack is lower than what the program may take",
+    ("dmremap/map_whole", "map_whole", "Mapper::<TrieTaken>::new"): OURS,
     ("dmremap/printing", "print_parts", "spaced_parts"): OURS,
     ("dmremap/printing", "print_report", "check_report"): OURS,
-    ("dmremap/replay_run", "replay_stack", "Replay::<RunTaken>::new"):
+    ("dmremap/replay_run", "replay_stack", "Replay::<TrieTaken>::new"):
         "claims that meet have an arm of their own, and by its contract it fails for nothing else",
-    ("lvm_volume/device_names", "name_of", "built_name"):
+    ("lvm_volume/checks/extents", "check_extents", "maps_of"): OURS,
+    ("lvm_volume/checks/extents", "check_segments", "is_misplaced"): OURS,
+    ("lvm_volume/checks/segment_check", "check_snapshots", "roles_of"): OURS,
+    ("lvm_volume/fields/walk", "check_group", "sections_at"): OURS + ": two, of physical volumes and of volumes",
+    ("lvm_volume/fields/walk", "check_keys", "segment_key"): OURS,
+    ("lvm_volume/fields/walk", "check_text", "sections_of"): OURS,
+    ("lvm_volume/fields/walk", "check_volume", "segments_of"): OURS,
+    ("lvm_volume/tables/device_names", "name_of", "built_name"):
         "a name is built of these parts, as is required, and then it fails only for a growth",
-    ("lvm_volume/disks", "copy_of", "DiskName::new"):
+    ("lvm_volume/tables/disks", "copy_of", "DiskName::new"):
         "a name is one by its type, and then it fails only for a growth",
     ("lvm_volume/names", "build_name", "joined"): OURS,
-    ("lvm_volume/physical", "physicals_in", "counts_of"): OURS,
-    ("lvm_volume/physical", "physicals_in", "devices_of"): OURS,
-    ("lvm_volume/physical", "physicals_in", "physicals.push"): STD,
-    ("lvm_volume/positions", "add_key", "keys.insert"): STD,
-    ("lvm_volume/source_line", "memory_fault", ""): "the fault itself, for those that answer it",
+    ("lvm_volume/group/physical", "physicals_in", "counts_of"): OURS,
+    ("lvm_volume/group/physical", "physicals_in", "devices_of"): OURS,
+    ("lvm_volume/group/physical", "physicals_in", "physicals.push"): STD,
+    ("lvm_volume/group/positions", "add_key", "keys.insert"): STD,
+    ("lvm_volume/fields/source_line", "memory_fault", ""): "the fault itself, for those that answer it",
     ("lvm_volume/tables", "tables", "devices_of"): OURS,
     ("lvm_volume/tables", "tables", "disks_of"): OURS,
-    ("lvm_volume/tables", "tables", "names_fault"): OURS,
     ("lvm_volume/tables", "tables", "roles_of"): OURS,
     ("lvm_volume/volume_group", "parts_in", "sections_at"): OURS,
     ("lvm_volume/volume_group", "parts_in", "volumes_of"): OURS,
     ("lvm_volume/volume_group", "read", "sections_of"): OURS,
-    ("lvm_volume/volume_group", "read", "walk::first_fault"): OURS,
     ("lvm_volume/volume_group", "read_group", "Key::new"): OURS,
-    ("lvm_volume/volume_group", "read_group", "parts_fault"): OURS,
-    ("lvm_volume/volume_group", "read_group", "walk::first_fault"): OURS,
 }
+
+# The places of which a function has more than one.
+TIMES = {("lvm_volume/fields/walk", "check_group", "sections_at"): 2}
 
 # A refusal as a value. In a type it is followed by `>`, or stands after a colon or an equals sign.
 MADE = re.compile(r"(?<!== )\b\w+::(?:Memory|OutOfMemory)\b|\bLoadFault::memory\(|\bmemory_fault\(|\bout_of_memory\(|(?<!: )(?<!= )(?<!<)\bAlloc(?:Error|Failed)\b(?![>;<])")
@@ -82,6 +91,8 @@ FUNCTION = re.compile(r" *(?:pub(?:\(\w+\))? )?fn (\w+)")
 ASKED = re.compile(r" *(?:let \w+\(.*?\) = |match |if |while )(.+?)(?:\(|(?: else)? \{|$)")
 # Lines that are no code, and uses, which may name no refusal by another name.
 ASIDE = re.compile(r" *(?:ghost|requires|ensures|(?:pub )?use)\b")
+# A pattern for a refusal and for something else: what is done there isn't done for want of memory alone.
+MIXED = re.compile(r"\s\|\s+(?:\w+::)*(?:Memory|OutOfMemory)\b|\b(?:Memory|OutOfMemory)(?:\([^()]*\))?\s+\|\s")
 RENAMED = re.compile(r"^ *(?:pub )?use .*(?:\bMemory\b|\bAlloc(?:Error|Failed) as\b)", re.M)
 
 
@@ -91,8 +102,10 @@ def check(tally, top):
     made = [place for it in sources for place in places_in(module_of(it), text_of(it).split("\n"))]
     for place in made:
         tally.holds("out of memory in %s, %s" % place[:2], place in PLACES, "by %r, which no row explains" % place[2])
-    lost = [place for place in PLACES if made.count(place) != 1]
-    tally.holds("places that are out of memory", not lost, "not there, or more than once: %s" % lost)
+    lost = [place for place in PLACES if made.count(place) != TIMES.get(place, 1)]
+    tally.holds("places that are out of memory", not lost, "not there, or not as often: %s" % lost)
+    mixed = [module_of(it) for it in sources if MIXED.search(re.sub(r"//.*", "", text_of(it)))]
+    tally.holds("patterns for refusals have nothing else", not mixed, "others in %s" % ", ".join(mixed))
     renamed = [module_of(it) for it in sources if RENAMED.search(text_of(it))]
     tally.holds("refusals have one name", not renamed, "another in %s" % ", ".join(renamed))
 

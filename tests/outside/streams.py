@@ -29,6 +29,7 @@ UNREAD = "dmremap: requests: read\n"
 
 def check(tally, program):
     check_output(tally, program)
+    check_writes(tally, program)
     check_reader(tally, program)
     check_full_pauses(tally, program)
     check_gone_pauses(tally, program)
@@ -52,6 +53,25 @@ def check_output(tally, program):
         tally.same("a full output, nothing but a bad request", got, 3, "", "dmremap: request 1: unknown\n")
         got = program.map("a: 0 0 zero\n", DISKS, SHORT, stdout=full)
         tally.same("a full output, a refused load", got, 1, "", "dmremap: source: empty at 1\n")
+
+
+def check_writes(tally, program):
+    """How often each command writes: what it has to say is gathered. A socket keeps apart what each write gave it."""
+    table, disks = program.file("table", TABLE), program.file("disks", DISKS)
+    files = ["table", table, disks]
+    rows = [("map", ["map", *files], 200), ("map --status", ["map", *files, "--status"], 200),
+            ("replay", ["replay", *files], 200), ("table", ["table", *files], 1), ("concise", ["concise", *files], 1),
+            ("check", ["check", *files], 4), ("name", ["name", "vg0", "lv0"], 1)]
+    for name, words, lines in rows:
+        here, there = socket.socketpair(socket.AF_UNIX, socket.SOCK_SEQPACKET)
+        with here, there:
+            got = program.run(words, given=SHORT * 100, stdout=there)
+            there.close()
+            writes = list(iter(lambda: here.recv(1 << 20), b""))
+        text = b"".join(writes)
+        tally.same("%s to a socket" % name, got)
+        tally.holds("%s writes once" % name, len(writes) == 1 and text.count(b"\n") == lines,
+                    "%d writes of %d lines" % (len(writes), text.count(b"\n")))
 
 
 def check_reader(tally, program):

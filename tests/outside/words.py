@@ -1,5 +1,7 @@
 """The command line: help goes to the standard output, refused words to the standard error."""
 
+import os
+
 VERSION = "0.1.0"
 
 VOLUME = "vol: 0 100 linear sda 50\n"
@@ -141,6 +143,7 @@ def check(tally, program):
         tally.holds("words %s" % words, is_refused, "status %s, on standard output %r, on standard error %r"
                     % (got.status, got.out, got.err))
     check_told(tally, program)
+    check_unprinted(tally, program)
     for words, tip in (["tabel", "lvm", "TABLE"], b"'table'"), (["table", "lvn", "TABLE"], b"'lvm'"):
         got = program.run(real(words))
         tally.holds("a tip for %s" % words, got.status == 2 and tip in got.err, "on standard error %r" % got.err)
@@ -174,3 +177,16 @@ def check_told(tally, program):
     got = program.run([b"map", b"table", b"\xff", b"DISKS"])
     is_told = got.status == 2 and got.err.startswith(b"error: invalid UTF-8 was detected in one or more arguments")
     tally.holds("words that are no text", is_told, "status %s, on standard error %r" % (got.status, got.err))
+
+
+def check_unprinted(tally, program):
+    """Help and the version on an output that takes nothing, and words that are refused on such a standard error."""
+    for words in HELP + VERSIONED:
+        name = "an output that is %%s, by %s" % words
+        with open("/dev/full", "wb") as full:
+            tally.same(name % "full", program.run(words, stdout=full), 5, "", "dmremap: output: write\n")
+        got = program.run(words, before=lambda: os.close(1))
+        tally.same(name % "closed", got, 5, "", "dmremap: output: write\n")
+    for words in ([], ["map"], ["map", "table", "missing"]):
+        with open("/dev/full", "wb") as full:
+            tally.same("a full standard error, by %s" % words, program.run(words, stderr=full), 2)

@@ -21,12 +21,15 @@ TOP = os.path.dirname(os.path.dirname(os.path.dirname(os.path.abspath(__file__))
 LIST = os.path.join(TOP, "docs", "READING.md")
 COMMAND = "python3 tests/reading --write"
 
-# The functions whose contracts are the promises, and what each promises.
+# The promises: what each is called, the functions whose contracts make it, and what it says.
 PROMISES = [
-    ("map_whole", "what the command `map` reads, writes, tells and returns"),
-    ("other_whole", "the same of the other commands"),
-    ("Replay::request", "what a request answers on the disks as those before it left them"),
-    ("Mapper::request", "which units a request has, the state that they leave, and what finding them costs"),
+    ("map_whole", ["map_whole"], "what the command `map` reads, writes, tells and returns"),
+    ("other_whole", ["other_whole"], "the same of the other commands"),
+    ("Replay", ["Replay::new", "Replay::request", "Replay::halt"],
+     "that a replay begins with no request; what a request answers on the disks as those before it left them; "
+     "and what a request leaves that is stopped, which the list of requests has too"),
+    ("Mapper::request", ["Mapper::request"],
+     "which units a request has, the state that they leave, and what finding them costs"),
 ]
 
 DEFINITIONS = ("definition", "record", "data")
@@ -36,11 +39,11 @@ INTRODUCTION = """# What a reader has to read
 
 This list is for somebody who wants to believe what the program promises without reading a proof. That the code keeps its contracts is checked. Whether a contract says what you want is for you to judge, and for that you read it, and whatever it names, down to the last definition. Nothing else has to be read: no body of a function, no proof, and no contract of a function that it calls.
 
-| Promise | What it says | Where | Definitions | Types, traits and constants | Of these for no other promise |
+| Contracts | What they promise | Where | Definitions | Types, traits and constants | Of these for no other promise |
 |---|---|---|---|---|---|
 %s
 
-What several promises need stands once. Each part below names the promises that need it: for one of them, read the parts that name it, from the first on, and last the contract itself. Whatever a definition names stands before it.
+What several promises need stands once. Each part below names the promises that need it: for one of them, read the parts that name it, from the first on, and last the contracts themselves. Whatever a definition names stands before it.
 
 - Of a definition, the name and the comment are given here; it is in the file by that name.
 - Of a type, read the fields or the variants, and what holds of every value, if that is given here. Where contracts see a type as another value, that value is listed in place of the fields.
@@ -54,13 +57,13 @@ This list is made from the sources by `%s`.
 
 def list_of(sources):
     """The text of the list."""
-    promises = [promise(sources, name) for name, _ in PROMISES]
-    reached = [reach([it]) - {it} for it in promises]
+    promises = [[public(sources, name) for name in names] for _, names, _ in PROMISES]
+    reached = [reach(functions) - set(functions) for functions in promises]
     parts = {}
     for item in set().union(*reached):
         parts.setdefault(tuple(item in it for it in reached), []).append(item)
-    rows = [row(name, says, function.file, items, len(parts.get(alone(at), [])))
-            for at, ((name, says), function, items) in enumerate(zip(PROMISES, promises, reached))]
+    rows = [row(names, says, functions[0].file, items, len(parts.get(alone(at), [])))
+            for at, ((_, names, says), functions, items) in enumerate(zip(PROMISES, promises, reached))]
     text = [INTRODUCTION % ("\n".join(rows), library_line(set().union(*reached)), COMMAND)]
     read = set()
     for which in sorted(parts, key=lambda it: (-sum(it), [not is_in for is_in in it])):
@@ -70,7 +73,8 @@ def list_of(sources):
     return "".join(text)
 
 
-def promise(sources, name):
+def public(sources, name):
+    """The public function of a name."""
     found = [it for it in sources.code_items if it.name == name and it.is_public]
     if len(found) != 1:
         raise SystemExit("there are %d public functions %s" % (len(found), name))
@@ -92,14 +96,20 @@ def alone(at):
     return tuple(it == at for it in range(len(PROMISES)))
 
 
-def row(name, says, file, items, own):
+def row(names, says, file, items, own):
     definitions = sum(it.kind in DEFINITIONS for it in items)
-    return "| `%s` | %s | `%s` | %d | %d | %d |" % (name, says, file, definitions, len(items) - definitions, own)
+    return "| %s | %s | `%s` | %d | %d | %d |" % (listed(names), says, file, definitions, len(items) - definitions, own)
 
 
 def title(which):
-    names = ["`%s`" % name for (name, _), is_in in zip(PROMISES, which) if is_in]
-    return " and ".join([", ".join(names[:-1]), names[-1]]) if names[1:] else "%s alone" % names[0]
+    names = [name for (name, _, _), is_in in zip(PROMISES, which) if is_in]
+    return listed(names) if names[1:] else "%s alone" % listed(names)
+
+
+def listed(names):
+    """Names of code, as a sentence lists them."""
+    names = ["`%s`" % it for it in names]
+    return " and ".join([", ".join(names[:-1]), names[-1]]) if names[1:] else names[0]
 
 
 def library_line(items):

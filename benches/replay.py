@@ -1,0 +1,120 @@
+#!/usr/bin/env python3
+"""Time and memory of replays, for a number of requests and for a tenth of them.
+
+Usage: benches/replay.py PROGRAM [MOST]
+
+PROGRAM is the built program, crates/dmremap/out/dmremap. Each line tells what is asked, how many
+times (up to MOST, 1000000 if not said), the seconds of processor time, how much longer they are than
+those of a tenth, and the bytes of memory for each request, over those of a run without one. Time
+that is near-linear grows by a factor of 10 to 14.
+"""
+
+import os
+import random
+import subprocess
+import sys
+import tempfile
+import time
+
+LENGTH = 1 << 22
+LINEAR = ("a: 0 %d linear base 0\n" % LENGTH, "base %d\n" % LENGTH)
+SNAPSHOT = ("a: 0 %d snapshot-origin base\ns: 0 %d snapshot base cow P 8\n" % (LENGTH, LENGTH),
+            "base %d\ncow %d\n" % (LENGTH, 2 * LENGTH))
+COLUMNS = 128
+SCATTERED = ("a: 0 1048576 striped %d 1 %s\n" % (COLUMNS, " ".join("base %d" % (8192 * it) for it in range(COLUMNS))),
+             "base 1048576\n")
+CHUNKS = ("s: 0 100000 snapshot base cow P 1\n", "base 100000\ncow 200000\n")
+
+
+def rising(count):
+    return pairs(LENGTH // count * it for it in range(count))
+
+
+def falling(count):
+    return pairs(LENGTH // count * (count - 1 - it) for it in range(count))
+
+
+def at_random(count):
+    dice = random.Random(1)
+    return pairs(dice.randrange(LENGTH) for _ in range(count))
+
+
+def eight_places(count):
+    return pairs(8 * (it % 8) for it in range(count))
+
+
+def pairs(places):
+    """A write of one sector at each place, and a read of one anywhere."""
+    dice = random.Random(2)
+    for place in places:
+        yield "W a %d 1\nR a %d 1\n" % (place, dice.randrange(LENGTH))
+
+
+def of_both(count):
+    """Writes and reads of a snapshot and of its origin, in turn."""
+    dice = random.Random(1)
+    for it in range(count):
+        yield "W %s %d 1\nR %s %d 8\n" % ("as"[it % 2], dice.randrange(LENGTH), "sa"[it % 2], dice.randrange(LENGTH - 8))
+
+
+def one_write(device):
+    return lambda count: ["W %s 0 %d\n" % (device, count)]
+
+
+def write_and_read(count):
+    return ["W a 0 %d\nR a 0 %d\n" % (count, count)]
+
+
+def main():
+    if len(sys.argv) < 2:
+        sys.exit(__doc__)
+    most = int(sys.argv[2]) if len(sys.argv) > 2 else 1000000
+    print("| requests | how many | seconds | times a tenth | bytes each |\n|---|---|---|---|---|")
+    for name, stack, make in [("writes of a sector, rising, and reads", LINEAR, rising),
+                              ("the same, falling", LINEAR, falling), ("the same, at random", LINEAR, at_random),
+                              ("the same, at eight places", LINEAR, eight_places), ("writes of a snapshot and its origin in turn, and reads", SNAPSHOT, of_both)]:
+        show(name, stack, make, most)
+    show("a write of scattered sectors, and a read of all", SCATTERED, write_and_read, 1048576)
+    show("a write to a snapshot of chunk 1", CHUNKS, one_write("s"), 100000)
+
+
+def show(name, stack, make, count):
+    """A row: what the requests take."""
+    none, empty = measure(stack, [])
+    tenth, _ = measure(stack, make(count // 10))
+    whole, memory = measure(stack, make(count))
+    print("| %s | %d | %.2f | %.1f | %.0f |" % (
+        name, count, whole, (whole - none) / max(tenth - none, 0.001), (memory - empty) / count), flush=True)
+
+
+def measure(stack, requests):
+    """The seconds of processor time of a replay, and the most bytes of memory that it had."""
+    with tempfile.TemporaryDirectory() as room:
+        words = [sys.argv[1], "replay", "table"]
+        for name, content in zip(("table", "disks"), stack):
+            words.append(os.path.join(room, name))
+            with open(words[-1], "w", encoding="utf-8") as it:
+                it.write(content)
+        asked = os.path.join(room, "requests")
+        with open(asked, "w", encoding="utf-8") as it:
+            it.writelines(requests)
+        with open(asked, "rb") as given:
+            ran = subprocess.Popen(words, stdin=given, stdout=subprocess.DEVNULL)
+            most, ended = 0, 0
+            while not ended:
+                most = max(most, memory_of(ran.pid))
+                time.sleep(0.002)
+                ended, status, used = os.wait4(ran.pid, os.WNOHANG)
+    if status:
+        sys.exit("%s: status %d" % (stack[0], status))
+    return used.ru_utime + used.ru_stime, most
+
+
+def memory_of(process):
+    """The most bytes that a process has had so far: what is told of one that ended counts those of this script."""
+    with open("/proc/%d/status" % process, encoding="ascii") as it:
+        return sum(1024 * int(line.split()[1]) for line in it if line.startswith("VmHWM"))
+
+
+if __name__ == "__main__":
+    main()
