@@ -1,7 +1,7 @@
 /* Preloaded before the program: counts its growths and its reads, and refuses growths.
  *
  * A growth is a call for a new block, or for more bytes than a block has. They count from the start of
- * the program (GROWTHS_FROM=start), or from the first file that it opens (GROWTHS_FROM=open), behind those
+ * the program (GROWTHS_FROM=start), or from the first file that it is given (GROWTHS_FROM=open), behind those
  * of the command line's words. GROWTHS_REFUSED=N refuses the Nth, and with GROWTHS_ALL=1 all after it too.
  * GROWTHS_SHRINKS=1 refuses every call that makes a block smaller. At the end the counts are written to
  * the file GROWTHS_REPORT: of growths, of calls that were refused, and of reads. */
@@ -82,7 +82,7 @@ int open(const char *path, int flags, ...) {
     va_start(rest, flags);
     int mode = flags & O_CREAT ? va_arg(rest, int) : 0;
     va_end(rest);
-    counts = 1;
+    counts |= strcmp(path, "/proc/self/limits") != 0;
     return syscall(SYS_openat, AT_FDCWD, path, flags, mode);
 }
 
