@@ -38,6 +38,7 @@ import lvm2_texts
 import manual
 import metadata_areas
 import origins
+import power_cuts
 import printing
 import ranges
 import reading_list
@@ -83,6 +84,7 @@ def main():
         lookers.check(tally, TOP)
         refusals.check(tally, TOP)
         halts.check(tally, program, TOP)
+        power_cuts.check(tally, room, TOP)
     return tally.close()
 
 

@@ -55,6 +55,10 @@ PLACES = {
     ("dmremap/printing", "print_report", "check_report"): OURS,
     ("dmremap/replay_run", "replay_stack", "Replay::<TrieTaken>::new"):
         "claims that meet have an arm of their own, and by its contract it fails for nothing else",
+    ("power_cut/cut", "begin", "Replay::new"):
+        "claims that meet have an arm of their own, and by its contract it fails for nothing else",
+    ("power_cut/fault", "unplayed", "fault"):
+        "a request of a top device fails for a growth alone, and after that the replay is asked for nothing more",
     ("lvm_volume/checks/extents", "check_extents", "maps_of"): OURS,
     ("lvm_volume/checks/extents", "check_segments", "is_misplaced"): OURS,
     ("lvm_volume/checks/segment_check", "check_snapshots", "roles_of"): OURS,

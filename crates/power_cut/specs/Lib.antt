@@ -1,0 +1,4 @@
+pub mod Cut
+pub mod OwnedRequest
+pub mod ReadBack
+pub mod Fault

@@ -1,0 +1,41 @@
+-- What is asked of a replay for a request, and how the sectors of a write are read.
+use Rattle.std.specs.Prelude.{ℕ, Bool, true, false, List, Option, None, Some, filter}
+use Rattle.dm_table.specs.declared.requests.request.Op.{Op}
+use Rattle.dm_table.specs.declared.requests.request.Op.TheVariants.{Read, Write}
+use Rattle.dm_stack.specs.Description.{Description, device_id}
+use Rattle.dm_stream.specs.Requests.{NumberedRequest}
+use Rattle.dm_replay.specs.Histories.{Asked}
+
+-- a request of a stack, played to its end or cut after this many units
+abbrev pub asked_as : Option ℕ → Description → NumberedRequest → Asked
+asked_as stop stack request = record {
+  number = request.number;
+  op = request.values.op;
+  device = device_id stack request.values.device;
+  start = request.values.start;
+  len = request.values.len;
+  stopped_after = stop;
+}
+
+abbrev pub asked_of : Description → NumberedRequest → Asked
+asked_of = asked_as None
+
+abbrev pub cut_of : Description → (units : ℕ) → NumberedRequest → Asked
+cut_of stack units = asked_as (Some units) stack
+
+abbrev pub writes : Op → Bool
+writes Read = false
+writes Write = true
+
+abbrev pub is_write : NumberedRequest → Bool
+is_write request = writes request.values.op
+
+abbrev pub writes_of : List NumberedRequest → List NumberedRequest
+writes_of requests = filter is_write requests
+
+-- a read of the sectors of a request, under its number
+abbrev pub read_of : NumberedRequest → NumberedRequest
+read_of request = record {
+  number = request.number;
+  values = record { op = Read; device = request.values.device; start = request.values.start; len = request.values.len };
+}

@@ -1,0 +1,109 @@
+//! Requests that are played up to a cut, and what is written then.
+
+ghost use Rattle.std.specs.Prelude.{◌≡◌, ◌≢◌, ◌++◌, ◌∷◌, [], IfErr, IfOk, OnOk};
+ghost use Rattle.dm_table.specs.io.DeviceIo.{delivery, written_since};
+ghost use Rattle.dm_table.specs.io.Progress.{IsFlushed};
+ghost use Rattle.dm_stack.specs.Claims.{IsTidy};
+ghost use Rattle.dm_stream.specs.Requests.{requests_of};
+ghost use Rattle.dm_replay.specs.Replay.{new_replay};
+ghost use Rattle.dm_stream.specs.declared.ending.Ending.TheVariants.{WriteFault};
+ghost use Rattle.power_cut.specs.declared.fault.Fault.TheVariants.{Ended};
+ghost use Rattle.power_cut.specs.Cut.{IsWritten, asked_until};
+ghost use Rattle.power_cut.specs.OwnedRequest.{asked_of};
+
+use crate::fault::{Fault, unplayed};
+use crate::owned_request::OwnedRequest;
+use crate::read_back::{read_back, write_backs};
+use crate::request_list::read_requests;
+use dm_map::TrieTaken;
+use dm_replay::{Replay, ReplayFault};
+use dm_stack::Stack;
+use dm_stream::Ending;
+use dm_table::{Input, OutFault, Output, close};
+use std::alloc::Global;
+
+/// Plays the requests of an input on the disks of a stack, the last of them up to a cut after `units` units, and
+/// writes what a read of the sectors of each write gives then.
+///
+/// # Errors
+///
+/// Why it stopped. Nothing is written, unless that is a write or a flush that failed.
+pub(crate) fn answer_after_cut<Q: Input, W: Output>(
+    alloc: Global,
+    stack: &Stack,
+    units: u64,
+    requests: &mut Q,
+    output: &mut W,
+) -> Result<(), Fault>
+    ensures written { OnOk result (IsWritten stack.now units
+        (requests_of (delivery (Q.past requests.old) (Q.past requests.new)))
+        (written_since (W.past output.old) (W.past output.new))) }
+    ensures flushed { OnOk result (IsFlushed (W.past output.old) (W.past output.new)) }
+    ensures tidy { OnOk result (IsTidy stack.now) }
+    ensures unwritten { IfErr result
+        (λ fault. fault ≢ Ended WriteFault → W.past output.new ≡ W.past output.old) }
+{
+    let replay = begin(alloc, stack)?;
+    let requests = read_requests(alloc, requests)?;
+    let mut replay = play(alloc, replay, &requests, units)?;
+    let backs = read_back(alloc, &mut replay, &requests)?;
+    let written = write_backs(stack, &backs, &mut *output);
+    match close(written, output) {
+        Ok(()) => Ok(()),
+        Err(OutFault) => Err(Fault::Ended(Ending::WriteFault)),
+    }
+}
+
+/// A replay on the disks of a stack.
+fn begin(alloc: Global, stack: &Stack) -> Result<Replay<'_, TrieTaken>, Fault>
+    ensures new { IfOk result (λ replay. replay ≡ new_replay stack.now) }
+    ensures tidy { OnOk result (IsTidy stack.now) }
+{
+    match Replay::new(alloc, stack) {
+        Ok(replay) => Ok(replay),
+        Err(ReplayFault::Untidy) => Err(Fault::Untidy),
+        Err(_) => Err(Fault::Memory),
+    }
+}
+
+/// Plays requests, the last one up to a cut after `units` units.
+fn play<'s>(
+    alloc: Global,
+    mut replay: Replay<'s, TrieTaken>,
+    requests: &[OwnedRequest],
+    units: u64,
+) -> Result<Replay<'s, TrieTaken>, Fault>
+    requires { replay.asked ≡ [] }
+    ensures stack { IfOk result (λ later. later.stack ≡ replay.entry.stack) }
+    ensures asked { IfOk result
+        (λ later. later.asked ≡ asked_until replay.entry.stack units requests.now) }
+{
+    let Some((last, first)) = requests.split_last() else {
+        return Ok(replay);
+    };
+    for request in first {
+        play_whole(alloc, &mut replay, request)?;
+    }
+    let request = last.as_request();
+    match replay.halt(alloc, &request, units) {
+        Ok(later) => Ok(later),
+        Err(fault) => Err(unplayed(request.number, fault)),
+    }
+}
+
+/// Plays a request to its end.
+fn play_whole(
+    alloc: Global,
+    replay: &mut Replay<'_, TrieTaken>,
+    request: &OwnedRequest,
+) -> Result<(), Fault>
+    ensures stack { replay.new.stack ≡ replay.old.stack }
+    ensures asked { OnOk result
+        (replay.new.asked ≡ replay.old.asked ++ asked_of replay.old.stack request.now ∷ []) }
+{
+    let request = request.as_request();
+    match replay.request(alloc, &request) {
+        Ok(_) => Ok(()),
+        Err(fault) => Err(unplayed(request.number, fault)),
+    }
+}
