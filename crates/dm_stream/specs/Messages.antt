@@ -1,5 +1,5 @@
 -- The message of each ending, and how a message is told.
-use Rattle.std.specs.Prelude.{◌≡◌, ◌≤◌, ℕ, ◌+◌, List, [], ◌++◌, codes, decimal}
+use Rattle.std.specs.Prelude.{◌≡◌, ◌≤◌, ℕ, ◌+◌, List, [], ◌++◌, Result, Ok, Err, codes, decimal}
 use Rattle.dm_table.specs.io.DeviceIo.{OutputPast, written_since}
 use Rattle.dm_table.specs.io.WriteAll.{IsBeginning}
 use Rattle.dm_table.specs.io.Progress.{HasGrown}
@@ -34,6 +34,11 @@ ending_message endings.Done = []
 ending_message (endings.BadRequest number word) = refused_request number (request_word word)
 ending_message endings.ReadFault = read_message
 ending_message endings.WriteFault = write_message
+
+-- the message that is told when an output was closed: that of a failed output goes before any other
+abbrev pub told_at_close : {E : Type 0} → Result (Unit {0}) E → List ℕ → List ℕ
+told_at_close (Ok closed) message = message
+told_at_close (Err fault) message = write_message
 
 -- the message was written whole, or a beginning of it if its stream failed
 pub record IsTold (message : List ℕ) (old new : OutputPast) : Type 0 where

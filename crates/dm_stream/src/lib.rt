@@ -5,6 +5,7 @@
 //! the mapper's crate; here they become text.
 #![tactic(auto)]
 
+mod closing;
 mod ending;
 mod handler;
 mod held_piece;
@@ -22,6 +23,7 @@ mod request_mapper;
 mod requests;
 mod status_lines;
 
+pub use closing::close_and_tell;
 pub use ending::{Ending, RequestWord};
 pub use handler::Handler;
 pub use join::Join;

@@ -17,16 +17,17 @@ ghost use Rattle.dm_stream.specs.declared.requests.TheConstants.{MOST_REQUESTS};
 ghost use Rattle.dm_table.specs.io.DeviceIo.{OutputPast, delivery, written_since};
 ghost use Rattle.dm_table.specs.io.Progress.{HasWritten, HasWrittenTo, IsReadOn, Wrote};
 
+use crate::closing::close_and_tell;
 use crate::ending::{Ending, NotMapped, RequestWord};
 use crate::join::Join;
 use crate::last_device::LastDevice;
-use crate::message::{message_of, tell};
+use crate::message::message_of;
 use crate::request_mapper::RequestMapper;
 use crate::requests::handle_requests;
 use crate::status_lines::write_status;
 use dm_map::{Mapper, Taken};
 use dm_stack::Stack;
-use dm_table::{Input, OutFault, Output, close};
+use dm_table::{Input, OutFault, Output};
 use std::marker::PhantomData;
 
 /// How a run ends when a request was not mapped.
@@ -116,31 +117,6 @@ fn write_rest<T: Taken, W: Output>(
     }
 }
 
-/// Answers the requests up to the first bad one, an end or a fault, adds the status lines if they are
-/// asked for, and then flushes the output, once and only where no write failed.
-fn map_and_flush<'s, T: Taken, R: Input, W: Output>(
-    stack: &'s Stack,
-    mapper: &mut Mapper<'s, T>,
-    requests: &mut R,
-    output: &mut W,
-    status: bool,
-) -> Ending
-    requires { CanMap stack.now mapper.old }
-    ensures mapper { StaysMapper mapper.old mapper.new result }
-    ensures reads { IsReadOn (R.past requests.old) (R.past requests.new) }
-    ensures met { HasMet result (R.past requests.old) (R.past requests.new) }
-    ensures ran { HasRun (W.past output.old) (W.past output.new)
-        (run_outcome stack.now status mapper.old.state (delivery (R.past requests.old) (R.past requests.new)))
-        mapper.new.state result }
-{
-    let ending = map_requests(stack, mapper, requests, output);
-    let written = write_rest(stack, mapper, ending, status, output);
-    match close(written, output) {
-        Ok(()) => ending,
-        Err(OutFault) => Ending::WriteFault,
-    }
-}
-
 /// Answers requests, line by line: for each, the pieces that its units make, as few as possible, one
 /// a line under the number of the request. It ends with the first bad line, an end or a fault.
 ///
@@ -189,7 +165,10 @@ pub fn run<'s, T: Taken, R: Input, W: Output, E: Output>(
     // The figures of the limits.
     ensures limits { (MOST_LINE_BYTES ≡ 4096) × (MOST_REQUESTS ≡ 1000000000000) }
 {
-    let ending = map_and_flush(stack, mapper, requests, output, status);
-    tell(messages, message_of(ending).as_slice());
-    ending
+    let ending = map_requests(stack, mapper, requests, output);
+    let written = write_rest(stack, mapper, ending, status, output);
+    match close_and_tell(written, message_of(ending).as_slice(), output, messages) {
+        Ok(()) => ending,
+        Err(OutFault) => Ending::WriteFault,
+    }
 }

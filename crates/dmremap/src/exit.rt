@@ -5,20 +5,19 @@
 //! `specs/Exit.antt`.
 
 ghost use Rattle.std.specs.Prelude.{◌≡◌, ◌≢◌, OnErr, OnOk};
-ghost use Rattle.dm_stream.specs.Messages.{HasTold};
 ghost use Rattle.dmremap.specs.declared.exit.Exit.{Exit};
 ghost use Rattle.dmremap.specs.declared.exit.Exit.TheVariants.{Ended, Refused};
 ghost use Rattle.dmremap.specs.declared.exit.Refusal.TheVariants.{Load};
 ghost use Rattle.dm_stream.specs.declared.ending.Ending.TheVariants.{WriteFault};
-ghost use Rattle.dmremap.specs.Exit.{exit_after, exit_status, is_refused, load_status, name_status, refusal_message, refusal_status};
+ghost use Rattle.dmremap.specs.Exit.{exit_after, exit_message, exit_status, is_refused, load_status, name_status, refusal_status};
 ghost use Rattle.dmremap.specs.Streams.{Exits, IsClosedAs};
 
 use crate::status::{
     STATUS_BAD_REQUEST, STATUS_DONE, STATUS_MEMORY, STATUS_READ_FAULT, STATUS_REFUSED,
     STATUS_WRITE_FAULT,
 };
-use dm_stream::{Ending, message_of, refused_request, tell};
-use dm_table::{LoadFault, LoadKind, OutFault, Output, close, memory_message};
+use dm_stream::{Ending, close_and_tell, message_of, refused_request, tell};
+use dm_table::{LoadFault, LoadKind, LoadMessage, OutFault, Output, append, memory_message};
 use lvm_volume::NameFault;
 
 /// Why a command was refused before it wrote anything.
@@ -48,6 +47,7 @@ pub(crate) enum Exit {
 }
 
 impl Refusal {
+    /// The exit status.
     fn status(self) -> u8
         ensures { result ≡ refusal_status self }
     {
@@ -57,20 +57,9 @@ impl Refusal {
             Refusal::Split | Refusal::Untidy => STATUS_REFUSED,
         }
     }
-
-    /// Tells why on the message stream.
-    fn tell<M: Output>(self, messages: &mut M)
-        ensures { HasTold (refusal_message self) (M.past messages.old) (M.past messages.new) }
-    {
-        match self {
-            Refusal::Load(fault) => tell(messages, fault.message().as_slice()),
-            Refusal::Name(fault) => tell(messages, fault.message()),
-            Refusal::Split => tell(messages, b"dmremap: name: split\n"),
-            Refusal::Untidy => tell(messages, b"dmremap: replay: untidy\n"),
-        }
-    }
 }
 
+/// The exit status of a refused load.
 fn load_status(kind: LoadKind) -> u8
     ensures { result ≡ load_status kind }
 {
@@ -80,6 +69,7 @@ fn load_status(kind: LoadKind) -> u8
     }
 }
 
+/// The exit status where a name was not built.
 fn name_status(fault: NameFault) -> u8
     ensures { result ≡ name_status fault }
 {
@@ -121,16 +111,30 @@ impl Exit {
         }
     }
 
-    /// Tells why a command exits so, if not all was done, and returns the exit status.
+    /// The message that tells why a command exits so: one line, or empty if all was done.
+    fn message(self) -> LoadMessage
+        ensures { result.items ≡ exit_message self }
+    {
+        let mut text = LoadMessage::new();
+        match self {
+            Exit::Refused(Refusal::Load(fault)) => return fault.message(),
+            Exit::Refused(Refusal::Name(fault)) => append(&mut text, fault.message()),
+            Exit::Refused(Refusal::Split) => append(&mut text, b"dmremap: name: split\n"),
+            Exit::Refused(Refusal::Untidy) => append(&mut text, b"dmremap: replay: untidy\n"),
+            Exit::Ended(ending) => append(&mut text, message_of(ending).as_slice()),
+            Exit::NotTop(number) => {
+                append(&mut text, refused_request(number, b"not top").as_slice());
+            }
+            Exit::Memory => append(&mut text, memory_message()),
+        }
+        text
+    }
+
+    /// Tells why a command exits so, if not all was done, and returns the exit status. No output is closed.
     pub(crate) fn tell<M: Output>(self, messages: &mut M) -> u8
         ensures { Exits self result (M.past messages.old) (M.past messages.new) }
     {
-        match self {
-            Exit::Refused(refusal) => refusal.tell(messages),
-            Exit::Ended(ending) => tell(messages, message_of(ending).as_slice()),
-            Exit::NotTop(number) => tell(messages, refused_request(number, b"not top").as_slice()),
-            Exit::Memory => tell(messages, memory_message()),
-        }
+        tell(messages, self.message().as_slice());
         self.status()
     }
 
@@ -155,26 +159,18 @@ impl Exit {
         }
     }
 
-    /// Closes the output of a command that would exit so: flushes it, unless the command was refused or a
-    /// write failed. It returns how the command exits then.
-    fn close<W: Output>(self, output: &mut W) -> Exit
-        ensures { IsClosedAs self (W.past output.old) (W.past output.new) result }
-    {
-        if self.is_refused() {
-            return self;
-        }
-        match close(self.written(), output) {
-            Ok(()) => self,
-            Err(OutFault) => Exit::Ended(Ending::WriteFault),
-        }
-    }
-
-    /// Closes the output of a command that would exit so, then tells why not all was done, and returns the
-    /// exit status.
+    /// Closes the output of a command that would exit so, unless it was refused; then tells why not all was
+    /// done, and returns the exit status.
     pub(crate) fn finish<W: Output, M: Output>(self, output: &mut W, messages: &mut M) -> u8
         ensures { (exit : Exit) × IsClosedAs self (W.past output.old) (W.past output.new) exit
             × Exits exit result (M.past messages.old) (M.past messages.new) }
     {
-        self.close(output).tell(messages)
+        if self.is_refused() {
+            return self.tell(messages);
+        }
+        match close_and_tell(self.written(), self.message().as_slice(), output, messages) {
+            Ok(()) => self.status(),
+            Err(OutFault) => STATUS_WRITE_FAULT,
+        }
     }
 }
