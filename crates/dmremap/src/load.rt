@@ -1,31 +1,31 @@
-//! The load: the parts are read whole, then their texts, then what they describe is checked.
+//! The load: the parts are read whole, their texts are parsed, and what they describe is checked.
 //!
 //! Nothing is kept of a refused load. The order here is the order of the refusals: a part that was
 //! not read takes precedence over any text, the source's text over the disk list's, and the texts
 //! over what they describe. A new format is an arm of `load` here and of `PartsGive` in
 //! `specs/Load.antt`, and takes the parts that it has.
 
-ghost use Rattle.std.specs.Prelude.{◌≡◌, ◌≢◌, ◌++◌, IfOk, IfErr, None, OnOk, Some};
+ghost use Rattle.std.specs.Prelude.{◌≡◌, ◌≢◌, IfOk, IfErr, None, OnOk, Some};
 ghost use Rattle.dm_table.specs.io.DeviceIo.{delivery};
-ghost use Rattle.dm_table.specs.declared.load.place.Part.TheVariants.{Disks, Source};
+ghost use Rattle.dm_table.specs.declared.load.place.Part.TheVariants.{Disks};
 ghost use Rattle.dm_table.specs.declared.load.load_fault.LoadKind.TheVariants.{Memory, Read};
-ghost use Rattle.dm_table.specs.tables.DiskList.{disk_checks};
 ghost use Rattle.dm_table.specs.load.LoadFault.{fault_at, first_fault};
 ghost use Rattle.dm_table.specs.load.PartInput.{Refuses, TextOf, part_read};
 ghost use Rattle.dm_table.specs.io.Progress.{IsReadOn};
 ghost use Rattle.dmremap.specs.Inputs.{IsReadOnIf, delivery_if};
-ghost use Rattle.dmremap.specs.Load.{Describes, DescribesDevices, Loads, device_checks, MetadataGives, MetadataPartGives, PartsGive, TextPartsGive, TextsGive};
+ghost use Rattle.dmremap.specs.Load.{DescribesDevices, Loads, PartsGive, device_checks};
 
 use crate::job::{Format, TableForm};
 use dm_stack::Stack;
 use dm_table::{
-    DeviceSpec, Disk, Input, LoadFault, LoadKind, Part, Place, parse_concise, parse_disks,
-    parse_table, read_part,
+    DeviceSpec, Input, LoadFault, LoadKind, Part, Place, parse_concise, parse_disks, parse_table,
+    read_part,
 };
 use lvm_volume::parse_metadata;
 use std::alloc::Global;
 
-/// What the source and the disk list give. Where the format has no disk list, none is read.
+/// Loads the stack of a source and its disk list: both are read, then parsed, then what they describe is
+/// checked. Where the format has no disk list, none is read.
 ///
 /// `Memory` only where memory ran out; else the first fault of the first check that finds any.
 #[tactic(auto, using(crate::proofs::LoadLemmas::untouched))]
@@ -40,13 +40,22 @@ pub(crate) fn load<S: Input, D: Input>(
     ensures source { IsReadOn (S.past source.old) (S.past source.new) }
     ensures disks { IsReadOnIf D.past disks.old disks.new }
 {
+    let text = read_part(alloc, Part::Source, source)?;
     match format {
-        Format::Lvm => load_metadata(alloc, source),
-        Format::Tables(form) => load_tables(alloc, form, source, disks),
+        Format::Lvm => {
+            let (devices, disks) = parse_metadata(alloc, &text)?;
+            Stack::load(alloc, devices, disks)
+        }
+        Format::Tables(form) => {
+            let list = read_disks(alloc, disks)?;
+            let devices = parse_devices(alloc, form, &text)?;
+            let disks = parse_disks(alloc, &list)?;
+            Stack::load(alloc, devices, disks)
+        }
     }
 }
 
-/// The same of a source that may be missing, which is refused as one that can't be read.
+/// Loads the stack of a source that may be missing, which is refused as one that can't be read.
 #[tactic(auto, using(crate::proofs::LoadLemmas::untouched))]
 pub(crate) fn load_if<S: Input, D: Input>(
     alloc: Global,
@@ -75,25 +84,7 @@ fn unread(part: Part) -> LoadFault
     }
 }
 
-/// What a text of devices in a form and a disk list give.
-fn load_tables<S: Input, D: Input>(
-    alloc: Global,
-    form: TableForm,
-    source: &mut S,
-    disks: &mut Option<D>,
-) -> Result<Stack, LoadFault>
-    ensures gives { Loads
-        (TextPartsGive form (part_read Source (delivery (S.past source.old) (S.past source.new)))
-        (part_read Disks (delivery_if D.past disks.old disks.new))) result }
-    ensures source { IsReadOn (S.past source.old) (S.past source.new) }
-    ensures disks { IsReadOnIf D.past disks.old disks.new }
-{
-    let source = read_part(alloc, Part::Source, source)?;
-    let disks = read_disks(alloc, disks)?;
-    load_texts(alloc, form, &source, &disks)
-}
-
-/// The text of a disk list, which is refused where it is missing.
+/// Reads a disk list, which is refused as one that can't be read where it is missing.
 fn read_disks<D: Input>(alloc: Global, disks: &mut Option<D>) -> Result<Vec<u8>, LoadFault>
     ensures text { IfOk result
         (λ text. part_read Disks (delivery_if D.past disks.old disks.new) ≡ TextOf text.items) }
@@ -107,38 +98,7 @@ fn read_disks<D: Input>(alloc: Global, disks: &mut Option<D>) -> Result<Vec<u8>,
     }
 }
 
-/// What two texts give.
-fn load_texts(
-    alloc: Global,
-    form: TableForm,
-    source: &[u8],
-    list: &[u8],
-) -> Result<Stack, LoadFault>
-    ensures { Loads (TextsGive form source.now list.now) result }
-{
-    let (devices, disks) = parse_texts(alloc, form, source, list)?;
-    Stack::load(alloc, devices, disks)
-}
-
-/// What two texts describe, or the first fault of the source's, and else of the disk list's.
-fn parse_texts(
-    alloc: Global,
-    form: TableForm,
-    source: &[u8],
-    list: &[u8],
-) -> Result<(Vec<DeviceSpec>, Vec<Disk>), LoadFault>
-    ensures described { IfOk result
-        (λ said. Describes form source.now list.now
-        (record { devices = said.0.items; disks = said.1.items })) }
-    ensures refused { IfErr result (λ fault. fault.kind ≢ Memory
-        → first_fault (device_checks form source.now ++ disk_checks list.now) ≡ Some fault) }
-{
-    let devices = parse_devices(alloc, form, source)?;
-    let disks = parse_disks(alloc, list)?;
-    Ok((devices, disks))
-}
-
-/// What a text of devices in a form describes, or the first fault of it.
+/// Parses a text of devices in a form.
 fn parse_devices(alloc: Global, form: TableForm, text: &[u8]) -> Result<Vec<DeviceSpec>, LoadFault>
     ensures described { IfOk result (λ devices. DescribesDevices form text.now devices.items) }
     ensures sound { OnOk result (first_fault (device_checks form text.now) ≡ None) }
@@ -148,25 +108,5 @@ fn parse_devices(alloc: Global, form: TableForm, text: &[u8]) -> Result<Vec<Devi
     match form {
         TableForm::Table => parse_table(alloc, text),
         TableForm::Concise => parse_concise(alloc, text),
-    }
-}
-
-/// What a text of LVM2 metadata gives, which describes its disks too.
-fn load_metadata<S: Input>(alloc: Global, source: &mut S) -> Result<Stack, LoadFault>
-    ensures gives { Loads
-        (MetadataPartGives (part_read Source (delivery (S.past source.old) (S.past source.new)))) result }
-    ensures source { IsReadOn (S.past source.old) (S.past source.new) }
-{
-    let source = read_part(alloc, Part::Source, source)?;
-    load_group(alloc, &source)
-}
-
-/// What the group of a text of metadata gives.
-fn load_group(alloc: Global, source: &[u8]) -> Result<Stack, LoadFault>
-    ensures { Loads (MetadataGives source.now) result }
-{
-    match parse_metadata(alloc, source) {
-        Ok((devices, disks)) => Stack::load(alloc, devices, disks),
-        Err(fault) => Err(fault),
     }
 }
