@@ -3,7 +3,6 @@ use Rattle.std.specs.Prelude.{Bool, Result, Ok, Err}
 use Rattle.dm_stack.specs.Description.{Description}
 use Rattle.dm_map.specs.state.Counts.{Counts}
 use Rattle.dm_map.specs.state.State.{State}
-use Rattle.dm_map.specs.state.Walker.{WalkerView}
 use Rattle.dm_map.specs.declared.mapper.MapFault.{MapFault}
 use Rattle.dm_map.specs.declared.mapper.MapFault.TheVariants as faults
 
@@ -14,10 +13,6 @@ pub record MapperView : Type 0 where
   pub stopped : Bool
   pub looked : Counts
   pub last : Counts
-
--- the walker of a mapper
-abbrev pub walker_of : MapperView → WalkerView
-walker_of mapper = record { stack = mapper.stack; state = mapper.state; looked = mapper.looked }
 
 -- a mapper after look-ups that belong to no request
 abbrev pub with_looked : MapperView → Counts → MapperView

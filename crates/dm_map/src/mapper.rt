@@ -11,7 +11,7 @@ ghost use Rattle.dm_stack.specs.Depth.{stack_depth};
 ghost use Rattle.dm_map.specs.walk.Mapping.{request_step};
 ghost use Rattle.dm_map.specs.state.Counts.{grown_by, most_comparisons, no_counts, AreAdded};
 ghost use Rattle.dm_map.specs.state.Fitting.{IsWithinPlaces};
-ghost use Rattle.dm_map.specs.Mapper.{walker_of, with_looked, OnSinkFault, OnStopped, OnTried};
+ghost use Rattle.dm_map.specs.Mapper.{with_looked, OnSinkFault, OnStopped, OnTried};
 ghost use Rattle.dm_map.specs.walk.Path.{read_stretches};
 ghost use Rattle.dm_map.specs.pieces.Sink.{OfBeginning};
 ghost use Rattle.dm_map.specs.state.State.{start_state, taken_at};
@@ -53,11 +53,14 @@ pub enum MapFault<F> {
 pub struct Mapper<'s, T: Taken> {
     walker: Walker<'s, T>,
     stopped: bool,
-    searches: u64,
-    probes: u64,
+    /// The searches before the last request, of those that belong to one.
+    searches_before: u64,
+    /// The comparisons of these searches.
+    comparisons_before: u64,
 }
 
 impl<'s, T: Taken> Model for Mapper<'s, T> {
+    ghost use Rattle.std.specs.Prelude.{◌-◌, ◌≤◌};
     ghost use Rattle.dm_map.specs.Mapper.{MapperView};
 
     ghost Value = { MapperView };
@@ -67,8 +70,14 @@ impl<'s, T: Taken> Model for Mapper<'s, T> {
       state = mapper.walker.state;
       stopped = mapper.stopped;
       looked = mapper.walker.looked;
-      last = record { searches = mapper.searches; comparisons = mapper.probes };
+      last = record {
+        searches = mapper.walker.looked.searches - mapper.searches_before;
+        comparisons = mapper.walker.looked.comparisons - mapper.comparisons_before;
+      };
     } };
+
+    ghost invariant = { λ mapper. (mapper.searches_before ≤ mapper.walker.looked.searches)
+        × (mapper.comparisons_before ≤ mapper.walker.looked.comparisons) };
 }
 
 impl<'s, T: Taken> Mapper<'s, T> {
@@ -91,10 +100,10 @@ impl<'s, T: Taken> Mapper<'s, T> {
         let walker = Walker::new(looker, tables);
         walker.is_within_places();
         Ok(Mapper {
+            searches_before: walker.searches(),
+            comparisons_before: walker.comparisons(),
             walker,
             stopped: false,
-            searches: 0,
-            probes: 0,
         })
     }
 
@@ -153,12 +162,17 @@ impl<'s, T: Taken> Mapper<'s, T> {
             self.walker.is_within_places();
             return Err(MapFault::Stopped);
         }
-        let searches = self.walker.searches();
-        let comparisons = self.walker.comparisons();
-        let mapped = self.map_request(request.op, device, request.start, request.len, sink);
+        self.searches_before = self.walker.searches();
+        self.comparisons_before = self.walker.comparisons();
+        let mapped = map_request(
+            &mut self.walker,
+            request.op,
+            device,
+            request.start,
+            request.len,
+            sink,
+        );
         self.walker.is_within_places();
-        self.searches = self.walker.searches() - searches;
-        self.probes = self.walker.comparisons() - comparisons;
         match mapped {
             Ok(()) => Ok(()),
             Err(fault) => {
@@ -183,7 +197,13 @@ impl<'s, T: Taken> Mapper<'s, T> {
         ensures within { IsWithinPlaces self.old.stack self.old.state }
     {
         self.walker.is_within_places();
-        usage_of(&mut self.walker, device)
+        let searches = self.walker.searches();
+        let comparisons = self.walker.comparisons();
+        let usage = usage_of(&mut self.walker, device);
+        // They belong to no request, so they come before the last one.
+        self.searches_before += self.walker.searches() - searches;
+        self.comparisons_before += self.walker.comparisons() - comparisons;
+        usage
     }
 
     /// The line searches of the last request that was not answered `Stopped`, 0 before the first: what
@@ -192,7 +212,7 @@ impl<'s, T: Taken> Mapper<'s, T> {
     pub fn searches(&self) -> u64
         ensures { result ≡ self.now.last.searches }
     {
-        self.searches
+        self.walker.searches() - self.searches_before
     }
 
     /// How often these searches compared a line's start with a sector, at most 17 times each. No memory
@@ -200,37 +220,35 @@ impl<'s, T: Taken> Mapper<'s, T> {
     pub fn probes(&self) -> u64
         ensures { result ≡ self.now.last.comparisons }
     {
-        self.probes
+        self.walker.comparisons() - self.comparisons_before
     }
+}
 
-    /// Hands over the units of a request, whose fields are passed one by one: that keeps them in registers.
-    /// Stopping at a fault is left to the caller.
-    #[inline(always)]
-    fn map_request<S: Sink>(
-        &mut self,
-        op: Op,
-        device: DeviceId,
-        start: u64,
-        len: u64,
-        sink: &mut S,
-    ) -> Result<(), S::Fault>
-        requires some { 1 ≤ len }
-        requires device { device < length self.old.stack.devices }
-        requires sink { HasRoomFor S.stack S.room sink.old self.old.stack len }
-        ensures walked { IsWalked S.took S.left S.stack S.room S.faults
-            result sink.old sink.new (walker_of self.old) (walker_of self.new)
-            (request_step self.old.stack op device start len self.old.state) len }
-        ensures bounded { op ≡ Read → self.new.looked.searches ≤ self.old.looked.searches
-            + stack_depth self.old.stack * read_stretches self.old.stack self.old.state device start len }
-        ensures stopped { self.new.stopped ≡ self.old.stopped }
-    {
-        self.walker.is_sound();
-        let end = self.walker.len(device);
-        if passes_end(start, len, end) {
-            return fail(len, sink);
-        }
-        map_top(&mut self.walker, op, device, start, len, sink)
+/// Hands over the units of a request, whose fields are passed one by one: that keeps them in registers.
+#[inline(always)]
+fn map_request<S: Sink, T: Taken>(
+    walker: &mut Walker<'_, T>,
+    op: Op,
+    device: DeviceId,
+    start: u64,
+    len: u64,
+    sink: &mut S,
+) -> Result<(), S::Fault>
+    requires some { 1 ≤ len }
+    requires device { device < length walker.old.stack.devices }
+    requires sink { HasRoomFor S.stack S.room sink.old walker.old.stack len }
+    ensures walked { IsWalked S.took S.left S.stack S.room S.faults
+        result sink.old sink.new walker.old walker.new
+        (request_step walker.old.stack op device start len walker.old.state) len }
+    ensures bounded { op ≡ Read → walker.new.looked.searches ≤ walker.old.looked.searches
+        + stack_depth walker.old.stack * read_stretches walker.old.stack walker.old.state device start len }
+{
+    walker.is_sound();
+    let end = walker.len(device);
+    if passes_end(start, len, end) {
+        return fail(len, sink);
     }
+    map_top(walker, op, device, start, len, sink)
 }
 
 /// Whether sectors pass the end of a device.

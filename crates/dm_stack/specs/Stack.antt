@@ -1,29 +1,29 @@
 -- What a stack keeps beside its description.
 use Rattle.std.specs.Prelude.{◌≡◌, ℕ, ◌^◌, ◌≤◌, List, map}
 use Rattle.dm_table.specs.declared.tables.table.DeviceSpec.{DeviceSpec}
-use Rattle.dm_stack.specs.declared.found_line.FoundLine.{FoundLine}
-use Rattle.dm_stack.specs.Description.{Description}
+use Rattle.dm_stack.specs.declared.found_table.FoundDevice.{FoundDevice}
+use Rattle.dm_stack.specs.Description.{Description, end_of}
 use Rattle.dm_stack.specs.Below.{found_line}
 use Rattle.dm_stack.specs.Soundness.{IsSound}
 use Rattle.dm_stack.specs.DiskText.{disk_text}
 use Rattle.dm_stack.specs.Snapshots.{snapshots}
 use Rattle.dm_stack.specs.Depth.{stack_depth}
 
--- the lines of a device, with ids for names
-abbrev pub found_table : Description → DeviceSpec → List FoundLine
-found_table stack device = map (found_line stack) device.lines
+-- a device with ids for names
+abbrev pub found_device : Description → DeviceSpec → FoundDevice
+found_device stack device = record { end = end_of device.lines; ro = device.ro; table = map (found_line stack) device.lines }
 
 -- how many sectors a device or a disk has
 pub record IsLength (len : ℕ) : Type 0 where
   pub some : 1 ≤ len
   pub small : len ≤ 2 ^ 50
 
--- a sound description, with its names, its lines by ids, its depth, its snapshots and the texts of its disks
-pub record IsLoaded (stack : Description) (devices disks : List (List ℕ)) (by_ids : List (List FoundLine)) (deepest : ℕ) (over : List ℕ) (with_spaces : List (List ℕ)) : Type 0 where
+-- a sound description, with its names, its devices by ids, its depth, its snapshots and the texts of its disks
+pub record IsLoaded (stack : Description) (devices disks : List (List ℕ)) (by_ids : List FoundDevice) (deepest : ℕ) (over : List ℕ) (with_spaces : List (List ℕ)) : Type 0 where
   pub sound : IsSound stack
   pub device_names : devices ≡ map (λ device. device.name) stack.devices
   pub disk_names : disks ≡ map (λ disk. disk.name) stack.disks
-  pub tables : by_ids ≡ map (found_table stack) stack.devices
+  pub found : by_ids ≡ map (found_device stack) stack.devices
   pub depth : deepest ≡ stack_depth stack
   pub snapshots : over ≡ snapshots stack
   pub texts : with_spaces ≡ map (λ disk. disk_text disk.name) stack.disks

@@ -1,5 +1,8 @@
 //! The lines of a device, and where among them the line of a sector is looked for.
 //!
+//! A device's end and its read-only flag stand with its lines, so that a request asks for all three in one
+//! place.
+//!
 //! The sectors up to the start of the last line are cut into buckets, each of as many sectors as about two
 //! lines have on average. The line of each bucket's first sector is kept, so a search goes from that line to
 //! the one of the next bucket's first sector; these are mostly close to each other.
@@ -33,6 +36,14 @@ impl Model for FoundTable {
     ghost view = { λ table. table.lines };
 
     ghost invariant = { λ table. AreFirsts table.lines table.firsts.items table.shift };
+}
+
+/// A device as a look-up finds it: where it ends, whether it is read-only, and its lines.
+#[derive(Drop)]
+pub(crate) struct FoundDevice {
+    pub end: u64,
+    pub ro: bool,
+    pub table: FoundTable,
 }
 
 impl FoundTable {

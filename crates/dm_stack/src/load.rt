@@ -15,7 +15,7 @@ ghost use Rattle.dm_stack.specs.Store.{store_links};
 use crate::depth::{check_depths, deepest};
 use crate::disk_text::{DiskText, disk_texts};
 use crate::faults::or_out_of_memory;
-use crate::found_table::FoundTable;
+use crate::found_table::FoundDevice;
 use crate::graph::{depths, first_cycle};
 use crate::id::DeviceId;
 use crate::indexed::Indexed;
@@ -24,7 +24,7 @@ use crate::limits::{check_counts, check_numbers};
 use crate::links::links;
 use crate::names::{Names, check_names};
 use crate::ranges::check_ranges;
-use crate::resolve::{check_references, tables};
+use crate::resolve::{check_references, found_devices};
 use crate::snapshots::{check_snapshots, snapshots};
 use crate::store_limit::check_places;
 use crate::stores::{check_stores, store_depths};
@@ -36,7 +36,7 @@ use std::alloc::{AllocError, Global};
 #[derive(Drop)]
 pub(crate) struct Checked {
     pub names: Names,
-    pub tables: Vec<FoundTable>,
+    pub found: Vec<FoundDevice>,
     pub depth: u32,
     pub snapshots: Vec<DeviceId>,
     pub texts: Vec<DiskText>,
@@ -60,7 +60,7 @@ pub(crate) fn check(
     disks: &[Disk],
 ) -> Result<Checked, LoadFault>
     ensures loaded { IfOk result (λ checked. IsLoaded (described devices.now disks.now)
-        checked.names.devices checked.names.disks checked.tables.items checked.depth
+        checked.names.devices checked.names.disks checked.found.items checked.depth
         checked.snapshots.items checked.texts.items) }
     ensures fault { IfErr result (λ fault.
         IsRefusedBy (described devices.now disks.now) fault ⊎ IsMemoryFault Source fault) }
@@ -80,12 +80,12 @@ pub(crate) fn check(
     check_snapshots(&stack)?;
     check_stores(&stack, &graph.store_depths)?;
     check_places(&stack)?;
-    let tables = or_out_of_memory(tables(alloc, &stack))?;
+    let found = or_out_of_memory(found_devices(alloc, &stack))?;
     let snapshots = or_out_of_memory(snapshots(alloc, devices))?;
     let texts = or_out_of_memory(disk_texts(alloc, disks))?;
     Ok(Checked {
         names,
-        tables,
+        found,
         depth: deepest(&graph.depths),
         snapshots,
         texts,

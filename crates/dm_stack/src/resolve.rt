@@ -8,7 +8,7 @@ ghost use Rattle.std.specs.List.{All};
 ghost use Rattle.std.specs.Result.{result_err};
 ghost use Rattle.dm_table.specs.load.LoadFault.{first_or};
 ghost use Rattle.dm_stack.specs.Below.{found_columns, found_line, found_target};
-ghost use Rattle.dm_stack.specs.Stack.{found_table};
+ghost use Rattle.dm_stack.specs.Stack.{found_device};
 ghost use Rattle.dm_stack.specs.Over.{all_over};
 ghost use Rattle.dm_stack.specs.Soundness.{HasGoodChunk, HaveGoodChunks, is_unknown, unknown};
 
@@ -16,8 +16,9 @@ use crate::divisor::Divisor;
 use crate::faults::check_lines;
 use crate::found_columns::{FoundColumn, FoundColumns};
 use crate::found_line::{FoundLine, FoundOrigin, FoundOver, FoundTarget};
-use crate::found_table::FoundTable;
+use crate::found_table::{FoundDevice, FoundTable};
 use crate::indexed::Indexed;
+use crate::layout::end_of;
 use crate::over::{all_over, found_snapshot, snapshots_over};
 use crate::span::Spans;
 use dm_table::{Column, Line, LoadFault, LoadKind, Target};
@@ -41,21 +42,26 @@ fn is_unknown(stack: &Indexed, line: &Line) -> bool
     Spans::of(line).any(|span| stack.is_unknown(span.to))
 }
 
-/// The lines of each device by ids, in their order.
+/// The devices by ids, in their order.
 ///
 /// Fails only when out of memory. Cost: linear in the lines and their columns, and in the snapshots
 /// for each line of an origin.
-pub(crate) fn tables(alloc: Global, stack: &Indexed) -> Result<Vec<FoundTable>, AllocError>
+pub(crate) fn found_devices(alloc: Global, stack: &Indexed) -> Result<Vec<FoundDevice>, AllocError>
     requires { All (λ device. HaveGoodChunks device.lines) stack.now.devices }
-    ensures { IfOk result (λ tables. tables.items ≡ map (found_table stack.now) stack.now.devices) }
+    ensures { IfOk result (λ found. found.items ≡ map (found_device stack.now) stack.now.devices) }
 {
     let over = all_over(alloc, stack)?;
     let devices = stack.devices();
-    let mut tables = Vec::with_capacity(alloc, devices.len())?;
+    let mut found = Vec::with_capacity(alloc, devices.len())?;
     for device in devices {
-        tables.push(table(alloc, stack, &over, device.lines.as_slice())?)?;
+        let lines = device.lines.as_slice();
+        found.push(FoundDevice {
+            end: end_of(lines),
+            ro: device.ro,
+            table: table(alloc, stack, &over, lines)?,
+        })?;
     }
-    Ok(tables)
+    Ok(found)
 }
 
 /// The lines of a device by ids, where these are all snapshots of the stack.

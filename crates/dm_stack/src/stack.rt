@@ -4,7 +4,7 @@
 //! through the checks of a load. Names are looked up there; afterwards everything goes by ids.
 
 ghost use Rattle.std.specs.Prelude.{◌≡◌, ◌≢◌, ℕ, ◌+◌, ◌<◌, ◌≤◌, ◌^◌, ◌↔◌, IfErr, IfOk, IfSome, IsTrue, OnOk};
-ghost use Rattle.std.specs.Prelude.{List, Option, Some, is_none, length, position, slice_get};
+ghost use Rattle.std.specs.Prelude.{List, Option, Some, is_none, length, position};
 ghost use Rattle.dm_table.specs.words.Name.{is_disk_name};
 ghost use Rattle.dm_stack.specs.Below.{HoldsSoundly, found_at, found_lines};
 ghost use Rattle.dm_stack.specs.Claims.{IsFirstClash, IsThere, IsTidy, IsTop, claims};
@@ -34,10 +34,9 @@ use crate::claim::{claims, is_named};
 use crate::clash::Clash;
 use crate::disk_text::DiskText;
 use crate::found_line::Found;
-use crate::found_table::FoundTable;
+use crate::found_table::FoundDevice;
 use crate::id::{DeviceId, DiskId};
 use crate::indexed::Indexed;
-use crate::layout::end_of;
 use crate::line_search::{LastLine, find};
 use crate::load::check;
 use crate::name_index::NameIndex;
@@ -53,7 +52,7 @@ pub struct Stack {
     disks: Vec<Disk>,
     device_names: NameIndex,
     disk_names: NameIndex,
-    tables: Vec<FoundTable>,
+    found: Vec<FoundDevice>,
     depth: u32,
     snapshots: Vec<DeviceId>,
     texts: Vec<DiskText>,
@@ -68,7 +67,7 @@ impl Model for Stack {
     ghost view = { λ stack. record { devices = stack.devices.items; disks = stack.disks.items } };
 
     ghost invariant = { λ stack. IsLoaded (described stack.devices.items stack.disks.items)
-        stack.device_names stack.disk_names stack.tables.items stack.depth stack.snapshots.items
+        stack.device_names stack.disk_names stack.found.items stack.depth stack.snapshots.items
         stack.texts.items };
 }
 
@@ -135,7 +134,7 @@ impl Stack {
             disks,
             device_names: checked.names.devices,
             disk_names: checked.names.disks,
-            tables: checked.tables,
+            found: checked.found,
             depth: checked.depth,
             snapshots: checked.snapshots,
             texts: checked.texts,
@@ -166,7 +165,7 @@ impl Stack {
         ensures len { result ≡ device_len self.now device }
         ensures size { IsLength result }
     {
-        end_of(self.spec(device).lines.as_slice())
+        self.found(device).end
     }
 
     /// The length of a disk of the stack in sectors, from 1 to 2^50.
@@ -219,7 +218,7 @@ impl Stack {
         requires { device < length self.now.devices }
         ensures { result ≡ is_ro_at self.now device }
     {
-        self.devices[device.index()].ro
+        self.found(device).ro
     }
 
     /// Whether no line names a device of the stack, so that none claims any of it.
@@ -301,22 +300,16 @@ impl Stack {
         )
     }
 
-    /// What describes a device.
-    fn spec(&self, device: DeviceId) -> &DeviceSpec
+    /// A device with ids for names: its end, whether it is read-only, and its lines in their order.
+    #[inline(always)]
+    fn found(&self, device: DeviceId) -> &FoundDevice
         requires { device < length self.now.devices }
-        ensures spec { slice_get self.now.devices device ≡ Some result.now }
+        ensures end { result.now.end ≡ device_len self.now device }
+        ensures ro { result.now.ro ≡ is_ro_at self.now device }
+        ensures lines { result.now.table ≡ found_lines self.now device }
         ensures sound { IsSound self.now }
     {
-        &self.devices[device.index()]
-    }
-
-    /// The lines of a device in their order, with ids for names.
-    fn table(&self, device: DeviceId) -> &FoundTable
-        requires { device < length self.now.devices }
-        ensures lines { result.now ≡ found_lines self.now device }
-        ensures sound { IsSound self.now }
-    {
-        &self.tables[device.index()]
+        &self.found[device.index()]
     }
 
     /// The line of a sector, and how many starts of lines were compared with it: of more than three
@@ -338,7 +331,7 @@ impl Stack {
         ensures most { result.1 ≤ 17 }
         ensures last { IsLast self.now last.new }
     {
-        let table = self.table(device);
+        let table = &self.found(device).table;
         let (index, comparisons) = find(table, device, last, sector);
         let lines = table.lines();
         (&lines[index], comparisons)

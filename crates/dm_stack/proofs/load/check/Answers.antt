@@ -8,7 +8,7 @@ use Rattle.dm_table.proofs.FaultLemmas.{first_or-none}
 use Rattle.dm_stack.specs.Description.{Description, links}
 use Rattle.dm_stack.specs.Graph.{IsFirstRing, depths_to, greatest}
 use Rattle.dm_stack.specs.DiskText.{disk_text}
-use Rattle.dm_stack.specs.Stack.{found_table}
+use Rattle.dm_stack.specs.Stack.{found_device}
 use Rattle.dm_stack.specs.Snapshots.{snapshots}
 use Rattle.dm_stack.specs.Depth.{stack_depth}
 use Rattle.dm_stack.specs.Soundness.{HasNoCycle, IsFirstCycle, OnCycle, checks_before, crowded, deep, faults_by_id, range, snapshot, store, too_large, unknown}
@@ -148,8 +148,8 @@ check_starts-requires c =
     let stack : Description = record { devices = c.args.devices.now; disks = c.args.disks.now } in
     ends_within stack (first_or-none (too_large stack) None (sym c.in_ok-check_numbers.ensures)).0
 
-pub tables-requires : goal.tables-requires
-tables-requires c = good_chunks c.new-stack.result (first_or-none (snapshot c.new-stack.result) None (sym c.in_ok-check_snapshots.ensures)).0
+pub found_devices-requires : goal.found_devices-requires
+found_devices-requires c = good_chunks c.new-stack.result (first_or-none (snapshot c.new-stack.result) None (sym c.in_ok-check_snapshots.ensures)).0
 
 pub check_places-requires : goal.check_places-requires
 check_places-requires c = good_chunks c.new-stack.result (first_or-none (snapshot c.new-stack.result) None (sym c.in_ok-check_snapshots.ensures)).0
@@ -159,10 +159,10 @@ returns-in_err-graph-clause-fault c =
     let p = err_from_is_err_and c.from_residual-in_err-graph.result c.from_residual-in_err-graph.ensures.1 in
     rw (p.1, p.2) (inr c.in_err-graph.ensures.memory)
 
-pub returns-in_err-tables-clause-fault : goal.returns-in_err-tables-clause-fault
-returns-in_err-tables-clause-fault c =
-    let p = err_from_is_err_and c.from_residual-in_err-tables.result c.from_residual-in_err-tables.ensures.1 in
-    rw (p.1, p.2) (inr c.in_err-tables.ensures.memory)
+pub returns-in_err-found-clause-fault : goal.returns-in_err-found-clause-fault
+returns-in_err-found-clause-fault c =
+    let p = err_from_is_err_and c.from_residual-in_err-found.result c.from_residual-in_err-found.ensures.1 in
+    rw (p.1, p.2) (inr c.in_err-found.ensures.memory)
 
 pub returns-in_err-snapshots-clause-fault : goal.returns-in_err-snapshots-clause-fault
 returns-in_err-snapshots-clause-fault c =
@@ -182,9 +182,9 @@ returns-clause-loaded c =
           (sym k.told ∙ sym c.in_ok-check_depths.ensures, (sym c.in_ok-check_stripes.ensures, (ap (λ (described : Description). first_or (range described) None) (sym k.same) ∙ sym c.in_ok-check_ranges.ensures, (ap (λ (described : Description). first_or (snapshot described) None) (sym k.same) ∙ sym c.in_ok-check_snapshots.ensures, (ap (λ (described : Description). first_or (store described) None) (sym k.same) ∙ sym c.in_ok-check_stores.ensures, (ap (λ (described : Description). first_or (crowded described) None) (sym k.same) ∙ sym c.in_ok-check_places.ensures, tt))))));
       device_names = c.in_ok-names.ensures.devices;
       disk_names = c.in_ok-names.ensures.disks;
-      tables =
-          made_ok c.tables.result c.in_ok-tables.tables (λ tables. tables.items ≡ map (found_table c.new-stack.result) c.new-stack.result.devices) c.in_ok-tables.ensures.made c.tables.ensures
-          ∙ ap (λ (stack : Description). map (found_table stack) stack.devices) k.same;
+      found =
+          made_ok c.found_devices.result c.in_ok-found.found (λ found. found.items ≡ map (found_device c.new-stack.result) c.new-stack.result.devices) c.in_ok-found.ensures.made c.found_devices.ensures
+          ∙ ap (λ (stack : Description). map (found_device stack) stack.devices) k.same;
       depth =
           c.deepest.ensures ∙ ap greatest (c.deref-3.ensures.value ∙ sym c.deref.ensures.value) ∙ deepest_is c.new-stack.result c.deref.result.now (depths_are (goal.at.returns-clause-loaded c).After-deref) ∙ ap stack_depth k.same;
       snapshots = made_ok c.snapshots.result c.in_ok-snapshots.snapshots (λ ids. ids.items ≡ snapshots (record { devices = c.args.devices.now; disks = [] })) c.in_ok-snapshots.ensures.made c.snapshots.ensures;

@@ -13,25 +13,25 @@ use Rattle.dm_stack.proofs.stack.Stack.find_line.Goals as goal
 
 pub find-index-requires-clause-first : goal.find-index-requires-clause-first
 find-index-requires-clause-first c =
-    rw c.table-table.ensures.lines (first_starts c.args.self.now c.args.device c.args.sector c.table-table.ensures.sound c.requires.device c.requires.sector)
+    rw c.found.ensures.lines (first_starts c.args.self.now c.args.device c.args.sector c.found.ensures.sound c.requires.device c.requires.sector)
 
 pub find-index-requires-clause-follows : goal.find-index-requires-clause-follows
 find-index-requires-clause-follows c =
-    rw c.table-table.ensures.lines (next_after c.args.self.now c.args.last.now c.args.device c.args.sector c.table-table.ensures.sound c.requires.device c.requires.sector c.requires.last)
+    rw c.found.ensures.lines (next_after c.args.self.now c.args.last.now c.args.device c.args.sector c.found.ensures.sound c.requires.device c.requires.sector c.requires.last)
 
 pub find-index-requires-clause-small : goal.find-index-requires-clause-small
-find-index-requires-clause-small c = rw c.table-table.ensures.lines (small_there c.args.self.now c.args.device c.table-table.ensures.sound c.requires.device)
+find-index-requires-clause-small c = rw c.found.ensures.lines (small_there c.args.self.now c.args.device c.found.ensures.sound c.requires.device)
 
 pub returns : goal.returns
 returns c =
     let st = c.args.self.now in
-    let sound = c.table-table.ensures.sound in
-    let lines = c.table-table.ensures.lines in
+    let sound = c.found.ensures.sound in
+    let lines = c.found.ensures.lines in
     let shown = c.lines-lines.ensures ∙ lines in
     let there = line_there st c.args.device c.find-index.result.0 c.args.sector sound c.requires.device c.requires.sector
     (subst (λ (ls : List FoundLine). StartsBy ls c.find-index.result.0 c.args.sector) lines c.find-index.ensures.found.line.from)
     (subst (λ (ls : List FoundLine). StartsAfter ls (suc c.find-index.result.0) c.args.sector) lines
-    (subst (λ (index : ℕ). StartsAfter c.table-table.result.now index c.args.sector) (add-one c.find-index.result.0) c.find-index.ensures.found.line.next)) in
+    (subst (λ (index : ℕ). StartsAfter c.found.result.now.table index c.args.sector) (add-one c.find-index.result.0) c.find-index.ensures.found.line.next)) in
     let here = slice_get_read c.lines-lines.result.now _ c.find-index.result.0 c.index-lines-index.result refl (rw c.lines-lines.ensures c.find-index.ensures.found.line.within) c.index-lines-index.is in
     let is : found_at st c.args.device c.args.sector ≡ Some c.index-lines-index.result =
     sym there ∙ ap (λ (ls : List FoundLine). slice_get ls c.find-index.result.0) (sym shown) ∙ here in
