@@ -1,12 +1,13 @@
 -- What a join took and left at one piece.
-use Rattle.std.proofs.Common.{◌≡◌, ℕ, zero, suc, ◌+◌, ◌≤◌, true, false, List, ◌∷◌, ◌++◌, Option, Some, None, sym, ap, subst, ◌∙◌, append_assoc, arith}
+use Rattle.std.proofs.Common.{◌≡◌, ℕ, zero, suc, ◌+◌, ◌≤◌, Bool, true, false, List, ◌∷◌, ◌++◌, Option, Some, None, refl, sym, ap, subst, ◌∙◌, append_assoc, arith}
 use Rattle.std.proofs.lemmas.List.{append-nil}
 use Rattle.std.proofs.lemmas.Grind.{flat_map-append}
 use Rattle.dm_table.specs.io.DeviceIo.{since}
 use Rattle.dm_stack.specs.Description.{Description}
 use Rattle.dm_map.specs.declared.pieces.piece.Piece as code
 use Rattle.dm_map.specs.pieces.Units.{BlockUnit, first_unit, next_unit, piece_len, units_in, units_of}
-use Rattle.dm_stream.specs.Pending.{Pending, IsHeld, held_units, piece_view}
+use Rattle.dm_stream.specs.Pending.{Pending, HoldsNoRange, IsHeld, IsNoRange, goes_on, held_of, held_units, piece_view, range_piece}
+use Rattle.dm_stream.specs.declared.disk_range.DiskRange.{DiskRange}
 use Rattle.dm_stream.specs.Join.{HasUnits, HasLeft}
 use Rattle.dm_stream.specs.laws.Join.{last_of_units, some_before, beginning-before}
 use Rattle.dm_stream.specs.Pieces.{UnitRun, fewest, is_after}
@@ -24,19 +25,32 @@ fewest-whole first after (suc len) (suc more) rest some one apart =
     ∙ fewest-apart first len after (units_in (next_unit after) more ++ rest) apart
     ∙ ap (λ (ps : List UnitRun). ps ++ fewest (units_in after (suc more) ++ rest)) (sym (fewest-run first len))
 
--- the held piece and one that does not go on from it
-pub held_apart : (old : Option code.Piece) (held piece : code.Piece) → old ≡ Some held → 1 ≤ piece_len held → 1 ≤ piece_len piece → is_after (first_unit held) (piece_len held) (first_unit piece) ≡ false
+-- what is held and a piece that does not go on from it
+pub held_apart : (stack : Description) (old : Option code.Piece) (piece : code.Piece) → IsHeld stack old → 1 ≤ piece_len piece → goes_on old piece ≡ false
     → (rest : List BlockUnit) → fewest (held_units old ++ units_of piece ++ rest) ≡ fewest (held_units old) ++ fewest (units_of piece ++ rest)
-held_apart old held piece is some one apart rest =
-    subst (λ (p : Option code.Piece). fewest (held_units p ++ units_of piece ++ rest) ≡ fewest (held_units p) ++ fewest (units_of piece ++ rest)) (sym is)
-    (fewest-whole (first_unit held) (first_unit piece) (piece_len held) (piece_len piece) rest some one apart)
+held_apart stack None piece fits one apart rest = refl
+held_apart stack (Some held) piece fits one apart rest = fewest-whole (first_unit held) (first_unit piece) (piece_len held) (piece_len piece) rest fits.0 one apart
 
 -- the held piece and one that does, as one
-pub held_joined : (old : Option code.Piece) (held piece both : code.Piece) → old ≡ Some held → is_after (first_unit held) (piece_len held) (first_unit piece) ≡ true → first_unit both ≡ first_unit held → piece_len both ≡ piece_len held + piece_len piece → units_of both ≡ held_units old ++ units_of piece
+pub held_joined : (old : Option code.Piece) (held piece both : code.Piece) → old ≡ Some held → goes_on old piece ≡ true → first_unit both ≡ first_unit held → piece_len both ≡ piece_len held + piece_len piece → units_of both ≡ held_units old ++ units_of piece
 held_joined old held piece both is after first len =
     ap (λ (u : BlockUnit). units_in u (piece_len both)) first ∙ ap (units_in (first_unit held)) len
-    ∙ units_joined (first_unit held) (first_unit piece) (piece_len held) (piece_len piece) after
+    ∙ units_joined (first_unit held) (first_unit piece) (piece_len held) (piece_len piece) (sym (ap (λ (p : Option code.Piece). goes_on p piece) is) ∙ after)
     ∙ ap (λ (p : Option code.Piece). held_units p ++ units_of piece) (sym is)
+
+-- a range has the length of its piece
+pub piece_len-range : (is_write : Bool) (disk start len : ℕ) → piece_len (range_piece is_write disk start len) ≡ len
+piece_len-range true disk start len = refl
+piece_len-range false disk start len = refl
+
+-- where no range is held, there is none
+a_range : (is_write : Bool) (disk start len : ℕ) → IsNoRange (range_piece is_write disk start len) → ⊥
+a_range true disk start len none = none
+a_range false disk start len none = none
+
+pub no_range : (range : Option DiskRange) (other : Option code.Piece) → HoldsNoRange (held_of range other) → range ≡ None
+no_range None other none = refl
+no_range (Some range) other none = absurd (a_range range.letter range.disk range.start range.len none)
 
 -- the line of a piece is the text of its units
 text_run : (stack : Description) (number : ℕ) (first : BlockUnit) (len : ℕ) → 1 ≤ len → piece_text stack number (record { first = first; len = len }) ≡ pieces_text stack number (fewest (units_in first len))
@@ -48,11 +62,12 @@ pub held_text : (stack : Description) (number : ℕ) (piece : code.Piece) → 1 
 held_text stack number piece some = text_run stack number (first_unit piece) (piece_len piece) some
 
 -- the line of the held piece is the text of what is held
-pub held_line : (held : Pending) (piece : code.Piece) (line : List ℕ) → held.piece ≡ Some piece → IsHeld held.stack held.piece → line ≡ piece_text held.stack held.number (piece_view piece)
-    → line ≡ pieces_text held.stack held.number (fewest (held_units held.piece))
-held_line held piece line is fits written =
-    written ∙ held_text held.stack held.number piece (subst (IsHeld held.stack) is fits).0
-    ∙ ap (λ (p : Option code.Piece). pieces_text held.stack held.number (fewest (held_units p))) (sym is)
+pub held_line : (inside held : Pending) (piece : code.Piece) → inside ≡ held → inside.piece ≡ Some piece → IsHeld inside.stack inside.piece
+    → piece_text inside.stack inside.number (piece_view piece) ≡ pieces_text held.stack held.number (fewest (held_units held.piece))
+held_line inside held piece same is fits =
+    held_text inside.stack inside.number piece (subst (IsHeld inside.stack) is fits).0
+    ∙ ap (λ (p : Option code.Piece). pieces_text inside.stack inside.number (fewest (held_units p))) (sym is)
+    ∙ ap (λ (h : Pending). pieces_text h.stack h.number (fewest (held_units h.piece))) same
 
 some_units : (unit : BlockUnit) (len : ℕ) → 1 ≤ len → HasUnits (units_in unit len)
 some_units unit zero some = absurd (omega arith)

@@ -1,5 +1,6 @@
 pub mod DeviceNames
 pub mod FewestLemmas
+pub mod FitsLemmas
 pub mod Fronts
 pub mod Held
 pub mod JoinLemmas

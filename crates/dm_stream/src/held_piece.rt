@@ -4,15 +4,16 @@
 //! new kind of piece, say here when one continues another.
 
 ghost use Rattle.std.specs.Bool.{OnTrue, OnFalse};
-ghost use Rattle.std.specs.Prelude.{◌≡◌, ◌+◌, ◌-◌, ◌≤◌, ◌==◌, ◌++◌, ◌^◌, List, Some, None};
+ghost use Rattle.std.specs.Prelude.{◌≡◌, ◌+◌, ◌-◌, ◌≤◌, ◌++◌, ◌^◌, List, OnErr, OnOk, Some, None};
 ghost use Rattle.dm_map.specs.pieces.Units.{BlockUnit, IsOnDisks, diskless_len, first_unit, piece_len, units_of};
-ghost use Rattle.dm_stream.specs.Pending.{Fits, IsHeld, held_diskless, held_units};
+ghost use Rattle.dm_stream.specs.Pending.{Fits, HoldsNoRange, IsHeld, IsNoRange, goes_on, held_diskless, held_units};
 ghost use Rattle.dm_stream.specs.PieceText.{pieces_text};
 ghost use Rattle.dm_stream.specs.Pieces.{fewest, is_after};
 ghost use Rattle.dm_table.specs.io.Progress.{Wrote};
 
+use crate::disk_range::{DiskRange, follows};
 use crate::number_prefix::NumberPrefix;
-use crate::piece_text::put_piece;
+use crate::piece_text::{put_other, put_range};
 use crate::range_text::RangeText;
 use dm_map::Piece;
 use dm_stack::Stack;
@@ -23,21 +24,29 @@ use std::marker::Model;
 #[derive(Drop)]
 pub(crate) struct HeldPiece<'s> {
     stack: &'s Stack,
-    piece: Option<Piece>,
+    /// The read or write that is held, if one is.
+    range: Option<DiskRange>,
+    /// The piece of another kind that is held, if one is.
+    other: Option<Piece>,
     /// What each line begins with: the request's number.
     prefix: NumberPrefix,
-    /// What the line ended with that was written last.
-    range: RangeText,
+    /// What the line of a range ended with that was written last.
+    text: RangeText,
 }
 
 impl<'s> Model for HeldPiece<'s> {
-    ghost use Rattle.dm_stream.specs.Pending.{Pending, IsHeld};
+    ghost use Rattle.dm_stream.specs.Pending.{AreApart, IsHeld, Pending, held_of};
 
     ghost Value = { Pending };
 
-    ghost view = { λ held. record { stack = held.stack.now; number = held.prefix; piece = held.piece } };
+    ghost view = { λ held. record {
+      stack = held.stack.now;
+      number = held.prefix;
+      piece = held_of held.range held.other;
+    } };
 
-    ghost invariant = { λ held. IsHeld held.stack.now held.piece };
+    ghost invariant = { λ held. IsHeld held.stack.now (held_of held.range held.other)
+        × AreApart held.range held.other };
 }
 
 impl<'s> HeldPiece<'s> {
@@ -47,9 +56,10 @@ impl<'s> HeldPiece<'s> {
     {
         HeldPiece {
             stack,
-            piece: None,
+            range: None,
+            other: None,
             prefix: NumberPrefix::new(),
-            range: RangeText::new(),
+            text: RangeText::new(),
         }
     }
 
@@ -80,24 +90,67 @@ impl<'s> HeldPiece<'s> {
             → fewest (held_units self.old.piece ++ units_of piece.now ++ rest)
             ≡ fewest (held_units self.old.piece) ++ fewest (units_of piece.now ++ rest)) }
     {
-        let Some(held) = &self.piece else {
-            return false;
-        };
-        if !goes_on(held, piece) {
+        if !self.goes_on(piece) {
             return false;
         }
-        self.piece = Some(longer(self.stack, held, piece.len()));
+        let more = piece.len();
+        if let Some(range) = &self.range {
+            self.range = Some(range.longer(self.stack, more));
+        } else if let Some(other) = &self.other {
+            self.other = Some(longer(self.stack, other, more));
+        }
         true
     }
 
-    /// Holds a piece where none is held.
+    /// Whether a piece continues the held one.
     #[inline(always)]
-    pub(crate) fn hold(&mut self, piece: Piece)
-        requires fits { IsHeld self.old.stack (Some piece) }
-        requires none { self.old.piece ≡ None }
-        ensures { self.new ≡ record { stack = self.old.stack; number = self.old.number; piece = Some piece } }
+    fn goes_on(&self, piece: &Piece) -> bool
+        ensures { result ≡ goes_on self.now.piece piece.now }
     {
-        self.piece = Some(piece);
+        match DiskRange::of(piece) {
+            Some(next) => match &self.range {
+                Some(range) => range.goes_on(&next),
+                None => false,
+            },
+            None => match &self.other {
+                Some(other) => goes_on(other, piece),
+                None => false,
+            },
+        }
+    }
+
+    /// Holds a piece in the place of the held one, whose line is written. If that fails, none is held.
+    #[inline(always)]
+    pub(crate) fn replace<W: Output>(
+        &mut self,
+        piece: Piece,
+        writer: &mut W,
+    ) -> Result<(), OutFault>
+        requires fits { IsHeld self.old.stack (Some piece) }
+        ensures wrote { Wrote (W.past writer.old) (W.past writer.new) result
+            (pieces_text self.old.stack self.old.number (fewest (held_units self.old.piece))) }
+        ensures held { OnOk result (self.new
+            ≡ record { stack = self.old.stack; number = self.old.number; piece = Some piece }) }
+        ensures nothing { OnErr result (self.new
+            ≡ record { stack = self.old.stack; number = self.old.number; piece = None }) }
+    {
+        if let Some(range) = &self.range {
+            // It stays until the next piece is there, so that it isn't cleared in between.
+            if let Err(fault) = put_range(writer, &self.prefix, &mut self.text, self.stack, range) {
+                self.range = None;
+                return Err(fault);
+            }
+        } else {
+            self.write_other(writer)?;
+        }
+        match DiskRange::of(&piece) {
+            Some(next) => self.range = Some(next),
+            None => {
+                self.range = None;
+                self.other = Some(piece);
+            }
+        }
+        Ok(())
     }
 
     /// Writes the line of the held piece, which is then held no longer. Writes nothing if none is held.
@@ -108,45 +161,41 @@ impl<'s> HeldPiece<'s> {
         ensures nothing { self.new
             ≡ record { stack = self.old.stack; number = self.old.number; piece = None } }
     {
-        let Some(piece) = &self.piece else {
+        if let Some(range) = &self.range {
+            let wrote = put_range(writer, &self.prefix, &mut self.text, self.stack, range);
+            self.range = None;
+            return wrote;
+        }
+        self.write_other(writer)
+    }
+
+    /// The same where no range is held.
+    #[inline(always)]
+    fn write_other<W: Output>(&mut self, writer: &mut W) -> Result<(), OutFault>
+        requires { HoldsNoRange self.old.piece }
+        ensures wrote { Wrote (W.past writer.old) (W.past writer.new) result
+            (pieces_text self.old.stack self.old.number (fewest (held_units self.old.piece))) }
+        ensures nothing { self.new
+            ≡ record { stack = self.old.stack; number = self.old.number; piece = None } }
+    {
+        let Some(other) = &self.other else {
             return Ok(());
         };
-        let wrote = put_piece(writer, &self.prefix, &mut self.range, self.stack, piece);
-        self.piece = None;
+        let wrote = put_other(writer, &self.prefix, self.text.ends(), self.stack, other);
+        self.other = None;
         wrote
     }
 }
 
-/// Whether the second piece continues the first.
+/// Whether the second piece continues the first, of which neither is a range.
 #[inline(always)]
 fn goes_on(held: &Piece, piece: &Piece) -> bool
+    requires held { IsNoRange held.now }
+    requires piece { IsNoRange piece.now }
     ensures { result ≡ is_after (first_unit held.now) (piece_len held.now) (first_unit piece.now) }
 {
     match *piece {
-        Piece::Read {
-            disk,
-            start: next,
-            ..
-        }
-        | Piece::Write {
-            disk,
-            start: next,
-            ..
-        } => match *held {
-            Piece::Read {
-                disk: other,
-                start,
-                len,
-            }
-            | Piece::Write {
-                disk: other,
-                start,
-                len,
-            } => matches!(*held, Piece::Write { .. }) == matches!(*piece, Piece::Write { .. })
-                && other == disk
-                && follows(start, len, next),
-            _ => false,
-        },
+        Piece::Read { .. } | Piece::Write { .. } => unreachable!(),
         Piece::Zero { .. } => matches!(*held, Piece::Zero { .. }),
         Piece::Drop { .. } => matches!(*held, Piece::Drop { .. }),
         Piece::Error { .. } => matches!(*held, Piece::Error { .. }),
@@ -167,14 +216,6 @@ fn goes_on(held: &Piece, piece: &Piece) -> bool
             matches!(*held, Piece::Fill { len, disk: other, start } if other == disk && follows(start, len, next))
         }
     }
-}
-
-/// Whether `next` is the sector after `len` sectors from `sector` on.
-#[inline(always)]
-fn follows(sector: u64, len: u64, next: u64) -> bool
-    ensures { result ≡ (sector + len == next) }
-{
-    sector <= next && next - sector == len
 }
 
 /// A piece that is longer by `more` sectors.

@@ -134,8 +134,7 @@ impl<W: Output> Sink for Join<'_, W> {
         if self.held.lengthen(&piece) {
             return Ok(());
         }
-        self.finish()?;
-        self.held.hold(piece);
+        self.held.replace(piece, &mut *self.writer)?;
         Ok(())
     }
 }

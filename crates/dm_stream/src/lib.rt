@@ -6,11 +6,13 @@
 #![tactic(auto)]
 
 mod closing;
+mod disk_range;
 mod ending;
 mod handler;
 mod held_piece;
 mod join;
 mod last_device;
+mod letter;
 mod line_buffer;
 mod line_ends;
 mod lines;
@@ -18,6 +20,7 @@ mod map_run;
 mod message;
 mod number_prefix;
 mod piece_text;
+mod plain_word;
 mod range_text;
 mod request_mapper;
 mod requests;

@@ -6,12 +6,15 @@
 ghost use Rattle.std.specs.Prelude.{◌≡◌, ◌+◌, ◌<◌, ◌≤◌, length};
 ghost use Rattle.dm_table.specs.io.Block.{IsPut};
 ghost use Rattle.dm_stream.specs.LineEnds.{AreMade, IsLineEnd, line_end};
-ghost use Rattle.dm_stream.specs.declared.line_ends.TheConstants.{LENGTHS, ROOM};
+ghost use Rattle.dm_stream.specs.declared.line_ends.TheConstants.{LENGTHS, LONGEST, ROOM};
 
-use dm_table::{put_bytes, put_digits};
+use dm_table::{put_bytes, put_digits, put_next_digits};
+
+/// The bytes of the longest end: those of a length, and a newline.
+const LONGEST: usize = 21;
 
 /// How many lengths have a text.
-pub(crate) const LENGTHS: usize = 1000;
+const LENGTHS: usize = 1000;
 
 /// The room in bytes: three digits, a newline, and how many bytes these are as the last.
 const ROOM: usize = 8;
@@ -35,9 +38,25 @@ impl LineEnds {
         LineEnds { ends }
     }
 
-    /// Puts the end of a line of a short length at an offset in a block, and returns where it ends.
+    /// Puts the end of a line of this length at an offset in a block, after at least four bytes, and
+    /// returns where it ends.
     #[inline(always)]
     pub(crate) fn put_into(&self, block: &mut [u8], at: usize, len: u64) -> usize
+        requires after { 4 ≤ at }
+        requires room { at + LONGEST ≤ length block.old }
+        ensures put { IsPut (line_end len) at block.old block.new result }
+        ensures few { result ≤ at + LONGEST }
+    {
+        if len < LENGTHS as u64 {
+            return self.put_short(block, at, len);
+        }
+        let at = put_next_digits(block, at, len);
+        put_bytes(block, at, b"\n")
+    }
+
+    /// Puts the end of a line of a short length, which was made before.
+    #[inline(always)]
+    fn put_short(&self, block: &mut [u8], at: usize, len: u64) -> usize
         requires short { len < LENGTHS }
         requires room { at + ROOM ≤ length block.old }
         ensures put { IsPut (line_end len) at block.old block.new result }

@@ -1,7 +1,7 @@
 //! The lines of pieces, as texts that put themselves into a block.
 //!
 //! Reads and writes come by the hundreds of millions, so they are put in line; the other kinds go
-//! through a function of their own. A new kind of piece is an arm of `put_other` here and of
+//! through a function of their own. A new kind of piece is an arm of `put_other` or `put_rare` here and of
 //! `unit_text` in `specs/PieceText`.
 
 ghost use Rattle.std.specs.Prelude.{◌≡◌, ◌++◌, ◌+◌, ◌<◌, ◌≤◌, ◌∷◌, [], length, decimal};
@@ -9,57 +9,93 @@ ghost use Rattle.dm_table.specs.io.Block.{IsPut};
 ghost use Rattle.dm_stack.specs.Description.{disk_name_at};
 ghost use Rattle.dm_stack.specs.DiskText.{disk_text};
 ghost use Rattle.dm_map.specs.pieces.Units.{CopyOf, FillOf, IsOnDisks, first_unit, piece_len};
-ghost use Rattle.dm_stream.specs.RangeText.{IsKept};
-ghost use Rattle.dm_stream.specs.Pending.{piece_view};
-ghost use Rattle.dm_stream.specs.PieceText.{IsOther, letter_of, piece_text, sector_text, range_line, unit_text};
+ghost use Rattle.dm_stream.specs.Pending.{IsNoRange, piece_of, piece_view};
+ghost use Rattle.dm_stream.specs.PieceText.{IsOther, piece_text, sector_text, unit_text};
 ghost use Rattle.dm_table.specs.io.Progress.{Wrote};
 ghost use Rattle.dm_table.specs.words.Bytes.{newline};
 
+use crate::disk_range::DiskRange;
+use crate::line_ends::LineEnds;
 use crate::number_prefix::NumberPrefix;
+use crate::plain_word::PlainWord;
 use crate::range_text::RangeText;
 use dm_map::Piece;
 use dm_stack::{DiskId, Stack};
-use dm_table::{OutFault, Output, Text, put_bytes, put_digits};
+use dm_table::{OutFault, Output, Text, put_bytes, put_next_digits};
 use std::marker::Model;
 
-/// The line of a read or a write of sectors of a disk of a stack, under a number.
+/// The line of a range of a disk of a stack, under a number.
 #[derive(Drop)]
-struct ReadWriteLine<'a> {
+struct RangeLine<'a> {
     prefix: &'a NumberPrefix,
-    range: &'a RangeText,
+    text: &'a RangeText,
     stack: &'a Stack,
-    letter: u8,
-    disk: DiskId,
-    start: u64,
-    len: u64,
+    range: &'a DiskRange,
 }
 
-impl<'a> Model for ReadWriteLine<'a> {
+impl<'a> Model for RangeLine<'a> {
     ghost use Rattle.std.specs.Prelude.{ℕ, List, ◌<◌, length};
     ghost use Rattle.dm_stream.specs.RangeText.{IsKept};
-    ghost use Rattle.dm_stream.specs.PieceText.{range_line};
+    ghost use Rattle.dm_stream.specs.PieceText.{letter_for, range_line};
 
     ghost Value = { List ℕ };
 
-    ghost view = { λ line. range_line line.stack.now line.prefix.now line.letter line.disk line.start
-        line.len };
+    ghost view = { λ line. range_line line.stack.now line.prefix.now
+        (letter_for line.range.now.letter) line.range.now.disk line.range.now.start
+        line.range.now.len };
 
-    ghost invariant = { λ line. (line.disk < length line.stack.now.disks)
-        × IsKept line.range.now line.start line.len };
+    ghost invariant = { λ line. (line.range.now.disk < length line.stack.now.disks)
+        × IsKept line.text.now line.range.now.start line.range.now.len };
 }
 
-impl<'a> Text for ReadWriteLine<'a> {
+impl<'a> Text for RangeLine<'a> {
+    ghost text = { λ line. line };
+
+    #[inline(always)]
+    fn put_into(&self, block: &mut [u8], at: usize) -> usize {
+        let range = self.range;
+        let at = self.prefix.put_into(block, at);
+        let at = put_named(
+            block,
+            at,
+            &[range.letter.byte(), b' '],
+            self.stack,
+            range.disk,
+        );
+        self.text.put_into(block, at, range.start, range.len)
+    }
+}
+
+/// The line of a piece without a disk, under a number.
+#[derive(Drop)]
+struct PlainLine<'a> {
+    prefix: &'a NumberPrefix,
+    ends: &'a LineEnds,
+    word: PlainWord,
+    len: u64,
+}
+
+impl<'a> Model for PlainLine<'a> {
+    ghost use Rattle.std.specs.Prelude.{ℕ, List};
+    ghost use Rattle.dm_stream.specs.PieceText.{plain_line};
+
+    ghost Value = { List ℕ };
+
+    ghost view = { λ line. plain_line line.prefix.now line.word line.len };
+}
+
+impl<'a> Text for PlainLine<'a> {
     ghost text = { λ line. line };
 
     #[inline(always)]
     fn put_into(&self, block: &mut [u8], at: usize) -> usize {
         let at = self.prefix.put_into(block, at);
-        let at = put_named(block, at, &[self.letter, b' '], self.stack, self.disk);
-        self.range.put_into(block, at, self.start, self.len)
+        let at = self.word.put_into(block, at);
+        self.ends.put_into(block, at, self.len)
     }
 }
 
-/// The line of a piece on disks of a stack that is no read and no write, under a number.
+/// The line of a copy or a fill on disks of a stack, under a number.
 #[derive(Drop)]
 struct RareLine<'a> {
     prefix: &'a NumberPrefix,
@@ -83,45 +119,61 @@ impl<'a> Model for RareLine<'a> {
 impl<'a> Text for RareLine<'a> {
     ghost text = { λ line. line };
 
+    #[inline(always)]
     fn put_into(&self, block: &mut [u8], at: usize) -> usize {
         let at = self.prefix.put_into(block, at);
-        put_other(block, at, self.stack, self.piece)
+        put_rare(block, at, self.stack, self.piece)
     }
 }
 
-/// Has a writer put the line of a piece on disks of a stack, under a number, and notes the range of a
-/// read or a write. It fails where the writer does.
+/// Has a writer put the line of a range of a disk of a stack, under a number, and notes what it ends
+/// with. It fails where the writer does.
 #[inline(always)]
-pub(crate) fn put_piece<W: Output>(
+pub(crate) fn put_range<W: Output>(
     writer: &mut W,
     prefix: &NumberPrefix,
-    range: &mut RangeText,
+    text: &mut RangeText,
+    stack: &Stack,
+    range: &DiskRange,
+) -> Result<(), OutFault>
+    requires lies { IsOnDisks stack.now (piece_of range.now) }
+    ensures { Wrote (W.past writer.old) (W.past writer.new) result
+        (piece_text stack.now prefix.now (piece_view (piece_of range.now))) }
+{
+    text.note(range.start, range.len);
+    writer.put(&RangeLine {
+        prefix,
+        text,
+        stack,
+        range,
+    })
+}
+
+/// Has a writer put the line of a piece on disks of a stack that is no range, under a number. It is never
+/// inlined, so that ranges have the registers to themselves.
+#[inline(never)]
+pub(crate) fn put_other<W: Output>(
+    writer: &mut W,
+    prefix: &NumberPrefix,
+    ends: &LineEnds,
     stack: &Stack,
     piece: &Piece,
 ) -> Result<(), OutFault>
     requires lies { IsOnDisks stack.now piece.now }
+    requires other { IsNoRange piece.now }
     ensures { Wrote (W.past writer.old) (W.past writer.new) result
         (piece_text stack.now prefix.now (piece_view piece.now)) }
 {
     match *piece {
-        Piece::Read { disk, start, len } | Piece::Write { disk, start, len } => {
-            range.note(start, len);
-            let letter = letter_of(piece);
-            writer.put(&ReadWriteLine {
+        Piece::Zero { len } | Piece::Drop { len } | Piece::Error { len } => {
+            writer.put(&PlainLine {
                 prefix,
-                range,
-                stack,
-                letter,
-                disk,
-                start,
+                ends,
+                word: PlainWord::of(piece),
                 len,
             })
         }
-        Piece::Zero { .. }
-        | Piece::Drop { .. }
-        | Piece::Error { .. }
-        | Piece::Copy { .. }
-        | Piece::Fill { .. } => writer.put(&RareLine {
+        _ => writer.put(&RareLine {
             prefix,
             stack,
             piece,
@@ -129,24 +181,11 @@ pub(crate) fn put_piece<W: Output>(
     }
 }
 
-/// The letter of a read or a write. Both go one way: which of them comes next is not foreseen by the
-/// processor.
-#[inline(always)]
-fn letter_of(piece: &Piece) -> u8
-    ensures { result ≡ letter_of (first_unit piece.now) }
-{
-    if matches!(*piece, Piece::Write { .. }) {
-        b'W'
-    } else {
-        b'R'
-    }
-}
-
-/// Puts what a piece is that is no read and no write, and a newline, at an offset in a block, and returns
-/// where they end. It is never inlined, since these are rare.
+/// Puts what a copy or a fill is, and a newline, at an offset in a block, and returns where they end. It is
+/// never inlined, since these are rare.
 #[cold]
 #[inline(never)]
-fn put_other(block: &mut [u8], at: usize, stack: &Stack, piece: &Piece) -> usize
+fn put_rare(block: &mut [u8], at: usize, stack: &Stack, piece: &Piece) -> usize
     requires room { at + 800 ≤ length block.old }
     requires lies { IsOnDisks stack.now piece.now }
     requires other { IsOther piece.now }
@@ -155,10 +194,6 @@ fn put_other(block: &mut [u8], at: usize, stack: &Stack, piece: &Piece) -> usize
     ensures few { result ≤ at + 800 }
 {
     match *piece {
-        Piece::Read { .. } | Piece::Write { .. } => unreachable!(),
-        Piece::Zero { len } => put_counted(block, at, b"zero ", len),
-        Piece::Drop { len } => put_counted(block, at, b"drop ", len),
-        Piece::Error { len } => put_counted(block, at, b"error ", len),
         Piece::Copy {
             disk,
             start,
@@ -167,6 +202,7 @@ fn put_other(block: &mut [u8], at: usize, stack: &Stack, piece: &Piece) -> usize
             to_start,
         } => put_copy(block, at, stack, disk, start, len, to, to_start),
         Piece::Fill { len, disk, start } => put_fill(block, at, stack, disk, start, len),
+        _ => unreachable!(),
     }
 }
 
@@ -191,7 +227,7 @@ fn put_copy(
     let at = put_bytes(block, at, b"copy ");
     let at = put_sector(block, at, stack, disk, start);
     let at = put_bytes(block, at, b" ");
-    let at = put_digits(block, at, len);
+    let at = put_next_digits(block, at, len);
     let at = put_bytes(block, at, b" ");
     let at = put_sector(block, at, stack, to, to_start);
     put_bytes(block, at, b"\n")
@@ -206,7 +242,7 @@ fn put_fill(block: &mut [u8], at: usize, stack: &Stack, disk: DiskId, start: u64
     ensures few { result ≤ at + 400 }
 {
     let at = put_bytes(block, at, b"fill ");
-    let at = put_digits(block, at, len);
+    let at = put_next_digits(block, at, len);
     let at = put_bytes(block, at, b" ");
     let at = put_sector(block, at, stack, disk, start);
     put_bytes(block, at, b"\n")
@@ -226,25 +262,15 @@ fn put_named(block: &mut [u8], at: usize, word: &[u8], stack: &Stack, disk: Disk
     stack.disk_text(disk).put_into(block, at)
 }
 
-/// Puts a word, a number and a newline at an offset in a block.
-fn put_counted(block: &mut [u8], at: usize, word: &[u8], number: u64) -> usize
-    requires room { at + 300 ≤ length block.old }
-    requires short { length word.now ≤ 9 }
-    ensures put { IsPut (word.now ++ decimal number ++ newline ∷ []) at block.old block.new result }
-    ensures few { result ≤ at + 30 }
-{
-    let at = put_bytes(block, at, word);
-    let at = put_digits(block, at, number);
-    put_bytes(block, at, b"\n")
-}
-
-/// Puts a sector of a disk of the stack at an offset in a block: the name of the disk and the sector.
+/// Puts a sector of a disk of the stack at an offset in a block, after at least four bytes: the name of
+/// the disk and the sector.
 fn put_sector(block: &mut [u8], at: usize, stack: &Stack, disk: DiskId, sector: u64) -> usize
+    requires after { 4 ≤ at }
     requires room { at + 300 ≤ length block.old }
     requires there { disk < length stack.now.disks }
     ensures put { IsPut (sector_text stack.now disk sector) at block.old block.new result }
     ensures few { result ≤ at + 276 }
 {
     let at = stack.disk_text(disk).put_into(block, at);
-    put_digits(block, at, sector)
+    put_next_digits(block, at, sector)
 }

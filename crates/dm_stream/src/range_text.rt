@@ -8,7 +8,7 @@ ghost use Rattle.std.specs.Prelude.{◌≡◌, ◌+◌, ◌≤◌, length};
 ghost use Rattle.dm_table.specs.io.Block.{IsPut};
 ghost use Rattle.dm_stream.specs.RangeText.{range_text, IsKept};
 
-use crate::line_ends::{LENGTHS, LineEnds};
+use crate::line_ends::LineEnds;
 use dm_table::{put_bytes, put_digits, put_next_digits, put_room};
 use std::marker::Model;
 
@@ -84,6 +84,12 @@ impl RangeText {
         self.end = put_range(&mut self.text, 0, start, len);
     }
 
+    /// What lines end with that have a length and no range.
+    #[inline(always)]
+    pub(crate) fn ends(&self) -> &LineEnds {
+        &self.ends
+    }
+
     /// Puts the range that was noted at an offset in a block, after at least four bytes, and returns where
     /// it ends.
     #[inline(always)]
@@ -112,11 +118,7 @@ fn put_next_range(ends: &LineEnds, block: &mut [u8], at: usize, start: u64, len:
 {
     let at = put_next_digits(block, at, start);
     let at = put_bytes(block, at, b" ");
-    if len < LENGTHS as u64 {
-        return ends.put_into(block, at, len);
-    }
-    let at = put_next_digits(block, at, len);
-    put_bytes(block, at, b"\n")
+    ends.put_into(block, at, len)
 }
 
 /// The same wherever it is put.

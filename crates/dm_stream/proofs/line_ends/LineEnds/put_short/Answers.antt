@@ -1,9 +1,9 @@
-use Rattle.std.proofs.Common.{rules, ◌≡◌, ℕ, ◌+◌, ◌≤◌, ◌++◌, List, [], get_or, length, take, sym, ap, subst, ◌∙◌, arith, length-take-le}
+use Rattle.std.proofs.Common.{◌≡◌, ℕ, ◌+◌, ◌≤◌, ◌++◌, List, [], get_or, length, take, sym, ap, subst, ◌∙◌, arith, length-take-le}
 use Rattle.std.proofs.Math.Seq.{take-append-add}
 use Rattle.std.proofs.lemmas.List.{take-take}
 use Rattle.dm_table.specs.io.Block.{IsPut}
 use Rattle.dm_stream.specs.LineEnds.{IsLineEnd, line_end}
-use Rattle.dm_stream.proofs.line_ends.LineEnds.put_into.Goals as goal
+use Rattle.dm_stream.proofs.line_ends.LineEnds.put_short.Goals as goal
 
 -- a room that was put whole begins with its text
 front_put : (len at end : ℕ) (room old new : List ℕ) → at ≤ length old → IsLineEnd len room → IsPut room at old new end → IsPut (line_end len) at old new (at + get_or room 7 0)
