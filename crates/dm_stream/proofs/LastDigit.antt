@@ -1,5 +1,5 @@
 -- The text of a number of which only the last digit is new.
-use Rattle.std.proofs.Common.{◌≡◌, ℕ, zero, suc, ◌+◌, ◌<◌, ◌^◌, ◌/◌, ◌%◌, ◌++◌, List, [], ◌∷◌, ◌≤◌, length, take, set, decimal, refl, sym, ap, ◌∙◌, arith, append_assoc, length-append, length-take-le, inl, inr}
+use Rattle.std.proofs.Common.{◌≡◌, ℕ, zero, suc, ◌+◌, ◌-◌, ◌<◌, ◌^◌, ◌/◌, ◌%◌, ◌++◌, List, [], ◌∷◌, ◌≤◌, length, take, set, decimal, refl, sym, ap, ◌∙◌, arith, append_assoc, length-append, length-take-le, inl, inr}
 use Rattle.std.proofs.Math.Nat.{div-eq_of_lt, mod-eq_of_lt}
 use Rattle.std.proofs.Math.Seq.{set-append_seam, take-set-lt}
 use Rattle.std.proofs.lemmas.Bool.{cases_lt}
@@ -25,15 +25,15 @@ tens_and_last n fits = elim (cases_lt n 10) [
 ]
 
 -- the prefix at the front of some room, with the last digit set
-pub last_digit_set : (text : List ℕ) (last old new : ℕ) → last + 2 ≤ length text → old < 2 ^ 64 → new < 2 ^ 64 → new / 10 ≡ old / 10 → take (last + 2) text ≡ number_prefix old → take (last + 2) (set text last (48 + new % 10)) ≡ number_prefix new
-last_digit_set text last old new within old_fits new_fits tens is =
+pub last_digit_set : (text : List ℕ) (end old new : ℕ) → 2 ≤ end → end ≤ length text → old < 2 ^ 64 → new < 2 ^ 64 → new / 10 ≡ old / 10 → take end text ≡ number_prefix old → take end (set text (end - 2) (48 + new % 10)) ≡ number_prefix new
+last_digit_set text end old new some within old_fits new_fits tens is =
     let first = tens_text (old / 10) in
     let digit = 48 + new % 10 in
-    let split : take (last + 2) text ≡ first ++ (48 + old % 10) ∷ 32 ∷ [] =
+    let split : take end text ≡ first ++ (48 + old % 10) ∷ 32 ∷ [] =
     is ∙ ap (λ (ds : List ℕ). ds ++ 32 ∷ []) (tens_and_last old old_fits) ∙ append_assoc first ((48 + old % 10) ∷ []) (32 ∷ []) in
-    let place : last ≡ length first = omega (arith, length-take-le (last + 2) text within, ap length split, length-append first ((48 + old % 10) ∷ 32 ∷ [])) in
-    take-set-lt (last + 2) text last digit (omega arith)
-    ∙ ap (λ (k : ℕ). set (take (last + 2) text) k digit) place
+    let place : end - 2 ≡ length first = omega (arith, length-take-le end text within, ap length split, length-append first ((48 + old % 10) ∷ 32 ∷ [])) in
+    take-set-lt end text (end - 2) digit (omega arith)
+    ∙ ap (λ (k : ℕ). set (take end text) k digit) place
     ∙ ap (λ (ds : List ℕ). set ds (length first) digit) split
     ∙ set-append_seam first (48 + old % 10) (32 ∷ []) digit
     ∙ ap (λ (t : ℕ). tens_text t ++ digit ∷ 32 ∷ []) (sym tens)

@@ -20,8 +20,8 @@ pub(crate) struct NumberPrefix {
     /// The number with 0 for its last digit.
     tens: u64,
     text: [u8; ROOM],
-    /// Where the last digit is.
-    last: usize,
+    /// Where the text ends, two bytes after its last digit.
+    end: usize,
 }
 
 impl Model for NumberPrefix {
@@ -33,8 +33,9 @@ impl Model for NumberPrefix {
     ghost view = { λ prefix. prefix.number };
 
     ghost invariant = { λ prefix. (prefix.tens + prefix.number % 10 ≡ prefix.number)
-        × (prefix.last + 2 ≤ 32)
-        × (take (prefix.last + 2) prefix.text ≡ number_prefix prefix.number) };
+        × (2 ≤ prefix.end)
+        × (prefix.end ≤ 32)
+        × (take prefix.end prefix.text ≡ number_prefix prefix.number) };
 }
 
 impl NumberPrefix {
@@ -43,12 +44,12 @@ impl NumberPrefix {
         ensures { result ≡ 0 }
     {
         let mut text = [b' '; ROOM];
-        let last = put_prefix(&mut text, 0);
+        let end = put_prefix(&mut text, 0);
         NumberPrefix {
             number: 0,
             tens: 0,
             text,
-            last,
+            end,
         }
     }
 
@@ -58,9 +59,9 @@ impl NumberPrefix {
         ensures { self.new ≡ number }
     {
         if self.tens <= number && number - self.tens < 10 {
-            self.text[self.last] = b'0' + (number - self.tens) as u8;
+            self.text[self.end - 2] = b'0' + (number - self.tens) as u8;
         } else {
-            self.last = put_prefix(&mut self.text, number);
+            self.end = put_prefix(&mut self.text, number);
             self.tens = number - number % 10;
         }
         self.number = number;
@@ -74,19 +75,19 @@ impl NumberPrefix {
         ensures some { at < result }
         ensures few { result ≤ at + ROOM }
     {
-        put_room(block, at, &self.text, self.last + 2)
+        put_room(block, at, &self.text, self.end)
     }
 }
 
-/// Puts a number and a space at the front of a room, and returns where its last digit is.
+/// Puts a number and a space at the front of a room, and returns where they end.
 #[cold]
 #[inline(never)]
 fn put_prefix(text: &mut [u8], number: u64) -> usize
     requires { length text.old ≡ ROOM }
-    ensures within { result + 2 ≤ ROOM }
-    ensures text { take (result + 2) text.new ≡ number_prefix number }
+    ensures some { 2 ≤ result }
+    ensures within { result ≤ ROOM }
+    ensures text { take result text.new ≡ number_prefix number }
 {
     let end = put_digits(text, 0, number);
-    let _end = put_bytes(text, end, b" ");
-    end - 1
+    put_bytes(text, end, b" ")
 }

@@ -21,7 +21,7 @@ use crate::plain_word::PlainWord;
 use crate::range_text::RangeText;
 use dm_map::Piece;
 use dm_stack::{DiskId, Stack};
-use dm_table::{OutFault, Output, Text, put_bytes, put_next_digits};
+use dm_table::{OutFault, Output, Text, put_bytes, put_digits};
 use std::marker::Model;
 
 /// The line of a range of a disk of a stack, under a number.
@@ -227,7 +227,7 @@ fn put_copy(
     let at = put_bytes(block, at, b"copy ");
     let at = put_sector(block, at, stack, disk, start);
     let at = put_bytes(block, at, b" ");
-    let at = put_next_digits(block, at, len);
+    let at = put_digits(block, at, len);
     let at = put_bytes(block, at, b" ");
     let at = put_sector(block, at, stack, to, to_start);
     put_bytes(block, at, b"\n")
@@ -242,7 +242,7 @@ fn put_fill(block: &mut [u8], at: usize, stack: &Stack, disk: DiskId, start: u64
     ensures few { result ≤ at + 400 }
 {
     let at = put_bytes(block, at, b"fill ");
-    let at = put_next_digits(block, at, len);
+    let at = put_digits(block, at, len);
     let at = put_bytes(block, at, b" ");
     let at = put_sector(block, at, stack, disk, start);
     put_bytes(block, at, b"\n")
@@ -262,15 +262,13 @@ fn put_named(block: &mut [u8], at: usize, word: &[u8], stack: &Stack, disk: Disk
     stack.disk_text(disk).put_into(block, at)
 }
 
-/// Puts a sector of a disk of the stack at an offset in a block, after at least four bytes: the name of
-/// the disk and the sector.
+/// Puts a sector of a disk of the stack at an offset in a block: the name of the disk and the sector.
 fn put_sector(block: &mut [u8], at: usize, stack: &Stack, disk: DiskId, sector: u64) -> usize
-    requires after { 4 ≤ at }
     requires room { at + 300 ≤ length block.old }
     requires there { disk < length stack.now.disks }
     ensures put { IsPut (sector_text stack.now disk sector) at block.old block.new result }
     ensures few { result ≤ at + 276 }
 {
     let at = stack.disk_text(disk).put_into(block, at);
-    put_next_digits(block, at, sector)
+    put_digits(block, at, sector)
 }
