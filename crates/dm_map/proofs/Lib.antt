@@ -2,6 +2,5 @@ pub mod WorkedRows
 pub mod WorkedSnapshots
 -- what crates above cite: they see no folder of a module that is private
 pub use Rattle.dm_map.proofs.own.ChunkOutcomes
-pub use Rattle.dm_map.proofs.state.InStack
 pub use Rattle.dm_map.proofs.walk.LevelLemmas
 pub use Rattle.dm_map.proofs.walk.Rows

@@ -3,7 +3,6 @@
 pub mod BlockLemmas
 pub mod FoundLines
 pub mod GrowLemmas
-pub mod InStack
 pub mod JoinedRuns
 pub mod Numbers
 pub mod RingLemmas

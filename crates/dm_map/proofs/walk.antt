@@ -5,8 +5,8 @@ pub mod ChunkCopies
 pub mod ChunkTaking
 pub mod Chunks
 pub mod Depths
-pub mod FirstLines
 pub mod LevelLemmas
+pub mod LineRanges
 pub mod OneLevel
 pub mod OriginParts
 pub mod Overs
@@ -17,6 +17,5 @@ pub mod Rows
 pub mod Served
 pub mod Settled
 pub mod Stores
-pub mod Stripes
 pub mod UnitRows
 pub mod WalkedOn

@@ -12,4 +12,3 @@ pub mod Serving
 pub mod SnapshotWrites
 pub mod Steps
 pub mod Stretch
-pub mod Stripe

@@ -7,7 +7,6 @@ pub(crate) mod range;
 pub(crate) mod serving;
 pub(crate) mod step;
 pub(crate) mod stretch;
-pub(crate) mod stripe;
 pub(crate) mod take_chunk;
 #[cfg(test)]
 mod tests;

@@ -8,8 +8,10 @@ pub mod DepthRule
 pub mod DepthTests
 pub mod FirstFaults
 pub mod HandedOn
+pub mod InStack
 pub mod Inverses
 pub mod LayoutLemmas
+pub mod LegLemmas
 pub mod LineSearchLemmas
 pub mod LoadLemmas
 pub mod NameLemmas
@@ -35,6 +37,7 @@ pub mod SoundLines
 pub mod SpanLemmas
 pub mod StoreLayoutLemmas
 pub mod StoreLemmas
+pub mod StripeLemmas
 pub mod WithBefore
 mod WorkedLayouts
 mod WorkedOrigins

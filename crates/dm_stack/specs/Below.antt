@@ -1,5 +1,5 @@
 -- The line of a sector, and what lies below it (the kernel's admin guide, device-mapper/linear and striped).
-use Rattle.std.specs.Prelude.{ℕ, ◌+◌, ◌-◌, ◌*◌, ◌/◌, ◌%◌, ◌&&◌, ◌≡◌, ◌≤◌, ◌<◌, Bool, List, Option, Some, None, find, length, map, nat_le, nat_lt, option_map, slice_get}
+use Rattle.std.specs.Prelude.{ℕ, ◌+◌, ◌-◌, ◌*◌, ◌/◌, ◌%◌, ◌&&◌, ◌==◌, ◌≡◌, ◌≤◌, ◌<◌, Bool, true, false, List, Option, Some, None, find, length, map, nat_le, nat_lt, option_map, slice_get}
 use Rattle.std.specs.List.{AllByRecursion}
 use Rattle.dm_table.specs.declared.tables.table.Column.{Column}
 use Rattle.dm_table.specs.declared.tables.table.Target.{Target}
@@ -61,14 +61,41 @@ abbrev pub below_stripes : (chunk : ℕ) → List FoundColumn → ℕ → Below
 below_stripes chunk columns distance =
     below_column (slice_get columns (column_of chunk (length columns) distance)) (in_column chunk (length columns) distance)
 
--- what lies below a sector at a distance from the start of a line of this target; over says it for the sectors of a snapshot, whose line starts at 0, since it changes with what was written
+-- whether what becomes of a line's sectors goes by what was written: so it does for these targets
+abbrev pub has_state : FoundTarget → Bool
+has_state (found.Snapshot snapshot) = true
+has_state (found.Origin origin) = true
+has_state _ = false
+
+-- whether its sectors lie in stripes
+abbrev pub is_striped : FoundTarget → Bool
+is_striped (found.Striped chunk columns) = true
+is_striped _ = false
+
+-- what lies below a sector at a distance from the start of a line of a target without a state
+abbrev pub below_plain : FoundTarget → ℕ → Below
+below_plain (found.Linear to offset) distance = Lies to (offset + distance)
+below_plain (found.Striped chunk columns) distance = below_stripes chunk columns distance
+below_plain found.Zero distance = IsZero
+below_plain _ distance = IsError
+
+-- the same for any target; over says it for the sectors of a snapshot, whose line starts at 0, since it changes with what was written
 abbrev pub below_target : (over : FoundSnapshot → ℕ → Below) → FoundTarget → ℕ → Below
-below_target over (found.Linear to offset) distance = Lies to (offset + distance)
-below_target over (found.Striped chunk columns) distance = below_stripes chunk columns distance
-below_target over found.Zero distance = IsZero
-below_target over found.Error distance = IsError
 below_target over (found.Snapshot snapshot) distance = over snapshot distance
 below_target over (found.Origin origin) distance = Lies origin.to distance
+below_target over target distance = below_plain target distance
+
+-- the chunk that has a sector at a distance from the line's start, where its target has chunks
+abbrev pub chunk_at : FoundTarget → (distance : ℕ) → Option ℕ
+chunk_at (found.Striped chunk columns) distance = Some (distance / chunk)
+chunk_at (found.Snapshot snapshot) distance = Some (distance / snapshot.chunk)
+chunk_at _ distance = None
+
+abbrev pub is_same_chunk : Option ℕ → Option ℕ → Bool
+is_same_chunk None None = true
+is_same_chunk None (Some other) = false
+is_same_chunk (Some chunk) None = false
+is_same_chunk (Some chunk) (Some other) = chunk == other
 
 abbrev pub below_line : (over : FoundSnapshot → ℕ → Below) → Option FoundLine → ℕ → Below
 below_line over (Some line) sector = below_target over line.target (sector - line.start)
@@ -133,3 +160,15 @@ pub record HoldsSoundly (stack : Description) (device : ℕ) (line : FoundLine) 
   pub before : sector < line.start + line.len
   pub small : line.start + line.len ≤ MOST_LENGTH
   pub target : IsTargetSound stack device line.start line.len line.target
+
+-- a line of a device of a sound stack: within the limits, sound, and that of each sector that it has
+pub record IsLine (stack : Description) (device : ℕ) (line : FoundLine) : Type 0 where
+  pub small : line.start + line.len ≤ MOST_LENGTH
+  pub target : IsTargetSound stack device line.start line.len line.target
+  pub all : (other : ℕ) → line.start ≤ other → other < line.start + line.len → found_at stack device other ≡ Some line
+
+-- that of a sector
+pub record IsLineOf (stack : Description) (device : ℕ) (line : FoundLine) (sector : ℕ) : Type 0 where
+  pub from : line.start ≤ sector
+  pub before : sector < line.start + line.len
+  pub is : IsLine stack device line

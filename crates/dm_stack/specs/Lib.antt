@@ -4,6 +4,7 @@ pub mod Depth
 pub mod Description
 pub mod DiskText
 pub mod Graph
+pub mod Leg
 pub mod LineSearch
 pub mod Looker
 pub mod NameIndex
@@ -16,4 +17,5 @@ pub mod Stack
 pub mod Store
 pub mod StoreLayout
 pub mod StoreLimit
+pub mod StripePosition
 pub mod Sweep

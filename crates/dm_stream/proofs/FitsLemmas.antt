@@ -4,7 +4,7 @@ use Rattle.dm_stack.specs.Description.{Description}
 use Rattle.dm_stack.specs.Soundness.{IsSound}
 use Rattle.dm_stack.specs.declared.id.Lower.TheVariants as lowers
 use Rattle.dm_map.specs.pieces.Units.{BlockUnit, CopyOf, Drops, Fails, FillOf, ReadOf, WriteOf, Zeros, IsOnDisk}
-use Rattle.dm_map.proofs.InStack.{lower_small}
+use Rattle.dm_stack.proofs.InStack.{lower_small}
 use Rattle.dm_stream.specs.Pending.{Fits}
 
 -- what a disk has is few sectors

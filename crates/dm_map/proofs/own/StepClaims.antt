@@ -29,7 +29,7 @@ use Rattle.dm_stack.proofs.Parts.{found_place}
 use Rattle.dm_map.specs.state.Tables.{origin_at, snapshot_at}
 use Rattle.dm_map.proofs.state.FoundLines.{first_line, first_origin, line_sound, origin_sound, snapshot_sound, some_is}
 use Rattle.dm_map.proofs.walk.ReadSteps.{IsColumnStep, column_at, columns_of, within_at}
-use Rattle.dm_map.proofs.walk.Stripes.{at_index, in_column_room}
+use Rattle.dm_stack.proofs.StripeLemmas.{at_index, in_column_room}
 
 -- The columns of a line and its spans
 

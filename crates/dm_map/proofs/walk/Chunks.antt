@@ -9,7 +9,7 @@ use Rattle.dm_stack.specs.declared.found_line.FoundSnapshot.{FoundSnapshot}
 use Rattle.dm_stack.specs.declared.found_line.FoundLine.{FoundLine}
 use Rattle.dm_stack.specs.declared.found_line.FoundTarget.{FoundTarget}
 use Rattle.dm_stack.specs.declared.found_line.FoundTarget.TheVariants.{Snapshot}
-use Rattle.dm_stack.specs.Below.{Below, Lies, IsError, found_at, IsSnapshotSound, IsTargetSound}
+use Rattle.dm_stack.specs.Below.{Below, Lies, IsError, found_at, IsLine, IsSnapshotSound, IsTargetSound}
 use Rattle.dm_stack.specs.Description.{Description, device_len}
 use Rattle.dm_stack.specs.StoreLayout.{place}
 use Rattle.dm_map.specs.declared.walk.chunk.ReadAt.{ReadAt}
@@ -28,15 +28,15 @@ use Rattle.dm_map.specs.walk.Chunk.{AreInChunk, AreInSnapshot, AreReadAt}
 use Rattle.dm_map.proofs.state.TableLemmas.{room_place}
 use Rattle.dm_map.proofs.walk.ChunkTaking.{ChunkOutcome, chunk_outcome, Settled, Took, Lost, chunk_part, refused_part, write_is}
 use Rattle.dm_map.proofs.walk.Rows.{left_more, steps_read, steps_same, steps_still}
-use Rattle.dm_map.proofs.walk.Stripes.{in_chunk}
+use Rattle.dm_stack.proofs.StripeLemmas.{in_chunk}
 use Rattle.dm_map.proofs.walk.UnitRows.{row_same}
 
 -- A line's sectors as those of a snapshot, and of one chunk
 
-pub in_snapshot : (stack : Description) (device distance len : ℕ) (line : FoundLine) (snapshot : FoundSnapshot) → found_at stack device line.start ≡ Some line → line.target ≡ Snapshot snapshot → IsTargetSound stack device line.start line.len line.target → distance + len ≤ line.len → AreInSnapshot stack device snapshot distance len
-in_snapshot stack device distance len line snapshot found kind target inside =
-    let sound : IsSnapshotSound stack device line.start line.len snapshot = subst (λ (t : FoundTarget). IsTargetSound stack device line.start line.len t) kind target in
-    let first : found_at stack device 0 ≡ Some line = subst (λ (s : ℕ). found_at stack device s ≡ Some line) sound.from found in
+pub in_snapshot : (stack : Description) (device distance len : ℕ) (line : FoundLine) (snapshot : FoundSnapshot) → IsLine stack device line → line.target ≡ Snapshot snapshot → 1 ≤ len → distance + len ≤ line.len → AreInSnapshot stack device snapshot distance len
+in_snapshot stack device distance len line snapshot of kind some inside =
+    let sound : IsSnapshotSound stack device line.start line.len snapshot = subst (λ (t : FoundTarget). IsTargetSound stack device line.start line.len t) kind of.target in
+    let first : found_at stack device 0 ≡ Some line = of.all 0 (omega (arith, sound.from)) (omega (arith, inside, some)) in
     record {
       is = rw (first, kind) refl;
       sound = record { chunk_some = sound.chunk_some; chunk_small = sound.chunk_small; from = refl; whole = refl; origin = sound.origin ∙ sound.whole; store = sound.store };

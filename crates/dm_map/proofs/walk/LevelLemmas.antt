@@ -26,7 +26,7 @@ use Rattle.dm_stack.specs.Description.{Description, is_ro_at, lower_of, ref_link
 use Rattle.dm_table.specs.tables.Span.{Span, column_span, target_spans, whole_span}
 use Rattle.dm_stack.specs.Graph.{links_of, greatest, depth_to}
 use Rattle.dm_stack.specs.declared.found_line.FoundSnapshot.{FoundSnapshot}
-use Rattle.dm_stack.specs.Below.{Below, Lies, IsZero, IsError, below, below_line, below_stripes, below_target, below_column, column_of, in_column, found_line, found_target, found_columns, found_at, holds, line_of}
+use Rattle.dm_stack.specs.Below.{Below, Lies, IsZero, IsError, below, below_line, below_plain, below_target, below_column, column_of, in_column, found_line, found_target, found_columns, found_at, holds, line_of}
 use Rattle.dm_stack.specs.Over.{found_snapshot}
 use Rattle.dm_stack.specs.Soundness.{IsSound, faults_by_id, depth_of}
 use Rattle.dm_stack.proofs.Passes.{all_parts, passes_all}
@@ -40,7 +40,7 @@ use Rattle.dm_map.specs.walk.Reads.{by_below, read_below, read_unit}
 use Rattle.dm_map.specs.walk.Homes.{AreHomesFreeOfLevels, home_to, nowhere}
 use Rattle.dm_map.specs.walk.Mapping.{write_line, write_target, write_step, IsFreeOfLevels}
 use Rattle.dm_map.proofs.walk.Rows.{and_then_at}
-use Rattle.dm_map.proofs.walk.Stripes.{at_index}
+use Rattle.dm_stack.proofs.StripeLemmas.{at_index}
 
 -- What lies below a device is among what it names
 
@@ -164,14 +164,11 @@ same_read stack state (suc n) (suc j) (suc k) (Device device) sector h =
 same_target : (P : ℕ → Type 0) (stack : Description) (state : State) (device : ℕ) (target : FoundTarget) (distance : ℕ) (f h : Lower → State → ℕ → Step) → OnBelow P (below_target (read_over (taken_at state device)) target distance) → ((after : State) (to : Lower) (s : ℕ) → OnLower P to → f to after s ≡ h to after s)
     → write_target stack state device target distance f ≡ write_target stack state device target distance h
 unfolding OnBelow
-same_target P stack state device (founds.Linear to offset) distance f h on same = same state to (offset + distance) on
-same_target P stack state device (founds.Striped chunk_size columns) distance f h on same = same_below P (below_stripes chunk_size columns distance) (keep (Drops ∷ []) state) (keep (Fails ∷ []) state) (λ to s. f to state s) (λ to s. h to state s) on (same state)
-same_target P stack state device founds.Zero distance f h on same = refl
-same_target P stack state device founds.Error distance f h on same = refl
 same_target P stack state device (founds.Snapshot snapshot) distance f h on same = refl
 same_target P stack state device (founds.Origin origin) distance f h on same =
     let served = serve stack origin.over distance state in
     and_then_at served (λ after. f origin.to after distance) (λ after. h origin.to after distance) (same served.state origin.to distance on)
+same_target P stack state device target distance f h on same = same_below P (below_plain target distance) (keep (Drops ∷ []) state) (keep (Fails ∷ []) state) (λ to s. f to state s) (λ to s. h to state s) on (same state)
 
 pub same_line : (P : ℕ → Type 0) (stack : Description) (state : State) (device : ℕ) (line : Option FoundLine) (sector : ℕ) (f h : Lower → State → ℕ → Step) → OnBelow P (below_line (read_over (taken_at state device)) line sector) → ((after : State) (to : Lower) (s : ℕ) → OnLower P to → f to after s ≡ h to after s)
     → write_line stack state device line sector f ≡ write_line stack state device line sector h

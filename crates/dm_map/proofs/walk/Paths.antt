@@ -3,7 +3,8 @@ use Rattle.std.proofs.Common.{◌≡◌, ℕ, zero, suc, ◌+◌, ◌-◌, ◌*�
 use Rattle.std.specs.Prelude.{◌==◌}
 use Rattle.std.proofs.lemmas.Bool.{eq-eqb}
 use Rattle.std.proofs.Math.Nat.{mul-le-mul, mul-le-mul_left}
-use Rattle.dm_map.specs.walk.Path.{PathStep, changes, is_same_chunk, is_same_path, is_same_step, stretches}
+use Rattle.dm_stack.specs.Below.{is_same_chunk}
+use Rattle.dm_map.specs.walk.Path.{PathStep, changes, is_same_path, is_same_step, stretches}
 
 -- Steps
 
@@ -27,11 +28,11 @@ other_start device start next chunk later path other differs =
     let here : is_same_step (record { device = device; start = start; chunk = chunk }) (record { device = device; start = next; chunk = later }) ≡ false = rw (eq-eqb device device refl, differs) refl in
     other_head (record { device = device; start = start; chunk = chunk }) (record { device = device; start = next; chunk = later }) path other here
 
-pub other_chunk : (device start chunk next : ℕ) (path other : List PathStep) → (chunk == next) ≡ false
-    → is_same_path (record { device = device; start = start; chunk = Some chunk } ∷ path) (record { device = device; start = start; chunk = Some next } ∷ other) ≡ false
+pub other_chunk : (device start : ℕ) (chunk next : Option ℕ) (path other : List PathStep) → is_same_chunk chunk next ≡ false
+    → is_same_path (record { device = device; start = start; chunk = chunk } ∷ path) (record { device = device; start = start; chunk = next } ∷ other) ≡ false
 other_chunk device start chunk next path other differs =
-    let here : is_same_step (record { device = device; start = start; chunk = Some chunk }) (record { device = device; start = start; chunk = Some next }) ≡ false = rw (eq-eqb device device refl, eq-eqb start start refl, differs) refl in
-    other_head (record { device = device; start = start; chunk = Some chunk }) (record { device = device; start = start; chunk = Some next }) path other here
+    let here : is_same_step (record { device = device; start = start; chunk = chunk }) (record { device = device; start = start; chunk = next }) ≡ false = rw (eq-eqb device device refl, eq-eqb start start refl, differs) refl in
+    other_head (record { device = device; start = start; chunk = chunk }) (record { device = device; start = start; chunk = next }) path other here
 
 -- Stretches that are the same
 

@@ -23,7 +23,7 @@ use Rattle.dm_map.proofs.state.FoundLines.{snapshot_sound}
 use Rattle.dm_map.proofs.walk.ChunkTaking.{chunk_outcome, take_chunk_again, take_chunk_settles}
 use Rattle.dm_map.proofs.walk.Rows.{and_then_at, left_more, step_assoc, walked_as, walked_cut, walked_then}
 use Rattle.dm_map.proofs.walk.Settled.{KeepsSettled, take_chunk_keeps, serve_keeps}
-use Rattle.dm_map.proofs.state.InStack.{device_there}
+use Rattle.dm_stack.proofs.InStack.{device_there}
 use Rattle.dm_map.proofs.walk.WalkedOn.{going_on}
 
 abbrev take_chunk_one : Description → FoundOver → (sector : ℕ) → State → Step

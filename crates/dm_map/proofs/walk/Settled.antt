@@ -1,5 +1,5 @@
 -- What is settled stays so, whatever is written.
-use Rattle.std.proofs.Common.{◌≡◌, inl, inr, ℕ, zero, suc, ◌+◌, ◌-◌, ◌/◌, Bool, true, false, cond, not, List, [], ◌∷◌, ◌++◌, Option, Some, None, length, refl, ap, subst, ◌∙◌}
+use Rattle.std.proofs.Common.{◌≡◌, inl, inr, ℕ, zero, suc, ◌-◌, ◌/◌, Bool, true, false, cond, not, List, [], ◌∷◌, ◌++◌, Option, Some, None, length, refl, ap, subst, ◌∙◌}
 use Rattle.std.specs.Prelude.{◌||◌, is_some}
 use Rattle.std.proofs.lemmas.Bool.{cases_eq, cases_lt}
 use Rattle.std.proofs.lemmas.List.{length-set, set_past}
@@ -10,7 +10,7 @@ use Rattle.dm_stack.specs.declared.found_line.FoundOver.{FoundOver}
 use Rattle.dm_stack.specs.declared.found_line.FoundSnapshot.{FoundSnapshot}
 use Rattle.dm_stack.specs.declared.found_line.FoundTarget.{FoundTarget}
 use Rattle.dm_stack.specs.declared.found_line.FoundTarget.TheVariants as founds
-use Rattle.dm_stack.specs.Below.{Below, Lies, IsZero, IsError, below_stripes, found_at}
+use Rattle.dm_stack.specs.Below.{Below, Lies, IsZero, IsError, below_plain, found_at}
 use Rattle.dm_stack.specs.Description.{Description, is_ro_at}
 use Rattle.dm_map.specs.walk.Mapping.{write_line, write_step, write_target}
 use Rattle.dm_map.specs.walk.Reads.{by_below}
@@ -91,16 +91,13 @@ fails_or_keeps false state step keeps = keeps
 
 target_keeps : (stack : Description) (state : State) (device : ℕ) (target : FoundTarget) (distance : ℕ) (next : Lower → State → ℕ → Step) → Appends next → KeepsSettled state (write_target stack state device target distance next).state
 unfolding Appends
-target_keeps stack state device (founds.Linear to offset) distance next keeps = keeps to state (offset + distance)
-target_keeps stack state device (founds.Striped chunk_size columns) distance next keeps = below_keeps (below_stripes chunk_size columns distance) state next keeps
-target_keeps stack state device founds.Zero distance next keeps = keeps_same state
-target_keeps stack state device founds.Error distance next keeps = keeps_same state
 target_keeps stack state device (founds.Snapshot snapshot) distance next keeps =
     let made = take_chunk stack snapshot device (distance / snapshot.chunk) state in
     fails_or_keeps (is_refused stack snapshot (taken_at state device) (distance / snapshot.chunk)) state (and_then made (λ after. keep (unit_in_store stack snapshot device after distance ∷ []) after)) (take_chunk_keeps stack snapshot device (distance / snapshot.chunk) state)
 target_keeps stack state device (founds.Origin origin) distance next keeps =
     let served = serve stack origin.over distance state in
     keeps_then state served.state (next origin.to served.state distance).state (serve_keeps stack origin.over distance state) (keeps origin.to served.state distance)
+target_keeps stack state device target distance next keeps = below_keeps (below_plain target distance) state next keeps
 
 line_keeps : (stack : Description) (state : State) (device : ℕ) (line : Option FoundLine) (sector : ℕ) (next : Lower → State → ℕ → Step) → Appends next → KeepsSettled state (write_line stack state device line sector next).state
 line_keeps stack state device None sector next keeps = keeps_same state

@@ -29,8 +29,8 @@ use Rattle.dm_map.specs.state.State.{State, taken_at}
 use Rattle.dm_map.specs.walk.Stretch.{ground_unit}
 use Rattle.dm_map.specs.pieces.Units.{BlockUnit, ReadOf, Zeros, Fails, units_in}
 use Rattle.dm_map.proofs.walk.ReadSteps.{has_columns}
-use Rattle.dm_map.proofs.walk.Stripes.{at_index, in_column_room}
-use Rattle.dm_map.proofs.state.InStack.{device_there}
+use Rattle.dm_stack.proofs.StripeLemmas.{at_index, in_column_room}
+use Rattle.dm_stack.proofs.InStack.{device_there}
 use Rattle.dm_map.proofs.walk.UnitRows.{row_same}
 
 -- What lies below a sector of a store

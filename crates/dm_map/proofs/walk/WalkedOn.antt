@@ -109,3 +109,17 @@ walked_after_look took left stack room faults result old new before looked after
   stack = walk.stack ∙ ap (λ (v : StackState). v.stack) same;
   looked = added_then before.looked looked.looked after.looked added walk.looked;
 }
+
+-- a walk before a look
+pub walked_before_look : {S : Type 0} (took left : S → List BlockUnit → S → Type 0) (stack : S → Description) (room faults : S → ℕ) (old new : S) (before after looked : WalkerView) (step : Step) (len : ℕ) → stack_state looked ≡ stack_state after
+    → AreAdded after.looked looked.looked → IsWalked took left stack room faults going_on old new before after step len → IsWalked took left stack room faults going_on old new before looked step len
+walked_before_look took left stack room faults old new before after looked step len same added walk = record {
+  took = walk.took;
+  state = ap (λ (v : StackState). v.state) same ∙ walk.state;
+  kept = walk.kept;
+  room = walk.room;
+  left = walk.left;
+  faults = walk.faults;
+  stack = ap (λ (v : StackState). v.stack) same ∙ walk.stack;
+  looked = added_then before.looked after.looked looked.looked walk.looked added;
+}

@@ -9,7 +9,7 @@ use Rattle.dm_stack.specs.declared.found_line.FoundTarget.{FoundTarget}
 use Rattle.dm_stack.specs.declared.found_line.FoundTarget.TheVariants as found
 use Rattle.dm_stack.specs.declared.graph.TheConstants.{MOST_DEPTH}
 use Rattle.dm_stack.specs.Description.{Description, device_len, is_ro_at}
-use Rattle.dm_stack.specs.Below.{below_stripes, found_at}
+use Rattle.dm_stack.specs.Below.{below_plain, found_at}
 use Rattle.dm_stack.specs.Soundness.{depth_of}
 use Rattle.dm_map.specs.walk.Reads.{by_below, read_unit}
 use Rattle.dm_map.specs.walk.Serving.{served_step}
@@ -20,12 +20,9 @@ use Rattle.dm_map.specs.pieces.Units.{WriteOf, Drops, Fails}
 
 -- the write of a sector at a distance from the start of a line of this target, by that of a lower one: zeros throw it away, and the snapshots of an origin are served first
 abbrev pub write_target : Description → State → (device : ℕ) → FoundTarget → (distance : ℕ) → (Lower → State → ℕ → Step) → Step
-write_target stack state device (found.Linear to offset) distance next = next to state (offset + distance)
-write_target stack state device (found.Striped chunk_size columns) distance next = by_below (below_stripes chunk_size columns distance) (keep (Drops ∷ []) state) (keep (Fails ∷ []) state) (λ to sector. next to state sector)
-write_target stack state device found.Zero distance next = keep (Drops ∷ []) state
-write_target stack state device found.Error distance next = keep (Fails ∷ []) state
 write_target stack state device (found.Snapshot snapshot) distance next = write_snapshot stack snapshot device state distance
 write_target stack state device (found.Origin origin) distance next = served_step stack origin.over (next origin.to) state distance
+write_target stack state device target distance next = by_below (below_plain target distance) (keep (Drops ∷ []) state) (keep (Fails ∷ []) state) (λ to sector. next to state sector)
 
 abbrev pub write_line : Description → State → (device : ℕ) → Option FoundLine → (sector : ℕ) → (Lower → State → ℕ → Step) → Step
 write_line stack state device (Some line) sector next = write_target stack state device line.target (sector - line.start) next

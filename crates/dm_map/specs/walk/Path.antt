@@ -1,14 +1,12 @@
 -- The path of a sector that is read, and the stretches of a read: its sectors in runs of one path.
-use Rattle.std.specs.Prelude.{ℕ, zero, suc, ◌+◌, ◌-◌, ◌/◌, ◌==◌, ◌&&◌, Bool, true, false, List, [], ◌∷◌, Option, Some, None, nat_lt, if◌then◌else◌}
+use Rattle.std.specs.Prelude.{ℕ, zero, suc, ◌+◌, ◌-◌, ◌==◌, ◌&&◌, Bool, List, [], ◌∷◌, Option, Some, None, nat_lt, if◌then◌else◌}
 use Rattle.std.specs.Cmp.Lexicographic.{pointwise}
 use Rattle.dm_stack.specs.declared.graph.TheConstants.{MOST_DEPTH}
 use Rattle.dm_stack.specs.declared.id.Lower.{Lower}
 use Rattle.dm_stack.specs.declared.id.Lower.TheVariants.{Device, Disk}
 use Rattle.dm_stack.specs.declared.found_line.FoundLine.{FoundLine}
-use Rattle.dm_stack.specs.declared.found_line.FoundTarget.{FoundTarget}
-use Rattle.dm_stack.specs.declared.found_line.FoundTarget.TheVariants as found
 use Rattle.dm_stack.specs.Description.{Description, device_len}
-use Rattle.dm_stack.specs.Below.{below_target, found_at}
+use Rattle.dm_stack.specs.Below.{below_target, chunk_at, found_at, is_same_chunk}
 use Rattle.dm_map.specs.walk.Reads.{by_below}
 use Rattle.dm_map.specs.state.Snapshots.{read_over}
 use Rattle.dm_map.specs.state.State.{State, taken_at}
@@ -20,12 +18,6 @@ pub record PathStep : Type 0 where
   pub device : ℕ
   pub start : ℕ
   pub chunk : Option ℕ
-
--- the chunk that has a sector at a distance from the line's start
-abbrev pub chunk_at : FoundTarget → (distance : ℕ) → Option ℕ
-chunk_at (found.Striped chunk_size columns) distance = Some (distance / chunk_size)
-chunk_at (found.Snapshot snapshot) distance = Some (distance / snapshot.chunk)
-chunk_at _ distance = None
 
 -- the step of a line, and the path of what lies below: none below zeros, errors and a snapshot that isn't valid
 abbrev pub line_path : State → (device : ℕ) → FoundLine → (distance : ℕ) → (next : Lower → ℕ → List PathStep) → List PathStep
@@ -45,12 +37,6 @@ path stack state (suc levels) (Device device) sector =
     found_path state device (found_at stack device sector) sector (λ to lower. path stack state levels to lower)
 
 -- Stretches
-
-abbrev pub is_same_chunk : Option ℕ → Option ℕ → Bool
-is_same_chunk None None = true
-is_same_chunk None (Some other) = false
-is_same_chunk (Some chunk) None = false
-is_same_chunk (Some chunk) (Some other) = chunk == other
 
 abbrev pub is_same_step : PathStep → PathStep → Bool
 is_same_step step other = step.device == other.device && (step.start == other.start && is_same_chunk step.chunk other.chunk)

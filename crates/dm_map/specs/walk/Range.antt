@@ -1,15 +1,16 @@
 -- What a walk down a stack hands over: the steps of ranges and of lines.
-use Rattle.std.specs.Prelude.{ℕ, ◌≡◌, ◌+◌, ◌≤◌, ◌<◌, Bool, false, List, [], ◌∷◌, Some, Result, OnOk, OnErr}
+use Rattle.std.specs.Prelude.{ℕ, ◌≡◌, ◌+◌, ◌≤◌, Bool, false, List, [], ◌∷◌, Result, OnOk, OnErr}
 use Rattle.dm_table.specs.declared.requests.request.Op.{Op}
 use Rattle.dm_table.specs.declared.requests.request.Op.TheVariants as ops
 use Rattle.dm_table.specs.io.DeviceIo.{fault_of}
 use Rattle.dm_stack.specs.declared.id.Lower.{Lower}
-use Rattle.dm_stack.specs.declared.found_columns.FoundColumn.{FoundColumn}
 use Rattle.dm_stack.specs.declared.found_line.FoundLine.{FoundLine}
 use Rattle.dm_stack.specs.declared.found_line.FoundOrigin.{FoundOrigin}
 use Rattle.dm_stack.specs.declared.found_line.FoundTarget.{FoundTarget}
+use Rattle.dm_stack.specs.declared.leg.Leg.{Leg}
 use Rattle.dm_stack.specs.Description.{Description, is_ro_at, lower_len}
-use Rattle.dm_stack.specs.Below.{Below, HoldsSoundly, below_stripes, below_target, found_at}
+use Rattle.dm_stack.specs.Below.{Below, below_target, IsLine}
+use Rattle.dm_stack.specs.Leg.{AreInside, IsBeneath}
 use Rattle.dm_stack.specs.Over.{snapshots_over}
 use Rattle.dm_map.specs.state.Counts.{AreAdded}
 use Rattle.dm_map.specs.pieces.Sink.{OfBeginning}
@@ -49,11 +50,6 @@ line_step stack op levels device target state distance len = steps (target_step 
 abbrev pub below_step : Description → Op → ℕ → Below → State → Step
 below_step stack op levels b state = by_below b (keep (zero_unit op ∷ []) state) (keep (Fails ∷ []) state) (λ to sector. sector_step stack op levels to state sector)
 
--- the step of len sectors of a striped line
-abbrev pub stripes_step : Description → Op → ℕ → (chunk_size : ℕ) → List FoundColumn → State → (distance len : ℕ) → Step
-stripes_step stack op levels chunk_size columns state distance len =
-    steps (λ after at. below_step stack op levels (below_stripes chunk_size columns at) after) state distance len
-
 -- the step of a sector of an origin's device, through at most this many levels of devices below it, and that of len sectors
 abbrev pub served_sector : Description → Op → ℕ → FoundOrigin → State → (sector : ℕ) → Step
 served_sector stack ops.Read levels origin state sector = sector_step stack ops.Read levels origin.to state sector
@@ -72,10 +68,13 @@ pub record HasRoomFor {S : Type 0} (stack_of : S → Description) (room_of : S �
   pub stack : stack_of sink ≡ of
   pub room : len ≤ room_of sink
 
--- the line that a look-up finds for a sector of a device: sound in itself, and that of each other sector that it has
-pub record IsLineOf (stack : Description) (device : ℕ) (line : FoundLine) (sector : ℕ) : Type 0 where
-  pub holds : HoldsSoundly stack device line sector
-  pub all : (other : ℕ) → line.start ≤ other → other < line.start + line.len → found_at stack device other ≡ Some line
+-- a leg of a line of a device, from a distance from its start on
+pub record IsLegOf (stack : Description) (device : ℕ) (line : FoundLine) (distance : ℕ) (leg : Leg) : Type 0 where
+  pub of : IsLine stack device line
+  pub some : 1 ≤ leg.len
+  pub inside : distance + leg.len ≤ line.len
+  pub is : IsBeneath line.target distance leg.len leg.below
+  pub lies : AreInside stack leg.len leg.below
 
 -- a sink took the units of a step of len sectors, and the walk is in the state after it; or the sink failed at a beginning of them
 pub record IsWalked {S F : Type 0} (takes leaves : S → List BlockUnit → S → Type 0) (stack_of : S → Description) (room_of faults_of : S → ℕ) (result : Result (Unit {0}) F) (old new : S) (before after : WalkerView) (step : Step) (len : ℕ) : Type 0 where

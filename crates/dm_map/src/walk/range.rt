@@ -2,19 +2,19 @@
 //!
 //! A range goes down as one step: it is cut where a line or a chunk ends, of stripes or of a
 //! snapshot, or, of a write to an origin, where one of its snapshots still needs something, and
-//! nowhere else, and each line that it passes is looked up once. A new target is an arm
-//! of `map_line`, with a loop of its own where it cuts, and one of `line_stretch`, `below_target` and
-//! `write_target`. Each function says which units it hands over, which state it leaves, and, of a
-//! read, how often it searches: at most once a level for each stretch of sectors with one path
-//! (`specs/walk/Path`).
+//! nowhere else, and each line that it passes is looked up once. Where the sectors of a line lie is for
+//! its legs to say (`dm_stack`'s `leg`), so a new target that has no state needs nothing here; one with
+//! a state is an arm of `map_leg`, with a loop of its own. Each function says which units it hands
+//! over, which state it leaves, and, of a read, how often it searches: at most once a level for each
+//! stretch of sectors with one path (`specs/walk/Path`).
 
-ghost use Rattle.std.specs.Prelude.{◌≡◌, ℕ, ◌+◌, ◌-◌, ◌<◌, ◌≤◌, Some, false, length};
+ghost use Rattle.std.specs.Prelude.{◌≡◌, ℕ, ◌+◌, ◌<◌, ◌≤◌, false, true, length};
 ghost use Rattle.dm_table.specs.declared.requests.request.Op.TheVariants.{Write};
-ghost use Rattle.dm_stack.specs.Below.{found_at, IsTargetSound};
+ghost use Rattle.dm_stack.specs.Below.{is_striped, IsLine, IsLineOf};
 ghost use Rattle.dm_stack.specs.Description.{Description, device_len, lower_len};
 ghost use Rattle.dm_stack.specs.Depth.{lower_depth};
 ghost use Rattle.dm_stack.specs.Soundness.{depth_of};
-ghost use Rattle.dm_stack.specs.declared.found_line.FoundTarget.TheVariants.{Origin, Snapshot, Striped};
+ghost use Rattle.dm_stack.specs.declared.found_line.FoundTarget.TheVariants.{Origin, Snapshot};
 ghost use Rattle.dm_stack.specs.declared.id.Lower.TheVariants.{Device};
 ghost use Rattle.dm_stack.specs.declared.graph.TheConstants.{MOST_DEPTH};
 ghost use Rattle.dm_stack.specs.declared.limits.TheConstants.{MOST_LENGTH};
@@ -25,10 +25,9 @@ ghost use Rattle.dm_map.specs.walk.Steps.{steps};
 ghost use Rattle.dm_map.specs.pieces.Units.{diskless_len, piece_len, units_in, units_of};
 ghost use Rattle.dm_map.specs.pieces.Units.{Fails, IsOnDisk, IsOnDisks};
 ghost use Rattle.dm_map.specs.walk.Range.{disk_unit, zero_unit, refuses};
-ghost use Rattle.dm_map.specs.walk.Range.{range_step, line_step, origin_step, stripes_step};
-ghost use Rattle.dm_map.specs.walk.Range.{AreInOrigin, IsHanded, IsLineOf, HasRoomFor, IsWalked};
+ghost use Rattle.dm_map.specs.walk.Range.{range_step, line_step, origin_step};
+ghost use Rattle.dm_map.specs.walk.Range.{AreInOrigin, IsHanded, IsLegOf, HasRoomFor, IsWalked};
 ghost use Rattle.dm_map.specs.walk.Chunk.{AreInChunk, AreInSnapshot};
-ghost use Rattle.dm_map.specs.walk.Stripe.{AreInStripes};
 
 use crate::pieces::piece::Piece;
 use crate::pieces::sink::Sink;
@@ -36,12 +35,11 @@ use crate::state::taken::Taken;
 use crate::state::walker::Walker;
 use crate::walk::chunk::{part_of_chunk, read_at};
 use crate::walk::serving::{serve, settled_part};
-use crate::walk::step::{part_in, sector_at};
-use crate::walk::stripe::{next_chunk, position_at};
+use crate::walk::step::part_in;
 use crate::walk::take_chunk::{is_refused, take_chunk, write_store};
 use dm_stack::{
-    DeviceId, DiskId, Divisor, FoundColumn, FoundLine, FoundOrigin, FoundSnapshot, FoundTarget,
-    Lower, MOST_DEPTH,
+    Beneath, DeviceId, DiskId, FoundLine, FoundOrigin, FoundSnapshot, FoundTarget, Leg, Lower,
+    MOST_DEPTH,
 };
 use dm_table::Op;
 
@@ -101,73 +99,28 @@ pub(crate) fn map_top<S: Sink, T: Taken>(
         return fail(len, sink);
     }
     let line = walker.look(device, sector);
-    let distance = sector - line.start;
-    if let FoundTarget::Linear {
-        to: Lower::Disk(disk),
-        offset,
-    } = &line.target
-        && len <= line.len - distance
-    {
-        let start = sector_at(walker, Lower::Disk(*disk), *offset, distance);
-        return sink.piece(disk_piece(op, *disk, start, len));
+    if is_on_disk(line) && len <= line.len - (sector - line.start) {
+        // Here the target is known, so that no more is left of this call than a piece.
+        return map_line(walker, op, MOST_DEPTH, device, line, sector, len, sink);
     }
-    map_from(walker, op, device, line, sector, len, sink)
+    map_lines(walker, op, MOST_DEPTH, device, line, sector, len, sink)
 }
 
-/// Hands over the units of sectors of a request's device that doesn't refuse them, from the line of the
-/// first one on, which was found.
-///
-/// It is never inlined, so that what comes before it has the registers to itself.
-#[inline(never)]
-fn map_from<S: Sink, T: Taken>(
-    walker: &mut Walker<'_, T>,
-    op: Op,
-    device: DeviceId,
-    line: &FoundLine,
-    sector: u64,
-    len: u64,
-    sink: &mut S,
-) -> Result<(), S::Fault>
-    requires passes { refuses walker.old.stack op device ≡ false }
-    requires some { 1 ≤ len }
-    requires inside { sector + len ≤ device_len walker.old.stack device }
-    requires line { IsLineOf walker.old.stack device line.now sector }
-    requires sink { HasRoomFor S.stack S.room sink.old walker.old.stack len }
-    ensures walked { IsWalked S.took S.left S.stack S.room S.faults
-        result sink.old sink.new walker.old walker.new
-        (range_step walker.old.stack op MOST_DEPTH (Device device) walker.old.state sector len) len }
-    ensures bounded { IsBoundedFrom walker.old walker.new op (depth_of walker.old.stack device)
-        (path walker.old.stack walker.old.state MOST_DEPTH (Device device)) sector len }
-{
-    let distance = sector - line.start;
-    let part = part_in(line, distance, len);
-    map_line(
-        walker,
-        op,
-        MOST_DEPTH - 1,
-        device,
-        line,
-        distance,
-        part,
-        sink,
-    )?;
-    if part == len {
-        return Ok(());
-    }
-    map_device(
-        walker,
-        op,
-        MOST_DEPTH,
-        device,
-        sector + part,
-        len - part,
-        sink,
+/// Whether a line is a part of a disk.
+#[inline(always)]
+fn is_on_disk(line: &FoundLine) -> bool {
+    matches!(
+        line.target,
+        FoundTarget::Linear {
+            to: Lower::Disk(_),
+            ..
+        }
     )
 }
 
-/// Hands over the units of sectors of a device, line by line. A read-only device fails a write of
-/// all of them.
+/// Hands over the units of sectors of a device. A read-only device fails a write of all of them.
 #[cycle(walk)]
+#[inline(always)]
 fn map_device<S: Sink, T: Taken>(
     walker: &mut Walker<'_, T>,
     op: Op,
@@ -189,27 +142,96 @@ fn map_device<S: Sink, T: Taken>(
     if levels == 0 || refuses(walker, op, device) {
         return fail(len, sink);
     }
+    let line = walker.look(device, sector);
+    map_lines(walker, op, levels, device, line, sector, len, sink)
+}
+
+/// Hands over the units of sectors of a device that doesn't refuse them, line by line, from the line of
+/// the first one on, which was found.
+///
+/// The last line, mostly the only one, is handed on in tail position: a range in one line goes down in
+/// one frame. It is never inlined, so that what comes before it has the registers to itself.
+#[cycle(walk)]
+#[inline(never)]
+fn map_lines<S: Sink, T: Taken>(
+    walker: &mut Walker<'_, T>,
+    op: Op,
+    levels: u32,
+    device: DeviceId,
+    first: &FoundLine,
+    sector: u64,
+    len: u64,
+    sink: &mut S,
+) -> Result<(), S::Fault>
+    requires deep { 1 ≤ levels }
+    requires passes { refuses walker.old.stack op device ≡ false }
+    requires some { 1 ≤ len }
+    requires inside { sector + len ≤ device_len walker.old.stack device }
+    requires line { IsLineOf walker.old.stack device first.now sector }
+    requires sink { HasRoomFor S.stack S.room sink.old walker.old.stack len }
+    ensures walked { IsWalked S.took S.left S.stack S.room S.faults
+        result sink.old sink.new walker.old walker.new
+        (range_step walker.old.stack op levels (Device device) walker.old.state sector len) len }
+    ensures bounded { IsBoundedFrom walker.old walker.new op (depth_of walker.old.stack device)
+        (path walker.old.stack walker.old.state levels (Device device)) sector len }
+{
+    let mut line = first;
     let mut at = sector;
     let mut left = len;
     'lines: loop {
-        let line = walker.look(device, at);
-        let distance = at - line.start;
-        let part = part_in(line, distance, left);
+        let part = part_in(line, at - line.start, left);
         if part == left {
-            // The last line, mostly the only one, takes no call of its own.
-            return map_line(walker, op, levels - 1, device, line, distance, part, sink);
+            return map_line(walker, op, levels, device, line, at, left, sink);
         }
-        map_line(walker, op, levels - 1, device, line, distance, part, sink)?;
+        map_line(walker, op, levels, device, line, at, part, sink)?;
         at += part;
         left -= part;
+        line = walker.look(device, at);
     }
 }
 
-/// Hands over the units of sectors of a line of this device at a distance from its start, through at
-/// most this many levels of devices below it.
+/// Hands over the units of sectors of one line of a device that doesn't refuse them, through at most
+/// this many levels of devices, of which it is the first. It goes down leg by leg.
 #[cycle(walk)]
 #[inline(always)]
 fn map_line<S: Sink, T: Taken>(
+    walker: &mut Walker<'_, T>,
+    op: Op,
+    levels: u32,
+    device: DeviceId,
+    line: &FoundLine,
+    sector: u64,
+    len: u64,
+    sink: &mut S,
+) -> Result<(), S::Fault>
+    requires deep { 1 ≤ levels }
+    requires passes { refuses walker.old.stack op device ≡ false }
+    requires some { 1 ≤ len }
+    requires inside { sector + len ≤ line.now.start + line.now.len }
+    requires line { IsLineOf walker.old.stack device line.now sector }
+    requires sink { HasRoomFor S.stack S.room sink.old walker.old.stack len }
+    ensures walked { IsWalked S.took S.left S.stack S.room S.faults
+        result sink.old sink.new walker.old walker.new
+        (range_step walker.old.stack op levels (Device device) walker.old.state sector len) len }
+    ensures bounded { IsBoundedFrom walker.old walker.new op (depth_of walker.old.stack device)
+        (path walker.old.stack walker.old.state levels (Device device)) sector len }
+{
+    walker.is_sound();
+    let distance = sector - line.start;
+    let leg = line.target.leg(distance, len);
+    if leg.len == len {
+        return map_leg(walker, op, levels - 1, device, line, &leg, distance, sink);
+    }
+    map_legs(walker, op, levels - 1, device, line, distance, len, sink)
+}
+
+/// Hands over the units of sectors of a striped line at a distance from its start, leg by leg, through
+/// at most this many levels of devices below it.
+///
+/// It is never inlined, so that its loop has the registers to itself.
+#[cycle(walk)]
+#[inline(never)]
+fn map_legs<S: Sink, T: Taken>(
     walker: &mut Walker<'_, T>,
     op: Op,
     levels: u32,
@@ -221,115 +243,56 @@ fn map_line<S: Sink, T: Taken>(
 ) -> Result<(), S::Fault>
     requires some { 1 ≤ len }
     requires inside { distance + len ≤ line.now.len }
-    requires small { line.now.len ≤ MOST_LENGTH }
-    requires found { found_at walker.old.stack device line.now.start ≡ Some line.now }
-    requires sound { IsTargetSound walker.old.stack device line.now.start line.now.len line.now.target }
+    requires line { IsLine walker.old.stack device line.now }
+    requires striped { is_striped line.now.target ≡ true }
     requires sink { HasRoomFor S.stack S.room sink.old walker.old.stack len }
     ensures walked { IsWalked S.took S.left S.stack S.room S.faults
         result sink.old sink.new walker.old walker.new
         (line_step walker.old.stack op levels device line.now.target walker.old.state distance len) len }
     ensures bounded { IsLineBounded walker.old walker.new op levels device line.now distance len }
 {
-    match &line.target {
-        FoundTarget::Linear { to, offset } => {
-            let sector = sector_at(walker, *to, *offset, distance);
-            map_range(walker, op, levels, *to, sector, len, sink)
-        }
-        FoundTarget::Striped {
-            chunk: chunk_size,
-            columns,
-        } => {
-            let count = columns.count();
-            let columns = columns.as_slice();
-            map_stripes(
-                walker, op, levels, chunk_size, columns, count, distance, len, sink,
-            )
-        }
-        FoundTarget::Zero => hand_zeros(op, len, sink),
-        FoundTarget::Error => fail(len, sink),
-        FoundTarget::Snapshot(snapshot) => {
-            map_snapshot(walker, op, levels, device, snapshot, distance, len, sink)
-        }
-        FoundTarget::Origin(origin) => {
-            map_origin(walker, op, levels, origin, distance, len, sink)
-        }
-    }
-}
-
-/// Hands over the units of sectors of a striped line at a distance from its start. Those of one chunk
-/// are a range of their column.
-#[cycle(walk)]
-#[inline(always)]
-fn map_stripes<S: Sink, T: Taken>(
-    walker: &mut Walker<'_, T>,
-    op: Op,
-    levels: u32,
-    chunk_size: &Divisor,
-    columns: &[FoundColumn],
-    count: &Divisor,
-    distance: u64,
-    len: u64,
-    sink: &mut S,
-) -> Result<(), S::Fault>
-    requires some { 1 ≤ len }
-    requires inside { AreInStripes walker.old.stack chunk_size.now columns.now distance len }
-    requires count { count.now ≡ length columns.now }
-    requires sink { HasRoomFor S.stack S.room sink.old walker.old.stack len }
-    ensures walked { IsWalked S.took S.left S.stack S.room S.faults
-        result sink.old sink.new walker.old walker.new
-        (stripes_step walker.old.stack op levels chunk_size.now columns.now walker.old.state distance
-        len) len }
-    ensures bounded { (device : ℕ) → IsTargetBounded walker.old walker.new op levels device
-        (Striped chunk_size.now columns.now) distance len }
-{
-    let position = position_at(chunk_size, count, distance);
-    if len <= chunk_size.value() - position.past {
-        let column = columns[position.column];
-        let sector = sector_at(walker, column.to, column.offset, position.in_column());
-        return map_range(walker, op, levels, column.to, sector, len, sink);
-    }
-    map_chunks(
-        walker, op, levels, chunk_size, columns, count, distance, len, sink,
-    )
-}
-
-/// The same chunk by chunk. It is never inlined, so that its loop has the registers to itself.
-#[cycle(walk)]
-#[inline(never)]
-fn map_chunks<S: Sink, T: Taken>(
-    walker: &mut Walker<'_, T>,
-    op: Op,
-    levels: u32,
-    chunk_size: &Divisor,
-    columns: &[FoundColumn],
-    count: &Divisor,
-    distance: u64,
-    len: u64,
-    sink: &mut S,
-) -> Result<(), S::Fault>
-    requires some { 1 ≤ len }
-    requires inside { AreInStripes walker.old.stack chunk_size.now columns.now distance len }
-    requires count { count.now ≡ length columns.now }
-    requires sink { HasRoomFor S.stack S.room sink.old walker.old.stack len }
-    ensures walked { IsWalked S.took S.left S.stack S.room S.faults
-        result sink.old sink.new walker.old walker.new
-        (stripes_step walker.old.stack op levels chunk_size.now columns.now walker.old.state distance
-        len) len }
-    ensures bounded { (device : ℕ) → IsTargetBounded walker.old walker.new op levels device
-        (Striped chunk_size.now columns.now) distance len }
-{
-    let size = chunk_size.value();
-    let mut position = position_at(chunk_size, count, distance);
-    let mut left = len;
-    while left > 0 {
-        let part = left.min(size - position.past);
-        let column = columns[position.column];
-        let sector = sector_at(walker, column.to, column.offset, position.in_column());
-        map_range(walker, op, levels, column.to, sector, part, sink)?;
-        left -= part;
-        position = next_chunk(size, columns.len(), position);
+    walker.is_sound();
+    let mut legs = line.target.legs(distance, len);
+    let mut at = distance;
+    'legs: while let Some(leg) = legs.next_leg() {
+        map_leg(walker, op, levels, device, line, &leg, at, sink)?;
+        at += leg.len;
     }
     Ok(())
+}
+
+/// Hands over the units of a leg of a line at a distance from its start, through at most this many
+/// levels of devices below it.
+#[cycle(walk)]
+#[inline(always)]
+fn map_leg<S: Sink, T: Taken>(
+    walker: &mut Walker<'_, T>,
+    op: Op,
+    levels: u32,
+    device: DeviceId,
+    line: &FoundLine,
+    leg: &Leg<'_>,
+    distance: u64,
+    sink: &mut S,
+) -> Result<(), S::Fault>
+    requires leg { IsLegOf walker.old.stack device line.now distance leg.now }
+    requires sink { HasRoomFor S.stack S.room sink.old walker.old.stack leg.now.len }
+    ensures walked { IsWalked S.took S.left S.stack S.room S.faults
+        result sink.old sink.new walker.old walker.new
+        (line_step walker.old.stack op levels device line.now.target walker.old.state distance
+        leg.now.len) leg.now.len }
+    ensures bounded { IsLineBounded walker.old walker.new op levels device line.now distance leg.now.len }
+{
+    let len = leg.len;
+    match &leg.below {
+        Beneath::Lies { to, sector } => map_range(walker, op, levels, *to, *sector, len, sink),
+        Beneath::Zeros => hand_zeros(op, len, sink),
+        Beneath::Errors => fail(len, sink),
+        Beneath::Snapshot(snapshot) => {
+            map_snapshot(walker, op, levels, device, snapshot, distance, len, sink)
+        }
+        Beneath::Origin(origin) => map_origin(walker, op, levels, origin, distance, len, sink),
+    }
 }
 
 /// Hands over the units of sectors of a snapshot, chunk by chunk, through at most this many levels of

@@ -1,24 +1,21 @@
 //! Stretches: where the first sectors of a range are read, and how many continue like that.
 //!
-//! The walk hands pieces to a sink; this goes down the same way and returns one piece of a read, with
+//! The walk hands pieces to a sink; this goes down the same legs and returns one piece of a read, with
 //! no sink and no loop over sectors, at the cost of one look-up for each level. It serves copies, which
-//! need the origin's side and the store's side at once. A new target is an arm of
-//! `line_stretch`, as it is one of `map_line`.
+//! need the origin's side and the store's side at once.
 
-ghost use Rattle.std.specs.Prelude.{◌≡◌, ◌+◌, ◌≤◌, Some};
+ghost use Rattle.std.specs.Prelude.{◌+◌, ◌≤◌};
 ghost use Rattle.dm_table.specs.declared.requests.request.Op.TheVariants.{Read};
-ghost use Rattle.dm_stack.specs.Below.{found_at, IsTargetSound};
+ghost use Rattle.dm_stack.specs.Below.{IsLine};
 ghost use Rattle.dm_stack.specs.Description.{lower_len};
-ghost use Rattle.dm_stack.specs.declared.limits.TheConstants.{MOST_LENGTH};
 ghost use Rattle.dm_map.specs.walk.Stretch.{IsFirst};
 ghost use Rattle.dm_map.specs.walk.Range.{line_step, range_step};
 
 use crate::state::taken::Taken;
 use crate::state::walker::Walker;
 use crate::walk::chunk::{part_of_chunk, read_at};
-use crate::walk::step::{part_in, sector_at};
-use crate::walk::stripe::position_at;
-use dm_stack::{DeviceId, DiskId, FoundLine, FoundTarget, Lower};
+use crate::walk::step::part_in;
+use dm_stack::{Beneath, DeviceId, DiskId, FoundLine, Leg, Lower};
 
 /// What consecutive sectors are read from.
 #[derive(Clone, Copy, PartialEq, Eq, Drop)]
@@ -91,40 +88,26 @@ fn line_stretch<T: Taken>(
 ) -> Stretch
     requires some { 1 ≤ len }
     requires inside { distance + len ≤ line.now.len }
-    requires small { line.now.len ≤ MOST_LENGTH }
-    requires found { found_at walker.old.stack device line.now.start ≡ Some line.now }
-    requires sound { IsTargetSound walker.old.stack device line.now.start line.now.len line.now.target }
+    requires line { IsLine walker.old.stack device line.now }
     ensures { IsFirst walker.old walker.new
         (line_step walker.old.stack Read levels device line.now.target walker.old.state distance) len
         result }
 {
-    match &line.target {
-        FoundTarget::Linear { to, offset } => {
-            let sector = sector_at(walker, *to, *offset, distance);
-            first_stretch(walker, levels, *to, sector, len)
-        }
-        FoundTarget::Striped {
-            chunk: chunk_size,
-            columns,
-        } => {
-            let position = position_at(chunk_size, columns.count(), distance);
-            let columns = columns.as_slice();
-            let part = len.min(chunk_size.value() - position.past);
-            let column = columns[position.column];
-            let sector = sector_at(walker, column.to, column.offset, position.in_column());
-            first_stretch(walker, levels, column.to, sector, part)
-        }
-        FoundTarget::Zero => Stretch {
+    walker.is_sound();
+    let Leg { below, len: most } = line.target.leg(distance, len);
+    match below {
+        Beneath::Lies { to, sector } => first_stretch(walker, levels, to, sector, most),
+        Beneath::Zeros => Stretch {
             ground: Ground::Zeros,
-            len,
+            len: most,
         },
-        FoundTarget::Error => Stretch {
+        Beneath::Errors => Stretch {
             ground: Ground::Fails,
-            len,
+            len: most,
         },
-        FoundTarget::Origin(origin) => first_stretch(walker, levels, origin.to, distance, len),
-        FoundTarget::Snapshot(snapshot) => {
-            let part = part_of_chunk(snapshot.chunk as u64, distance, len);
+        Beneath::Origin(origin) => first_stretch(walker, levels, origin.to, distance, most),
+        Beneath::Snapshot(snapshot) => {
+            let part = part_of_chunk(snapshot.chunk as u64, distance, most);
             match read_at(walker, device, snapshot, distance, part) {
                 Some(source) => first_stretch(walker, levels, source.to, source.sector, part),
                 None => Stretch {

@@ -6,7 +6,7 @@
 //! work is done for each sector. What is read and where a store's sectors lie do not depend on
 //! the depth at which the snapshot was reached, so each is looked up through all levels.
 
-ghost use Rattle.std.specs.Prelude.{◌≡◌, ◌+◌, ◌*◌, ◌%◌, ◌<◌, ◌≤◌, Some, length, true};
+ghost use Rattle.std.specs.Prelude.{◌≡◌, ◌≢◌, ◌+◌, ◌*◌, ◌%◌, ◌<◌, ◌≤◌, Some, length, true};
 ghost use Rattle.dm_stack.specs.Below.{IsSnapshotSound};
 ghost use Rattle.dm_stack.specs.Description.{Description, device_len, lower_len};
 ghost use Rattle.dm_stack.specs.Store.{IsStore};
@@ -18,6 +18,7 @@ ghost use Rattle.dm_map.specs.walk.SnapshotWrites.{is_settled, reads_all, store_
 ghost use Rattle.dm_map.specs.state.Snapshots.{has_place};
 ghost use Rattle.dm_map.specs.state.State.{taken_at};
 ghost use Rattle.dm_map.specs.walk.Steps.{keep};
+ghost use Rattle.dm_map.specs.declared.walk.stretch.Ground.TheVariants.{Fails};
 ghost use Rattle.dm_map.specs.walk.Stretch.{ground_unit, IsGroundInStack};
 ghost use Rattle.dm_map.specs.state.Tables.{snapshot_at};
 ghost use Rattle.dm_map.specs.pieces.Units.{diskless_len, piece_len, units_in, units_of, IsOnDisk, IsOnDisks};
@@ -145,7 +146,8 @@ fn reads_all<T: Taken>(walker: &mut Walker<'_, T>, lower: &Lower, sector: u64, l
     true
 }
 
-/// Copies sectors of a chunk from the origin to the place that the store has for this number.
+/// Copies sectors of a chunk, which all read without an error, from the origin to the place that the
+/// store has for this number.
 fn copy_chunk<S: Sink, T: Taken>(
     walker: &mut Walker<'_, T>,
     snapshot: &FoundSnapshot,
@@ -160,6 +162,7 @@ fn copy_chunk<S: Sink, T: Taken>(
     requires chunk_small { snapshot.now.chunk ≤ MOST_SNAPSHOT_CHUNK }
     requires place { has_place walker.old.stack snapshot.now number ≡ true }
     requires part { sector % snapshot.now.chunk + len ≤ snapshot.now.chunk }
+    requires reads { reads_all walker.old.stack walker.old.state snapshot.now.origin sector len ≡ true }
     requires sink { HasRoomFor S.stack S.room sink.old walker.old.stack 0 }
     ensures { IsWalked S.took S.left S.stack S.room S.faults
         result sink.old sink.new walker.old walker.new
@@ -181,9 +184,9 @@ fn copy_chunk<S: Sink, T: Taken>(
     Ok(())
 }
 
-/// The copy of as many sectors as the target has. What can't be read is not copied, so it plays no
-/// part.
+/// The copy of as many sectors as the target has, from a stretch that can be read.
 fn copy_piece(from: &Stretch, to: &HomeStretch) -> Piece
+    requires { from.now.ground ≢ Fails }
     ensures units { units_of result
         ≡ units_in (copy_to (ground_unit from.now.ground)
         (record { disk = to.now.disk; sector = to.now.start })) to.now.len }
@@ -200,11 +203,12 @@ fn copy_piece(from: &Stretch, to: &HomeStretch) -> Piece
             to: to.disk,
             to_start: to.start,
         },
-        Ground::Zeros | Ground::Fails => Piece::Fill {
+        Ground::Zeros => Piece::Fill {
             len: to.len,
             disk: to.disk,
             start: to.start,
         },
+        Ground::Fails => unreachable!(),
     }
 }
 

@@ -8,7 +8,7 @@ use Rattle.dm_stack.proofs.StoreLayoutLemmas.{allocated_small}
 use Rattle.dm_map.specs.state.Tables.{has_room, snapshot_at}
 use Rattle.dm_map.specs.state.Walker.{StackState}
 use Rattle.dm_map.proofs.state.TableLemmas.{room_place, store_some}
-use Rattle.dm_map.proofs.state.InStack.{lower_small}
+use Rattle.dm_stack.proofs.InStack.{lower_small}
 use Rattle.dm_map.proofs.state.usage.usage_of.Goals as goal
 
 pub look-line-requires-clause-sector : goal.look-line-requires-clause-sector

@@ -1,7 +1,7 @@
 use Rattle.std.proofs.Common.{sym, ◌∙◌, arith}
 use Rattle.dm_map.proofs.walk.Chunks.{read_store, read_origin}
 use Rattle.dm_map.proofs.state.TableLemmas.{room_place}
-use Rattle.dm_map.proofs.state.InStack.{lower_small}
+use Rattle.dm_stack.proofs.InStack.{lower_small}
 use Rattle.dm_map.proofs.walk.chunk.read_at.Goals as goal
 
 pub store_sector-requires-clause-small : goal.store_sector-requires-clause-small

@@ -12,7 +12,7 @@ use Rattle.dm_map.specs.pieces.Units.{BlockUnit, Fails, units_in}
 use Rattle.dm_map.proofs.walk.Chunks.{chunk_refused, chunk_same, chunk_written, first_inside, in_store, left_taking, take_chunk_there, row_in_store, row_lost}
 use Rattle.dm_map.proofs.walk.ChunkTaking.{chunk_outcome, take_chunk_settles}
 use Rattle.dm_map.proofs.walk.Rows.{walked_as, walked_cut, walked_piece, walked_then}
-use Rattle.dm_map.proofs.state.InStack.{device_there}
+use Rattle.dm_stack.proofs.InStack.{device_there}
 use Rattle.dm_map.proofs.walk.range.write_chunk.Goals as goal
 
 pub is_refused-requires : goal.is_refused-requires

@@ -1,7 +1,7 @@
 use Rattle.std.proofs.Common.{◌+◌, sym, ◌∙◌, arith}
 use Rattle.dm_map.specs.state.State.{taken_at}
 use Rattle.dm_map.proofs.walk.Served.{chunk_more, chunk_settled, over_sound}
-use Rattle.dm_map.proofs.state.InStack.{device_there}
+use Rattle.dm_stack.proofs.InStack.{device_there}
 use Rattle.dm_map.proofs.walk.serving.settled_in.Goals as goal
 
 pub part_of_chunk-part-requires : goal.part_of_chunk-part-requires

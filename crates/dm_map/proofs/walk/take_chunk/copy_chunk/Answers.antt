@@ -1,4 +1,4 @@
-use Rattle.std.proofs.Common.{◌≡◌, ℕ, ◌+◌, ◌-◌, ◌*◌, ◌%◌, ◌<◌, ◌≤◌, refl, sym, ap, ◌∙◌, arith}
+use Rattle.std.proofs.Common.{◌≡◌, ℕ, ◌+◌, ◌-◌, ◌*◌, ◌%◌, ◌<◌, ◌≤◌, true, not, refl, sym, ap, ◌∙◌, arith}
 use Rattle.std.proofs.lemmas.Bool.{leb-true}
 use Rattle.dm_table.specs.declared.requests.request.Op.TheVariants.{Read}
 use Rattle.dm_stack.specs.declared.found_line.FoundSnapshot.{FoundSnapshot}
@@ -7,17 +7,17 @@ use Rattle.dm_stack.specs.StoreLayout.{place}
 use Rattle.dm_map.specs.declared.walk.take_chunk.HomeStretch.{HomeStretch}
 use Rattle.dm_map.specs.declared.walk.stretch.Stretch.{Stretch}
 use Rattle.dm_map.specs.walk.Homes.{IsFirstHomes, home}
-use Rattle.dm_map.specs.walk.SnapshotWrites.{copies, copy_to, home_in_store, read, row}
+use Rattle.dm_map.specs.walk.SnapshotWrites.{copies, copy_to, home_in_store, is_error, read, row}
 use Rattle.dm_map.specs.state.Snapshots.{store_sector}
 use Rattle.dm_map.specs.walk.Steps.{keep}
 use Rattle.dm_map.specs.walk.Stretch.{ground_unit, IsFirst}
 use Rattle.dm_map.specs.pieces.Units.{BlockUnit, units_in, units_of}
 use Rattle.dm_map.specs.state.Walker.{StackState, WalkerView, stack_state}
 use Rattle.dm_map.specs.walk.Range.{range_step}
-use Rattle.dm_map.proofs.walk.ChunkCopies.{copy_part}
+use Rattle.dm_map.proofs.walk.ChunkCopies.{copy_part, next_reads}
 use Rattle.dm_map.proofs.walk.Rows.{added_then, none_added, walked_cut}
-use Rattle.dm_map.proofs.state.InStack.{lower_small}
-use Rattle.dm_map.proofs.walk.UnitRows.{left_row, took_row}
+use Rattle.dm_stack.proofs.InStack.{lower_small}
+use Rattle.dm_map.proofs.walk.UnitRows.{bad_on, left_row, took_row}
 use Rattle.dm_map.proofs.walk.take_chunk.copy_chunk.Goals as goal
 
 pub store_sector-to-requires-clause-small : goal.store_sector-to-requires-clause-small
@@ -39,6 +39,15 @@ copy_next : (before now then : WalkerView) (snapshot : FoundSnapshot) (number se
 copy_next before now then snapshot number sector len left from to source first some part within same from_is to_is stretch homes =
     copy_part before now snapshot number sector (len - left) from to source.len source.ground first some (omega (arith, part, within, homes.most, stretch.most)) same (omega (arith, from_is, within)) (omega (arith, to_is, within)) stretch.read homes.most
     (λ i more. ap (λ (v : StackState). home v.stack snapshot.store (to + i)) (sym (stretch.same ∙ same)) ∙ homes.homes i more)
+
+pub copy_piece-requires : goal.copy_piece-requires
+copy_piece-requires g c fails =
+    let a = c.args in let w = a.walker.now in let l = c.loop-left in let s = c.first_stretch-source in let done = a.len - l.left in
+    let on : l.from ≡ a.sector + done = omega (arith, l.invariant.from, l.invariant.within) in
+    let next = next_reads w l.walker a.snapshot.now.origin a.sector done l.from s.result.len s.result.ground l.invariant.going_on.same on s.ensures.read in
+    let bad = bad_on (read w.stack w.state a.snapshot.now.origin) a.sector done s.result.len a.len (ground_unit s.result.ground) (omega (arith, s.ensures.most, l.invariant.within)) s.ensures.some next (ap (λ ground. is_error (ground_unit ground)) fails) in
+    let reads = c.requires.reads in
+    absurd (let none : not true ≡ true = ap not (sym bad) ∙ reads in cc)
 
 pub loop-left-init : goal.loop-left-init
 loop-left-init g c =

@@ -5,7 +5,7 @@ use Rattle.dm_map.specs.walk.SnapshotWrites.{any_error, is_error, read, row}
 use Rattle.dm_map.specs.walk.Stretch.{ground_unit}
 use Rattle.dm_map.proofs.walk.ChunkCopies.{next_reads}
 use Rattle.dm_map.proofs.walk.Rows.{added_then}
-use Rattle.dm_map.proofs.state.InStack.{lower_small}
+use Rattle.dm_stack.proofs.InStack.{lower_small}
 use Rattle.dm_map.proofs.walk.UnitRows.{bad_on, good_on}
 use Rattle.dm_map.proofs.walk.take_chunk.reads_all.Goals as goal
 

@@ -2,7 +2,7 @@ use Rattle.std.proofs.Common.{◌≡◌, ℕ, ◌+◌, ◌*◌, ◌%◌, ◌<◌
 use Rattle.std.proofs.lemmas.Nat.{mod-mul-add}
 use Rattle.dm_stack.specs.Description.{Description}
 use Rattle.dm_map.specs.state.Walker.{StackState}
-use Rattle.dm_map.proofs.state.InStack.{device_there}
+use Rattle.dm_stack.proofs.InStack.{device_there}
 use Rattle.dm_map.proofs.walk.take_chunk.take_chunk.Goals as goal
 
 pub len-end-requires : goal.len-end-requires

@@ -7,7 +7,7 @@ use Rattle.dm_map.specs.pieces.Units.{BlockUnit, WriteOf, units_in}
 use Rattle.dm_map.specs.state.Walker.{StackState, WalkerView}
 use Rattle.dm_map.proofs.walk.ChunkCopies.{next_writes}
 use Rattle.dm_map.proofs.walk.Rows.{added_then, walked_cut}
-use Rattle.dm_map.proofs.state.InStack.{lower_small}
+use Rattle.dm_stack.proofs.InStack.{lower_small}
 use Rattle.dm_map.proofs.walk.UnitRows.{left_row, took_row}
 use Rattle.dm_map.proofs.walk.take_chunk.write_store.Goals as goal
 

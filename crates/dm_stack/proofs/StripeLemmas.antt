@@ -1,17 +1,16 @@
 -- Stripes: the column of a sector is one of the line's, its sector there is one of the column's share, and the next chunk is on the next column.
-use Rattle.std.proofs.Common.{◌≡◌, ℕ, zero, suc, ◌+◌, ◌-◌, ◌*◌, ◌/◌, ◌%◌, ◌<◌, ◌≤◌, List, [], ◌∷◌, Option, Some, length, get_or, refl, sym, ap, subst, ◌∙◌, arith}
-use Rattle.std.specs.Prelude.{◌^◌, slice_get}
+use Rattle.std.proofs.Common.{◌≡◌, ℕ, zero, suc, false, ◌+◌, ◌-◌, ◌*◌, ◌/◌, ◌%◌, ◌<◌, ◌≤◌, List, [], ◌∷◌, Option, Some, length, get_or, refl, sym, ap, subst, ◌∙◌, arith}
+use Rattle.std.specs.Prelude.{◌==◌, slice_get}
+use Rattle.std.proofs.lemmas.Bool.{ne_eqb}
 use Rattle.std.specs.List.{AllByRecursion}
 use Rattle.std.proofs.lemmas.Nat.{div-add-mod', div-mul-add, mod-mul-add, row_fits}
 use Rattle.std.proofs.lemmas.Option.{slice_get_read}
 use Rattle.std.proofs.Math.Nat.{div-le_self, div-lt_iff_lt-mul, mul-le-mul_right}
 use Rattle.dm_stack.specs.declared.found_columns.FoundColumn.{FoundColumn}
-use Rattle.dm_stack.specs.declared.found_line.FoundTarget.{FoundTarget}
-use Rattle.dm_stack.specs.declared.found_line.FoundTarget.TheVariants.{Striped}
 use Rattle.dm_stack.specs.Description.{Description, lower_len}
-use Rattle.dm_stack.specs.Below.{column_of, in_column, below_stripes, below_column, IsTargetSound, Lies}
-use Rattle.dm_map.specs.declared.walk.stripe.StripePosition.{StripePosition}
-use Rattle.dm_map.specs.walk.Stripe.{AreInStripes, IsStripePosition}
+use Rattle.dm_stack.specs.Below.{AreStripes, column_of, in_column, below_stripes, below_column, Lies}
+use Rattle.dm_stack.specs.declared.stripe_position.StripePosition.{StripePosition}
+use Rattle.dm_stack.specs.StripePosition.{IsStripePosition}
 
 -- what is left of a chunk lies in its column's share of the line
 pub in_column_room : (chunk_size count column_len chunks len distance : ℕ) → 0 < chunk_size → 0 < count → len ≡ count * column_len → column_len ≡ chunks * chunk_size → distance < len
@@ -45,25 +44,18 @@ at_index P (y ∷ ys) zero x each e = let same : y ≡ x = cc in subst (λ z. P 
 at_index P (y ∷ ys) (suc i) x each e = at_index P ys i x each.1 e
 
 -- the column of a sector, as one of the columns
-column_got : (chunk_size distance : ℕ) (columns : List FoundColumn) (column : FoundColumn) → 0 < length columns → column ≡ get_or columns (column_of chunk_size (length columns) distance) column → slice_get columns (column_of chunk_size (length columns) distance) ≡ Some column
+pub column_got : (chunk_size distance : ℕ) (columns : List FoundColumn) (column : FoundColumn) → 0 < length columns → column ≡ get_or columns (column_of chunk_size (length columns) distance) column → slice_get columns (column_of chunk_size (length columns) distance) ≡ Some column
 column_got chunk_size distance columns column some e =
     let position : column_of chunk_size (length columns) distance < length columns = omega arith in
     slice_get_read columns (length columns) _ column refl position e
 
--- sectors of a line whose target is stripes
-pub in_stripes : (stack : Description) (device start line_len distance len chunk_size : ℕ) (columns : List FoundColumn) (target : FoundTarget) → target ≡ Striped chunk_size columns → IsTargetSound stack device start line_len target → distance + len ≤ line_len → line_len ≤ 2 ^ 50
-    → AreInStripes stack chunk_size columns distance len
-in_stripes stack device start line_len distance len chunk_size columns target is sound inside small = record { line_len = line_len; stripes = subst (λ (t : FoundTarget). IsTargetSound stack device start line_len t) is sound; inside = inside; small = small }
-
--- n sectors of what is left of a chunk lie in what their column names
-pub column_inside : (stack : Description) (chunk_size distance len done n : ℕ) (columns : List FoundColumn) (column : FoundColumn) (position : StripePosition) → AreInStripes stack chunk_size columns distance len → done < len
-    → IsStripePosition chunk_size (length columns) (distance + done) position → n ≤ chunk_size - position.past → column ≡ get_or columns position.column column → column.offset + (position.chunk_start + position.past) + n ≤ lower_len stack column.to
-column_inside stack chunk_size distance len done n columns column position lies some at most is =
-    let stripes = lies.stripes in
-    let got = column_got chunk_size (distance + done) columns column stripes.some (subst (λ (i : ℕ). column ≡ get_or columns i column) at.column is) in
-    let share = at_index (λ c. c.offset + stripes.column_len ≤ lower_len stack c.to) columns _ column stripes.inside got in
-    let low = in_column_room chunk_size (length columns) stripes.column_len stripes.chunks lies.line_len (distance + done) stripes.chunk_some stripes.some stripes.shares stripes.whole (omega (arith, lies.inside, some)) in
-    omega (arith, share, low, most, at.chunk_start, at.past)
+-- a sector of a striped line is one of those that its column names
+pub column_inside : (stack : Description) (len chunk_size distance index : ℕ) (columns : List FoundColumn) (column : FoundColumn) → AreStripes stack len chunk_size columns → distance < len → slice_get columns index ≡ Some column
+    → column.offset + in_column chunk_size (length columns) distance + (chunk_size - distance % chunk_size) ≤ lower_len stack column.to
+column_inside stack len chunk_size distance index columns column stripes inside is =
+    let share = at_index (λ c. c.offset + stripes.column_len ≤ lower_len stack c.to) columns index column stripes.inside is in
+    let room = in_column_room chunk_size (length columns) stripes.column_len stripes.chunks len distance stripes.chunk_some stripes.some stripes.shares stripes.whole inside in
+    omega (arith, share, room)
 
 -- what lies below a sector of what is left of a chunk
 pub below_chunk : (chunk_size distance i : ℕ) (columns : List FoundColumn) (column : FoundColumn) (position : StripePosition) → 0 < length columns → 0 < chunk_size → IsStripePosition chunk_size (length columns) distance position
@@ -92,6 +84,16 @@ after_chunk chunk_size distance some =
       number = ap (λ n. n / chunk_size) at ∙ div-mul-add (distance / chunk_size + 1) chunk_size 0 some;
       past = ap (λ n. n % chunk_size) at ∙ mod-mul-add (distance / chunk_size + 1) chunk_size 0 some;
     }
+
+-- the first sector after a chunk is in another one
+pub other_chunk : (chunk_size at n : ℕ) → 0 < chunk_size → n ≡ chunk_size - at % chunk_size → ((at + n - 1) / chunk_size == (at + n) / chunk_size) ≡ false
+other_chunk chunk_size at n some is =
+    let next = (after_chunk chunk_size at some).number in
+    let last = (in_chunk chunk_size at (n - 1) some (omega (arith, is))).number in
+    let e : at + n - 1 ≡ at + (n - 1) = omega (arith, is) in
+    let here : (at + n) / chunk_size ≡ at / chunk_size + 1 = ap (λ (k : ℕ). (at + k) / chunk_size) is ∙ next in
+    let before : (at + n - 1) / chunk_size ≡ at / chunk_size = ap (λ (k : ℕ). k / chunk_size) e ∙ last in
+    ne_eqb ((at + n - 1) / chunk_size) ((at + n) / chunk_size) (λ same. omega (arith, here, before, same))
 
 -- on the next column
 pub position_within : (chunk_size count distance : ℕ) (position : StripePosition) → 0 < chunk_size → IsStripePosition chunk_size count distance position → position.column + 1 < count

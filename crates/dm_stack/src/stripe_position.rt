@@ -5,9 +5,9 @@
 //! is in this file alone.
 
 ghost use Rattle.std.specs.Prelude.{◌≡◌, ◌+◌, ◌-◌, ◌<◌, ◌^◌, ℕ};
-ghost use Rattle.dm_map.specs.walk.Stripe.{IsStripePosition};
+ghost use Rattle.dm_stack.specs.StripePosition.{IsStripePosition};
 
-use dm_stack::Divisor;
+use crate::divisor::Divisor;
 
 /// A sector of a striped line: its column, where its chunk starts in that column, and how many
 /// sectors of the chunk come before it.

@@ -1,0 +1,98 @@
+-- Legs: what a target without a state has below its sectors goes on in a row as far as a leg does, and lies inside what it names.
+use Rattle.std.proofs.Common.{◌≡◌, ℕ, ◌+◌, ◌-◌, ◌^◌, ◌<◌, ◌≤◌, false, List, Option, Some, None, length, get_or, refl, sym, ap, subst, ◌∙◌, arith}
+use Rattle.std.specs.Prelude.{min, slice_get}
+use Rattle.dm_stack.specs.declared.found_columns.FoundColumn.{FoundColumn}
+use Rattle.dm_stack.specs.declared.found_line.FoundTarget.{FoundTarget}
+use Rattle.dm_stack.specs.declared.found_line.FoundTarget.TheVariants as found
+use Rattle.dm_stack.specs.declared.id.Lower.{Lower}
+use Rattle.dm_stack.specs.declared.leg.Beneath.{Beneath}
+use Rattle.dm_stack.specs.declared.leg.Beneath.TheVariants as beneath
+use Rattle.dm_stack.specs.declared.leg.Leg.{Leg}
+use Rattle.dm_stack.specs.declared.stripe_position.StripePosition.{StripePosition}
+use Rattle.dm_stack.specs.Below.{Below, Lies, below_column, below_plain, column_of, in_column, has_state, AreStripes, IsTargetSound}
+use Rattle.dm_stack.specs.Description.{Description, lower_len}
+use Rattle.dm_stack.specs.Leg.{AreInside, AreLeft, GoesOn, HasSectors, IsBeneath, IsLeg}
+use Rattle.dm_stack.specs.StripePosition.{IsStripePosition}
+use Rattle.dm_stack.proofs.InStack.{lower_small}
+use Rattle.dm_stack.proofs.StripeLemmas.{below_chunk, column_got, column_inside, in_chunk, other_chunk}
+
+-- Sectors that a line has
+
+pub later_sectors : (target : FoundTarget) (distance m n : ℕ) → m ≤ n → HasSectors target distance n → HasSectors target (distance + m) (n - m)
+later_sectors target distance m n few has = record { stack = has.stack; sound = has.sound; device = has.device; start = has.start; line_len = has.line_len; lies = has.lies; inside = omega (arith, few, has.inside); small = has.small }
+
+same_sectors : (target other : FoundTarget) (distance n : ℕ) → target ≡ other → HasSectors target distance n → HasSectors other distance n
+same_sectors target other distance n is has = subst (λ (t : FoundTarget). HasSectors t distance n) is has
+
+pub shorter : (target : FoundTarget) (distance m n : ℕ) (row : ℕ → Below) → m ≤ n → GoesOn target distance n row → GoesOn target distance m row
+shorter target distance m n row few on = record { plain = on.plain; below = λ i within. on.below i (omega (arith, few, within)); chunk = λ i within. on.chunk i (omega (arith, few, within)) }
+
+-- where they lie in another device or a disk, that is no longer than a line may be
+pub linear_small : (target : FoundTarget) (to : Lower) (offset distance n : ℕ) → target ≡ found.Linear to offset → HasSectors target distance n → offset + distance ≤ 2 ^ 50
+linear_small target to offset distance n is has =
+    let there = same_sectors target (found.Linear to offset) distance n is has in
+    let inside : offset + there.line_len ≤ lower_len there.stack to = there.lies in
+    let small = lower_small there.stack to there.sound in
+    omega (arith, inside, small, there.inside)
+
+-- Stripes
+
+pub column_small : (chunk_size distance n : ℕ) (columns : List FoundColumn) (position : StripePosition) (column : FoundColumn) → 1 ≤ n → HasSectors (found.Striped chunk_size columns) distance n → IsStripePosition chunk_size (length columns) distance position
+    → column ≡ get_or columns position.column column → column.offset + (position.chunk_start + position.past) ≤ 2 ^ 50
+column_small chunk_size distance n columns position column some has at read =
+    let stripes : AreStripes has.stack has.line_len chunk_size columns = has.lies in
+    let got = column_got chunk_size distance columns column stripes.some (subst (λ (i : ℕ). column ≡ get_or columns i column) at.column read) in
+    let inside = column_inside has.stack has.line_len chunk_size distance _ columns column stripes (omega (arith, some, has.inside)) got in
+    let small = lower_small has.stack column.to has.sound in
+    omega (arith, inside, small, at.chunk_start, at.past)
+
+pub striped_leg : (chunk_size distance most n sector : ℕ) (columns : List FoundColumn) (position : StripePosition) (column : FoundColumn) → 1 ≤ most → HasSectors (found.Striped chunk_size columns) distance most → IsStripePosition chunk_size (length columns) distance position
+    → column ≡ get_or columns position.column column → sector ≡ column.offset + (position.chunk_start + position.past) → n ≡ min most (chunk_size - position.past) → IsLeg (found.Striped chunk_size columns) distance most (record { below = beneath.Lies column.to sector; len = n })
+striped_leg chunk_size distance most n sector columns position column some has at read sector_is len_is =
+    let stripes : AreStripes has.stack has.line_len chunk_size columns = has.lies in
+    let chunk_some = stripes.chunk_some in
+    record {
+      some = omega (arith, some, len_is, at.past, chunk_some);
+      within = omega (arith, len_is);
+      is = record {
+        plain = refl;
+        below = λ i within. below_chunk chunk_size distance i columns column position stripes.some chunk_some at (omega (arith, within, len_is)) read ∙ ap (λ (p : ℕ). Lies column.to (p + i)) (sym sector_is);
+        chunk = λ i within. ap (λ (c : ℕ). Some c) (in_chunk chunk_size distance i chunk_some (omega (arith, within, len_is, at.past))).number;
+      };
+      striped = λ less. refl;
+      next = λ less. other_chunk chunk_size distance n chunk_some (omega (arith, len_is, less, at.past));
+    }
+
+-- what is left after one
+pub striped_next : (chunk_size distance most n : ℕ) (columns : List FoundColumn) (position next : StripePosition) → n ≤ most → n ≡ min most (chunk_size - position.past) → HasSectors (found.Striped chunk_size columns) distance most
+    → IsStripePosition chunk_size (length columns) (distance + (chunk_size - position.past)) next → AreLeft chunk_size columns next (distance + n) (most - n)
+striped_next chunk_size distance most n columns position next within len_is has at = record {
+  there = later_sectors (found.Striped chunk_size columns) distance n most within has;
+  at = λ more. let e : chunk_size - position.past ≡ n = omega (arith, len_is, more) in rw e at at;
+}
+
+-- What a leg lies on has its sectors
+
+plain_inside : (stack : Description) (device start len distance : ℕ) (target : FoundTarget) (to : Lower) (sector : ℕ) → IsTargetSound stack device start len target → distance < len → has_state target ≡ false → below_plain target distance ≡ Lies to sector → sector < lower_len stack to
+plain_inside stack device start len distance (found.Linear lower offset) to sector sound inside plain is =
+    let lower_is : lower ≡ to = cc in let at : offset + distance ≡ sector = cc in
+    subst (λ (l : Lower). sector < lower_len stack l) lower_is (omega (arith, sound, inside, at))
+plain_inside stack device start len distance (found.Striped chunk_size columns) to sector sound inside plain is = column_of_sector (slice_get columns (column_of chunk_size (length columns) distance)) refl is
+  where
+    column_of_sector : (column : Option FoundColumn) → slice_get columns (column_of chunk_size (length columns) distance) ≡ column → below_column column (in_column chunk_size (length columns) distance) ≡ Lies to sector → sector < lower_len stack to
+    column_of_sector None at e = absurd cc
+    column_of_sector (Some column) at e =
+        let lower_is : column.to ≡ to = cc in let sector_is : column.offset + in_column chunk_size (length columns) distance ≡ sector = cc in
+        let room = column_inside stack len chunk_size distance _ columns column sound inside at in
+        let some = sound.chunk_some in
+        subst (λ (l : Lower). sector < lower_len stack l) lower_is (omega (arith, room, sector_is, some))
+plain_inside stack device start len distance target to sector sound inside plain is = absurd cc
+
+leg_inside : (stack : Description) (device start len distance most n : ℕ) (target : FoundTarget) (below : Beneath) → 1 ≤ n → n ≤ most → IsBeneath target distance n below → IsTargetSound stack device start len target → distance + most ≤ len → AreInside stack n below
+leg_inside stack device start len distance most n target (beneath.Lies to sector) some few is sound inside =
+    let last = plain_inside stack device start len (distance + (n - 1)) target to (sector + (n - 1)) sound (omega (arith, some, few, inside)) is.plain (is.below (n - 1) (omega (arith, some))) in
+    omega (arith, last, some)
+leg_inside stack device start len distance most n target below some few is sound inside = tt
+
+pub leg_lies_inside : (stack : Description) (device start len distance most : ℕ) (target : FoundTarget) (leg : Leg) → IsLeg target distance most leg → IsTargetSound stack device start len target → distance + most ≤ len → AreInside stack leg.len leg.below
+leg_lies_inside stack device start len distance most target leg is sound inside = leg_inside stack device start len distance most leg.len target leg.below is.some is.within is.is sound inside

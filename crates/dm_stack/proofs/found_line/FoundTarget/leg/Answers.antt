@@ -1,0 +1,16 @@
+use Rattle.std.proofs.Common.{subst, arith}
+use Rattle.dm_stack.specs.Leg.{IsLeg, LegsView}
+use Rattle.dm_stack.proofs.LegLemmas.{leg_lies_inside, linear_small}
+use Rattle.dm_stack.proofs.found_line.FoundTarget.leg.Goals as goal
+
+pub overflow_add-result : goal.overflow_add-result
+overflow_add-result c =
+    let a = c.args in
+    let small = linear_small a.self.now c.in-Linear.to c.in-Linear.offset a.distance a.most c.in-Linear.is c.requires.there in
+    omega (arith, small)
+
+pub returns-in-Some-clause-inside : goal.returns-in-Some-clause-inside
+returns-in-Some-clause-inside c stack device start len sound inside =
+    let a = c.args in
+    let is = subst (λ (v : LegsView). IsLeg v.target v.distance v.left c.in-Some.leg) c.legs-legs.ensures c.in-Some.ensures.leg in
+    leg_lies_inside stack device start len a.distance a.most a.self.now c.in-Some.leg is sound inside
