@@ -1,4 +1,5 @@
 pub mod Apart
+pub mod ApartLemmas
 pub mod BucketLemmas
 pub mod ByDevice
 pub mod ChunkLemmas
@@ -10,6 +11,7 @@ pub mod FirstFaults
 pub mod HandedOn
 pub mod InStack
 pub mod Inverses
+pub mod KeyLemmas
 pub mod LayoutLemmas
 pub mod LegLemmas
 pub mod LineSearchLemmas

@@ -3,6 +3,7 @@ pub mod Claims
 pub mod Depth
 pub mod Description
 pub mod DiskText
+pub mod FrontNames
 pub mod Graph
 pub mod Leg
 pub mod LineSearch

@@ -4,6 +4,8 @@ use Rattle.dm_table.specs.declared.tables.table.DeviceSpec.{DeviceSpec}
 use Rattle.dm_stack.specs.declared.found_table.FoundDevice.{FoundDevice}
 use Rattle.dm_stack.specs.Description.{Description, end_of}
 use Rattle.dm_stack.specs.Below.{found_line}
+use Rattle.dm_stack.specs.FrontNames.{ArePlaces}
+use Rattle.dm_stack.specs.declared.front_names.Place.{Place}
 use Rattle.dm_stack.specs.Soundness.{IsSound}
 use Rattle.dm_stack.specs.DiskText.{disk_text}
 use Rattle.dm_stack.specs.Snapshots.{snapshots}
@@ -18,8 +20,8 @@ pub record IsLength (len : ℕ) : Type 0 where
   pub some : 1 ≤ len
   pub small : len ≤ 2 ^ 50
 
--- a sound description, with its names, its devices by ids, its depth, its snapshots and the texts of its disks
-pub record IsLoaded (stack : Description) (devices disks : List (List ℕ)) (by_ids : List FoundDevice) (deepest : ℕ) (over : List ℕ) (with_spaces : List (List ℕ)) : Type 0 where
+-- a sound description, with its names, its devices by ids, its depth, its snapshots, the texts of its disks and the places of its names
+pub record IsLoaded (stack : Description) (devices disks : List (List ℕ)) (by_ids : List FoundDevice) (deepest : ℕ) (over : List ℕ) (with_spaces : List (List ℕ)) (places : List Place) : Type 0 where
   pub sound : IsSound stack
   pub device_names : devices ≡ map (λ device. device.name) stack.devices
   pub disk_names : disks ≡ map (λ disk. disk.name) stack.disks
@@ -27,3 +29,4 @@ pub record IsLoaded (stack : Description) (devices disks : List (List ℕ)) (by_
   pub depth : deepest ≡ stack_depth stack
   pub snapshots : over ≡ snapshots stack
   pub texts : with_spaces ≡ map (λ disk. disk_text disk.name) stack.disks
+  pub fronts : ArePlaces stack.devices places

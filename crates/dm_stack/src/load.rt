@@ -16,6 +16,7 @@ use crate::depth::{check_depths, deepest};
 use crate::disk_text::{DiskText, disk_texts};
 use crate::faults::or_out_of_memory;
 use crate::found_table::FoundDevice;
+use crate::front_names::FrontNames;
 use crate::graph::{depths, first_cycle};
 use crate::id::DeviceId;
 use crate::indexed::Indexed;
@@ -40,6 +41,7 @@ pub(crate) struct Checked {
     pub depth: u32,
     pub snapshots: Vec<DeviceId>,
     pub texts: Vec<DiskText>,
+    pub fronts: FrontNames,
 }
 
 /// The depth of each device, also as a part of a store, and the first that reaches itself.
@@ -61,7 +63,7 @@ pub(crate) fn check(
 ) -> Result<Checked, LoadFault>
     ensures loaded { IfOk result (λ checked. IsLoaded (described devices.now disks.now)
         checked.names.devices checked.names.disks checked.found.items checked.depth
-        checked.snapshots.items checked.texts.items) }
+        checked.snapshots.items checked.texts.items checked.fronts) }
     ensures fault { IfErr result (λ fault.
         IsRefusedBy (described devices.now disks.now) fault ⊎ IsMemoryFault Source fault) }
 {
@@ -83,12 +85,14 @@ pub(crate) fn check(
     let found = or_out_of_memory(found_devices(alloc, &stack))?;
     let snapshots = or_out_of_memory(snapshots(alloc, devices))?;
     let texts = or_out_of_memory(disk_texts(alloc, disks))?;
+    let fronts = or_out_of_memory(FrontNames::new(alloc, devices))?;
     Ok(Checked {
         names,
         found,
         depth: deepest(&graph.depths),
         snapshots,
         texts,
+        fronts,
     })
 }
 

@@ -1,4 +1,3 @@
-pub mod DeviceNames
 pub mod FewestLemmas
 pub mod FitsLemmas
 pub mod Fronts

@@ -1,6 +1,5 @@
 pub mod Join
 pub mod RangeText
-pub mod LastDevice
 pub mod LineEnds
 pub mod Lines
 pub mod Mapped

@@ -4,9 +4,12 @@
 //! says what becomes of a request, and why it stops; its relations speak of requests in a row, so
 //! the reader of lines knows nothing of answers.
 
-ghost use Rattle.std.specs.Prelude.{List, [], ◌∷◌, ◌++◌, OnOk, IfErr};
+ghost use Rattle.std.specs.Prelude.{◌≡◌, ◌+◌, ℕ, List, [], ◌∷◌, ◌++◌, OnOk, IfErr, IfSome, drop, take, true};
+ghost use Rattle.dm_table.specs.words.Bytes.{space};
+ghost use Rattle.dm_table.specs.words.Name.{is_device_name};
 ghost use Rattle.dm_stream.specs.Requests.{NumberedRequest, numbered};
 
+use dm_stack::DeviceId;
 use dm_table::Request;
 
 /// Who answers requests, one after the other.
@@ -17,6 +20,9 @@ pub trait Handler {
     /// Why a request was not answered to its end.
     type Fault: Drop;
 
+    /// A device is known to be that of a name.
+    ghost knows: { Self → ℕ → List ℕ → Type 0 } = { λ h device name. Unit {0} };
+
     /// A request can come.
     ghost ready: { Self → Self.Source → Type 0 };
 
@@ -25,6 +31,19 @@ pub trait Handler {
 
     /// From the first states to the second it answered these requests, and stopped at the last one.
     ghost stopped: { Self → Self.Source → List NumberedRequest → Self.Fault → Self → Self.Source → Type 0 };
+
+    /// The device whose name stands at the front of a text, up to a space, and how long the name is. `None`
+    /// says nothing of the text.
+    ///
+    /// Where nothing is found, as by whoever finds devices in another way, a request is read more slowly.
+    fn front(&self, text: &[u8]) -> Option<(DeviceId, usize)>
+        ensures known { IfSome result (λ found. knows self.now found.0 (take found.1 text.now)) }
+        ensures name { IfSome result (λ found. is_device_name (take found.1 text.now) ≡ true) }
+        ensures space { IfSome result
+            (λ found. text.now ≡ take found.1 text.now ++ space ∷ drop (found.1 + 1) text.now) }
+    {
+        None
+    }
 
     /// Answers a request, or stops at it.
     fn handle(
@@ -38,6 +57,24 @@ pub trait Handler {
         ensures ready { OnOk result (ready self.new source.new) }
         ensures stopped { IfErr result
             (λ fault. stopped self.old source.old (numbered request.now ∷ []) fault self.new source.new) };
+
+    /// The same for a request whose device was found where its name stood.
+    fn handle_known(
+        &mut self,
+        source: &mut Self::Source,
+        request: &Request<'_>,
+        device: DeviceId,
+    ) -> Result<(), Self::Fault>
+        requires ready { ready self.old source.old }
+        requires known { knows self.old device request.now.device.now }
+        ensures answered { OnOk result
+            (answered self.old source.old (numbered request.now ∷ []) self.new source.new) }
+        ensures ready { OnOk result (ready self.new source.new) }
+        ensures stopped { IfErr result
+            (λ fault. stopped self.old source.old (numbered request.now ∷ []) fault self.new source.new) }
+    {
+        self.handle(source, request)
+    }
 
     /// No request is at hand, and reading one may have to wait: the answers gathered so far can be passed on.
     /// Nothing is answered.

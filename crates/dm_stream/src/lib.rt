@@ -11,7 +11,6 @@ mod ending;
 mod handler;
 mod held_piece;
 mod join;
-mod last_device;
 mod letter;
 mod line_buffer;
 mod line_ends;

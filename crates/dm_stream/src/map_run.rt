@@ -20,7 +20,6 @@ ghost use Rattle.dm_table.specs.io.Progress.{HasWritten, HasWrittenTo, IsReadOn,
 use crate::closing::close_and_tell;
 use crate::ending::{Ending, NotMapped, RequestWord};
 use crate::join::Join;
-use crate::last_device::LastDevice;
 use crate::message::message_of;
 use crate::request_mapper::RequestMapper;
 use crate::requests::handle_requests;
@@ -47,14 +46,14 @@ fn map_lines<'s, T: Taken, R: Input, W: Output>(
     mapper: &mut Mapper<'s, T>,
     handler: &mut RequestMapper<'_, 's, T, W>,
 ) -> Ending
-    requires { IsReady handler.old.devices mapper.old handler.old.join.held }
+    requires { IsReady handler.old.stack.now mapper.old handler.old.join.held }
     ensures mapper { StaysMapper mapper.old mapper.new result }
     ensures nothing { handler.new.join.held.piece ≡ None }
     ensures reads { IsReadOn (R.past requests.old) (R.past requests.new) }
     ensures writes { HasWrittenTo W.past handler.old.join.writer handler.new.join.writer
         (write_faults result) }
     ensures mapped { IsMapped
-        (requests_outcome handler.old.devices mapper.old.state
+        (requests_outcome handler.old.stack.now mapper.old.state
         (delivery (R.past requests.old) (R.past requests.new)))
         (written_since (W.past handler.old.join.writer.now) (W.past handler.new.join.writer.now))
         mapper.new.state result }
@@ -83,7 +82,7 @@ fn map_requests<'s, T: Taken, R: Input, W: Output>(
     ensures met { HasMet result (R.past requests.old) (R.past requests.new) }
 {
     let mut handler = RequestMapper {
-        devices: LastDevice::new(stack),
+        stack,
         join: Join::new(stack, output),
         taken: PhantomData,
     };

@@ -1,12 +1,13 @@
 //! Mapping requests to an output: the handler of a run.
 //!
-//! It finds a request's device, and hands its units through a mapper to a join, which writes them.
-//! `specs/Outcome.antt` says what is written, and `specs/Mapped.antt` what one request adds to it.
+//! It finds a request's device, where that isn't known yet, and hands its units through a mapper to a
+//! join, which writes them. `specs/Outcome.antt` says what is written, and `specs/Mapped.antt` what one
+//! request adds to it.
 
-ghost use Rattle.std.specs.Prelude.{◌≡◌, ◌<◌, None, false, length, OnOk};
+ghost use Rattle.std.specs.Prelude.{◌≡◌, ◌<◌, None, Some, false, length, OnOk};
 ghost use Rattle.dm_stream.specs.Mapped.{IsReady, HasAnswered, HasStopped, failed_writes};
 ghost use Rattle.dm_stream.specs.laws.Mapped.{answered_none, answered_more, stopped_more};
-ghost use Rattle.dm_stream.specs.Outcome.{request_answer, step_of};
+ghost use Rattle.dm_stream.specs.Outcome.{device_of, request_answer, step_of};
 ghost use Rattle.dm_table.specs.io.Progress.{HasWrittenTo, IsSameReference, Wrote};
 ghost use Rattle.dm_table.specs.laws.Progress.{written_to_none, written_to_more};
 ghost use Rattle.dm_stream.specs.Requests.{numbered};
@@ -15,9 +16,8 @@ ghost use Rattle.std.proofs.Common.{refl, subst, ◌∙◌};
 use crate::ending::NotMapped;
 use crate::handler::Handler;
 use crate::join::Join;
-use crate::last_device::LastDevice;
 use dm_map::{MapFault, Mapper, Taken};
-use dm_stack::DeviceId;
+use dm_stack::{DeviceId, Stack};
 use dm_table::{OutFault, Output, Request};
 use std::marker::PhantomData;
 
@@ -55,7 +55,7 @@ fn map_request<T: Taken, W: Output>(
 /// Finds the devices of requests, and writes the pieces that a mapper makes of them.
 #[derive(Drop)]
 pub(crate) struct RequestMapper<'m, 's, T, W> {
-    pub(crate) devices: LastDevice<'s>,
+    pub(crate) stack: &'s Stack,
     pub(crate) join: Join<'m, W>,
     /// How the mapper keeps taken chunks.
     pub(crate) taken: PhantomData<T>,
@@ -66,32 +66,34 @@ impl<'s, T: Taken, W: Output> Handler for RequestMapper<'_, 's, T, W> {
 
     type Fault = NotMapped;
 
-    ghost ready = { λ h mapper. IsReady h.devices mapper h.join.held };
+    ghost knows = { λ h device name. device_of h.stack.now name ≡ Some device };
+
+    ghost ready = { λ h mapper. IsReady h.stack.now mapper h.join.held };
 
     ghost answered = { λ old before requests new after.
-        HasAnswered old.devices before.state after.state requests (W.past old.join.writer.now).written
+        HasAnswered old.stack.now before.state after.state requests (W.past old.join.writer.now).written
         (W.past new.join.writer.now).written
         × HasWrittenTo W.past old.join.writer new.join.writer 0
-        × (new.devices ≡ old.devices) × (after.stack ≡ before.stack) };
+        × (new.stack ≡ old.stack) × (after.stack ≡ before.stack) };
 
     ghost stopped = { λ old before requests fault new after.
-        HasStopped old.devices fault before.state after requests (W.past old.join.writer.now).written
+        HasStopped old.stack.now fault before.state after requests (W.past old.join.writer.now).written
         (W.past new.join.writer.now).written
         × HasWrittenTo W.past old.join.writer new.join.writer (failed_writes fault)
-        × (new.devices ≡ old.devices) × (after.stack ≡ before.stack)
+        × (new.stack ≡ old.stack) × (after.stack ≡ before.stack)
         × (new.join.held.piece ≡ None) };
 
     ghost answered_none = { λ h mapper. (
-      answered_none h.devices mapper.state (W.past h.join.writer.now).written,
+      answered_none h.stack.now mapper.state (W.past h.join.writer.now).written,
       written_to_none W.past h.join.writer,
       refl,
       refl,
     ) };
 
     ghost answered_then_answered = { λ a b c s t u us vs first second. (
-      answered_more a.devices s.state t.state u.state us vs _ _ _ first.1.moved.appends second.1.moved.appends
+      answered_more a.stack.now s.state t.state u.state us vs _ _ _ first.1.moved.appends second.1.moved.appends
           first.0
-          (subst (λ stack. HasAnswered stack t.state u.state vs (W.past b.join.writer.now).written
+          (subst (λ stack. HasAnswered stack.now t.state u.state vs (W.past b.join.writer.now).written
           (W.past c.join.writer.now).written) first.2 second.0),
       written_to_more W.past a.join.writer b.join.writer c.join.writer 0 first.1 second.1,
       second.2 ∙ first.2,
@@ -99,9 +101,9 @@ impl<'s, T: Taken, W: Output> Handler for RequestMapper<'_, 's, T, W> {
     ) };
 
     ghost answered_then_stopped = { λ a b c s t u us vs fault first second. (
-      stopped_more a.devices fault s.state t.state u us vs _ _ _ first.1.moved.appends second.1.moved.appends
+      stopped_more a.stack.now fault s.state t.state u us vs _ _ _ first.1.moved.appends second.1.moved.appends
           first.0
-          (subst (λ stack. HasStopped stack fault t.state u vs (W.past b.join.writer.now).written
+          (subst (λ stack. HasStopped stack.now fault t.state u vs (W.past b.join.writer.now).written
           (W.past c.join.writer.now).written) first.2 second.0),
       written_to_more W.past a.join.writer b.join.writer c.join.writer (failed_writes fault) first.1 second.1,
       second.2 ∙ first.2,
@@ -110,14 +112,28 @@ impl<'s, T: Taken, W: Output> Handler for RequestMapper<'_, 's, T, W> {
     ) };
 
     #[inline(always)]
+    fn front(&self, text: &[u8]) -> Option<(DeviceId, usize)> {
+        self.stack.front(text)
+    }
+
     fn handle(
         &mut self,
         mapper: &mut Mapper<'s, T>,
         request: &Request<'_>,
     ) -> Result<(), NotMapped> {
-        let Some(device) = self.devices.find(request.device) else {
-            return Err(NotMapped::Unknown(request.number));
-        };
+        match self.stack.device(request.device) {
+            Some(device) => self.handle_known(mapper, request, device),
+            None => Err(NotMapped::Unknown(request.number)),
+        }
+    }
+
+    #[inline(always)]
+    fn handle_known(
+        &mut self,
+        mapper: &mut Mapper<'s, T>,
+        request: &Request<'_>,
+        device: DeviceId,
+    ) -> Result<(), NotMapped> {
         match map_request(mapper, request, device, &mut self.join) {
             Ok(()) => Ok(()),
             Err(OutFault) => Err(NotMapped::Output),

@@ -13,10 +13,14 @@ ghost use Rattle.dm_stream.specs.Requests.{HasMet, IsAmong, Requests, after_requ
 use crate::ending::{Ending, RequestWord};
 use crate::handler::Handler;
 use crate::lines::{Lines, Next};
-use dm_table::{FrontReader, Input, Request, RequestFault, parse_request};
+use dm_stack::DeviceId;
+use dm_table::{Input, Request, RequestFault, first_op, front_request, parse_request};
 
 /// The most requests of a run.
 pub const MOST_REQUESTS: u64 = 1_000_000_000_000;
+
+/// How many bytes are held at least where a request is read quickly.
+const FRONT_ROOM: usize = 64;
 
 /// The word for a line that is no request.
 fn word_of(fault: RequestFault) -> RequestWord
@@ -47,27 +51,38 @@ fn request_of(line: &[u8], number: u64) -> Result<Request<'_>, RequestWord>
     }
 }
 
+/// A request at the front of a text, its device, and the bytes of its line without the newline.
+#[derive(Drop)]
+struct Front<'a> {
+    request: Request<'a>,
+    device: DeviceId,
+    len: usize,
+}
+
 /// The request of line `number`, where the held bytes begin with it and it is quickly read.
 #[inline(always)]
-fn front_of<'a>(
-    fronts: &mut FrontReader,
-    held: &'a [u8],
-    number: u64,
-) -> Option<(Request<'a>, usize)>
+fn front_of<'a, H: Handler>(handler: &H, held: &'a [u8], number: u64) -> Option<Front<'a>>
     ensures good { IfSome result
-        (λ front. (rest : Requests) → line_requests number (take front.1 held.now) rest
-        ≡ after_requests (numbered front.0 ∷ []) rest) }
+        (λ front. (rest : Requests) → line_requests number (take front.len held.now) rest
+        ≡ after_requests (numbered front.request ∷ []) rest) }
     ensures line { IfSome result
-        (λ front. line_parts held.now ≡ take front.1 held.now ∷ line_parts (drop (front.1 + 1) held.now)) }
-    ensures within { IfSome result (λ front. front.1 < length held.now) }
-    ensures short { IfSome result (λ front. front.1 ≤ MOST_LINE_BYTES) }
+        (λ front. line_parts held.now ≡ take front.len held.now ∷ line_parts (drop (front.len + 1) held.now)) }
+    ensures within { IfSome result (λ front. front.len < length held.now) }
+    ensures short { IfSome result (λ front. front.len ≤ MOST_LINE_BYTES) }
     ensures few { IfSome result (λ front. number ≤ MOST_REQUESTS) }
+    ensures known { IfSome result (λ front. H.knows handler.now front.device front.request.device.now) }
 {
-    if number > MOST_REQUESTS {
+    if number > MOST_REQUESTS || held.len() < FRONT_ROOM {
         return None;
     }
-    let (request, len) = fronts.read(held, number)?;
-    Some((request, len))
+    let (op, rest) = first_op(held)?;
+    let (device, name) = handler.front(rest)?;
+    let (request, len) = front_request(held, op, &rest[..name], &rest[name + 1..], number)?;
+    Some(Front {
+        request,
+        device,
+        len,
+    })
 }
 
 /// Lets the handler know of a read that may wait: one comes where no newline is held.
@@ -114,12 +129,16 @@ pub fn handle_requests<R: Input, H: Handler>(
     ensures unread { OnErr result (MetNothing (R.past requests.old) (R.past requests.new)) }
 {
     let mut lines = Lines::new();
-    let mut fronts = FrontReader::new();
     let mut number = 0;
     'lines: loop {
         number += 1;
-        if let Some((request, len)) = front_of(&mut fronts, lines.held(), number) {
-            if let Err(fault) = handler.handle(&mut *source, &request) {
+        if let Some(front) = front_of(handler, lines.held(), number) {
+            let Front {
+                request,
+                device,
+                len,
+            } = front;
+            if let Err(fault) = handler.handle_known(&mut *source, &request, device) {
                 return Err(fault);
             }
             lines.skip(len + 1);

@@ -1,4 +1,3 @@
 -- Of request lines.
-pub mod FrontNames
 pub mod FrontRequest
 pub mod RequestLemmas

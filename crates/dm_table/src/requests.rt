@@ -1,5 +1,4 @@
 //! Requests: their type, and how a line of them is read.
 
-pub mod front_reader;
 pub mod request;
 pub mod request_line;

@@ -18,7 +18,7 @@ ghost use Rattle.std.proofs.Common.{refl, subst, ◌∙◌};
 use crate::exit::{Exit, Refusal};
 use dm_map::TrieTaken;
 use dm_replay::{Replay, ReplayFault, write_runs};
-use dm_stack::Stack;
+use dm_stack::{DeviceId, Stack};
 use dm_stream::{Ending, Handler, handle_requests};
 use dm_table::{Input, LoadFault, OutFault, Output, Part, Request};
 use std::alloc::Global;
@@ -71,6 +71,10 @@ impl<'s, W: Output> Handler for RequestPlayer<'_, 's, W> {
           (written_since (W.past b.output.now) (W.past c.output.now))) first.2 second.0),
       written_to_more W.past a.output b.output c.output (failed_writes exit) first.1 second.1,
     ) };
+
+    fn front(&self, text: &[u8]) -> Option<(DeviceId, usize)> {
+        self.stack.front(text)
+    }
 
     fn handle(
         &mut self,

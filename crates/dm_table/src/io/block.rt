@@ -34,7 +34,7 @@ fn set_room<const ROOM: usize>(place: &mut [u8], room: &[u8; ROOM])
 
 /// Bytes of a known length, as a room.
 #[inline(always)]
-pub(crate) fn as_room<const ROOM: usize>(bytes: &[u8]) -> &[u8; ROOM]
+pub fn as_room<const ROOM: usize>(bytes: &[u8]) -> &[u8; ROOM]
     requires { length bytes.now ≡ ROOM }
     ensures { result.now ≡ bytes.now }
 {

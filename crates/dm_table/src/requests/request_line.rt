@@ -7,7 +7,6 @@ ghost use Rattle.std.specs.Prelude.{◌≡◌, ◌≢◌, ◌+◌, ◌<◌, ◌�
 ghost use Rattle.dm_table.specs.declared.words.front_digits.TheConstants.{FRONT};
 ghost use Rattle.dm_table.specs.declared.requests.request.Op.{Op};
 ghost use Rattle.dm_table.specs.declared.requests.request.RequestFault.TheVariants.{Form, Number};
-ghost use Rattle.dm_table.specs.declared.requests.request_line.TheConstants.{NUMBERS_ROOM};
 ghost use Rattle.dm_table.specs.words.Name.{is_device_name};
 ghost use Rattle.dm_table.specs.words.Number.{number_of};
 ghost use Rattle.dm_table.specs.words.Fields.{fields};
@@ -23,11 +22,11 @@ use memchr::memchr;
 
 /// The most bytes that two numbers take, each with the byte after it. Where a text has as many left, it
 /// isn't asked for its end again.
-pub(crate) const NUMBERS_ROOM: usize = 2 * FRONT;
+const NUMBERS_ROOM: usize = 2 * FRONT;
 
 /// What follows the space after the first `len` bytes of a text.
 #[inline(always)]
-pub(crate) fn after_space<'a>(text: &'a [u8], len: usize) -> Option<&'a [u8]>
+fn after_space<'a>(text: &'a [u8], len: usize) -> Option<&'a [u8]>
     requires { len ≤ length text.now }
     ensures cut { IfSome result (λ rest. text.now ≡ take len text.now ++ space ∷ rest.now) }
     ensures other { IfNone result ((rest : List ℕ) → drop len text.now ≢ space ∷ rest) }
@@ -46,20 +45,16 @@ fn op_of(letter: u8) -> Option<Op>
     ensures named { IfSome result (λ op. letter ≡ op_text op) }
     ensures other { IfNone result ((op : Op) → letter ≢ op_text op) }
 {
-    if letter < b'R' || b'W' < letter {
+    let is_write = letter == b'W';
+    if !(is_write | (letter == b'R')) {
         return None;
     }
-    // `W` is the fifth letter after `R`.
-    let past = letter - b'R';
-    if past % 5 != 0 {
-        return None;
-    }
-    Some(if past == 0 { Op::Read } else { Op::Write })
+    Some(if is_write { Op::Write } else { Op::Read })
 }
 
 /// The operation that a line begins with, and what follows its space.
 #[inline(always)]
-pub(crate) fn first_op<'a>(line: &'a [u8]) -> Option<(Op, &'a [u8])>
+pub fn first_op<'a>(line: &'a [u8]) -> Option<(Op, &'a [u8])>
     ensures cut { IfSome result (λ cut. fields line.now ≡ (op_text cut.0 ∷ []) ∷ fields cut.1.now) }
     ensures text { IfSome result (λ cut. line.now ≡ op_text cut.0 ∷ space ∷ cut.1.now) }
     ensures other { IfNone result (has_form (fields line.now) ≡ false) }
@@ -218,22 +213,32 @@ fn last_number(text: &[u8]) -> Option<(u64, usize)>
     }
 }
 
-/// The request of an operation on a device that a text begins with, and the bytes of its line without
-/// the newline, where the numbers are still to be read.
+/// The request that a text begins with, where its operation and its device were read and the rest is still to
+/// be, and the bytes of its line without the newline: line `number` of a stream, which is read where it stands
+/// and not cut off first.
+///
+/// `None` says nothing about the text: the line is not whole, is no request, or is one that isn't read this
+/// way, as at the end of a text. [`parse_request`] finds its fault.
+///
+/// Cost: no memory, and one pass over the numbers.
 #[inline(always)]
-pub(crate) fn front_after_name<'a>(
-    text: &'a [u8],
-    rest: &'a [u8],
-    number: u64,
+pub fn front_request<'a>(
+    text: &[u8],
     op: Op,
-    device: &'a str,
+    device: &'a [u8],
+    rest: &[u8],
+    number: u64,
 ) -> Option<(Request<'a>, usize)>
     requires text { text.now ≡ op_text op ∷ space ∷ (device.now ++ space ∷ rest.now) }
     requires named { is_device_name device.now ≡ true }
-    requires room { NUMBERS_ROOM ≤ length rest.now }
+    // The line says the request, and ends there.
     ensures front { IfSome result (λ front. IsFront text.now (values_of front.0) front.1) }
     ensures numbered { IfSome result (λ front. front.0.number ≡ number) }
+    ensures device { IfSome result (λ front. front.0.device.now ≡ device.now) }
 {
+    if rest.len() < NUMBERS_ROOM {
+        return None;
+    }
     let (start, last) = front_number(rest)?;
     let (len, digits) = last_number(last)?;
     if len < 1 || MOST_SECTORS < len {
@@ -242,7 +247,7 @@ pub(crate) fn front_after_name<'a>(
     let request = Request {
         number,
         op,
-        device,
+        device: ascii_str(device),
         start,
         len,
     };

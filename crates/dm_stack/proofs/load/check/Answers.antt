@@ -8,11 +8,13 @@ use Rattle.dm_table.proofs.FaultLemmas.{first_or-none}
 use Rattle.dm_stack.specs.Description.{Description, links}
 use Rattle.dm_stack.specs.Graph.{IsFirstRing, depths_to, greatest}
 use Rattle.dm_stack.specs.DiskText.{disk_text}
+use Rattle.dm_stack.specs.FrontNames.{ArePlaces}
 use Rattle.dm_stack.specs.Stack.{found_device}
 use Rattle.dm_stack.specs.Snapshots.{snapshots}
 use Rattle.dm_stack.specs.Depth.{stack_depth}
 use Rattle.dm_stack.specs.Soundness.{HasNoCycle, IsFirstCycle, OnCycle, checks_before, crowded, deep, faults_by_id, range, snapshot, store, too_large, unknown}
 use Rattle.dm_stack.specs.Store.{store_links}
+use Rattle.dm_stack.proofs.ApartLemmas.{apart_checked}
 use Rattle.dm_stack.proofs.ChunkLemmas.{good_chunks}
 use Rattle.dm_stack.proofs.DepthTests.{depth_each, told_deep}
 use Rattle.dm_stack.proofs.HandedOn.{ends_within}
@@ -174,6 +176,14 @@ returns-in_err-texts-clause-fault c =
     let p = err_from_is_err_and c.from_residual-in_err-texts.result c.from_residual-in_err-texts.ensures.1 in
     rw (p.1, p.2) (inr c.in_err-texts.ensures.memory)
 
+pub returns-in_err-fronts-clause-fault : goal.returns-in_err-fronts-clause-fault
+returns-in_err-fronts-clause-fault c =
+    let p = err_from_is_err_and c.from_residual-in_err-fronts.result c.from_residual-in_err-fronts.ensures.1 in
+    rw (p.1, p.2) (inr c.in_err-fronts.ensures.memory)
+
+pub new-requires : goal.new-requires
+new-requires c = apart_checked (record { devices = c.args.devices.now; disks = c.args.disks.now }) c.in_ok-names.ensures.apart
+
 pub returns-clause-loaded : goal.returns-clause-loaded
 returns-clause-loaded c =
     let k = passed (goal.at.returns-clause-loaded c).After-deref in
@@ -189,4 +199,5 @@ returns-clause-loaded c =
           c.deepest.ensures ∙ ap greatest (c.deref-3.ensures.value ∙ sym c.deref.ensures.value) ∙ deepest_is c.new-stack.result c.deref.result.now (depths_are (goal.at.returns-clause-loaded c).After-deref) ∙ ap stack_depth k.same;
       snapshots = made_ok c.snapshots.result c.in_ok-snapshots.snapshots (λ ids. ids.items ≡ snapshots (record { devices = c.args.devices.now; disks = [] })) c.in_ok-snapshots.ensures.made c.snapshots.ensures;
       texts = made_ok c.disk_texts.result c.in_ok-texts.texts (λ texts. texts.items ≡ map (λ disk. disk_text disk.name) c.args.disks.now) c.in_ok-texts.ensures.made c.disk_texts.ensures;
+      fronts = made_ok c.new.result c.in_ok-fronts.fronts (λ fronts. ArePlaces c.args.devices.now fronts) c.in_ok-fronts.ensures.made c.new.ensures;
     }

@@ -30,27 +30,27 @@ lines-init g c = record {
 pub lines-preserved-in-Some : goal.lines-preserved-in-Some
 lines-preserved-in-Some g c =
     let so_far = c.lines.invariant.turned in
-    let front = c.in-Some in
+    let front = c.in-Some.front in
     let more = numbered front.request ∷ [] in
     record {
-      ready = c.in_default-handle.ensures.ready;
-      few = front.ensures.few;
+      ready = c.in_default-handle_known.ensures.ready;
+      few = c.in-Some.ensures.few;
       turned = record {
         done = so_far.done ++ more;
-        answered = g.met.H.Handler.answered_then_answered c.args.handler.now c.lines.handler c.handle.new.self c.args.source.now c.lines.source c.handle.new.source so_far.done more so_far.answered c.in_default-handle.ensures.answered;
+        answered = g.met.H.Handler.answered_then_answered c.args.handler.now c.lines.handler c.handle_known.new.self c.args.source.now c.lines.source c.handle_known.new.source so_far.done more so_far.answered c.in_default-handle_known.ensures.answered;
         reads = so_far.reads;
         faults = so_far.faults;
         ends = so_far.ends;
         told =
             told_front (g.R.Input.past c.args.requests.now).handed (g.R.Input.past c.lines.requests).handed c.lines.lines c.held.result.now c.skip.new.self front.len (c.lines.number + 1) so_far.done more so_far.told so_far.reads
-            c.held.ensures front.ensures.within front.ensures.short front.ensures.line front.ensures.good c.skip.ensures;
+            c.held.ensures c.in-Some.ensures.within c.in-Some.ensures.short c.in-Some.ensures.line c.in-Some.ensures.good c.skip.ensures;
       };
     }
 
 pub returns-in-Err-clause-stopped : goal.returns-in-Err-clause-stopped
 returns-in-Err-clause-stopped g c =
     let so_far = c.lines.invariant.turned in
-    let front = c.in-Some in
+    let front = c.in-Some.front in
     let read = c.held.result.now in
     let first = g.R.Input.past c.args.requests.now in
     let mid = g.R.Input.past c.lines.requests in
@@ -58,9 +58,9 @@ returns-in-Err-clause-stopped g c =
     among first mid mid read (c.lines.number + 1) so_far.done more (take front.len read) _
     (subst (λ (xs : List ℕ). Told (since first.handed mid.handed) xs so_far.done (c.lines.number + 1)) (sym c.held.ensures) so_far.told)
     so_far.reads (grows-same mid.handed mid.handed) so_far.faults so_far.ends
-    (held_next (stand_of mid mid) mid.handed read front.len front.ensures.within front.ensures.short front.ensures.line)
-    front.ensures.good
-    (g.met.H.Handler.answered_then_stopped c.args.handler.now c.lines.handler c.handle.new.self c.args.source.now c.lines.source c.handle.new.source so_far.done more _ so_far.answered c.in-Err.ensures.stopped)
+    (held_next (stand_of mid mid) mid.handed read front.len c.in-Some.ensures.within c.in-Some.ensures.short c.in-Some.ensures.line)
+    c.in-Some.ensures.good
+    (g.met.H.Handler.answered_then_stopped c.args.handler.now c.lines.handler c.handle_known.new.self c.args.source.now c.lines.source c.handle_known.new.source so_far.done more _ so_far.answered c.in-Err.ensures.stopped)
 
 -- The next line, before which the handler was told of a read
 
@@ -72,11 +72,11 @@ lines-preserved g c =
     let h2 = (g.R.Input.past c.next.new.reader).handed in
     let more = numbered c.in-Ok.request ∷ [] in
     record {
-      ready = c.in_default-handle-2.ensures.ready;
+      ready = c.in_default-handle.ensures.ready;
       few = c.in-Ok.ensures.few;
       turned = record {
         done = so_far.done ++ more;
-        answered = g.met.H.Handler.answered_then_answered c.args.handler.now c.before_read.new.handler c.handle-in-Ok.new.self c.args.source.now c.lines.source c.handle-in-Ok.new.source so_far.done more so_far.answered c.in_default-handle-2.ensures.answered;
+        answered = g.met.H.Handler.answered_then_answered c.args.handler.now c.before_read.new.handler c.handle.new.self c.args.source.now c.lines.source c.handle.new.source so_far.done more so_far.answered c.in_default-handle.ensures.answered;
         reads = grows_more h0 h1 h2 so_far.reads c.in-Line.ensures.reads.grows;
         faults = c.in-Line.ensures.quiet.0 ∙ so_far.faults;
         ends = c.in-Line.ensures.quiet.1 ∙ so_far.ends;
@@ -122,4 +122,4 @@ returns-in-Err-handle-clause-stopped g c =
     let more = numbered c.in-Ok.request ∷ [] in
     among first mid last c.lines.lines (c.lines.number + 1) so_far.done more c.in-Line.line.now _
     so_far.told so_far.reads c.in-Line.ensures.reads.grows so_far.faults so_far.ends c.in-Line.ensures.answer c.in-Ok.ensures.good
-    (g.met.H.Handler.answered_then_stopped c.args.handler.now c.before_read.new.handler c.handle-in-Ok.new.self c.args.source.now c.lines.source c.handle-in-Ok.new.source so_far.done more _ so_far.answered c.in-Err-handle.ensures.stopped)
+    (g.met.H.Handler.answered_then_stopped c.args.handler.now c.before_read.new.handler c.handle.new.self c.args.source.now c.lines.source c.handle.new.source so_far.done more _ so_far.answered c.in-Err-handle.ensures.stopped)

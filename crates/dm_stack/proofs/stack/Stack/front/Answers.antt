@@ -1,0 +1,43 @@
+use Rattle.std.proofs.Common.{◌≡◌, ◌<◌, List, ℕ, Some, take, true, sym, ap, subst, ◌∙◌, arith}
+use Rattle.std.specs.Prelude.{position}
+use Rattle.std.proofs.lemmas.List.{take-take}
+use Rattle.std.proofs.lemmas.List.Elements.{All-contains}
+use Rattle.dm_table.specs.words.Name.{is_device_name}
+use Rattle.dm_stack.specs.Description.{Description, is_same}
+use Rattle.dm_stack.specs.FrontNames.{IsPlaceOf}
+use Rattle.dm_stack.specs.declared.front_names.Place.{Place}
+use Rattle.dm_stack.specs.declared.name_key.TheConstants.{ROOM}
+use Rattle.dm_stack.proofs.KeyLemmas.{same_name}
+use Rattle.dm_stack.proofs.stack.Stack.front.Goals as goal
+use Rattle.dm_stack.proofs.stack.Stack.front.Goals.{In_ok-device}
+
+-- the place that was found is that of the name in the text
+record IsOf (c : In_ok-device) : Type 0 where
+  place : Place
+  of : IsPlaceOf c.self.inside.devices.items place
+  name : take c.in-Some.len c.args.text.now ≡ of.name
+  device : place.device ≡ c.in_ok-device.device
+
+is_of : (c : In_ok-device) → IsOf c
+is_of c =
+    let found = c.in_ok-device.ensures in
+    let place = found.0 in
+    let of = All-contains (λ (p : Place). p.key.len < ROOM → IsPlaceOf c.self.inside.devices.items p) c.self.inside.fronts place c.self.invariant.fronts found.1 found.2 in
+    let len = c.in-Some.len in
+    let room : take len c.in_ok-room.room.now ≡ take len c.args.text.now = ap (λ (xs : List ℕ). take len xs) c.in_ok-room.ensures.cases.same ∙ take-take len 16 c.args.text.now (omega (arith, c.in-Some.ensures.within)) in
+    record {
+      place = place;
+      of = of;
+      name = sym room ∙ same_name _ of.name place.key found.3 of.key;
+      device = found.4;
+    }
+
+pub returns-clause-device : goal.returns-clause-device
+returns-clause-device c =
+    let is = is_of (goal.at.returns-clause-device c).In_ok-device in
+    let name = take c.in-Some.len c.args.text.now in
+    subst (λ (of : Description). position (λ device. is_same device.name name) of.devices ≡ Some c.in_ok-device.device) c.self.view_is
+    (ap (λ (text : List ℕ). position (λ device. is_same device.name text) c.self.inside.devices.items) is.name ∙ is.of.found ∙ ap Some is.device)
+
+pub returns-clause-name : goal.returns-clause-name
+returns-clause-name c = let is = is_of (goal.at.returns-clause-name c).In_ok-device in subst (λ (text : List ℕ). is_device_name text ≡ true) (sym is.name) is.of.named
