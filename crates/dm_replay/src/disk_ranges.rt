@@ -202,10 +202,10 @@ fn join(ranges: &mut BTreeMap<u64, RangeValues>, sector: u64) -> Result<(), Allo
     ensures apart { AreApart ranges.new }
     ensures same { OnOk result (KeepsStored ranges.old ranges.new) }
 {
-    let Some((start, range)) = last_before(ranges, sector) else {
+    let Some(after) = ranges.get(&sector).copied() else {
         return Ok(());
     };
-    let Some(after) = ranges.get(&sector).copied() else {
+    let Some((start, range)) = last_before(ranges, sector) else {
         return Ok(());
     };
     if start + range.len != sector || !range.joins(&after) {

@@ -4,9 +4,9 @@ use Rattle.dm_replay.proofs.disk_ranges.join.Goals as goal
 
 pub returns-clause-apart : goal.returns-clause-apart
 returns-clause-apart c =
-    joined_apart c.args.ranges.now c.remove.new.self c.insert.new.self c.in-Some.start c.args.sector c.in-Some.range c.in-Some-copied.after c.with_len.result (record {
+    joined_apart c.args.ranges.now c.remove.new.self c.insert.new.self c.in-Some-last_before.start c.args.sector c.in-Some-last_before.range c.in-Some.after c.with_len.result (record {
       are = c.requires;
-      is = c.in-Some.ensures.some.is;
+      is = c.in-Some-last_before.ensures.some.is;
       is_after = search rules;
       ordered = c.insert.ensures.ordered;
       set_none = sets _ _ _ _ c.remove.ensures.updates;
@@ -19,9 +19,9 @@ returns-clause-apart c =
 
 pub returns-clause-same : goal.returns-clause-same
 returns-clause-same c =
-    joined_keep c.args.ranges.now c.remove.new.self c.insert.new.self c.in-Some.start c.args.sector c.in-Some.range c.in-Some-copied.after c.with_len.result (record {
+    joined_keep c.args.ranges.now c.remove.new.self c.insert.new.self c.in-Some-last_before.start c.args.sector c.in-Some-last_before.range c.in-Some.after c.with_len.result (record {
       are = c.requires;
-      is = c.in-Some.ensures.some.is;
+      is = c.in-Some-last_before.ensures.some.is;
       is_after = search rules;
       ordered = c.insert.ensures.ordered;
       set_none = sets _ _ _ _ c.remove.ensures.updates;
