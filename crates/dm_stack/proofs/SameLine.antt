@@ -5,10 +5,10 @@ use Rattle.std.proofs.lemmas.Bool.{le-ltb}
 use Rattle.dm_table.specs.declared.tables.table.Line.{Line}
 use Rattle.dm_stack.specs.declared.found_line.FoundLine.{FoundLine}
 use Rattle.dm_stack.specs.Description.{Description, lines_at}
-use Rattle.dm_stack.specs.Below.{holds, line_of, found_line, found_at}
+use Rattle.dm_stack.specs.Below.{holds, line_of, found_line, found_at, IsLineOf}
 use Rattle.dm_stack.specs.Soundness.{IsSound}
 use Rattle.dm_stack.proofs.LayoutLemmas.{AreInRow}
-use Rattle.dm_stack.proofs.SoundLines.{holds_from, there, device_sound, lines_there}
+use Rattle.dm_stack.proofs.SoundLines.{HoldsSoundly, holds_from, there, device_sound, lines_there}
 
 -- Lines that start where the one before ends
 
@@ -69,3 +69,14 @@ same_found stack id sector other line sound within is from before =
     let held : line_of d.it.lines sector ≡ Some m.x = sym (ap (λ (ls : List Line). line_of ls sector) lines) ∙ m.is in
     let same = same_line 0 d.it.lines sector other m.x s.placed held (omega (arith, start, from)) (omega (arith, start, len, before)) in
     ap (option_map (found_line stack)) (ap (λ (ls : List Line). line_of ls other) lines ∙ same) ∙ ap Some m.value
+
+-- so what a search finds is the line of its sector
+pub found_line_of : (stack : Description) (id sector : ℕ) (line : FoundLine) → IsSound stack → id < length stack.devices → found_at stack id sector ≡ Some line → HoldsSoundly stack id line sector → IsLineOf stack id line sector
+found_line_of stack id sector line sound within is holds = record {
+  from = holds.from;
+  before = holds.before;
+  is = record { small = holds.small; target = holds.target; all = λ other from before. same_found stack id sector other line sound within is from before };
+}
+
+pub found_of : (stack : Description) (id sector : ℕ) (line : FoundLine) → IsLineOf stack id line sector → found_at stack id sector ≡ Some line
+found_of stack id sector line of = of.is.all sector of.from of.before

@@ -18,7 +18,8 @@ use Rattle.dm_table.specs.declared.tables.disk.Disk.{Disk}
 use Rattle.dm_table.specs.declared.load.load_fault.LoadKind.TheVariants.{Limit, Empty, Stripe, Range, Snapshot, Store}
 use Rattle.dm_stack.specs.declared.found_line.FoundLine.{FoundLine}
 use Rattle.dm_stack.specs.Description.{Description, lines_at, lines_or_none, end_of, device_len, lower_len, lower_of}
-use Rattle.dm_stack.specs.Below.{holds, line_of, found_line, found_columns, found_target, found_at, LiesIn, AreStripes, IsOriginSound, IsSnapshotSound, IsTargetSound, HoldsSoundly}
+use Rattle.dm_stack.specs.Below.{holds, line_of, found_line, found_columns, found_target, found_at, LiesIn, AreStripes, IsOriginSound, IsSnapshotSound, IsTargetSound}
+use Rattle.dm_stack.specs.declared.limits.TheConstants.{MOST_LENGTH}
 use Rattle.dm_stack.specs.Over.{found_snapshot, snapshots_over}
 use Rattle.dm_stack.specs.Soundness.{all_lines, is_large, without_lines, empty_in, misplaced_in, is_bad_chunk, is_bad_snapshot, is_bad_stripe, has_bad_store, has_bad_stripes, is_past, passes_end, bad_snapshots_in, HaveSmallEnds, IsSound}
 use Rattle.dm_table.specs.tables.Span.{column_span, target_spans}
@@ -214,6 +215,13 @@ whole_line stack id test lines line are row e one =
     let start = (subst (AreInRow 0) only row).0 in
     let end : device_len stack id ≡ line.start + line.len = ap end_of (are ∙ only) in
     record { from = start; len = omega (arith, start, end) }
+
+-- a line that has a sector, and is sound
+pub record HoldsSoundly (stack : Description) (device : ℕ) (line : FoundLine) (sector : ℕ) : Type 0 where
+  pub from : line.start ≤ sector
+  pub before : sector < line.start + line.len
+  pub small : line.start + line.len ≤ MOST_LENGTH
+  pub target : IsTargetSound stack device line.start line.len line.target
 
 -- the line that a search finds is that of the sector, and sound
 pub record IsFound (stack : Description) (id sector : ℕ) : Type 0 where

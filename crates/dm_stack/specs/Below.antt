@@ -155,19 +155,13 @@ IsTargetSound stack device start len found.Error = Unit {0}
 IsTargetSound stack device start len (found.Snapshot snapshot) = IsSnapshotSound stack device start len snapshot
 IsTargetSound stack device start len (found.Origin origin) = IsOriginSound stack device start len origin
 
-pub record HoldsSoundly (stack : Description) (device : ℕ) (line : FoundLine) (sector : ℕ) : Type 0 where
-  pub from : line.start ≤ sector
-  pub before : sector < line.start + line.len
-  pub small : line.start + line.len ≤ MOST_LENGTH
-  pub target : IsTargetSound stack device line.start line.len line.target
-
 -- a line of a device of a sound stack: within the limits, sound, and that of each sector that it has
 pub record IsLine (stack : Description) (device : ℕ) (line : FoundLine) : Type 0 where
   pub small : line.start + line.len ≤ MOST_LENGTH
   pub target : IsTargetSound stack device line.start line.len line.target
   pub all : (other : ℕ) → line.start ≤ other → other < line.start + line.len → found_at stack device other ≡ Some line
 
--- that of a sector
+-- the line of a sector, as a look-up finds it
 pub record IsLineOf (stack : Description) (device : ℕ) (line : FoundLine) (sector : ℕ) : Type 0 where
   pub from : line.start ≤ sector
   pub before : sector < line.start + line.len

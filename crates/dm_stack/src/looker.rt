@@ -4,8 +4,8 @@
 //! No call hands out the stack, and a looker is not copied: its count is that of all its searches.
 //! Whoever has the line of an origin has its snapshots too (`FoundOrigin::over`), without a search.
 
-ghost use Rattle.std.specs.Prelude.{◌≡◌, ℕ, ◌+◌, ◌-◌, ◌*◌, ◌<◌, ◌≤◌, Some, length};
-ghost use Rattle.dm_stack.specs.Below.{HoldsSoundly, found_at};
+ghost use Rattle.std.specs.Prelude.{◌≡◌, ◌+◌, ◌-◌, ◌*◌, ◌<◌, ◌≤◌, length};
+ghost use Rattle.dm_stack.specs.Below.{IsLineOf};
 ghost use Rattle.dm_stack.specs.Description.{device_len, disk_len, is_ro_at, lines_at};
 ghost use Rattle.dm_stack.specs.Looker.{next_count};
 ghost use Rattle.dm_stack.specs.Snapshots.{snapshots, AreSnapshots};
@@ -72,10 +72,7 @@ impl<'s> Looker<'s> {
     pub fn look(&mut self, device: DeviceId, sector: u64) -> Found<'s>
         requires device { device < length self.old.stack.devices }
         requires sector { sector < device_len self.old.stack device }
-        ensures line { found_at self.old.stack device sector ≡ Some result.now }
-        ensures holds { HoldsSoundly self.old.stack device result.now sector }
-        ensures all { (other : ℕ) → result.now.start ≤ other → other < result.now.start + result.now.len
-            → found_at self.old.stack device other ≡ Some result.now }
+        ensures line { IsLineOf self.old.stack device result.now sector }
         ensures stack { self.new.stack ≡ self.old.stack }
         ensures counted { self.new.searches ≡ next_count self.old.searches }
         ensures grown { self.old.comparisons ≤ self.new.comparisons }

@@ -7,7 +7,7 @@ ghost use Rattle.std.specs.Prelude.{◌≡◌, ◌≢◌, ℕ, ◌+◌, ◌<◌,
 ghost use Rattle.std.specs.Prelude.{◌∷◌, ◌++◌, List, Option, Some, drop, is_none, length, position, take, true};
 ghost use Rattle.dm_table.specs.words.Bytes.{space};
 ghost use Rattle.dm_table.specs.words.Name.{is_device_name, is_disk_name};
-ghost use Rattle.dm_stack.specs.Below.{HoldsSoundly, found_at, found_lines};
+ghost use Rattle.dm_stack.specs.Below.{found_lines, IsLineOf};
 ghost use Rattle.dm_stack.specs.Claims.{IsFirstClash, IsThere, IsTidy, IsTop, claims};
 ghost use Rattle.dm_stack.specs.Description.{Description, described, device_len, disk_len, is_ro_at, is_same};
 ghost use Rattle.dm_stack.specs.Description.{name_at, disk_name_at, lines_at};
@@ -367,10 +367,7 @@ impl Stack {
         requires device { device < length self.now.devices }
         requires sector { sector < device_len self.now device }
         requires last { IsLast self.now last.old }
-        ensures line { found_at self.now device sector ≡ Some result.0.now }
-        ensures holds { HoldsSoundly self.now device result.0.now sector }
-        ensures all { (other : ℕ) → result.0.now.start ≤ other → other < result.0.now.start + result.0.now.len
-            → found_at self.now device other ≡ Some result.0.now }
+        ensures line { IsLineOf self.now device result.0.now sector }
         ensures few { result.1 ≤ binary_digits (length (lines_at self.now device)) }
         ensures most { result.1 ≤ 17 }
         ensures last { IsLast self.now last.new }

@@ -9,12 +9,12 @@ use Rattle.dm_stack.specs.declared.found_line.FoundOrigin.{FoundOrigin}
 use Rattle.dm_stack.specs.declared.found_line.FoundSnapshot.{FoundSnapshot}
 use Rattle.dm_stack.specs.declared.found_line.FoundTarget.{FoundTarget}
 use Rattle.dm_stack.specs.declared.found_line.FoundTarget.TheVariants as founds
-use Rattle.dm_stack.specs.Below.{found_at, found_line, holds, line_of, HoldsSoundly, IsOriginSound, IsSnapshotSound, IsTargetSound}
+use Rattle.dm_stack.specs.Below.{found_at, found_line, holds, line_of, IsOriginSound, IsSnapshotSound, IsTargetSound}
 use Rattle.dm_stack.specs.Description.{Description, device_len, end_of, lines_or_none}
 use Rattle.dm_stack.specs.Soundness.{IsSound}
 use Rattle.dm_stack.proofs.LayoutLemmas.{AreInRow}
 use Rattle.dm_stack.proofs.SameLine.{same_found}
-use Rattle.dm_stack.proofs.SoundLines.{device_sound, lines_there, sector_found, there}
+use Rattle.dm_stack.proofs.SoundLines.{HoldsSoundly, device_sound, lines_there, sector_found, there}
 use Rattle.dm_map.specs.state.Tables.{origin_at, origin_of, origin_of_line, snapshot_at, snapshot_of_line, snapshot_of}
 
 -- what an option has is one value

@@ -6,7 +6,7 @@ use Rattle.dm_stack.specs.declared.found_line.FoundLine.{FoundLine}
 use Rattle.dm_stack.specs.declared.found_line.FoundTarget.{FoundTarget}
 use Rattle.dm_stack.specs.declared.id.Lower.TheVariants.{Device}
 use Rattle.dm_stack.specs.declared.leg.Leg.{Leg}
-use Rattle.dm_stack.specs.Below.{HoldsSoundly, IsLine, IsLineOf, IsTargetSound, found_at}
+use Rattle.dm_stack.specs.Below.{IsLine, IsLineOf, IsTargetSound}
 use Rattle.dm_stack.specs.Description.{Description}
 use Rattle.dm_stack.specs.Leg.{AreInside, HasSectors, IsLeg}
 use Rattle.dm_stack.specs.Soundness.{IsSound, depth_of}
@@ -21,13 +21,8 @@ use Rattle.dm_map.proofs.walk.Rows.{walked_as}
 use Rattle.dm_map.proofs.walk.WalkedOn.{walked_after_look}
 
 -- a look changes nothing but the counts
-pub line_of_look : (looked before : StackState) (device : ℕ) (line : FoundLine) (sector : ℕ) → looked ≡ before → HoldsSoundly before.stack device line sector → ((other : ℕ) → line.start ≤ other → other < line.start + line.len → found_at before.stack device other ≡ Some line) → IsLineOf looked.stack device line sector
-line_of_look looked before device line sector same holds all =
-    subst (λ (v : StackState). IsLineOf v.stack device line sector) (sym same) (record { from = holds.from; before = holds.before; is = record { small = holds.small; target = holds.target; all = all } })
-
-pub line_looked : (stack before : Description) (device : ℕ) (line : FoundLine) (sector : ℕ) → before ≡ stack → HoldsSoundly before device line sector → ((other : ℕ) → line.start ≤ other → other < line.start + line.len → found_at before device other ≡ Some line) → IsLineOf stack device line sector
-line_looked stack before device line sector same holds all =
-    subst (λ (s : Description). IsLineOf s device line sector) same (record { from = holds.from; before = holds.before; is = record { small = holds.small; target = holds.target; all = all } })
+pub line_of_look : (looked before : StackState) (device : ℕ) (line : FoundLine) (sector : ℕ) → looked ≡ before → IsLineOf before.stack device line sector → IsLineOf looked.stack device line sector
+line_of_look looked before device line sector same of = subst (λ (v : StackState). IsLineOf v.stack device line sector) (sym same) of
 
 -- a line has its sectors
 pub line_sectors : (stack : Description) (device distance len : ℕ) (line : FoundLine) → IsSound stack → IsLine stack device line → distance + len ≤ line.len → HasSectors line.target distance len

@@ -13,12 +13,12 @@ use Rattle.dm_stack.specs.declared.found_line.FoundSnapshot.{FoundSnapshot}
 use Rattle.dm_stack.specs.declared.graph.TheConstants.{MOST_DEPTH}
 use Rattle.dm_stack.specs.declared.id.Lower.{Lower}
 use Rattle.dm_stack.specs.declared.id.Lower.TheVariants.{Device, Disk}
-use Rattle.dm_stack.specs.Below.{Below, Lies, IsError, below, below_line, below_target, below_column, column_of, in_column, found_at, found_columns, found_line, found_target, holds, line_of, AreStripes, HoldsSoundly, IsTargetSound}
+use Rattle.dm_stack.specs.Below.{Below, Lies, IsError, below, below_line, below_target, below_column, column_of, in_column, found_at, found_columns, found_line, found_target, holds, line_of, AreStripes, IsTargetSound}
 use Rattle.dm_stack.specs.Description.{Description, device_len, is_ro_at, lines_at, lower_len, lower_of}
 use Rattle.dm_stack.specs.Soundness.{IsSound}
 use Rattle.dm_table.specs.tables.Span.{column_span, spans, target_spans}
 use Rattle.dm_stack.specs.Store.{is_plain, is_store_to, IsStore}
-use Rattle.dm_stack.proofs.SoundLines.{found, sector_found, there}
+use Rattle.dm_stack.proofs.SoundLines.{HoldsSoundly, found, sector_found, there}
 use Rattle.dm_map.specs.declared.walk.stretch.Ground.{Ground}
 use Rattle.dm_map.specs.declared.walk.stretch.Ground.TheVariants as grounds
 use Rattle.dm_map.specs.walk.Homes.{Home, home, home_to, nowhere}

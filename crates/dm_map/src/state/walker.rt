@@ -5,7 +5,7 @@
 //! table of a device that is no snapshot has no place and stays empty.
 
 ghost use Rattle.std.specs.Prelude.{◌≡◌, ℕ, ◌+◌, ◌<◌, ◌≤◌, true, not, None, Some, IfSome, length};
-ghost use Rattle.dm_stack.specs.Below.{HoldsSoundly, found_at};
+ghost use Rattle.dm_stack.specs.Below.{IsLineOf};
 ghost use Rattle.dm_stack.specs.Description.{device_len, is_ro_at, lower_len};
 ghost use Rattle.dm_stack.specs.Soundness.{IsSound};
 ghost use Rattle.dm_stack.specs.declared.limits.TheConstants.{MOST_LENGTH};
@@ -88,10 +88,7 @@ impl<'s, T: Taken> Walker<'s, T> {
     pub(crate) fn look(&mut self, device: DeviceId, sector: u64) -> Found<'s>
         requires device { device < length self.old.stack.devices }
         requires sector { sector < device_len self.old.stack device }
-        ensures line { found_at self.old.stack device sector ≡ Some result.now }
-        ensures holds { HoldsSoundly self.old.stack device result.now sector }
-        ensures all { (other : ℕ) → result.now.start ≤ other → other < result.now.start + result.now.len
-            → found_at self.old.stack device other ≡ Some result.now }
+        ensures line { IsLineOf self.old.stack device result.now sector }
         ensures same { stack_state self.new ≡ stack_state self.old }
         ensures looked { AreAdded self.old.looked self.new.looked }
         ensures one { self.new.looked.searches ≤ self.old.looked.searches + 1 }

@@ -10,7 +10,7 @@ use Rattle.dm_stack.specs.declared.id.Lower.{Lower}
 use Rattle.dm_stack.specs.declared.leg.Beneath.{Beneath}
 use Rattle.dm_stack.specs.Leg.{AreInside, LegsView}
 use Rattle.dm_stack.specs.declared.id.Lower.TheVariants.{Device, Disk}
-use Rattle.dm_stack.specs.Below.{IsLine, IsOriginSound, IsTargetSound, chunk_at, found_at, is_same_chunk}
+use Rattle.dm_stack.specs.Below.{IsLine, IsLineOf, IsOriginSound, IsTargetSound, chunk_at, found_at, is_same_chunk}
 use Rattle.dm_stack.specs.Description.{Description, device_len, lower_len}
 use Rattle.dm_stack.specs.Soundness.{depth_of}
 use Rattle.dm_map.specs.walk.Bound.{IsLineBounded, IsTargetBounded, line_paths}
@@ -25,7 +25,7 @@ use Rattle.dm_stack.proofs.LegLemmas.{leg_lies_inside}
 use Rattle.dm_stack.proofs.StripeLemmas.{other_chunk}
 use Rattle.dm_map.proofs.walk.Bounds.{bound_more, bound_more_from, chunk_bound, leg_bound, line_bound, lines_apart, origin_bound, parts_on, range_looked, range_on}
 use Rattle.dm_map.proofs.walk.Chunks.{chunk_read, in_one_chunk, in_snapshot, lost_read, write_line_step}
-use Rattle.dm_map.proofs.walk.LineRanges.{leg_at, leg_of, line_looked, line_of_look, line_sectors, line_walked, line_walked_at, range_bounded, range_walked, range_walked_at}
+use Rattle.dm_map.proofs.walk.LineRanges.{leg_at, leg_of, line_of_look, line_sectors, line_walked, line_walked_at, range_bounded, range_walked, range_walked_at}
 use Rattle.dm_map.proofs.walk.Ranges.{beneath_as, leg_errors, leg_lies, leg_zeros, line_served, origin_read, range_deepest, range_disk, range_refused}
 use Rattle.dm_map.proofs.walk.OriginParts.{line_overs, part_walked, serve_failed}
 use Rattle.dm_map.proofs.walk.Rows.{walked_as, walked_piece}
@@ -67,7 +67,7 @@ map_device-map_lines-requires g t c κs within =
     let deep : 1 ≤ a.levels = omega (arith, c.if-levels-eq0.false) in
     let passes : refuses c.look-line.new.self.stack a.op a.device ≡ false = ap (λ (s : Description). refuses s a.op a.device) stack ∙ sym c.refuses.ensures ∙ c.if-refuses.false in
     let inside : a.sector + a.len ≤ device_len c.look-line.new.self.stack a.device = subst (λ (s : Description). a.sector + a.len ≤ device_len s a.device) (sym stack) c.requires.inside in
-    let line = line_of_look _ _ a.device c.look-line.result.now a.sector look.same look.holds look.all in
+    let line = line_of_look _ _ a.device c.look-line.result.now a.sector look.same look.line in
     let kept : g.S.Sink.stack a.sink.now ≡ c.look-line.new.self.stack = c.requires.sink.stack ∙ sym stack in
     search rules
 
@@ -116,7 +116,7 @@ map_lines-lines-preserved g t c =
     let position : l.at ≡ a.sector + done = omega (arith, l.invariant.position, l.invariant.within) in
     let some : 1 ≤ n = omega (arith, c.part_in-part.ensures, l.invariant.some, l.invariant.line.from, l.invariant.line.before) in
     let stack : c.map_line-in-lines.new.walker.stack ≡ w.stack = walked.stack ∙ l.invariant.walked.stack in
-    let line = line_looked w.stack c.map_line-in-lines.new.walker.stack a.device next.result.now (l.at + n) stack next.ensures.holds next.ensures.all in
+    let line = subst (λ (s : Description). IsLineOf s a.device next.result.now (l.at + n)) stack next.ensures.line in
     let more = range_looked w c.map_line-in-lines.new.walker next.new.self a.op (depth_of w.stack a.device) a.sector (done + n) (path w.stack w.state a.levels (Device a.device)) next.ensures.one
     (range_on w l.walker c.map_line-in-lines.new.walker a.op a.levels a.device a.sector l.at done n l.invariant.walked.stack l.invariant.walked.state position l.invariant.edge some l.invariant.bounded c.in_ok-map_line.ensures.bounded) in
     record {

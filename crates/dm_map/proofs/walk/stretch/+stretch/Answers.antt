@@ -54,15 +54,15 @@ first_stretch-look-line-requires-clause-device g t c =
 
 pub first_stretch-returns-else-levels-eq0 : goal.first_stretch-returns-else-levels-eq0
 first_stretch-returns-else-levels-eq0 g t c =
-    let a = c.args in let w = a.walker.now in let line = c.look-line.result.now in let s = c.line_stretch.ensures in let n = c.line_stretch.result.len in let holds = c.look-line.ensures.holds in
+    let a = c.args in let w = a.walker.now in let line = c.look-line.result.now in let s = c.line_stretch.ensures in let n = c.line_stretch.result.len in let of = c.look-line.ensures.line in
     let each : (i : ℕ) → i < n → found_at w.stack c.in-Device.device (a.sector + i) ≡ Some line = λ i within.
-    c.look-line.ensures.all (a.sector + i) (omega (arith, holds.from)) (omega (arith, holds.from, holds.before, c.part_in-part.ensures, s.most, within)) in
+    of.is.all (a.sector + i) (omega (arith, of.from)) (omega (arith, of.from, of.before, c.part_in-part.ensures, s.most, within)) in
     let looked : (look : StackState → Step) → look (stack_state c.look-line.new.self) ≡ look (stack_state w) = λ look. ap look c.look-line.ensures.same in
     record {
       some = s.some;
       most = omega (arith, s.most, c.part_in-part.ensures);
       read = ap (λ (lower : Lower). range_step w.stack Read a.levels lower w.state a.sector n) c.in-Device.is
-          ∙ range_line w.stack Read a.levels (a.levels - 1) c.in-Device.device a.sector n w.state line (omega (arith, c.if-levels-eq0.false)) refl holds.from each
+          ∙ range_line w.stack Read a.levels (a.levels - 1) c.in-Device.device a.sector n w.state line (omega (arith, c.if-levels-eq0.false)) refl of.from each
           ∙ sym (looked (λ v. line_step v.stack Read (a.levels - 1) c.in-Device.device line.target v.state (a.sector - line.start) n)) ∙ s.read
           ∙ looked (λ v. keep (units_in (ground_unit c.line_stretch.result.ground) n) v.state);
       lies = subst (λ (v : StackState). IsGroundInStack v.stack c.line_stretch.result.ground n) c.look-line.ensures.same s.lies;

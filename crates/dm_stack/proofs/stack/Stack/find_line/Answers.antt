@@ -3,12 +3,12 @@ use Rattle.std.specs.Prelude.{slice_get}
 use Rattle.std.proofs.lemmas.List.{length-map}
 use Rattle.std.proofs.lemmas.Option.{slice_get_read}
 use Rattle.dm_stack.specs.declared.found_line.FoundLine.{FoundLine}
-use Rattle.dm_stack.specs.Below.{HoldsSoundly, found_at}
+use Rattle.dm_stack.specs.Below.{found_at}
 use Rattle.dm_stack.specs.LineSearch.{StartsAfter, StartsBy, binary_digits}
 use Rattle.dm_stack.specs.Description.{lines_at}
 use Rattle.dm_stack.proofs.LineSearchLemmas.{few_halvings, first_starts, last_kept, line_there, next_after, small_there}
-use Rattle.dm_stack.proofs.SameLine.{same_found}
-use Rattle.dm_stack.proofs.SoundLines.{sector_found}
+use Rattle.dm_stack.proofs.SameLine.{found_line_of}
+use Rattle.dm_stack.proofs.SoundLines.{HoldsSoundly, sector_found}
 use Rattle.dm_stack.proofs.stack.Stack.find_line.Goals as goal
 
 pub find-index-requires-clause-first : goal.find-index-requires-clause-first
@@ -39,9 +39,7 @@ returns c =
     let same : f.line ≡ c.index-lines-index.result = let known = f.is in cc in
     let few = subst (λ (n : ℕ). c.find-index.result.1 ≤ binary_digits n) (ap length lines ∙ length-map (lines_at st c.args.device) _) c.find-index.ensures.found.few in
     record {
-      line = is;
-      holds = subst (λ (line : FoundLine). HoldsSoundly st c.args.device line c.args.sector) same f.soundly;
-      all = λ other from before. same_found st c.args.device c.args.sector other c.index-lines-index.result sound c.requires.device is from before;
+      line = found_line_of st c.args.device c.args.sector c.index-lines-index.result sound c.requires.device is (subst (λ (line : FoundLine). HoldsSoundly st c.args.device line c.args.sector) same f.soundly);
       few = few;
       most = few_halvings st c.args.device c.find-index.result.1 sound c.requires.device few;
       last = last_kept st c.args.device c.args.last.now c.find-index.new.last c.requires.last (rw lines at c.find-index.ensures.last);
