@@ -129,8 +129,8 @@ impl<'s, T: Taken> Mapper<'s, T> {
         sink: &mut S,
     ) -> Result<(), MapFault<S::Fault>>
         requires device { device < length self.old.stack.devices }
-        requires stack { S.stack sink.old ≡ self.old.stack }
-        requires room { request.now.len ≤ S.room sink.old }
+        requires stack { (S.view sink.old).stack ≡ self.old.stack }
+        requires room { request.now.len ≤ (S.view sink.old).room }
         ensures stack { self.new.stack ≡ self.old.stack }
         ensures took { OnOk result (S.took sink.old
             (request_step self.old.stack request.now.op device request.now.start request.now.len
@@ -138,14 +138,14 @@ impl<'s, T: Taken> Mapper<'s, T> {
         ensures state { OnOk result (self.new.state
             ≡ (request_step self.old.stack request.now.op device request.now.start request.now.len
             self.old.state).state) }
-        ensures kept { OnOk result ((S.stack sink.new ≡ S.stack sink.old)
-            × (S.faults sink.new ≡ S.faults sink.old)) }
+        ensures kept { OnOk result (((S.view sink.new).stack ≡ (S.view sink.old).stack)
+            × ((S.view sink.new).faults ≡ (S.view sink.old).faults)) }
         ensures going { OnOk result ((self.old.stopped ≡ false) × (self.new.stopped ≡ false)) }
         ensures left { OnSinkFault result
             (OfBeginning S.left sink.old
             (request_step self.old.stack request.now.op device request.now.start request.now.len
             self.old.state).units sink.new) }
-        ensures failed { OnSinkFault result (S.faults sink.new ≡ S.faults sink.old + 1) }
+        ensures failed { OnSinkFault result ((S.view sink.new).faults ≡ (S.view sink.old).faults + 1) }
         ensures stops { OnSinkFault result ((self.old.stopped ≡ false) × (self.new.stopped ≡ true)) }
         ensures stopped { OnStopped result
             ((self.old.stopped ≡ true) × (self.new ≡ self.old) × (sink.new ≡ sink.old)) }
@@ -236,8 +236,8 @@ fn map_request<S: Sink, T: Taken>(
 ) -> Result<(), S::Fault>
     requires some { 1 ≤ len }
     requires device { device < length walker.old.stack.devices }
-    requires sink { HasRoomFor S.stack S.room sink.old walker.old.stack len }
-    ensures walked { IsWalked S.took S.left S.stack S.room S.faults
+    requires sink { HasRoomFor S.view sink.old walker.old.stack len }
+    ensures walked { IsWalked S.took S.left S.view
         result sink.old sink.new walker.old walker.new
         (request_step walker.old.stack op device start len walker.old.state) len }
     ensures bounded { op ≡ Read → walker.new.looked.searches ≤ walker.old.looked.searches

@@ -90,11 +90,11 @@ impl Sink for Halting<'_> {
 
     type Fault = ();
 
-    ghost stack = { λ sink. sink.player.stack.now };
-
-    ghost room = { λ sink. 2 ^ 64 };
-
-    ghost faults = { λ sink. sink.player.faults };
+    ghost view = { λ sink. record {
+      stack = sink.player.stack.now;
+      room = 2 ^ 64;
+      faults = sink.player.faults;
+    } };
 
     ghost took = { λ old units new. HasTaken old units new };
 

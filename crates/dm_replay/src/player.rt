@@ -134,11 +134,11 @@ impl Sink for Player<'_> {
 
     type Fault = AllocError;
 
-    ghost stack = { λ player. player.stack.now };
-
-    ghost room = { λ player. 2 ^ 64 };
-
-    ghost faults = { λ player. player.faults };
+    ghost view = { λ player. record {
+      stack = player.stack.now;
+      room = 2 ^ 64;
+      faults = player.faults;
+    } };
 
     ghost took = { λ old units new. HasPlayed old.playing units new.playing
         × AreUnitsOf (length old.stack.now.disks) units × (new.stack.now ≡ old.stack.now) };

@@ -26,11 +26,11 @@ impl Sink for Discard<'_> {
 
     type Fault = ();
 
-    ghost stack = { λ sink. sink.stack.now };
-
-    ghost room = { λ sink. 2 ^ 64 };
-
-    ghost faults = { λ sink. 0 };
+    ghost view = { λ sink. record {
+      stack = sink.stack.now;
+      room = 2 ^ 64;
+      faults = 0;
+    } };
 
     ghost took = { λ old units new. Unit {0} };
 

@@ -100,11 +100,11 @@ impl<'s, W: Output> Join<'s, W> {
 impl<W: Output> Sink for Join<'_, W> {
     type Fault = OutFault;
 
-    ghost stack = { λ join. join.held.stack };
-
-    ghost room = { λ join. 2 ^ 64 - 1 - held_diskless join.held.piece };
-
-    ghost faults = { λ join. (W.past join.writer.now).faults };
+    ghost view = { λ join. record {
+      stack = join.held.stack;
+      room = 2 ^ 64 - 1 - held_diskless join.held.piece;
+      faults = (W.past join.writer.now).faults;
+    } };
 
     ghost took = { λ old units new. HasTaken old.held new.held units (W.past old.writer.now).written
         (W.past new.writer.now).written

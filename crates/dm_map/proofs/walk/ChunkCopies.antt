@@ -13,6 +13,7 @@ use Rattle.dm_map.specs.state.Snapshots.{store_sector}
 use Rattle.dm_map.specs.walk.SnapshotWrites.{copy_to, home_in_store, read, row, write_to}
 use Rattle.dm_map.specs.walk.Steps.{keep}
 use Rattle.dm_map.specs.walk.Stretch.{ground_unit}
+use Rattle.dm_map.specs.pieces.Sink.{SinkView}
 use Rattle.dm_map.specs.pieces.Units.{WriteOf, units_in}
 use Rattle.dm_map.specs.state.Walker.{StackState, WalkerView, stack_state}
 use Rattle.dm_map.specs.walk.Range.{range_step}
@@ -20,12 +21,12 @@ use Rattle.dm_map.proofs.walk.Chunks.{store_sector_on}
 use Rattle.dm_map.proofs.walk.UnitRows.{copy_row, first_reads, row_front, write_row}
 
 -- between pieces, a sink and a walk are where they were, but for the units that the sink took and what was looked up
-pub record IsGoingOn {S : Type 0} (stack_of : S → Description) (room_of faults_of : S → ℕ) (old new : S) (before after : WalkerView) : Type 0 where
+pub record IsGoingOn {S : Type 0} (view : S → SinkView) (old new : S) (before after : WalkerView) : Type 0 where
   pub same : stack_state after ≡ stack_state before
   pub looked : AreAdded before.looked after.looked
-  pub stack : stack_of new ≡ stack_of old
-  pub room : room_of old ≤ room_of new
-  pub faults : faults_of new ≡ faults_of old
+  pub stack : (view new).stack ≡ (view old).stack
+  pub room : (view old).room ≤ (view new).room
+  pub faults : (view new).faults ≡ (view old).faults
 
 -- a first stretch of what is left of a range is the next part of the row of its reads
 pub next_reads : (before now : WalkerView) (lower : Lower) (sector done at n : ℕ) (ground : Ground) → stack_state now ≡ stack_state before → at ≡ sector + done → range_step now.stack Read MOST_DEPTH lower now.state at n ≡ keep (units_in (ground_unit ground) n) now.state

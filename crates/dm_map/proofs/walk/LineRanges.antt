@@ -10,6 +10,7 @@ use Rattle.dm_stack.specs.Below.{IsLine, IsLineOf, IsTargetSound}
 use Rattle.dm_stack.specs.Description.{Description}
 use Rattle.dm_stack.specs.Leg.{AreInside, HasSectors, IsLeg}
 use Rattle.dm_stack.specs.Soundness.{IsSound, depth_of}
+use Rattle.dm_map.specs.pieces.Sink.{SinkView}
 use Rattle.dm_map.specs.pieces.Units.{BlockUnit}
 use Rattle.dm_map.specs.state.Counts.{AreAdded}
 use Rattle.dm_map.specs.state.Walker.{StackState, WalkerView, stack_state}
@@ -40,37 +41,37 @@ pub leg_at : (target other : FoundTarget) (distance at most : ℕ) (leg : Leg) �
 leg_at target other distance at most leg same position is = subst (λ (d : ℕ). IsLeg target d most leg) position (subst (λ (t : FoundTarget). IsLeg t distance most leg) same is)
 
 -- what a line hands over is its device's range
-pub line_walked : {S F : Type 0} (took left : S → List BlockUnit → S → Type 0) (stack_of : S → Description) (room faults : S → ℕ) (result : Result (Unit {0}) F) (old new : S) (before after : WalkerView) (op : Op) (levels fewer device sector n : ℕ) (line : FoundLine) → levels ≡ suc fewer
-    → refuses before.stack op device ≡ false → IsLineOf before.stack device line sector → sector + n ≤ line.start + line.len → IsWalked took left stack_of room faults result old new before after (line_step before.stack op fewer device line.target before.state (sector - line.start) n) n
-    → IsWalked took left stack_of room faults result old new before after (range_step before.stack op levels (Device device) before.state sector n) n
-line_walked took left stack_of room faults result old new before after op levels fewer device sector n line more passes of inside walk =
-    walked_as took left stack_of room faults result old new before after _ _ n
+pub line_walked : {S F : Type 0} (took left : S → List BlockUnit → S → Type 0) (view : S → SinkView) (result : Result (Unit {0}) F) (old new : S) (before after : WalkerView) (op : Op) (levels fewer device sector n : ℕ) (line : FoundLine) → levels ≡ suc fewer
+    → refuses before.stack op device ≡ false → IsLineOf before.stack device line sector → sector + n ≤ line.start + line.len → IsWalked took left view result old new before after (line_step before.stack op fewer device line.target before.state (sector - line.start) n) n
+    → IsWalked took left view result old new before after (range_step before.stack op levels (Device device) before.state sector n) n
+line_walked took left view result old new before after op levels fewer device sector n line more passes of inside walk =
+    walked_as took left view result old new before after _ _ n
     (sym (range_line before.stack op levels fewer device sector n before.state line more passes of.from (λ i within. of.is.all (sector + i) (omega (arith, of.from)) (omega (arith, inside, within))))) walk
 
 -- what a later part of a range hands over
-pub range_walked_at : {S F : Type 0} (took left : S → List BlockUnit → S → Type 0) (stack_of : S → Description) (room faults : S → ℕ) (result : Result (Unit {0}) F) (old new : S) (stack : Description) (before after : WalkerView) (op : Op) (levels device sector at n : ℕ) → before.stack ≡ stack → at ≡ sector
-    → IsWalked took left stack_of room faults result old new before after (range_step before.stack op levels (Device device) before.state at n) n
-    → IsWalked took left stack_of room faults result old new before after (range_step stack op levels (Device device) before.state sector n) n
-range_walked_at took left stack_of room faults result old new stack before after op levels device sector at n same position walk =
-    walked_as took left stack_of room faults result old new before after _ _ n
+pub range_walked_at : {S F : Type 0} (took left : S → List BlockUnit → S → Type 0) (view : S → SinkView) (result : Result (Unit {0}) F) (old new : S) (stack : Description) (before after : WalkerView) (op : Op) (levels device sector at n : ℕ) → before.stack ≡ stack → at ≡ sector
+    → IsWalked took left view result old new before after (range_step before.stack op levels (Device device) before.state at n) n
+    → IsWalked took left view result old new before after (range_step stack op levels (Device device) before.state sector n) n
+range_walked_at took left view result old new stack before after op levels device sector at n same position walk =
+    walked_as took left view result old new before after _ _ n
     (ap (λ (s : Description). range_step s op levels (Device device) before.state at n) same ∙ ap (λ (p : ℕ). range_step stack op levels (Device device) before.state p n) position) walk
 
 -- and so of a line
-pub line_walked_at : {S F : Type 0} (took left : S → List BlockUnit → S → Type 0) (stack_of : S → Description) (room faults : S → ℕ) (result : Result (Unit {0}) F) (old new : S) (stack : Description) (before after : WalkerView) (op : Op) (levels device distance at n : ℕ) (target : FoundTarget) → before.stack ≡ stack → at ≡ distance
-    → IsWalked took left stack_of room faults result old new before after (line_step before.stack op levels device target before.state at n) n
-    → IsWalked took left stack_of room faults result old new before after (line_step stack op levels device target before.state distance n) n
-line_walked_at took left stack_of room faults result old new stack before after op levels device distance at n target same position walk =
-    walked_as took left stack_of room faults result old new before after _ _ n
+pub line_walked_at : {S F : Type 0} (took left : S → List BlockUnit → S → Type 0) (view : S → SinkView) (result : Result (Unit {0}) F) (old new : S) (stack : Description) (before after : WalkerView) (op : Op) (levels device distance at n : ℕ) (target : FoundTarget) → before.stack ≡ stack → at ≡ distance
+    → IsWalked took left view result old new before after (line_step before.stack op levels device target before.state at n) n
+    → IsWalked took left view result old new before after (line_step stack op levels device target before.state distance n) n
+line_walked_at took left view result old new stack before after op levels device distance at n target same position walk =
+    walked_as took left view result old new before after _ _ n
     (ap (λ (s : Description). line_step s op levels device target before.state at n) same ∙ ap (λ (p : ℕ). line_step stack op levels device target before.state p n) position) walk
 
 -- What the range hands over after a look
 
-pub range_walked : {S F : Type 0} (took left : S → List BlockUnit → S → Type 0) (stack_of : S → Description) (room faults : S → ℕ) (result : Result (Unit {0}) F) (old new : S) (before looked after : WalkerView) (op : Op) (levels device sector len : ℕ)
-    → stack_state looked ≡ stack_state before → AreAdded before.looked looked.looked → IsWalked took left stack_of room faults result old new looked after (range_step looked.stack op levels (Device device) looked.state sector len) len
-    → IsWalked took left stack_of room faults result old new before after (range_step before.stack op levels (Device device) before.state sector len) len
-range_walked took left stack_of room faults result old new before looked after op levels device sector len same added walk =
-    walked_after_look took left stack_of room faults result old new before looked after _ len same added
-    (walked_as took left stack_of room faults result old new looked after _ _ len (ap (λ (v : StackState). range_step v.stack op levels (Device device) v.state sector len) same) walk)
+pub range_walked : {S F : Type 0} (took left : S → List BlockUnit → S → Type 0) (view : S → SinkView) (result : Result (Unit {0}) F) (old new : S) (before looked after : WalkerView) (op : Op) (levels device sector len : ℕ)
+    → stack_state looked ≡ stack_state before → AreAdded before.looked looked.looked → IsWalked took left view result old new looked after (range_step looked.stack op levels (Device device) looked.state sector len) len
+    → IsWalked took left view result old new before after (range_step before.stack op levels (Device device) before.state sector len) len
+range_walked took left view result old new before looked after op levels device sector len same added walk =
+    walked_after_look took left view result old new before looked after _ len same added
+    (walked_as took left view result old new looked after _ _ len (ap (λ (v : StackState). range_step v.stack op levels (Device device) v.state sector len) same) walk)
 
 pub range_bounded : (before looked after : WalkerView) (op : Op) (levels device sector len : ℕ) → stack_state looked ≡ stack_state before → looked.looked.searches ≤ before.looked.searches + 1
     → IsBoundedFrom looked after op (depth_of looked.stack device) (path looked.stack looked.state levels (Device device)) sector len → IsBounded before after op (depth_of before.stack device) (path before.stack before.state levels (Device device)) sector len

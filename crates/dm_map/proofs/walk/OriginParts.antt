@@ -10,7 +10,7 @@ use Rattle.dm_stack.specs.Description.{Description}
 use Rattle.dm_stack.specs.Soundness.{IsSound}
 use Rattle.dm_map.specs.walk.Mapping.{sector_step}
 use Rattle.dm_map.specs.walk.Serving.{AreSettled, IsOver, serve}
-use Rattle.dm_map.specs.pieces.Sink.{OfBeginning}
+use Rattle.dm_map.specs.pieces.Sink.{OfBeginning, SinkView}
 use Rattle.dm_map.specs.state.State.{State}
 use Rattle.dm_map.specs.walk.Steps.{Step, steps}
 use Rattle.dm_map.specs.pieces.Units.{BlockUnit}
@@ -32,10 +32,10 @@ served_is : (stack before : Description) (origin : FoundOrigin) (over : List Fou
 served_is stack before origin over at state same list = ap (λ (s : Description). serve s over at state) same ∙ ap (λ (xs : List FoundOver). serve stack xs at state) list
 
 -- the sink failed at what serving gives
-pub serve_failed : {S F : Type 0} (took left : S → List BlockUnit → S → Type 0) (stack_of : S → Description) (room faults : S → ℕ) (fault : F) (old new : S) (stack : Description) (before after : WalkerView) (levels at p n : ℕ) (origin : FoundOrigin) (over : List FoundOver) → before.stack ≡ stack → over ≡ origin.over → at ≡ p → 1 ≤ n
-    → IsWalked took left stack_of room faults (Err fault) old new before after (serve before.stack over at before.state) 0 → IsWalked took left stack_of room faults (Err fault) old new before after (origin_step stack ops.Write levels origin before.state p n) n
-serve_failed took left stack_of room faults fault old new stack before after levels at p zero origin over same list position some walk = absurd (omega (arith, some))
-serve_failed took left stack_of room faults fault old new stack before after levels at p (suc k) origin over same list position some walk =
+pub serve_failed : {S F : Type 0} (took left : S → List BlockUnit → S → Type 0) (view : S → SinkView) (fault : F) (old new : S) (stack : Description) (before after : WalkerView) (levels at p n : ℕ) (origin : FoundOrigin) (over : List FoundOver) → before.stack ≡ stack → over ≡ origin.over → at ≡ p → 1 ≤ n
+    → IsWalked took left view (Err fault) old new before after (serve before.stack over at before.state) 0 → IsWalked took left view (Err fault) old new before after (origin_step stack ops.Write levels origin before.state p n) n
+serve_failed took left view fault old new stack before after levels at p zero origin over same list position some walk = absurd (omega (arith, some))
+serve_failed took left view fault old new stack before after levels at p (suc k) origin over same list position some walk =
     let first = serve stack origin.over p before.state in
     let here : serve before.stack over at before.state ≡ first = served_is stack before.stack origin over at before.state same list ∙ ap (λ (s : ℕ). serve stack origin.over s before.state) position in
     let plain = sector_step stack ops.Write levels origin.to first.state p in
@@ -52,12 +52,12 @@ serve_failed took left stack_of room faults fault old new stack before after lev
     }
 
 -- or it took it, and the sectors are written
-pub part_walked : {S F G : Type 0} (took left : S → List BlockUnit → S → Type 0) (stack_of : S → Description) (room faults : S → ℕ) (both : (a b c : S) (us vs : List BlockUnit) → took a us b → took b vs c → took a (us ++ vs) c)
+pub part_walked : {S F G : Type 0} (took left : S → List BlockUnit → S → Type 0) (view : S → SinkView) (both : (a b c : S) (us vs : List BlockUnit) → took a us b → took b vs c → took a (us ++ vs) c)
     (cut : (a b c : S) (us vs : List BlockUnit) → took a us b → left b vs c → left a (us ++ vs) c) (result : Result (Unit {0}) F) (fine : Unit {0}) (old middle new : S) (stack : Description) (before between after : WalkerView) (levels at p n : ℕ) (origin : FoundOrigin) (over : List FoundOver)
-    → before.stack ≡ stack → over ≡ origin.over → at ≡ p → 1 ≤ n → IsWalked {F = G} took left stack_of room faults (Ok fine) old middle before between (serve before.stack over at before.state) 0 → ((i : ℕ) → i < n → AreSettled between.state over (at + i))
-    → IsWalked took left stack_of room faults result middle new between after (range_step between.stack ops.Write levels origin.to between.state at n) n → IsWalked took left stack_of room faults result old new before after (origin_step stack ops.Write levels origin before.state p n) n
-part_walked took left stack_of room faults both cut result fine old middle new stack before between after levels at p zero origin over same list position some one each two = absurd (omega (arith, some))
-part_walked took left stack_of room faults both cut result fine old middle new stack before between after levels at p (suc k) origin over same list position some one each two =
+    → before.stack ≡ stack → over ≡ origin.over → at ≡ p → 1 ≤ n → IsWalked {F = G} took left view (Ok fine) old middle before between (serve before.stack over at before.state) 0 → ((i : ℕ) → i < n → AreSettled between.state over (at + i))
+    → IsWalked took left view result middle new between after (range_step between.stack ops.Write levels origin.to between.state at n) n → IsWalked took left view result old new before after (origin_step stack ops.Write levels origin before.state p n) n
+part_walked took left view both cut result fine old middle new stack before between after levels at p zero origin over same list position some one each two = absurd (omega (arith, some))
+part_walked took left view both cut result fine old middle new stack before between after levels at p (suc k) origin over same list position some one each two =
     let plain = sector_step stack ops.Write levels origin.to in
     let first = serve stack origin.over at before.state in
     let here : serve before.stack over at before.state ≡ first = served_is stack before.stack origin over at before.state same list in
@@ -67,6 +67,6 @@ part_walked took left stack_of room faults both cut result fine old middle new s
     subst (λ (s : State). AreSettled s origin.over (at + i)) state_is (subst (λ (xs : List FoundOver). AreSettled between.state xs (at + i)) list (each i within)) in
     let next : steps plain first.state at (suc k) ≡ range_step between.stack ops.Write levels origin.to between.state at (suc k) =
     ap (λ (s : State). steps plain s at (suc k)) (sym state_is) ∙ ap (λ (s : Description). range_step s ops.Write levels origin.to between.state at (suc k)) (sym (one.stack ∙ same)) in
-    walked_as took left stack_of room faults result old new before after _ _ (suc k) (sym (part stack origin.over plain before.state at k keeps settled) ∙ ap (λ (s : ℕ). origin_step stack ops.Write levels origin before.state s (suc k)) position)
-    (walked_then took left stack_of room faults result old middle new before between after first (range_step between.stack ops.Write levels origin.to between.state at (suc k)) (λ later. steps plain later at (suc k)) (suc k) (suc k) both cut
+    walked_as took left view result old new before after _ _ (suc k) (sym (part stack origin.over plain before.state at k keeps settled) ∙ ap (λ (s : ℕ). origin_step stack ops.Write levels origin before.state s (suc k)) position)
+    (walked_then took left view result old middle new before between after first (range_step between.stack ops.Write levels origin.to between.state at (suc k)) (λ later. steps plain later at (suc k)) (suc k) (suc k) both cut
     (subst (λ (x : Step). took old x.units middle) here one.took) next (omega arith) one.kept (omega (arith, one.room)) (omega (arith, one.faults)) one.stack one.looked two)

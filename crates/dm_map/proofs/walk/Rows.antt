@@ -8,7 +8,7 @@ use Rattle.dm_table.specs.io.DeviceIo.{fault_of}
 use Rattle.dm_stack.specs.Description.{Description, device_len}
 use Rattle.dm_map.specs.state.Counts.{AreAdded, Counts}
 use Rattle.dm_map.specs.pieces.Units.{BlockUnit, Fails, next_unit, units_in}
-use Rattle.dm_map.specs.pieces.Sink.{OfBeginning}
+use Rattle.dm_map.specs.pieces.Sink.{OfBeginning, SinkView}
 use Rattle.dm_map.specs.state.State.{State}
 use Rattle.dm_map.specs.walk.Steps.{Step, keep, and_then, steps}
 use Rattle.dm_map.specs.walk.Mapping.{request_step}
@@ -44,20 +44,20 @@ on_ok_then (Ok x) P Q f p = f p
 on_ok_then (Err e) P Q f p = tt
 
 -- a walk whose step is said in another way
-pub walked_as : {S F : Type 0} (took left : S → List BlockUnit → S → Type 0) (stack : S → Description) (room faults : S → ℕ) (result : Result (Unit {0}) F) (old new : S) (before after : WalkerView) (step other : Step) (len : ℕ) → step ≡ other
-    → IsWalked took left stack room faults result old new before after step len → IsWalked took left stack room faults result old new before after other len
-walked_as took left stack room faults result old new before after step other len same walked = subst (λ (x : Step). IsWalked took left stack room faults result old new before after x len) same walked
+pub walked_as : {S F : Type 0} (took left : S → List BlockUnit → S → Type 0) (view : S → SinkView) (result : Result (Unit {0}) F) (old new : S) (before after : WalkerView) (step other : Step) (len : ℕ) → step ≡ other
+    → IsWalked took left view result old new before after step len → IsWalked took left view result old new before after other len
+walked_as took left view result old new before after step other len same walked = subst (λ (x : Step). IsWalked took left view result old new before after x len) same walked
 
 -- one piece as a walk
-pub walked_piece : {S F : Type 0} (took left : S → List BlockUnit → S → Type 0) (stack : S → Description) (room faults : S → ℕ) (result : Result (Unit {0}) F) (old new : S) (walk : WalkerView) (units : List BlockUnit) (step : Step) (diskless len : ℕ)
-    → keep units walk.state ≡ step → diskless ≤ len → OnOk result (took old units new) → OnErr result (left old units new) → faults new ≡ faults old + fault_of result → OnOk result (stack new ≡ stack old) → OnOk result (room old ≤ room new + diskless)
-    → IsWalked took left stack room faults result old new walk walk step len
-walked_piece took left stack room faults result old new walk units step diskless len same few took_is left_is faults_is kept_is room_is =
-    walked_as took left stack room faults result old new walk walk (keep units walk.state) step len same (record {
+pub walked_piece : {S F : Type 0} (took left : S → List BlockUnit → S → Type 0) (view : S → SinkView) (result : Result (Unit {0}) F) (old new : S) (walk : WalkerView) (units : List BlockUnit) (step : Step) (diskless len : ℕ)
+    → keep units walk.state ≡ step → diskless ≤ len → OnOk result (took old units new) → OnErr result (left old units new) → (view new).faults ≡ (view old).faults + fault_of result → OnOk result ((view new).stack ≡ (view old).stack) → OnOk result ((view old).room ≤ (view new).room + diskless)
+    → IsWalked took left view result old new walk walk step len
+walked_piece took left view result old new walk units step diskless len same few took_is left_is faults_is kept_is room_is =
+    walked_as took left view result old new walk walk (keep units walk.state) step len same (record {
       took = took_is;
       state = on_ok result (walk.state ≡ walk.state) refl;
       kept = kept_is;
-      room = on_ok_then result (room old ≤ room new + diskless) (room old ≤ room new + len) (λ low. omega (arith, low, few)) room_is;
+      room = on_ok_then result ((view old).room ≤ (view new).room + diskless) ((view old).room ≤ (view new).room + len) (λ low. omega (arith, low, few)) room_is;
       left = on_err_then result (left old units new) (OfBeginning left old units new) (λ failed. record { front = units; rest = []; whole = append-nil units; holds = failed }) left_is;
       faults = faults_is;
       stack = refl;
@@ -65,17 +65,17 @@ walked_piece took left stack room faults result old new walk units step diskless
     })
 
 -- a walk that the sink cut short
-pub walked_cut : {S F : Type 0} (took left : S → List BlockUnit → S → Type 0) (stack : S → Description) (room faults : S → ℕ) (result : Result (Unit {0}) F) (old new : S) (before after : WalkerView) (step : Step) (len : ℕ)
-    → IsErr result → OfBeginning left old step.units new → faults new ≡ faults old + 1 → after.stack ≡ before.stack → AreAdded before.looked after.looked → IsWalked took left stack room faults result old new before after step len
-walked_cut took left stack room faults (Ok done) old new before after step len is_err cut one same looked = absurd cc
-walked_cut took left stack room faults (Err fault) old new before after step len is_err cut one same looked = record { took = tt; state = tt; kept = tt; room = tt; left = cut; faults = one; stack = same; looked = looked }
+pub walked_cut : {S F : Type 0} (took left : S → List BlockUnit → S → Type 0) (view : S → SinkView) (result : Result (Unit {0}) F) (old new : S) (before after : WalkerView) (step : Step) (len : ℕ)
+    → IsErr result → OfBeginning left old step.units new → (view new).faults ≡ (view old).faults + 1 → after.stack ≡ before.stack → AreAdded before.looked after.looked → IsWalked took left view result old new before after step len
+walked_cut took left view (Ok done) old new before after step len is_err cut one same looked = absurd cc
+walked_cut took left view (Err fault) old new before after step len is_err cut one same looked = record { took = tt; state = tt; kept = tt; room = tt; left = cut; faults = one; stack = same; looked = looked }
 
 -- a walk after another one, which took its units
-pub walked_then : {S F : Type 0} (took left : S → List BlockUnit → S → Type 0) (stack : S → Description) (room faults : S → ℕ) (result : Result (Unit {0}) F) (old middle new : S) (before between after : WalkerView) (first second : Step) (next : State → Step) (m n : ℕ)
+pub walked_then : {S F : Type 0} (took left : S → List BlockUnit → S → Type 0) (view : S → SinkView) (result : Result (Unit {0}) F) (old middle new : S) (before between after : WalkerView) (first second : Step) (next : State → Step) (m n : ℕ)
     → ((a b c : S) (us vs : List BlockUnit) → took a us b → took b vs c → took a (us ++ vs) c) → ((a b c : S) (us vs : List BlockUnit) → took a us b → left b vs c → left a (us ++ vs) c)
-    → took old first.units middle → next first.state ≡ second → m ≤ n → stack middle ≡ stack old → room old ≤ room middle → faults middle ≡ faults old → between.stack ≡ before.stack → AreAdded before.looked between.looked
-    → IsWalked took left stack room faults result middle new between after second m → IsWalked took left stack room faults result old new before after (and_then first next) n
-walked_then took left stack room faults (Ok done) old middle new before between after first second next m n took_took took_left taken same few kept_is room_is faults_is stack_is looked_is walk =
+    → took old first.units middle → next first.state ≡ second → m ≤ n → (view middle).stack ≡ (view old).stack → (view old).room ≤ (view middle).room → (view middle).faults ≡ (view old).faults → between.stack ≡ before.stack → AreAdded before.looked between.looked
+    → IsWalked took left view result middle new between after second m → IsWalked took left view result old new before after (and_then first next) n
+walked_then took left view (Ok done) old middle new before between after first second next m n took_took took_left taken same few kept_is room_is faults_is stack_is looked_is walk =
     rw same (record {
       took = took_took old middle new first.units second.units taken walk.took;
       state = walk.state;
@@ -86,7 +86,7 @@ walked_then took left stack room faults (Ok done) old middle new before between 
       stack = walk.stack ∙ stack_is;
       looked = added_then before.looked between.looked after.looked looked_is walk.looked;
     })
-walked_then took left stack room faults (Err fault) old middle new before between after first second next m n took_took took_left taken same few kept_is room_is faults_is stack_is looked_is walk =
+walked_then took left view (Err fault) old middle new before between after first second next m n took_took took_left taken same few kept_is room_is faults_is stack_is looked_is walk =
     rw same (record {
       took = tt;
       state = tt;

@@ -4,7 +4,7 @@ use Rattle.std.specs.Result.{IsErr}
 use Rattle.std.specs.Prelude.{◌≤◌, Result, Ok, Err}
 use Rattle.dm_stack.specs.Description.{Description}
 use Rattle.dm_map.specs.state.Counts.{AreAdded}
-use Rattle.dm_map.specs.pieces.Sink.{OfBeginning}
+use Rattle.dm_map.specs.pieces.Sink.{OfBeginning, SinkView}
 use Rattle.dm_map.specs.state.State.{State}
 use Rattle.dm_map.specs.walk.Steps.{Step, keep, steps}
 use Rattle.dm_map.specs.pieces.Units.{BlockUnit}
@@ -17,8 +17,8 @@ abbrev pub going_on : Result (Unit {0}) (Unit {0})
 going_on = Ok tt
 
 -- one that has not begun
-pub walked_none : {S : Type 0} (took left : S → List BlockUnit → S → Type 0) (stack : S → Description) (room faults : S → ℕ) (sink : S) (walk : WalkerView) → took sink [] sink → IsWalked took left stack room faults going_on sink sink walk walk (keep [] walk.state) 0
-walked_none took left stack room faults sink walk taken = record { took = taken; state = refl; kept = refl; room = omega arith; left = tt; faults = omega arith; stack = refl; looked = none_added walk.looked }
+pub walked_none : {S : Type 0} (took left : S → List BlockUnit → S → Type 0) (view : S → SinkView) (sink : S) (walk : WalkerView) → took sink [] sink → IsWalked took left view going_on sink sink walk walk (keep [] walk.state) 0
+walked_none took left view sink walk taken = record { took = taken; state = refl; kept = refl; room = omega arith; left = tt; faults = omega arith; stack = refl; looked = none_added walk.looked }
 
 -- a sink that took the first part of a row, and then the next one
 took_on : {S : Type 0} (took : S → List BlockUnit → S → Type 0) (both : (a b c : S) (us vs : List BlockUnit) → took a us b → took b vs c → took a (us ++ vs) c)
@@ -54,11 +54,11 @@ left_on took left both a b c step state after sector m n len within is first sec
     }
 
 -- the first sectors, and then the next ones
-pub walked_on : {S F : Type 0} (took left : S → List BlockUnit → S → Type 0) (stack : S → Description) (room faults : S → ℕ) (both : (a b c : S) (us vs : List BlockUnit) → took a us b → took b vs c → took a (us ++ vs) c)
-    (fine : Unit {0}) (old middle new : S) (before between after : WalkerView) (step : State → ℕ → Step) (sector m n all : ℕ) → m + n ≡ all → IsWalked took left stack room faults going_on old middle before between (steps step before.state sector m) m
-    → IsWalked {F = F} took left stack room faults (Ok fine) middle new between after (steps step between.state (sector + m) n) n → IsWalked took left stack room faults going_on old new before after (steps step before.state sector all) all
-walked_on took left stack room faults both fine old middle new before between after step sector m n all is one two =
-    subst (λ (k : ℕ). IsWalked took left stack room faults going_on old new before after (steps step before.state sector k) k) is (record {
+pub walked_on : {S F : Type 0} (took left : S → List BlockUnit → S → Type 0) (view : S → SinkView) (both : (a b c : S) (us vs : List BlockUnit) → took a us b → took b vs c → took a (us ++ vs) c)
+    (fine : Unit {0}) (old middle new : S) (before between after : WalkerView) (step : State → ℕ → Step) (sector m n all : ℕ) → m + n ≡ all → IsWalked took left view going_on old middle before between (steps step before.state sector m) m
+    → IsWalked {F = F} took left view (Ok fine) middle new between after (steps step between.state (sector + m) n) n → IsWalked took left view going_on old new before after (steps step before.state sector all) all
+walked_on took left view both fine old middle new before between after step sector m n all is one two =
+    subst (λ (k : ℕ). IsWalked took left view going_on old new before after (steps step before.state sector k) k) is (record {
       took = took_on took both old middle new step before.state between.state sector m n one.state one.took two.took;
       state = state_on step before.state between.state after.state sector m n one.state two.state;
       kept = two.kept ∙ one.kept;
@@ -70,11 +70,11 @@ walked_on took left stack room faults both fine old middle new before between af
     })
 
 -- or a beginning of the next ones, and then a fault
-pub cut_on : {S F : Type 0} (took left : S → List BlockUnit → S → Type 0) (stack : S → Description) (room faults : S → ℕ) (both : (a b c : S) (us vs : List BlockUnit) → took a us b → left b vs c → left a (us ++ vs) c)
-    (fault : F) (result : Result (Unit {0}) F) (old middle new : S) (before between after : WalkerView) (step : State → ℕ → Step) (sector m n len : ℕ) → IsErr result → m + n ≤ len → IsWalked took left stack room faults going_on old middle before between (steps step before.state sector m) m
-    → IsWalked took left stack room faults (Err fault) middle new between after (steps step between.state (sector + m) n) n → IsWalked took left stack room faults result old new before after (steps step before.state sector len) len
-cut_on took left stack room faults both fault (Ok done) old middle new before between after step sector m n len is_err within one two = absurd cc
-cut_on took left stack room faults both fault (Err cause) old middle new before between after step sector m n len is_err within one two = record {
+pub cut_on : {S F : Type 0} (took left : S → List BlockUnit → S → Type 0) (view : S → SinkView) (both : (a b c : S) (us vs : List BlockUnit) → took a us b → left b vs c → left a (us ++ vs) c)
+    (fault : F) (result : Result (Unit {0}) F) (old middle new : S) (before between after : WalkerView) (step : State → ℕ → Step) (sector m n len : ℕ) → IsErr result → m + n ≤ len → IsWalked took left view going_on old middle before between (steps step before.state sector m) m
+    → IsWalked took left view (Err fault) middle new between after (steps step between.state (sector + m) n) n → IsWalked took left view result old new before after (steps step before.state sector len) len
+cut_on took left view both fault (Ok done) old middle new before between after step sector m n len is_err within one two = absurd cc
+cut_on took left view both fault (Err cause) old middle new before between after step sector m n len is_err within one two = record {
   took = tt;
   state = tt;
   kept = tt;
@@ -86,20 +86,20 @@ cut_on took left stack room faults both fault (Err cause) old middle new before 
 }
 
 -- the last ones, whatever came of them
-pub walked_last : {S F : Type 0} (took left : S → List BlockUnit → S → Type 0) (stack : S → Description) (room faults : S → ℕ) (both : (a b c : S) (us vs : List BlockUnit) → took a us b → took b vs c → took a (us ++ vs) c)
+pub walked_last : {S F : Type 0} (took left : S → List BlockUnit → S → Type 0) (view : S → SinkView) (both : (a b c : S) (us vs : List BlockUnit) → took a us b → took b vs c → took a (us ++ vs) c)
     (cut : (a b c : S) (us vs : List BlockUnit) → took a us b → left b vs c → left a (us ++ vs) c) (result : Result (Unit {0}) F) (old middle new : S) (before between after : WalkerView) (step : State → ℕ → Step) (sector m n all : ℕ) → m + n ≡ all
-    → IsWalked took left stack room faults going_on old middle before between (steps step before.state sector m) m → IsWalked took left stack room faults result middle new between after (steps step between.state (sector + m) n) n
-    → IsWalked took left stack room faults result old new before after (steps step before.state sector all) all
-walked_last took left stack room faults both cut (Ok done) old middle new before between after step sector m n all is one two =
-    let walk = walked_on took left stack room faults both done old middle new before between after step sector m n all is one two in
+    → IsWalked took left view going_on old middle before between (steps step before.state sector m) m → IsWalked took left view result middle new between after (steps step between.state (sector + m) n) n
+    → IsWalked took left view result old new before after (steps step before.state sector all) all
+walked_last took left view both cut (Ok done) old middle new before between after step sector m n all is one two =
+    let walk = walked_on took left view both done old middle new before between after step sector m n all is one two in
     record { took = walk.took; state = walk.state; kept = walk.kept; room = walk.room; left = tt; faults = walk.faults; stack = walk.stack; looked = walk.looked }
-walked_last took left stack room faults both cut (Err fault) old middle new before between after step sector m n all is one two =
-    cut_on took left stack room faults cut fault (Err fault) old middle new before between after step sector m n all refl (omega (arith, is)) one two
+walked_last took left view both cut (Err fault) old middle new before between after step sector m n all is one two =
+    cut_on took left view cut fault (Err fault) old middle new before between after step sector m n all refl (omega (arith, is)) one two
 
 -- a walk after a look, which changes nothing but the counts
-pub walked_after_look : {S F : Type 0} (took left : S → List BlockUnit → S → Type 0) (stack : S → Description) (room faults : S → ℕ) (result : Result (Unit {0}) F) (old new : S) (before looked after : WalkerView) (step : Step) (len : ℕ) → stack_state looked ≡ stack_state before
-    → AreAdded before.looked looked.looked → IsWalked took left stack room faults result old new looked after step len → IsWalked took left stack room faults result old new before after step len
-walked_after_look took left stack room faults result old new before looked after step len same added walk = record {
+pub walked_after_look : {S F : Type 0} (took left : S → List BlockUnit → S → Type 0) (view : S → SinkView) (result : Result (Unit {0}) F) (old new : S) (before looked after : WalkerView) (step : Step) (len : ℕ) → stack_state looked ≡ stack_state before
+    → AreAdded before.looked looked.looked → IsWalked took left view result old new looked after step len → IsWalked took left view result old new before after step len
+walked_after_look took left view result old new before looked after step len same added walk = record {
   took = walk.took;
   state = walk.state;
   kept = walk.kept;
@@ -111,9 +111,9 @@ walked_after_look took left stack room faults result old new before looked after
 }
 
 -- a walk before a look
-pub walked_before_look : {S : Type 0} (took left : S → List BlockUnit → S → Type 0) (stack : S → Description) (room faults : S → ℕ) (old new : S) (before after looked : WalkerView) (step : Step) (len : ℕ) → stack_state looked ≡ stack_state after
-    → AreAdded after.looked looked.looked → IsWalked took left stack room faults going_on old new before after step len → IsWalked took left stack room faults going_on old new before looked step len
-walked_before_look took left stack room faults old new before after looked step len same added walk = record {
+pub walked_before_look : {S : Type 0} (took left : S → List BlockUnit → S → Type 0) (view : S → SinkView) (old new : S) (before after looked : WalkerView) (step : Step) (len : ℕ) → stack_state looked ≡ stack_state after
+    → AreAdded after.looked looked.looked → IsWalked took left view going_on old new before after step len → IsWalked took left view going_on old new before looked step len
+walked_before_look took left view old new before after looked step len same added walk = record {
   took = walk.took;
   state = ap (λ (v : StackState). v.state) same ∙ walk.state;
   kept = walk.kept;

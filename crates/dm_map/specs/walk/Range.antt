@@ -13,7 +13,7 @@ use Rattle.dm_stack.specs.Below.{Below, below_target, IsLine}
 use Rattle.dm_stack.specs.Leg.{AreInside, IsBeneath}
 use Rattle.dm_stack.specs.Over.{snapshots_over}
 use Rattle.dm_map.specs.state.Counts.{AreAdded}
-use Rattle.dm_map.specs.pieces.Sink.{OfBeginning}
+use Rattle.dm_map.specs.pieces.Sink.{OfBeginning, SinkView}
 use Rattle.dm_map.specs.walk.Reads.{by_below, read_unit}
 use Rattle.dm_map.specs.walk.Serving.{served_step}
 use Rattle.dm_map.specs.state.Snapshots.{read_over}
@@ -64,9 +64,9 @@ refuses stack ops.Read device = false
 refuses stack ops.Write device = is_ro_at stack device
 
 -- a sink is one of this stack, and has room for len sectors
-pub record HasRoomFor {S : Type 0} (stack_of : S → Description) (room_of : S → ℕ) (sink : S) (of : Description) (len : ℕ) : Type 0 where
-  pub stack : stack_of sink ≡ of
-  pub room : len ≤ room_of sink
+pub record HasRoomFor {S : Type 0} (view : S → SinkView) (sink : S) (of : Description) (len : ℕ) : Type 0 where
+  pub stack : (view sink).stack ≡ of
+  pub room : len ≤ (view sink).room
 
 -- a leg of a line of a device, from a distance from its start on
 pub record IsLegOf (stack : Description) (device : ℕ) (line : FoundLine) (distance : ℕ) (leg : Leg) : Type 0 where
@@ -77,23 +77,23 @@ pub record IsLegOf (stack : Description) (device : ℕ) (line : FoundLine) (dist
   pub lies : AreInside stack leg.len leg.below
 
 -- a sink took the units of a step of len sectors, and the walk is in the state after it; or the sink failed at a beginning of them
-pub record IsWalked {S F : Type 0} (takes leaves : S → List BlockUnit → S → Type 0) (stack_of : S → Description) (room_of faults_of : S → ℕ) (result : Result (Unit {0}) F) (old new : S) (before after : WalkerView) (step : Step) (len : ℕ) : Type 0 where
+pub record IsWalked {S F : Type 0} (takes leaves : S → List BlockUnit → S → Type 0) (view : S → SinkView) (result : Result (Unit {0}) F) (old new : S) (before after : WalkerView) (step : Step) (len : ℕ) : Type 0 where
   pub took : OnOk result (takes old step.units new)
   pub state : OnOk result (after.state ≡ step.state)
-  pub kept : OnOk result (stack_of new ≡ stack_of old)
-  pub room : OnOk result (room_of old ≤ room_of new + len)
+  pub kept : OnOk result ((view new).stack ≡ (view old).stack)
+  pub room : OnOk result ((view old).room ≤ (view new).room + len)
   pub left : OnErr result (OfBeginning leaves old step.units new)
-  pub faults : faults_of new ≡ faults_of old + fault_of result
+  pub faults : (view new).faults ≡ (view old).faults + fault_of result
   pub stack : after.stack ≡ before.stack
   pub looked : AreAdded before.looked after.looked
 
 -- a sink took these units of a piece of len sectors without a disk, or failed at them
-pub record IsHanded {S F : Type 0} (takes leaves : S → List BlockUnit → S → Type 0) (stack_of : S → Description) (room_of faults_of : S → ℕ) (result : Result (Unit {0}) F) (old new : S) (units : List BlockUnit) (len : ℕ) : Type 0 where
+pub record IsHanded {S F : Type 0} (takes leaves : S → List BlockUnit → S → Type 0) (view : S → SinkView) (result : Result (Unit {0}) F) (old new : S) (units : List BlockUnit) (len : ℕ) : Type 0 where
   pub took : OnOk result (takes old units new)
   pub left : OnErr result (leaves old units new)
-  pub faults : faults_of new ≡ faults_of old + fault_of result
-  pub stack : OnOk result (stack_of new ≡ stack_of old)
-  pub room : OnOk result (room_of old ≤ room_of new + len)
+  pub faults : (view new).faults ≡ (view old).faults + fault_of result
+  pub stack : OnOk result ((view new).stack ≡ (view old).stack)
+  pub room : OnOk result ((view old).room ≤ (view new).room + len)
 
 -- what an origin's line names has len sectors from this one on, and the line lists the snapshots of it
 pub record AreInOrigin (stack : Description) (origin : FoundOrigin) (sector len : ℕ) : Type 0 where

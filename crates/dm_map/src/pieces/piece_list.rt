@@ -59,11 +59,11 @@ impl Sink for PieceList<'_> {
 
     type Fault = AllocError;
 
-    ghost stack = { λ list. list.stack };
-
-    ghost room = { λ list. 2 ^ 64 };
-
-    ghost faults = { λ list. list.faults };
+    ghost view = { λ list. record {
+      stack = list.stack;
+      room = 2 ^ 64;
+      faults = list.faults;
+    } };
 
     ghost took = { λ old units new. Appends old units new };
 

@@ -3,9 +3,9 @@
 //! A mapper hands over its pieces one by one and keeps none, so requests take no memory. A sink may
 //! join pieces as it likes: its relations speak of units, which are the same however they are cut.
 
-ghost use Rattle.std.specs.Prelude.{◌≡◌, ℕ, ◌+◌, ◌≤◌, List, [], ◌++◌, OnOk, OnErr};
+ghost use Rattle.std.specs.Prelude.{◌≡◌, ◌+◌, ◌≤◌, List, [], ◌++◌, OnOk, OnErr};
 ghost use Rattle.dm_table.specs.io.DeviceIo.{fault_of};
-ghost use Rattle.dm_stack.specs.Description.{Description};
+ghost use Rattle.dm_map.specs.pieces.Sink.{SinkView};
 ghost use Rattle.dm_map.specs.pieces.Units.{BlockUnit, units_of, piece_len, diskless_len, IsOnDisks};
 
 use crate::pieces::piece::Piece;
@@ -15,14 +15,8 @@ pub trait Sink {
     /// Why a piece was refused.
     type Fault: Drop;
 
-    /// The stack on whose disks the pieces lie.
-    ghost stack: { Self → Description };
-
-    /// The largest number of sectors that a piece without a disk may have.
-    ghost room: { Self → ℕ };
-
-    /// How many pieces it has failed at so far.
-    ghost faults: { Self → ℕ };
+    /// Its stack, the room for a piece without a disk, and how many pieces it has failed at so far.
+    ghost view: { Self → SinkView };
 
     /// Between the two states it took these units.
     ghost took: { Self → List BlockUnit → Self → Type 0 };
@@ -35,13 +29,13 @@ pub trait Sink {
     /// lower it.
     fn piece(&mut self, piece: Piece) -> Result<(), Self::Fault>
         requires some { 1 ≤ piece_len piece }
-        requires lies { IsOnDisks (stack self.old) piece }
-        requires room { diskless_len piece ≤ room self.old }
+        requires lies { IsOnDisks (view self.old).stack piece }
+        requires room { diskless_len piece ≤ (view self.old).room }
         ensures took { OnOk result (took self.old (units_of piece) self.new) }
         ensures left { OnErr result (left self.old (units_of piece) self.new) }
-        ensures faults { faults self.new ≡ faults self.old + fault_of result }
-        ensures stack { OnOk result (stack self.new ≡ stack self.old) }
-        ensures room { OnOk result (room self.old ≤ room self.new + diskless_len piece) };
+        ensures faults { (view self.new).faults ≡ (view self.old).faults + fault_of result }
+        ensures stack { OnOk result ((view self.new).stack ≡ (view self.old).stack) }
+        ensures room { OnOk result ((view self.old).room ≤ (view self.new).room + diskless_len piece) };
 
     /// If nothing changes, it took no units.
     ghost took_nothing: { (s : Self) → took s [] s };

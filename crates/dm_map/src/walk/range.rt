@@ -62,8 +62,8 @@ pub(crate) fn map_range<S: Sink, T: Taken>(
 ) -> Result<(), S::Fault>
     requires some { 1 ≤ len }
     requires inside { sector + len ≤ lower_len walker.old.stack lower }
-    requires sink { HasRoomFor S.stack S.room sink.old walker.old.stack len }
-    ensures walked { IsWalked S.took S.left S.stack S.room S.faults
+    requires sink { HasRoomFor S.view sink.old walker.old.stack len }
+    ensures walked { IsWalked S.took S.left S.view
         result sink.old sink.new walker.old walker.new
         (range_step walker.old.stack op levels lower walker.old.state sector len) len }
     ensures bounded { IsBounded walker.old walker.new op (lower_depth walker.old.stack lower)
@@ -88,8 +88,8 @@ pub(crate) fn map_top<S: Sink, T: Taken>(
 ) -> Result<(), S::Fault>
     requires some { 1 ≤ len }
     requires inside { sector + len ≤ device_len walker.old.stack device }
-    requires sink { HasRoomFor S.stack S.room sink.old walker.old.stack len }
-    ensures walked { IsWalked S.took S.left S.stack S.room S.faults
+    requires sink { HasRoomFor S.view sink.old walker.old.stack len }
+    ensures walked { IsWalked S.took S.left S.view
         result sink.old sink.new walker.old walker.new
         (range_step walker.old.stack op MOST_DEPTH (Device device) walker.old.state sector len) len }
     ensures bounded { IsBounded walker.old walker.new op (depth_of walker.old.stack device)
@@ -132,8 +132,8 @@ fn map_device<S: Sink, T: Taken>(
 ) -> Result<(), S::Fault>
     requires some { 1 ≤ len }
     requires inside { sector + len ≤ device_len walker.old.stack device }
-    requires sink { HasRoomFor S.stack S.room sink.old walker.old.stack len }
-    ensures walked { IsWalked S.took S.left S.stack S.room S.faults
+    requires sink { HasRoomFor S.view sink.old walker.old.stack len }
+    ensures walked { IsWalked S.took S.left S.view
         result sink.old sink.new walker.old walker.new
         (range_step walker.old.stack op levels (Device device) walker.old.state sector len) len }
     ensures bounded { IsBounded walker.old walker.new op (depth_of walker.old.stack device)
@@ -168,8 +168,8 @@ fn map_lines<S: Sink, T: Taken>(
     requires some { 1 ≤ len }
     requires inside { sector + len ≤ device_len walker.old.stack device }
     requires line { IsLineOf walker.old.stack device first.now sector }
-    requires sink { HasRoomFor S.stack S.room sink.old walker.old.stack len }
-    ensures walked { IsWalked S.took S.left S.stack S.room S.faults
+    requires sink { HasRoomFor S.view sink.old walker.old.stack len }
+    ensures walked { IsWalked S.took S.left S.view
         result sink.old sink.new walker.old walker.new
         (range_step walker.old.stack op levels (Device device) walker.old.state sector len) len }
     ensures bounded { IsBoundedFrom walker.old walker.new op (depth_of walker.old.stack device)
@@ -209,8 +209,8 @@ fn map_line<S: Sink, T: Taken>(
     requires some { 1 ≤ len }
     requires inside { sector + len ≤ line.now.start + line.now.len }
     requires line { IsLineOf walker.old.stack device line.now sector }
-    requires sink { HasRoomFor S.stack S.room sink.old walker.old.stack len }
-    ensures walked { IsWalked S.took S.left S.stack S.room S.faults
+    requires sink { HasRoomFor S.view sink.old walker.old.stack len }
+    ensures walked { IsWalked S.took S.left S.view
         result sink.old sink.new walker.old walker.new
         (range_step walker.old.stack op levels (Device device) walker.old.state sector len) len }
     ensures bounded { IsBoundedFrom walker.old walker.new op (depth_of walker.old.stack device)
@@ -245,8 +245,8 @@ fn map_legs<S: Sink, T: Taken>(
     requires inside { distance + len ≤ line.now.len }
     requires line { IsLine walker.old.stack device line.now }
     requires striped { is_striped line.now.target ≡ true }
-    requires sink { HasRoomFor S.stack S.room sink.old walker.old.stack len }
-    ensures walked { IsWalked S.took S.left S.stack S.room S.faults
+    requires sink { HasRoomFor S.view sink.old walker.old.stack len }
+    ensures walked { IsWalked S.took S.left S.view
         result sink.old sink.new walker.old walker.new
         (line_step walker.old.stack op levels device line.now.target walker.old.state distance len) len }
     ensures bounded { IsLineBounded walker.old walker.new op levels device line.now distance len }
@@ -276,8 +276,8 @@ fn map_leg<S: Sink, T: Taken>(
     sink: &mut S,
 ) -> Result<(), S::Fault>
     requires leg { IsLegOf walker.old.stack device line.now distance leg.now }
-    requires sink { HasRoomFor S.stack S.room sink.old walker.old.stack leg.now.len }
-    ensures walked { IsWalked S.took S.left S.stack S.room S.faults
+    requires sink { HasRoomFor S.view sink.old walker.old.stack leg.now.len }
+    ensures walked { IsWalked S.took S.left S.view
         result sink.old sink.new walker.old walker.new
         (line_step walker.old.stack op levels device line.now.target walker.old.state distance
         leg.now.len) leg.now.len }
@@ -313,8 +313,8 @@ fn map_snapshot<S: Sink, T: Taken>(
 ) -> Result<(), S::Fault>
     requires inside { AreInSnapshot walker.old.stack device snapshot.now sector len }
     requires small { sector + len ≤ MOST_LENGTH }
-    requires sink { HasRoomFor S.stack S.room sink.old walker.old.stack len }
-    ensures walked { IsWalked S.took S.left S.stack S.room S.faults
+    requires sink { HasRoomFor S.view sink.old walker.old.stack len }
+    ensures walked { IsWalked S.took S.left S.view
         result sink.old sink.new walker.old walker.new
         (line_step walker.old.stack op levels device (Snapshot snapshot.now) walker.old.state sector
         len) len }
@@ -347,8 +347,8 @@ fn map_chunk<S: Sink, T: Taken>(
 ) -> Result<(), S::Fault>
     requires some { 1 ≤ len }
     requires chunk { AreInChunk walker.old.stack device snapshot.now sector len }
-    requires sink { HasRoomFor S.stack S.room sink.old walker.old.stack len }
-    ensures walked { IsWalked S.took S.left S.stack S.room S.faults
+    requires sink { HasRoomFor S.view sink.old walker.old.stack len }
+    ensures walked { IsWalked S.took S.left S.view
         result sink.old sink.new walker.old walker.new
         (line_step walker.old.stack op levels device (Snapshot snapshot.now) walker.old.state sector
         len) len }
@@ -377,8 +377,8 @@ fn write_chunk<S: Sink, T: Taken>(
 ) -> Result<(), S::Fault>
     requires some { 1 ≤ len }
     requires chunk { AreInChunk walker.old.stack device snapshot.now sector len }
-    requires sink { HasRoomFor S.stack S.room sink.old walker.old.stack len }
-    ensures { IsWalked S.took S.left S.stack S.room S.faults
+    requires sink { HasRoomFor S.view sink.old walker.old.stack len }
+    ensures { IsWalked S.took S.left S.view
         result sink.old sink.new walker.old walker.new
         (steps (write_snapshot walker.old.stack snapshot.now device) walker.old.state sector len) len }
 {
@@ -410,8 +410,8 @@ fn map_origin<S: Sink, T: Taken>(
 ) -> Result<(), S::Fault>
     requires some { 1 ≤ len }
     requires inside { AreInOrigin walker.old.stack origin.now sector len }
-    requires sink { HasRoomFor S.stack S.room sink.old walker.old.stack len }
-    ensures walked { IsWalked S.took S.left S.stack S.room S.faults
+    requires sink { HasRoomFor S.view sink.old walker.old.stack len }
+    ensures walked { IsWalked S.took S.left S.view
         result sink.old sink.new walker.old walker.new
         (origin_step walker.old.stack op levels origin.now walker.old.state sector len) len }
     ensures bounded { (device : ℕ) → IsTargetBounded walker.old walker.new op levels device
@@ -439,8 +439,8 @@ fn write_origin<S: Sink, T: Taken>(
 ) -> Result<(), S::Fault>
     requires some { 1 ≤ len }
     requires inside { AreInOrigin walker.old.stack origin.now sector len }
-    requires sink { HasRoomFor S.stack S.room sink.old walker.old.stack len }
-    ensures { IsWalked S.took S.left S.stack S.room S.faults
+    requires sink { HasRoomFor S.view sink.old walker.old.stack len }
+    ensures { IsWalked S.took S.left S.view
         result sink.old sink.new walker.old walker.new
         (origin_step walker.old.stack Write levels origin.now walker.old.state sector len) len }
 {
@@ -465,8 +465,8 @@ fn write_origin<S: Sink, T: Taken>(
 #[inline(never)]
 pub(crate) fn fail<S: Sink>(len: u64, sink: &mut S) -> Result<(), S::Fault>
     requires some { 1 ≤ len }
-    requires room { len ≤ S.room sink.old }
-    ensures { IsHanded S.took S.left S.stack S.room S.faults
+    requires room { len ≤ (S.view sink.old).room }
+    ensures { IsHanded S.took S.left S.view
         result sink.old sink.new (units_in Fails len) len }
 {
     sink.piece(Piece::Error { len })
@@ -476,8 +476,8 @@ pub(crate) fn fail<S: Sink>(len: u64, sink: &mut S) -> Result<(), S::Fault>
 #[inline(never)]
 fn hand_zeros<S: Sink>(op: Op, len: u64, sink: &mut S) -> Result<(), S::Fault>
     requires some { 1 ≤ len }
-    requires room { len ≤ S.room sink.old }
-    ensures { IsHanded S.took S.left S.stack S.room S.faults
+    requires room { len ≤ (S.view sink.old).room }
+    ensures { IsHanded S.took S.left S.view
         result sink.old sink.new (units_in (zero_unit op) len) len }
 {
     sink.piece(zero_piece(op, len))

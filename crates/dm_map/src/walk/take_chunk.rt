@@ -59,8 +59,8 @@ pub(crate) fn take_chunk<S: Sink, T: Taken>(
     requires sound { IsSnapshotSound walker.old.stack device 0 (device_len walker.old.stack device)
         snapshot.now }
     requires inside { first_of snapshot.now chunk < device_len walker.old.stack device }
-    requires sink { HasRoomFor S.stack S.room sink.old walker.old.stack 0 }
-    ensures { IsWalked S.took S.left S.stack S.room S.faults
+    requires sink { HasRoomFor S.view sink.old walker.old.stack 0 }
+    ensures { IsWalked S.took S.left S.view
         result sink.old sink.new walker.old walker.new
         (take_chunk walker.old.stack snapshot.now device chunk walker.old.state) 0 }
 {
@@ -163,8 +163,8 @@ fn copy_chunk<S: Sink, T: Taken>(
     requires place { has_place walker.old.stack snapshot.now number ≡ true }
     requires part { sector % snapshot.now.chunk + len ≤ snapshot.now.chunk }
     requires reads { reads_all walker.old.stack walker.old.state snapshot.now.origin sector len ≡ true }
-    requires sink { HasRoomFor S.stack S.room sink.old walker.old.stack 0 }
-    ensures { IsWalked S.took S.left S.stack S.room S.faults
+    requires sink { HasRoomFor S.view sink.old walker.old.stack 0 }
+    ensures { IsWalked S.took S.left S.view
         result sink.old sink.new walker.old walker.new
         (keep (copies walker.old.stack walker.old.state snapshot.now number sector len)
         walker.old.state) 0 }
@@ -222,8 +222,8 @@ pub(crate) fn write_store<S: Sink, T: Taken>(
 ) -> Result<(), S::Fault>
     requires inside { sector + len ≤ lower_len walker.old.stack store.now }
     requires store { IsStore walker.old.stack store.now }
-    requires sink { HasRoomFor S.stack S.room sink.old walker.old.stack 0 }
-    ensures { IsWalked S.took S.left S.stack S.room S.faults
+    requires sink { HasRoomFor S.view sink.old walker.old.stack 0 }
+    ensures { IsWalked S.took S.left S.view
         result sink.old sink.new walker.old walker.new
         (keep (store_writes walker.old.stack store.now sector len) walker.old.state) 0 }
 {

@@ -9,7 +9,7 @@ pub returns-then-passes_end-clause-walked : goal.returns-then-passes_end-clause-
 returns-then-passes_end-clause-walked g c =
     let a = c.args in let m = a.walker.now in let f = c.fail in
     let past : nat_lt (device_len m.stack a.device) (a.start + a.len) ≡ true = ap (λ end. nat_lt end (a.start + a.len)) (sym c.len-end.ensures.len) ∙ sym c.if-passes_end.ensures in
-    walked_piece g.S.Sink.took g.S.Sink.left g.S.Sink.stack g.S.Sink.room g.S.Sink.faults f.result a.sink.now f.new.sink m _ _ a.len a.len (step_past_end m.stack a.op a.device a.start a.len m.state past) (omega arith)
+    walked_piece g.S.Sink.took g.S.Sink.left g.S.Sink.view f.result a.sink.now f.new.sink m _ _ a.len a.len (step_past_end m.stack a.op a.device a.start a.len m.state past) (omega arith)
     f.ensures.took f.ensures.left f.ensures.faults f.ensures.stack f.ensures.room
 
 pub returns-clause-walked : goal.returns-clause-walked

@@ -42,7 +42,7 @@ disk_step w op levels lower disk sector len units is units_is =
 pub map_range-returns-in-Disk-clause-walked : goal.map_range-returns-in-Disk-clause-walked
 map_range-returns-in-Disk-clause-walked g t c =
     let a = c.args in let p = c.piece in
-    walked_piece g.S.Sink.took g.S.Sink.left g.S.Sink.stack g.S.Sink.room g.S.Sink.faults p.result a.sink.now p.new.self a.walker.now _ _ (diskless_len c.disk_piece.result) a.len
+    walked_piece g.S.Sink.took g.S.Sink.left g.S.Sink.view p.result a.sink.now p.new.self a.walker.now _ _ (diskless_len c.disk_piece.result) a.len
     (disk_step a.walker.now a.op a.levels a.lower c.in-Disk.disk a.sector a.len _ c.in-Disk.is c.disk_piece.ensures.units) (omega (arith, c.disk_piece.ensures.diskless))
     p.ensures.took p.ensures.left p.ensures.faults p.ensures.stack p.ensures.room
 
@@ -55,7 +55,7 @@ map_device-returns-then-levels-eq0-clause-walked g t c =
       | map_device-then-levels-eq0-via-then-levels-eq0 b ↦ sym (range_deepest a.walker.now.stack a.op a.levels a.device a.sector a.len a.walker.now.state b.if-levels-eq0.true)
       | map_device-then-levels-eq0-via-else-levels-eq0+then-refuses b ↦ sym (range_refused a.walker.now.stack a.op a.levels a.device a.sector a.len a.walker.now.state (sym b.refuses.ensures ∙ b.if-refuses.true))
     ] in
-    walked_piece g.S.Sink.took g.S.Sink.left g.S.Sink.stack g.S.Sink.room g.S.Sink.faults p.result a.sink.now p.new.sink a.walker.now _ _ a.len a.len fails (omega arith) p.ensures.took p.ensures.left p.ensures.faults p.ensures.stack p.ensures.room
+    walked_piece g.S.Sink.took g.S.Sink.left g.S.Sink.view p.result a.sink.now p.new.sink a.walker.now _ _ a.len a.len fails (omega arith) p.ensures.took p.ensures.left p.ensures.faults p.ensures.stack p.ensures.room
 
 pub map_device-look-line-requires-clause-device : goal.map_device-look-line-requires-clause-device
 map_device-look-line-requires-clause-device g t c = device_there c.args.walker.now.stack c.args.device c.args.sector (omega arith)
@@ -68,13 +68,13 @@ map_device-map_lines-requires g t c κs within =
     let passes : refuses c.look-line.new.self.stack a.op a.device ≡ false = ap (λ (s : Description). refuses s a.op a.device) stack ∙ sym c.refuses.ensures ∙ c.if-refuses.false in
     let inside : a.sector + a.len ≤ device_len c.look-line.new.self.stack a.device = subst (λ (s : Description). a.sector + a.len ≤ device_len s a.device) (sym stack) c.requires.inside in
     let line = line_of_look _ _ a.device c.look-line.result.now a.sector look.same look.line in
-    let kept : g.S.Sink.stack a.sink.now ≡ c.look-line.new.self.stack = c.requires.sink.stack ∙ sym stack in
+    let kept : (g.S.Sink.view a.sink.now).stack ≡ c.look-line.new.self.stack = c.requires.sink.stack ∙ sym stack in
     search rules
 
 pub map_device-returns-clause-walked : goal.map_device-returns-clause-walked
 map_device-returns-clause-walked g t c =
     let a = c.args in let look = c.look-line.ensures in
-    range_walked g.S.Sink.took g.S.Sink.left g.S.Sink.stack g.S.Sink.room g.S.Sink.faults c.map_lines.result a.sink.now c.map_lines.new.sink a.walker.now c.look-line.new.self c.map_lines.new.walker a.op a.levels a.device a.sector a.len look.same look.looked c.map_lines.ensures.walked
+    range_walked g.S.Sink.took g.S.Sink.left g.S.Sink.view c.map_lines.result a.sink.now c.map_lines.new.sink a.walker.now c.look-line.new.self c.map_lines.new.walker a.op a.levels a.device a.sector a.len look.same look.looked c.map_lines.ensures.walked
 
 pub map_device-returns-clause-bounded : goal.map_device-returns-clause-bounded
 map_device-returns-clause-bounded g t c =
@@ -86,9 +86,9 @@ map_device-returns-clause-bounded g t c =
 pub map_lines-returns-then-part-left-clause-walked : goal.map_lines-returns-then-part-left-clause-walked
 map_lines-returns-then-part-left-clause-walked g t c =
     let a = c.args in let w = a.walker.now in let l = c.lines in let done = a.len - l.left in
-    walked_last g.S.Sink.took g.S.Sink.left g.S.Sink.stack g.S.Sink.room g.S.Sink.faults g.met.S.Sink.took_then_took g.met.S.Sink.took_then_left c.map_line.result a.sink.now l.sink c.map_line.new.sink w l.walker c.map_line.new.walker
+    walked_last g.S.Sink.took g.S.Sink.left g.S.Sink.view g.met.S.Sink.took_then_took g.met.S.Sink.took_then_left c.map_line.result a.sink.now l.sink c.map_line.new.sink w l.walker c.map_line.new.walker
     (sector_step w.stack a.op a.levels (Device a.device)) a.sector done l.left a.len (omega (arith, l.invariant.within)) l.invariant.walked
-    (range_walked_at g.S.Sink.took g.S.Sink.left g.S.Sink.stack g.S.Sink.room g.S.Sink.faults c.map_line.result l.sink c.map_line.new.sink w.stack l.walker c.map_line.new.walker a.op a.levels a.device (a.sector + done) l.at l.left l.invariant.walked.stack (omega (arith, l.invariant.position, l.invariant.within)) c.map_line.ensures.walked)
+    (range_walked_at g.S.Sink.took g.S.Sink.left g.S.Sink.view c.map_line.result l.sink c.map_line.new.sink w.stack l.walker c.map_line.new.walker a.op a.levels a.device (a.sector + done) l.at l.left l.invariant.walked.stack (omega (arith, l.invariant.position, l.invariant.within)) c.map_line.ensures.walked)
 
 pub map_lines-returns-then-part-left-clause-bounded : goal.map_lines-returns-then-part-left-clause-bounded
 map_lines-returns-then-part-left-clause-bounded g t c =
@@ -99,9 +99,9 @@ map_lines-returns-then-part-left-clause-bounded g t c =
 pub map_lines-returns-in_err-map_line-clause-walked : goal.map_lines-returns-in_err-map_line-clause-walked
 map_lines-returns-in_err-map_line-clause-walked g t c =
     let a = c.args in let w = a.walker.now in let l = c.lines in let n = c.part_in-part.result in let done = a.len - l.left in
-    cut_on g.S.Sink.took g.S.Sink.left g.S.Sink.stack g.S.Sink.room g.S.Sink.faults g.met.S.Sink.took_then_left _ c.from_residual.result a.sink.now l.sink c.map_line-in-lines.new.sink w l.walker c.map_line-in-lines.new.walker
+    cut_on g.S.Sink.took g.S.Sink.left g.S.Sink.view g.met.S.Sink.took_then_left _ c.from_residual.result a.sink.now l.sink c.map_line-in-lines.new.sink w l.walker c.map_line-in-lines.new.walker
     (sector_step w.stack a.op a.levels (Device a.device)) a.sector done n a.len c.from_residual.ensures.0 (omega (arith, c.part_in-part.ensures, l.invariant.within)) l.invariant.walked
-    (range_walked_at g.S.Sink.took g.S.Sink.left g.S.Sink.stack g.S.Sink.room g.S.Sink.faults _ l.sink c.map_line-in-lines.new.sink w.stack l.walker c.map_line-in-lines.new.walker a.op a.levels a.device (a.sector + done) l.at n l.invariant.walked.stack (omega (arith, l.invariant.position, l.invariant.within)) c.in_err-map_line.ensures.walked)
+    (range_walked_at g.S.Sink.took g.S.Sink.left g.S.Sink.view _ l.sink c.map_line-in-lines.new.sink w.stack l.walker c.map_line-in-lines.new.walker a.op a.levels a.device (a.sector + done) l.at n l.invariant.walked.stack (omega (arith, l.invariant.position, l.invariant.within)) c.in_err-map_line.ensures.walked)
 
 pub map_lines-returns-in_err-map_line-clause-bounded : goal.map_lines-returns-in_err-map_line-clause-bounded
 map_lines-returns-in_err-map_line-clause-bounded g t c =
@@ -120,9 +120,9 @@ map_lines-lines-preserved g t c =
     let more = range_looked w c.map_line-in-lines.new.walker next.new.self a.op (depth_of w.stack a.device) a.sector (done + n) (path w.stack w.state a.levels (Device a.device)) next.ensures.one
     (range_on w l.walker c.map_line-in-lines.new.walker a.op a.levels a.device a.sector l.at done n l.invariant.walked.stack l.invariant.walked.state position l.invariant.edge some l.invariant.bounded c.in_ok-map_line.ensures.bounded) in
     record {
-      walked = walked_before_look g.S.Sink.took g.S.Sink.left g.S.Sink.stack g.S.Sink.room g.S.Sink.faults a.sink.now c.map_line-in-lines.new.sink w c.map_line-in-lines.new.walker next.new.self _ _ next.ensures.same next.ensures.looked
-          (walked_on g.S.Sink.took g.S.Sink.left g.S.Sink.stack g.S.Sink.room g.S.Sink.faults g.met.S.Sink.took_then_took _ a.sink.now l.sink c.map_line-in-lines.new.sink w l.walker c.map_line-in-lines.new.walker (sector_step w.stack a.op a.levels (Device a.device)) a.sector done n _ on l.invariant.walked
-          (range_walked_at g.S.Sink.took g.S.Sink.left g.S.Sink.stack g.S.Sink.room g.S.Sink.faults _ l.sink c.map_line-in-lines.new.sink w.stack l.walker c.map_line-in-lines.new.walker a.op a.levels a.device (a.sector + done) l.at n l.invariant.walked.stack position walked));
+      walked = walked_before_look g.S.Sink.took g.S.Sink.left g.S.Sink.view a.sink.now c.map_line-in-lines.new.sink w c.map_line-in-lines.new.walker next.new.self _ _ next.ensures.same next.ensures.looked
+          (walked_on g.S.Sink.took g.S.Sink.left g.S.Sink.view g.met.S.Sink.took_then_took _ a.sink.now l.sink c.map_line-in-lines.new.sink w l.walker c.map_line-in-lines.new.walker (sector_step w.stack a.op a.levels (Device a.device)) a.sector done n _ on l.invariant.walked
+          (range_walked_at g.S.Sink.took g.S.Sink.left g.S.Sink.view _ l.sink c.map_line-in-lines.new.sink w.stack l.walker c.map_line-in-lines.new.walker a.op a.levels a.device (a.sector + done) l.at n l.invariant.walked.stack position walked));
       some = omega (arith, c.part_in-part.ensures, l.invariant.some, c.if-part-left.false);
       within = omega (arith, l.invariant.within);
       position = omega (arith, l.invariant.position, c.part_in-part.ensures);
@@ -146,8 +146,8 @@ map_line-map_leg-requires g t c κs within =
 pub map_line-returns-then-leg-len-clause-walked : goal.map_line-returns-then-leg-len-clause-walked
 map_line-returns-then-leg-len-clause-walked g t c =
     let a = c.args in let w = a.walker.now in let walk = c.map_leg in
-    let walked = subst (λ (n : ℕ). IsWalked g.S.Sink.took g.S.Sink.left g.S.Sink.stack g.S.Sink.room g.S.Sink.faults walk.result a.sink.now walk.new.sink w walk.new.walker (line_step w.stack a.op (a.levels - 1) a.device a.line.now.target w.state (a.sector - a.line.now.start) n) n) c.if-leg-len.true walk.ensures.walked in
-    line_walked g.S.Sink.took g.S.Sink.left g.S.Sink.stack g.S.Sink.room g.S.Sink.faults walk.result a.sink.now walk.new.sink w walk.new.walker a.op a.levels (a.levels - 1) a.device a.sector a.len a.line.now (omega (arith, c.requires.deep)) c.requires.passes c.requires.line c.requires.inside walked
+    let walked = subst (λ (n : ℕ). IsWalked g.S.Sink.took g.S.Sink.left g.S.Sink.view walk.result a.sink.now walk.new.sink w walk.new.walker (line_step w.stack a.op (a.levels - 1) a.device a.line.now.target w.state (a.sector - a.line.now.start) n) n) c.if-leg-len.true walk.ensures.walked in
+    line_walked g.S.Sink.took g.S.Sink.left g.S.Sink.view walk.result a.sink.now walk.new.sink w walk.new.walker a.op a.levels (a.levels - 1) a.device a.sector a.len a.line.now (omega (arith, c.requires.deep)) c.requires.passes c.requires.line c.requires.inside walked
 
 pub map_line-returns-then-leg-len-clause-bounded : goal.map_line-returns-then-leg-len-clause-bounded
 map_line-returns-then-leg-len-clause-bounded g t c =
@@ -158,7 +158,7 @@ map_line-returns-then-leg-len-clause-bounded g t c =
 pub map_line-returns-clause-walked : goal.map_line-returns-clause-walked
 map_line-returns-clause-walked g t c =
     let a = c.args in let w = a.walker.now in let walk = c.map_legs in
-    line_walked g.S.Sink.took g.S.Sink.left g.S.Sink.stack g.S.Sink.room g.S.Sink.faults walk.result a.sink.now walk.new.sink w walk.new.walker a.op a.levels (a.levels - 1) a.device a.sector a.len a.line.now (omega (arith, c.requires.deep)) c.requires.passes c.requires.line c.requires.inside walk.ensures.walked
+    line_walked g.S.Sink.took g.S.Sink.left g.S.Sink.view walk.result a.sink.now walk.new.sink w walk.new.walker a.op a.levels (a.levels - 1) a.device a.sector a.len a.line.now (omega (arith, c.requires.deep)) c.requires.passes c.requires.line c.requires.inside walk.ensures.walked
 
 pub map_line-returns-clause-bounded : goal.map_line-returns-clause-bounded
 map_line-returns-clause-bounded g t c =
@@ -176,7 +176,7 @@ map_legs-legs-init g t c =
     let a = c.args in let w = a.walker.now in let made = c.legs-legs.ensures in
     let none : a.distance - a.distance ≡ 0 = omega arith in
     record {
-      walked = subst (λ (n : ℕ). IsWalked g.S.Sink.took g.S.Sink.left g.S.Sink.stack g.S.Sink.room g.S.Sink.faults going_on a.sink.now a.sink.now w w (line_step w.stack a.op a.levels a.device a.line.now.target w.state a.distance n) n) (sym none) (walked_none g.S.Sink.took g.S.Sink.left g.S.Sink.stack g.S.Sink.room g.S.Sink.faults a.sink.now w (g.met.S.Sink.took_nothing a.sink.now));
+      walked = subst (λ (n : ℕ). IsWalked g.S.Sink.took g.S.Sink.left g.S.Sink.view going_on a.sink.now a.sink.now w w (line_step w.stack a.op a.levels a.device a.line.now.target w.state a.distance n) n) (sym none) (walked_none g.S.Sink.took g.S.Sink.left g.S.Sink.view a.sink.now w (g.met.S.Sink.took_nothing a.sink.now));
       target = ap (λ (v : LegsView). v.target) made;
       here = ap (λ (v : LegsView). v.distance) made;
       from = omega arith;
@@ -192,16 +192,16 @@ map_legs-map_leg-requires g t c κs within =
     let few : leg.len ≤ a.len = omega (arith, is.within, l.invariant.position, l.invariant.from) in
     let of = leg_of l.walker.stack a.device l.at l.legs.left a.line.now leg (subst (λ (s : Description). IsLine s a.device a.line.now) (sym l.invariant.walked.stack) c.requires.line) (omega (arith, l.invariant.position, c.requires.inside)) is
     (λ other id start line_len sound inside. leg_lies_inside other id start line_len l.at l.legs.left a.line.now.target leg is sound inside) in
-    let stack : g.S.Sink.stack l.sink ≡ l.walker.stack = l.invariant.walked.kept ∙ c.requires.sink.stack ∙ sym l.invariant.walked.stack in
-    let room : leg.len ≤ g.S.Sink.room l.sink = omega (arith, is.within, c.requires.sink.room, l.invariant.walked.room, l.invariant.position, l.invariant.from) in
+    let stack : (g.S.Sink.view l.sink).stack ≡ l.walker.stack = l.invariant.walked.kept ∙ c.requires.sink.stack ∙ sym l.invariant.walked.stack in
+    let room : leg.len ≤ (g.S.Sink.view l.sink).room = omega (arith, is.within, c.requires.sink.room, l.invariant.walked.room, l.invariant.position, l.invariant.from) in
     search rules
 
 pub map_legs-returns-in_err-map_leg-clause-walked : goal.map_legs-returns-in_err-map_leg-clause-walked
 map_legs-returns-in_err-map_leg-clause-walked g t c =
     let a = c.args in let w = a.walker.now in let l = c.legs in let n = c.in-Some.leg.len in let done = l.at - a.distance in
-    cut_on g.S.Sink.took g.S.Sink.left g.S.Sink.stack g.S.Sink.room g.S.Sink.faults g.met.S.Sink.took_then_left _ c.from_residual.result a.sink.now l.sink c.map_leg.new.sink w l.walker c.map_leg.new.walker
+    cut_on g.S.Sink.took g.S.Sink.left g.S.Sink.view g.met.S.Sink.took_then_left _ c.from_residual.result a.sink.now l.sink c.map_leg.new.sink w l.walker c.map_leg.new.walker
     (target_step w.stack a.op a.levels a.device a.line.now.target) a.distance done n a.len c.from_residual.ensures.0 (omega (arith, c.in-Some.ensures.leg.within, l.invariant.position, l.invariant.from)) l.invariant.walked
-    (line_walked_at g.S.Sink.took g.S.Sink.left g.S.Sink.stack g.S.Sink.room g.S.Sink.faults _ l.sink c.map_leg.new.sink w.stack l.walker c.map_leg.new.walker a.op a.levels a.device (a.distance + done) l.at n a.line.now.target l.invariant.walked.stack (omega (arith, l.invariant.from)) c.in_err-map_leg.ensures.walked)
+    (line_walked_at g.S.Sink.took g.S.Sink.left g.S.Sink.view _ l.sink c.map_leg.new.sink w.stack l.walker c.map_leg.new.walker a.op a.levels a.device (a.distance + done) l.at n a.line.now.target l.invariant.walked.stack (omega (arith, l.invariant.from)) c.in_err-map_leg.ensures.walked)
 
 pub map_legs-returns-in_err-map_leg-clause-bounded : goal.map_legs-returns-in_err-map_leg-clause-bounded
 map_legs-returns-in_err-map_leg-clause-bounded g t c =
@@ -215,8 +215,8 @@ map_legs-legs-preserved g t c =
     let on : done + n ≡ l.at + n - a.distance = omega (arith, l.invariant.from) in
     let is = leg_at a.line.now.target l.legs.target l.legs.distance l.at l.legs.left c.in-Some.leg l.invariant.target l.invariant.here leg in
     record {
-      walked = walked_on g.S.Sink.took g.S.Sink.left g.S.Sink.stack g.S.Sink.room g.S.Sink.faults g.met.S.Sink.took_then_took _ a.sink.now l.sink c.map_leg.new.sink w l.walker c.map_leg.new.walker (target_step w.stack a.op a.levels a.device a.line.now.target) a.distance done n _ on l.invariant.walked
-          (line_walked_at g.S.Sink.took g.S.Sink.left g.S.Sink.stack g.S.Sink.room g.S.Sink.faults _ l.sink c.map_leg.new.sink w.stack l.walker c.map_leg.new.walker a.op a.levels a.device (a.distance + done) l.at n a.line.now.target l.invariant.walked.stack (omega (arith, l.invariant.from)) c.in_ok-map_leg.ensures.walked);
+      walked = walked_on g.S.Sink.took g.S.Sink.left g.S.Sink.view g.met.S.Sink.took_then_took _ a.sink.now l.sink c.map_leg.new.sink w l.walker c.map_leg.new.walker (target_step w.stack a.op a.levels a.device a.line.now.target) a.distance done n _ on l.invariant.walked
+          (line_walked_at g.S.Sink.took g.S.Sink.left g.S.Sink.view _ l.sink c.map_leg.new.sink w.stack l.walker c.map_leg.new.walker a.op a.levels a.device (a.distance + done) l.at n a.line.now.target l.invariant.walked.stack (omega (arith, l.invariant.from)) c.in_ok-map_leg.ensures.walked);
       target = ap (λ (v : LegsView). v.target) after ∙ l.invariant.target;
       here = ap (λ (v : LegsView). v.distance) after ∙ ap (λ (p : ℕ). p + n) l.invariant.here;
       from = omega (arith, l.invariant.from);
@@ -244,7 +244,7 @@ pub map_leg-returns-in-Lies-clause-walked : goal.map_leg-returns-in-Lies-clause-
 map_leg-returns-in-Lies-clause-walked g t c =
     let a = c.args in let w = a.walker.now in let walk = c.map_range in
     let on = beneath_as a.line.now.target a.distance a.leg.now.len _ _ c.in-Lies.is c.requires.leg.is in
-    walked_as g.S.Sink.took g.S.Sink.left g.S.Sink.stack g.S.Sink.room g.S.Sink.faults walk.result a.sink.now walk.new.sink w walk.new.walker _ _ a.leg.now.len (sym (leg_lies w.stack a.op a.levels a.device a.line.now.target c.in-Lies.to a.distance c.in-Lies.sector a.leg.now.len w.state on)) walk.ensures.walked
+    walked_as g.S.Sink.took g.S.Sink.left g.S.Sink.view walk.result a.sink.now walk.new.sink w walk.new.walker _ _ a.leg.now.len (sym (leg_lies w.stack a.op a.levels a.device a.line.now.target c.in-Lies.to a.distance c.in-Lies.sector a.leg.now.len w.state on)) walk.ensures.walked
 
 pub map_leg-returns-in-Lies-clause-bounded : goal.map_leg-returns-in-Lies-clause-bounded
 map_leg-returns-in-Lies-clause-bounded g t c =
@@ -256,14 +256,14 @@ pub map_leg-returns-in-Zeros-clause-walked : goal.map_leg-returns-in-Zeros-claus
 map_leg-returns-in-Zeros-clause-walked g t c =
     let a = c.args in let w = a.walker.now in let p = c.hand_zeros in
     let on = beneath_as a.line.now.target a.distance a.leg.now.len _ _ c.in-Zeros.is c.requires.leg.is in
-    walked_piece g.S.Sink.took g.S.Sink.left g.S.Sink.stack g.S.Sink.room g.S.Sink.faults p.result a.sink.now p.new.sink w _ _ a.leg.now.len a.leg.now.len (sym (leg_zeros w.stack a.op a.levels a.device a.line.now.target a.distance a.leg.now.len w.state on)) (omega arith)
+    walked_piece g.S.Sink.took g.S.Sink.left g.S.Sink.view p.result a.sink.now p.new.sink w _ _ a.leg.now.len a.leg.now.len (sym (leg_zeros w.stack a.op a.levels a.device a.line.now.target a.distance a.leg.now.len w.state on)) (omega arith)
     p.ensures.took p.ensures.left p.ensures.faults p.ensures.stack p.ensures.room
 
 pub map_leg-returns-in-Errors-clause-walked : goal.map_leg-returns-in-Errors-clause-walked
 map_leg-returns-in-Errors-clause-walked g t c =
     let a = c.args in let w = a.walker.now in let p = c.fail in
     let on = beneath_as a.line.now.target a.distance a.leg.now.len _ _ c.in-Errors.is c.requires.leg.is in
-    walked_piece g.S.Sink.took g.S.Sink.left g.S.Sink.stack g.S.Sink.room g.S.Sink.faults p.result a.sink.now p.new.sink w _ _ a.leg.now.len a.leg.now.len (sym (leg_errors w.stack a.op a.levels a.device a.line.now.target a.distance a.leg.now.len w.state on)) (omega arith)
+    walked_piece g.S.Sink.took g.S.Sink.left g.S.Sink.view p.result a.sink.now p.new.sink w _ _ a.leg.now.len a.leg.now.len (sym (leg_errors w.stack a.op a.levels a.device a.line.now.target a.distance a.leg.now.len w.state on)) (omega arith)
     p.ensures.took p.ensures.left p.ensures.faults p.ensures.stack p.ensures.room
 
 pub map_leg-map_snapshot-requires : goal.map_leg-map_snapshot-requires
@@ -278,7 +278,7 @@ pub map_leg-returns-in-Snapshot-clause-walked : goal.map_leg-returns-in-Snapshot
 map_leg-returns-in-Snapshot-clause-walked g t c =
     let a = c.args in let w = a.walker.now in let walk = c.map_snapshot in
     let kind = beneath_as a.line.now.target a.distance a.leg.now.len _ _ c.in-Snapshot.is c.requires.leg.is in
-    walked_as g.S.Sink.took g.S.Sink.left g.S.Sink.stack g.S.Sink.room g.S.Sink.faults walk.result a.sink.now walk.new.sink w walk.new.walker _ _ a.leg.now.len
+    walked_as g.S.Sink.took g.S.Sink.left g.S.Sink.view walk.result a.sink.now walk.new.sink w walk.new.walker _ _ a.leg.now.len
     (ap (λ target. line_step w.stack a.op a.levels a.device target w.state a.distance a.leg.now.len) (sym kind)) walk.ensures.walked
 
 pub map_leg-returns-in-Snapshot-clause-bounded : goal.map_leg-returns-in-Snapshot-clause-bounded
@@ -299,7 +299,7 @@ pub map_leg-returns-in-Origin-clause-walked : goal.map_leg-returns-in-Origin-cla
 map_leg-returns-in-Origin-clause-walked g t c =
     let a = c.args in let w = a.walker.now in let walk = c.map_origin in
     let kind = beneath_as a.line.now.target a.distance a.leg.now.len _ _ c.in-Origin.is c.requires.leg.is in
-    walked_as g.S.Sink.took g.S.Sink.left g.S.Sink.stack g.S.Sink.room g.S.Sink.faults walk.result a.sink.now walk.new.sink w walk.new.walker _ _ a.leg.now.len
+    walked_as g.S.Sink.took g.S.Sink.left g.S.Sink.view walk.result a.sink.now walk.new.sink w walk.new.walker _ _ a.leg.now.len
     (sym (line_served w.stack a.op a.levels a.device c.in-Origin.origin.now a.distance a.leg.now.len w.state) ∙ ap (λ (target : FoundTarget). line_step w.stack a.op a.levels a.device target w.state a.distance a.leg.now.len) (sym kind)) walk.ensures.walked
 
 pub map_leg-returns-in-Origin-clause-bounded : goal.map_leg-returns-in-Origin-clause-bounded
@@ -315,8 +315,8 @@ map_snapshot-map_chunk-requires g t c κs within =
     let a = c.args in let l = c.loop-left in let part = c.part_of_chunk-part.ensures in
     let some : 1 ≤ c.part_of_chunk-part.result = omega (arith, part, c.loop-left-test.true, c.requires.inside.sound.chunk_some) in
     let chunk = in_one_chunk a.walker.now.stack l.walker.stack a.device a.sector a.len l.from l.left c.part_of_chunk-part.result a.snapshot.now c.requires.inside l.invariant.walked.stack l.invariant.position part in
-    let stack : g.S.Sink.stack l.sink ≡ l.walker.stack = l.invariant.walked.kept ∙ c.requires.sink.stack ∙ sym l.invariant.walked.stack in
-    let room : c.part_of_chunk-part.result ≤ g.S.Sink.room l.sink = omega (arith, part, c.requires.sink.room, l.invariant.walked.room, l.invariant.within) in
+    let stack : (g.S.Sink.view l.sink).stack ≡ l.walker.stack = l.invariant.walked.kept ∙ c.requires.sink.stack ∙ sym l.invariant.walked.stack in
+    let room : c.part_of_chunk-part.result ≤ (g.S.Sink.view l.sink).room = omega (arith, part, c.requires.sink.room, l.invariant.walked.room, l.invariant.within) in
     search rules
 
 -- its searches are as few as those of the snapshot may be
@@ -331,9 +331,9 @@ chunk_bounded first before after op levels device sector at done n snapshot line
 pub map_snapshot-returns-in_err-map_chunk-clause-walked : goal.map_snapshot-returns-in_err-map_chunk-clause-walked
 map_snapshot-returns-in_err-map_chunk-clause-walked g t c =
     let a = c.args in let w = a.walker.now in let l = c.loop-left in let n = c.part_of_chunk-part.result in let done = a.len - l.left in
-    cut_on g.S.Sink.took g.S.Sink.left g.S.Sink.stack g.S.Sink.room g.S.Sink.faults g.met.S.Sink.took_then_left _ c.from_residual.result a.sink.now l.sink c.map_chunk.new.sink w l.walker c.map_chunk.new.walker
+    cut_on g.S.Sink.took g.S.Sink.left g.S.Sink.view g.met.S.Sink.took_then_left _ c.from_residual.result a.sink.now l.sink c.map_chunk.new.sink w l.walker c.map_chunk.new.walker
     (target_step w.stack a.op a.levels a.device (Snapshot a.snapshot.now)) a.sector done n a.len c.from_residual.ensures.0 (omega (arith, c.part_of_chunk-part.ensures, l.invariant.within)) l.invariant.walked
-    (line_walked_at g.S.Sink.took g.S.Sink.left g.S.Sink.stack g.S.Sink.room g.S.Sink.faults _ l.sink c.map_chunk.new.sink w.stack l.walker c.map_chunk.new.walker a.op a.levels a.device (a.sector + done) l.from n (Snapshot a.snapshot.now)
+    (line_walked_at g.S.Sink.took g.S.Sink.left g.S.Sink.view _ l.sink c.map_chunk.new.sink w.stack l.walker c.map_chunk.new.walker a.op a.levels a.device (a.sector + done) l.from n (Snapshot a.snapshot.now)
     l.invariant.walked.stack (omega (arith, l.invariant.position, l.invariant.within)) c.in_err-map_chunk.ensures.walked)
 
 pub map_snapshot-returns-in_err-map_chunk-clause-bounded : goal.map_snapshot-returns-in_err-map_chunk-clause-bounded
@@ -349,8 +349,8 @@ map_snapshot-loop-left-preserved g t c =
     let on : done + n ≡ a.len - (l.left - n) = omega (arith, c.part_of_chunk-part.ensures, l.invariant.within) in
     let position : l.from ≡ a.sector + done = omega (arith, l.invariant.position, l.invariant.within) in
     record {
-      walked = walked_on g.S.Sink.took g.S.Sink.left g.S.Sink.stack g.S.Sink.room g.S.Sink.faults g.met.S.Sink.took_then_took _ a.sink.now l.sink c.map_chunk.new.sink w l.walker c.map_chunk.new.walker (target_step w.stack a.op a.levels a.device (Snapshot a.snapshot.now)) a.sector done n _ on l.invariant.walked
-          (line_walked_at g.S.Sink.took g.S.Sink.left g.S.Sink.stack g.S.Sink.room g.S.Sink.faults _ l.sink c.map_chunk.new.sink w.stack l.walker c.map_chunk.new.walker a.op a.levels a.device (a.sector + done) l.from n (Snapshot a.snapshot.now) l.invariant.walked.stack position c.in_ok-map_chunk.ensures.walked);
+      walked = walked_on g.S.Sink.took g.S.Sink.left g.S.Sink.view g.met.S.Sink.took_then_took _ a.sink.now l.sink c.map_chunk.new.sink w l.walker c.map_chunk.new.walker (target_step w.stack a.op a.levels a.device (Snapshot a.snapshot.now)) a.sector done n _ on l.invariant.walked
+          (line_walked_at g.S.Sink.took g.S.Sink.left g.S.Sink.view _ l.sink c.map_chunk.new.sink w.stack l.walker c.map_chunk.new.walker a.op a.levels a.device (a.sector + done) l.from n (Snapshot a.snapshot.now) l.invariant.walked.stack position c.in_ok-map_chunk.ensures.walked);
       within = omega (arith, l.invariant.within);
       position = omega (arith, l.invariant.position, c.part_of_chunk-part.ensures);
       edge = λ later more. other_chunk a.snapshot.now.chunk l.from n c.requires.inside.sound.chunk_some (omega (arith, c.part_of_chunk-part.ensures, more));
@@ -364,13 +364,13 @@ map_snapshot-loop-left-preserved g t c =
 pub map_chunk-returns-in-Write-clause-walked : goal.map_chunk-returns-in-Write-clause-walked
 map_chunk-returns-in-Write-clause-walked g t c =
     let a = c.args in let w = a.walker.now in let walk = c.write_chunk in
-    walked_as g.S.Sink.took g.S.Sink.left g.S.Sink.stack g.S.Sink.room g.S.Sink.faults walk.result a.sink.now walk.new.sink w walk.new.walker _ _ a.len
+    walked_as g.S.Sink.took g.S.Sink.left g.S.Sink.view walk.result a.sink.now walk.new.sink w walk.new.walker _ _ a.len
     (write_line_step w.stack a.levels a.device a.sector a.len a.snapshot.now w.state ∙ ap (λ (op : Op). line_step w.stack op a.levels a.device (Snapshot a.snapshot.now) w.state a.sector a.len) (sym c.in-Write.is)) walk.ensures
 
 pub map_chunk-returns-in-Some-clause-walked : goal.map_chunk-returns-in-Some-clause-walked
 map_chunk-returns-in-Some-clause-walked g t c =
     let a = c.args in let w = a.walker.now in let walk = c.map_range in
-    walked_as g.S.Sink.took g.S.Sink.left g.S.Sink.stack g.S.Sink.room g.S.Sink.faults walk.result a.sink.now walk.new.sink w walk.new.walker _ _ a.len
+    walked_as g.S.Sink.took g.S.Sink.left g.S.Sink.view walk.result a.sink.now walk.new.sink w walk.new.walker _ _ a.len
     (ap (λ (op : Op). range_step w.stack op a.levels c.in-Some.source.to w.state c.in-Some.source.sector a.len) c.in-Read.is
     ∙ sym (chunk_read w.stack a.levels a.device a.sector a.len a.len a.snapshot.now w.state c.in-Some.source c.in-Some.ensures.source (omega arith))
     ∙ ap (λ (op : Op). line_step w.stack op a.levels a.device (Snapshot a.snapshot.now) w.state a.sector a.len) (sym c.in-Read.is)) walk.ensures.walked
@@ -383,7 +383,7 @@ map_chunk-returns-in-Some-clause-bounded g t c line found kind =
 pub map_chunk-returns-in-None-clause-walked : goal.map_chunk-returns-in-None-clause-walked
 map_chunk-returns-in-None-clause-walked g t c =
     let a = c.args in let w = a.walker.now in let p = c.piece in
-    walked_piece g.S.Sink.took g.S.Sink.left g.S.Sink.stack g.S.Sink.room g.S.Sink.faults p.result a.sink.now p.new.self w _ _ a.len a.len
+    walked_piece g.S.Sink.took g.S.Sink.left g.S.Sink.view p.result a.sink.now p.new.self w _ _ a.len a.len
     (sym (lost_read w.stack a.levels a.device a.sector a.len a.snapshot.now w.state c.in-None.ensures.lost) ∙ ap (λ (op : Op). line_step w.stack op a.levels a.device (Snapshot a.snapshot.now) w.state a.sector a.len) (sym c.in-Read.is)) (omega arith)
     p.ensures.took p.ensures.left p.ensures.faults p.ensures.stack p.ensures.room
 
@@ -392,7 +392,7 @@ map_chunk-returns-in-None-clause-walked g t c =
 pub map_origin-returns-in-Read-clause-walked : goal.map_origin-returns-in-Read-clause-walked
 map_origin-returns-in-Read-clause-walked g t c =
     let a = c.args in let w = a.walker.now in let walk = c.map_range in
-    walked_as g.S.Sink.took g.S.Sink.left g.S.Sink.stack g.S.Sink.room g.S.Sink.faults walk.result a.sink.now walk.new.sink w walk.new.walker _ _ a.len
+    walked_as g.S.Sink.took g.S.Sink.left g.S.Sink.view walk.result a.sink.now walk.new.sink w walk.new.walker _ _ a.len
     (ap (λ (op : Op). range_step w.stack op a.levels a.origin.now.to w.state a.sector a.len) c.in-Read.is ∙ sym (origin_read w.stack a.levels a.origin.now a.sector a.len w.state)
     ∙ ap (λ (op : Op). origin_step w.stack op a.levels a.origin.now w.state a.sector a.len) (sym c.in-Read.is)) walk.ensures.walked
 
@@ -403,7 +403,7 @@ map_origin-returns-in-Read-clause-bounded g t c device line found kind =
 pub map_origin-returns-in-Write-clause-walked : goal.map_origin-returns-in-Write-clause-walked
 map_origin-returns-in-Write-clause-walked g t c =
     let a = c.args in let w = a.walker.now in let walk = c.write_origin in
-    walked_as g.S.Sink.took g.S.Sink.left g.S.Sink.stack g.S.Sink.room g.S.Sink.faults walk.result a.sink.now walk.new.sink w walk.new.walker _ _ a.len
+    walked_as g.S.Sink.took g.S.Sink.left g.S.Sink.view walk.result a.sink.now walk.new.sink w walk.new.walker _ _ a.len
     (ap (λ (op : Op). origin_step w.stack op a.levels a.origin.now w.state a.sector a.len) (sym c.in-Write.is)) walk.ensures
 
 -- A write of it, part by part
@@ -413,8 +413,8 @@ write_origin-loop-left-init g t c =
     let a = c.args in let w = a.walker.now in
     let none : a.len - a.len ≡ 0 = omega arith in
     record {
-      walked = subst (λ (n : ℕ). IsWalked g.S.Sink.took g.S.Sink.left g.S.Sink.stack g.S.Sink.room g.S.Sink.faults going_on a.sink.now a.sink.now w w (origin_step w.stack Write a.levels a.origin.now w.state a.sector n) n) (sym none)
-          (walked_none g.S.Sink.took g.S.Sink.left g.S.Sink.stack g.S.Sink.room g.S.Sink.faults a.sink.now w (g.met.S.Sink.took_nothing a.sink.now));
+      walked = subst (λ (n : ℕ). IsWalked g.S.Sink.took g.S.Sink.left g.S.Sink.view going_on a.sink.now a.sink.now w w (origin_step w.stack Write a.levels a.origin.now w.state a.sector n) n) (sym none)
+          (walked_none g.S.Sink.took g.S.Sink.left g.S.Sink.view a.sink.now w (g.met.S.Sink.took_nothing a.sink.now));
       within = omega arith;
       position = refl;
       some = c.requires.some;
@@ -431,9 +431,9 @@ write_origin-serve-requires g t c = record {
 pub write_origin-returns-in_err-serve : goal.write_origin-returns-in_err-serve
 write_origin-returns-in_err-serve g t c =
     let a = c.args in let w = a.walker.now in let l = c.loop-left in let done = a.len - l.left in
-    cut_on g.S.Sink.took g.S.Sink.left g.S.Sink.stack g.S.Sink.room g.S.Sink.faults g.met.S.Sink.took_then_left _ c.from_residual.result a.sink.now l.sink c.serve.new.sink w l.walker c.serve.new.walker
+    cut_on g.S.Sink.took g.S.Sink.left g.S.Sink.view g.met.S.Sink.took_then_left _ c.from_residual.result a.sink.now l.sink c.serve.new.sink w l.walker c.serve.new.walker
     (served_sector w.stack Write a.levels a.origin.now) a.sector done l.left a.len c.from_residual.ensures.0 (omega (arith, l.invariant.within)) l.invariant.walked
-    (serve_failed g.S.Sink.took g.S.Sink.left g.S.Sink.stack g.S.Sink.room g.S.Sink.faults _ l.sink c.serve.new.sink w.stack l.walker c.serve.new.walker a.levels l.from (a.sector + done) l.left a.origin.now c.as_slice-over.result.now
+    (serve_failed g.S.Sink.took g.S.Sink.left g.S.Sink.view _ l.sink c.serve.new.sink w.stack l.walker c.serve.new.walker a.levels l.from (a.sector + done) l.left a.origin.now c.as_slice-over.result.now
     l.invariant.walked.stack c.as_slice-over.ensures (omega (arith, l.invariant.position, l.invariant.within)) (omega (arith, c.loop-left-test.true)) c.in_err-serve.ensures.walked)
 
 pub write_origin-settled_part-part-requires : goal.write_origin-settled_part-part-requires
@@ -458,9 +458,9 @@ write_origin-map_range-requires g t c κs within =
 pub write_origin-returns-in_err-map_range : goal.write_origin-returns-in_err-map_range
 write_origin-returns-in_err-map_range g t c =
     let a = c.args in let w = a.walker.now in let l = c.loop-left in let n = c.settled_part-part.result in let done = a.len - l.left in
-    cut_on g.S.Sink.took g.S.Sink.left g.S.Sink.stack g.S.Sink.room g.S.Sink.faults g.met.S.Sink.took_then_left _ c.from_residual-in_err-map_range.result a.sink.now l.sink c.map_range.new.sink w l.walker c.map_range.new.walker
+    cut_on g.S.Sink.took g.S.Sink.left g.S.Sink.view g.met.S.Sink.took_then_left _ c.from_residual-in_err-map_range.result a.sink.now l.sink c.map_range.new.sink w l.walker c.map_range.new.walker
     (served_sector w.stack Write a.levels a.origin.now) a.sector done n a.len c.from_residual-in_err-map_range.ensures.0 (omega (arith, c.settled_part-part.ensures.most, c.min.ensures, l.invariant.within)) l.invariant.walked
-    (part_walked g.S.Sink.took g.S.Sink.left g.S.Sink.stack g.S.Sink.room g.S.Sink.faults g.met.S.Sink.took_then_took g.met.S.Sink.took_then_left _ _ l.sink c.serve.new.sink c.map_range.new.sink w.stack l.walker c.serve.new.walker c.map_range.new.walker a.levels l.from (a.sector + done) n a.origin.now c.as_slice-over.result.now
+    (part_walked g.S.Sink.took g.S.Sink.left g.S.Sink.view g.met.S.Sink.took_then_took g.met.S.Sink.took_then_left _ _ l.sink c.serve.new.sink c.map_range.new.sink w.stack l.walker c.serve.new.walker c.map_range.new.walker a.levels l.from (a.sector + done) n a.origin.now c.as_slice-over.result.now
     l.invariant.walked.stack c.as_slice-over.ensures (omega (arith, l.invariant.position, l.invariant.within)) c.settled_part-part.ensures.some c.in_ok-serve.ensures.walked c.settled_part-part.ensures.settled c.in_err-map_range.ensures.walked)
 
 pub write_origin-overflow_add-from : goal.write_origin-overflow_add-from
@@ -478,8 +478,8 @@ write_origin-loop-left-preserved g t c =
     let a = c.args in let w = a.walker.now in let l = c.loop-left in let n = c.settled_part-part.result in let done = a.len - l.left in
     let on : done + n ≡ a.len - (l.left - n) = omega (arith, c.settled_part-part.ensures.most, c.min.ensures, l.invariant.within) in
     record {
-      walked = walked_on g.S.Sink.took g.S.Sink.left g.S.Sink.stack g.S.Sink.room g.S.Sink.faults g.met.S.Sink.took_then_took _ a.sink.now l.sink c.map_range.new.sink w l.walker c.map_range.new.walker (served_sector w.stack Write a.levels a.origin.now) a.sector done n _ on l.invariant.walked
-          (part_walked g.S.Sink.took g.S.Sink.left g.S.Sink.stack g.S.Sink.room g.S.Sink.faults g.met.S.Sink.took_then_took g.met.S.Sink.took_then_left _ _ l.sink c.serve.new.sink c.map_range.new.sink w.stack l.walker c.serve.new.walker c.map_range.new.walker a.levels l.from (a.sector + done) n a.origin.now c.as_slice-over.result.now
+      walked = walked_on g.S.Sink.took g.S.Sink.left g.S.Sink.view g.met.S.Sink.took_then_took _ a.sink.now l.sink c.map_range.new.sink w l.walker c.map_range.new.walker (served_sector w.stack Write a.levels a.origin.now) a.sector done n _ on l.invariant.walked
+          (part_walked g.S.Sink.took g.S.Sink.left g.S.Sink.view g.met.S.Sink.took_then_took g.met.S.Sink.took_then_left _ _ l.sink c.serve.new.sink c.map_range.new.sink w.stack l.walker c.serve.new.walker c.map_range.new.walker a.levels l.from (a.sector + done) n a.origin.now c.as_slice-over.result.now
           l.invariant.walked.stack c.as_slice-over.ensures (omega (arith, l.invariant.position, l.invariant.within)) c.settled_part-part.ensures.some c.in_ok-serve.ensures.walked c.settled_part-part.ensures.settled c.in_ok-map_range.ensures.walked);
       within = omega (arith, l.invariant.within);
       position = omega (arith, l.invariant.position, c.settled_part-part.ensures.most, c.min.ensures);

@@ -42,7 +42,7 @@ decreases-map_device g l = 8 * l.levels + 1
 
 abbrev pub invariant-map_lines-lines : goal.invariant-map_lines-lines
 invariant-map_lines-lines g l = record {
-  walked : IsWalked g.S.Sink.took g.S.Sink.left g.S.Sink.stack g.S.Sink.room g.S.Sink.faults going_on l.fn.sink l.sink l.fn.walker l.walker (range_step l.fn.walker.stack l.op l.levels (Device l.device) l.fn.walker.state l.sector (l.len - l.left)) (l.len - l.left);
+  walked : IsWalked g.S.Sink.took g.S.Sink.left g.S.Sink.view going_on l.fn.sink l.sink l.fn.walker l.walker (range_step l.fn.walker.stack l.op l.levels (Device l.device) l.fn.walker.state l.sector (l.len - l.left)) (l.len - l.left);
   some : 1 ≤ l.left;
   within : l.left ≤ l.len;
   position : l.at + l.left ≡ l.sector + l.len;
@@ -56,7 +56,7 @@ decreases-map_lines-lines g l = l.left
 
 abbrev pub invariant-map_legs-legs : goal.invariant-map_legs-legs
 invariant-map_legs-legs g l = record {
-  walked : IsWalked g.S.Sink.took g.S.Sink.left g.S.Sink.stack g.S.Sink.room g.S.Sink.faults going_on l.fn.sink l.sink l.fn.walker l.walker (line_step l.fn.walker.stack l.op l.levels l.device l.line.target l.fn.walker.state l.distance (l.at - l.distance)) (l.at - l.distance);
+  walked : IsWalked g.S.Sink.took g.S.Sink.left g.S.Sink.view going_on l.fn.sink l.sink l.fn.walker l.walker (line_step l.fn.walker.stack l.op l.levels l.device l.line.target l.fn.walker.state l.distance (l.at - l.distance)) (l.at - l.distance);
   target : l.legs.target ≡ l.line.target;
   here : l.legs.distance ≡ l.at;
   from : l.distance ≤ l.at;
@@ -70,7 +70,7 @@ decreases-map_legs-legs g l = l.legs.left
 
 abbrev pub invariant-map_snapshot-loop-left : goal.invariant-map_snapshot-loop-left
 invariant-map_snapshot-loop-left g l = record {
-  walked : IsWalked g.S.Sink.took g.S.Sink.left g.S.Sink.stack g.S.Sink.room g.S.Sink.faults going_on l.fn.sink l.sink l.fn.walker l.walker (line_step l.fn.walker.stack l.op l.levels l.device (Snapshot l.snapshot) l.fn.walker.state l.sector (l.len - l.left)) (l.len - l.left);
+  walked : IsWalked g.S.Sink.took g.S.Sink.left g.S.Sink.view going_on l.fn.sink l.sink l.fn.walker l.walker (line_step l.fn.walker.stack l.op l.levels l.device (Snapshot l.snapshot) l.fn.walker.state l.sector (l.len - l.left)) (l.len - l.left);
   within : l.left ≤ l.len;
   position : l.from + l.left ≡ l.sector + l.len;
   edge : 0 < l.len - l.left → 0 < l.left → is_same_chunk (chunk_at (Snapshot l.snapshot) (l.from - 1)) (chunk_at (Snapshot l.snapshot) l.from) ≡ false;
@@ -82,7 +82,7 @@ decreases-map_snapshot-loop-left g l = l.left
 
 abbrev pub invariant-write_origin-loop-left : goal.invariant-write_origin-loop-left
 invariant-write_origin-loop-left g l = record {
-  walked : IsWalked g.S.Sink.took g.S.Sink.left g.S.Sink.stack g.S.Sink.room g.S.Sink.faults going_on l.fn.sink l.sink l.fn.walker l.walker (origin_step l.fn.walker.stack Write l.levels l.origin l.fn.walker.state l.sector (l.len - l.left)) (l.len - l.left);
+  walked : IsWalked g.S.Sink.took g.S.Sink.left g.S.Sink.view going_on l.fn.sink l.sink l.fn.walker l.walker (origin_step l.fn.walker.stack Write l.levels l.origin l.fn.walker.state l.sector (l.len - l.left)) (l.len - l.left);
   within : l.left ≤ l.len;
   position : l.from + l.left ≡ l.sector + l.len;
   some : 1 ≤ l.most;

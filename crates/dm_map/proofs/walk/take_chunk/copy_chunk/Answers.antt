@@ -71,7 +71,7 @@ pub returns-in_err-piece : goal.returns-in_err-piece
 returns-in_err-piece g c =
     let a = c.args in let w = a.walker.now in let l = c.loop-left in let s = c.first_stretch-source in let h = c.first_homes-target in let n = h.result.len in let done = a.len - l.left in
     let next = copy_next c.args.walker.now l.walker s.new.walker a.snapshot.now a.number a.sector a.len l.left l.from l.to s.result h.result c.requires.chunk c.requires.part l.invariant.within l.invariant.going_on.same l.invariant.from l.invariant.to s.ensures h.ensures.is in
-    walked_cut g.S.Sink.took g.S.Sink.left g.S.Sink.stack g.S.Sink.room g.S.Sink.faults c.from_residual.result a.sink.now c.piece.new.self w h.new.walker (keep (copies w.stack w.state a.snapshot.now a.number a.sector a.len) w.state) 0 c.from_residual.ensures.0
+    walked_cut g.S.Sink.took g.S.Sink.left g.S.Sink.view c.from_residual.result a.sink.now c.piece.new.self w h.new.walker (keep (copies w.stack w.state a.snapshot.now a.number a.sector a.len) w.state) 0 c.from_residual.ensures.0
     (left_row g.S.Sink.took g.S.Sink.left g.met.S.Sink.took_then_left a.sink.now l.sink c.piece.new.self (copy_of w a.snapshot.now a.number) a.sector done n a.len (units_of c.copy_piece.result)
     (omega (arith, h.ensures.is.most, s.ensures.most, l.invariant.within)) (next ∙ sym c.copy_piece.ensures.units) l.invariant.taken c.in_err-piece.ensures.left)
     (omega (arith, c.in_err-piece.ensures.faults, l.invariant.going_on.faults)) (ap (λ (v : StackState). v.stack) (h.ensures.same ∙ s.ensures.same ∙ l.invariant.going_on.same))

@@ -10,7 +10,7 @@ invariant-loop-left g l = record {
   within : l.left ≤ l.len;
   from : l.from + l.left ≡ l.sector + l.len;
   to : l.to + l.left ≡ store_sector l.snapshot l.number l.sector + l.len;
-  going_on : IsGoingOn g.S.Sink.stack g.S.Sink.room g.S.Sink.faults l.fn.sink l.sink l.fn.walker l.walker;
+  going_on : IsGoingOn g.S.Sink.view l.fn.sink l.sink l.fn.walker l.walker;
 }
 
 abbrev pub decreases-loop-left : goal.decreases-loop-left

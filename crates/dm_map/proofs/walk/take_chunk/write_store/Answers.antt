@@ -18,7 +18,7 @@ pub returns-in_err-piece : goal.returns-in_err-piece
 returns-in_err-piece g c =
     let a = c.args in let w = a.walker.now in let l = c.loop-left in let h = c.first_homes-home in let n = h.result.len in let done = a.len - l.left in
     let next = next_writes w l.walker a.store.now a.sector a.len l.at l.left h.result l.invariant.going_on.same l.invariant.within l.invariant.position h.ensures.is in
-    walked_cut g.S.Sink.took g.S.Sink.left g.S.Sink.stack g.S.Sink.room g.S.Sink.faults c.from_residual.result a.sink.now c.piece.new.self w h.new.walker (keep (store_writes w.stack a.store.now a.sector a.len) w.state) 0 c.from_residual.ensures.0
+    walked_cut g.S.Sink.took g.S.Sink.left g.S.Sink.view c.from_residual.result a.sink.now c.piece.new.self w h.new.walker (keep (store_writes w.stack a.store.now a.sector a.len) w.state) 0 c.from_residual.ensures.0
     (left_row g.S.Sink.took g.S.Sink.left g.met.S.Sink.took_then_left a.sink.now l.sink c.piece.new.self (writes_to w a.store.now) a.sector done n a.len (units_in (WriteOf h.result.disk h.result.start) n)
     (omega (arith, h.ensures.is.most, l.invariant.within)) next l.invariant.taken c.in_err-piece.ensures.left)
     (omega (arith, c.in_err-piece.ensures.faults, l.invariant.going_on.faults)) (ap (λ (v : StackState). v.stack) (h.ensures.same ∙ l.invariant.going_on.same))

@@ -8,7 +8,7 @@ invariant-loop-left g l = record {
   taken : g.S.Sink.took l.fn.sink (store_writes l.fn.walker.stack l.store l.sector (l.len - l.left)) l.sink;
   within : l.left ≤ l.len;
   position : l.at + l.left ≡ l.sector + l.len;
-  going_on : IsGoingOn g.S.Sink.stack g.S.Sink.room g.S.Sink.faults l.fn.sink l.sink l.fn.walker l.walker;
+  going_on : IsGoingOn g.S.Sink.view l.fn.sink l.sink l.fn.walker l.walker;
 }
 
 abbrev pub decreases-loop-left : goal.decreases-loop-left
