@@ -119,8 +119,11 @@ fn is_on_disk(line: &FoundLine) -> bool {
 }
 
 /// Hands over the units of sectors of a device. A read-only device fails a write of all of them.
+///
+/// A range in one line goes down in one frame: what lies below the line is handed on in tail position.
+/// It is never inlined, so that a loop that calls it has the registers to itself.
 #[cycle(walk)]
-#[inline(always)]
+#[inline(never)]
 fn map_device<S: Sink, T: Taken>(
     walker: &mut Walker<'_, T>,
     op: Op,
@@ -143,6 +146,9 @@ fn map_device<S: Sink, T: Taken>(
         return fail(len, sink);
     }
     let line = walker.look(device, sector);
+    if len <= line.len - (sector - line.start) {
+        return map_line(walker, op, levels, device, line, sector, len, sink);
+    }
     map_lines(walker, op, levels, device, line, sector, len, sink)
 }
 

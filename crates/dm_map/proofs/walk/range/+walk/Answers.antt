@@ -71,6 +71,27 @@ map_device-map_lines-requires g t c κs within =
     let kept : (g.S.Sink.view a.sink.now).stack ≡ c.look-line.new.self.stack = c.requires.sink.stack ∙ sym stack in
     search rules
 
+pub map_device-map_line-requires : goal.map_device-map_line-requires
+map_device-map_line-requires g t c κs within =
+    let a = c.args in let look = c.look-line.ensures in
+    let stack : c.look-line.new.self.stack ≡ a.walker.now.stack = ap (λ (v : StackState). v.stack) look.same in
+    let deep : 1 ≤ a.levels = omega (arith, c.if-levels-eq0.false) in
+    let passes : refuses c.look-line.new.self.stack a.op a.device ≡ false = ap (λ (s : Description). refuses s a.op a.device) stack ∙ sym c.refuses.ensures ∙ c.if-refuses.false in
+    let inside : a.sector + a.len ≤ c.look-line.result.now.start + c.look-line.result.now.len = omega (arith, c.if-len-line.true, look.line.from, look.line.before) in
+    let line = line_of_look _ _ a.device c.look-line.result.now a.sector look.same look.line in
+    let kept : (g.S.Sink.view a.sink.now).stack ≡ c.look-line.new.self.stack = c.requires.sink.stack ∙ sym stack in
+    search rules
+
+pub map_device-returns-then-len-line-clause-walked : goal.map_device-returns-then-len-line-clause-walked
+map_device-returns-then-len-line-clause-walked g t c =
+    let a = c.args in let look = c.look-line.ensures in
+    range_walked g.S.Sink.took g.S.Sink.left g.S.Sink.view c.map_line.result a.sink.now c.map_line.new.sink a.walker.now c.look-line.new.self c.map_line.new.walker a.op a.levels a.device a.sector a.len look.same look.looked c.map_line.ensures.walked
+
+pub map_device-returns-then-len-line-clause-bounded : goal.map_device-returns-then-len-line-clause-bounded
+map_device-returns-then-len-line-clause-bounded g t c =
+    let a = c.args in let look = c.look-line.ensures in
+    range_bounded a.walker.now c.look-line.new.self c.map_line.new.walker a.op a.levels a.device a.sector a.len look.same look.one c.map_line.ensures.bounded
+
 pub map_device-returns-clause-walked : goal.map_device-returns-clause-walked
 map_device-returns-clause-walked g t c =
     let a = c.args in let look = c.look-line.ensures in
