@@ -18,7 +18,7 @@ use Rattle.dm_stack.proofs.StripeLemmas.{below_chunk, column_got, column_inside,
 
 -- Sectors that a line has
 
-pub later_sectors : (target : FoundTarget) (distance m n : ℕ) → m ≤ n → HasSectors target distance n → HasSectors target (distance + m) (n - m)
+later_sectors : (target : FoundTarget) (distance m n : ℕ) → m ≤ n → HasSectors target distance n → HasSectors target (distance + m) (n - m)
 later_sectors target distance m n few has = record { stack = has.stack; sound = has.sound; device = has.device; start = has.start; line_len = has.line_len; lies = has.lies; inside = omega (arith, few, has.inside); small = has.small }
 
 same_sectors : (target other : FoundTarget) (distance n : ℕ) → target ≡ other → HasSectors target distance n → HasSectors other distance n

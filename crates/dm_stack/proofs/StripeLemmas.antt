@@ -5,7 +5,7 @@ use Rattle.std.proofs.lemmas.Bool.{ne_eqb}
 use Rattle.std.specs.List.{AllByRecursion}
 use Rattle.std.proofs.lemmas.Nat.{div-add-mod', div-mul-add, mod-mul-add, row_fits}
 use Rattle.std.proofs.lemmas.Option.{slice_get_read}
-use Rattle.std.proofs.Math.Nat.{div-le_self, div-lt_iff_lt-mul, mul-le-mul_right}
+use Rattle.std.proofs.Math.Nat.{div-lt_iff_lt-mul}
 use Rattle.dm_stack.specs.declared.found_columns.FoundColumn.{FoundColumn}
 use Rattle.dm_stack.specs.Description.{Description, lower_len}
 use Rattle.dm_stack.specs.Below.{AreStripes, column_of, in_column, below_stripes, below_column, Lies}
@@ -126,10 +126,3 @@ position_after chunk_size count distance position some at last =
       chunk_start = rw (next.number, quotient) (omega (arith, at.chunk_start));
       past = sym next.past;
     })
-
--- a position is no further into its column than the sector is into the line
-pub position_small : (chunk_size count distance : ℕ) (position : StripePosition) → 0 < count → IsStripePosition chunk_size count distance position → position.chunk_start + position.past ≤ distance
-position_small chunk_size count distance position some at =
-    let whole : distance / chunk_size * chunk_size + distance % chunk_size ≡ distance = div-add-mod' distance chunk_size in
-    let rows : distance / chunk_size / count ≤ distance / chunk_size = div-le_self (distance / chunk_size) count in
-    omega (arith, whole, mul-le-mul_right chunk_size rows, at.chunk_start, at.past)

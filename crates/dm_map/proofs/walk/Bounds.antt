@@ -39,13 +39,13 @@ steps_kept : (step : State → ℕ → Step) (state : State) (sector n : ℕ) �
 steps_kept step state sector zero each = refl
 steps_kept step state sector (suc n) each = steps_kept step (step state sector).state (suc sector) n each ∙ each state sector
 
-pub range_kept : (stack : Description) (op : Op) (levels : ℕ) (lower : Lower) (state : State) (sector n : ℕ) → op ≡ Read → (range_step stack op levels lower state sector n).state ≡ state
+range_kept : (stack : Description) (op : Op) (levels : ℕ) (lower : Lower) (state : State) (sector n : ℕ) → op ≡ Read → (range_step stack op levels lower state sector n).state ≡ state
 range_kept stack op levels lower state sector n is = rw is (steps_kept (sector_step stack Read levels lower) state sector n (λ after i. refl))
 
-pub line_kept : (stack : Description) (op : Op) (levels device : ℕ) (target : FoundTarget) (state : State) (distance n : ℕ) → op ≡ Read → (line_step stack op levels device target state distance n).state ≡ state
+line_kept : (stack : Description) (op : Op) (levels device : ℕ) (target : FoundTarget) (state : State) (distance n : ℕ) → op ≡ Read → (line_step stack op levels device target state distance n).state ≡ state
 line_kept stack op levels device target state distance n is = rw is (steps_kept (target_step stack Read levels device target) state distance n (λ after i. refl))
 
-pub same_stack_state : (walk other : WalkerView) → walk.stack ≡ other.stack → walk.state ≡ other.state → stack_state walk ≡ stack_state other
+same_stack_state : (walk other : WalkerView) → walk.stack ≡ other.stack → walk.state ≡ other.state → stack_state walk ≡ stack_state other
 same_stack_state walk other stack state = ap (λ (s : Description). record { stack = s; state = walk.state }) stack ∙ ap (λ (s : State). record { stack = other.stack; state = s }) state
 
 -- The sectors of a line, by what lies below them
