@@ -96,6 +96,35 @@ fn a_stack(rt: HostRuntime) {
     check_look(&rt, &stack, "b");
 }
 
+/// As many lines as there may be, each of one sector.
+fn most_lines(rt: &impl Abort, alloc: Global) -> Stack {
+    let mut source = String::new(alloc);
+    for start in 0..65536 {
+        let line = format!(in alloc; "a: {start} 1 zero\n").expect(rt, "a line");
+        source.push_str(&line).expect(rt, "a longer text");
+    }
+    stack_of(rt, alloc, &source, false)
+}
+
+/// Asserts that the line of a sector is found in at most two comparisons, where each line has one sector.
+fn check_found(rt: &impl Abort, stack: &Stack, sector: u64) {
+    let device = stack.device("a").expect(rt, "a device");
+    let mut looker = stack.looker();
+    assert!(rt; sector < looker.len(device), "a sector of the device");
+    let line = looker.look(device, sector);
+    assert_eq!(rt; (line.start, line.len), (sector, 1));
+    assert!(rt; looker.comparisons() <= 2, "few comparisons");
+}
+
+/// Each bucket of as many lines as there may be, the last one too, has at most three of them.
+#[test]
+fn buckets_of_the_most_lines(rt: HostRuntime) {
+    let stack = most_lines(&rt, rt.alloc());
+    for sector in [0, 1, 40000, 65533, 65534, 65535] {
+        check_found(&rt, &stack, sector);
+    }
+}
+
 /// Runs requests to a stack, and asserts what is written.
 fn check_run(rt: &impl Abort, alloc: Global, stack: &Stack, requests: &[u8], want: &[u8]) {
     let mut mapper = Mapper::<PlainTaken>::new(alloc, stack.looker()).expect(rt, "a mapper");
