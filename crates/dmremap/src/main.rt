@@ -34,6 +34,7 @@ use std::io;
 use std::process::ExitCode;
 use words::{WordsFault, not_text, read_words};
 
+/// Runs the command that the words ask for, and exits with its status.
 fn main(rt: HostRuntime) -> ExitCode {
     let status = match begin(&rt) {
         Ok(status) => status,

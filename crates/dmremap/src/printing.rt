@@ -106,6 +106,7 @@ fn print_line<W: Output>(text: &[u8], output: &mut W) -> Exit
     Exit::after(write_line(text, output))
 }
 
+/// Writes a line: a text, and the newline after it.
 fn write_line<W: Output>(text: &[u8], output: &mut W) -> Result<(), OutFault>
     ensures { Wrote (W.past output.old) (W.past output.new) result (line text.now) }
 {

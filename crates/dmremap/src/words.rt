@@ -485,6 +485,7 @@ fn refusal(alloc: Global, kind: ErrorKind, text: &str) -> WordsFault
     }
 }
 
+/// The error of clap that has this kind and this text.
 fn refusal_error(alloc: Global, kind: ErrorKind, text: &str) -> Result<clap::Error, AllocError>
     ensures { IfOk result (λ error. kind_of error ≡ kind) }
 {

@@ -5,36 +5,8 @@
 use crate::{Node, Section, TextFault, Value, parse};
 use std::alloc::{AllocError, Global};
 
+/// A group of two volumes.
 const GROUP: &str = r#"contents = "Text Format Volume Group"
-version = 1
-vg0 {
-  extent_size = 8192
-  physical_volumes {
-    pv0 {
-      device = "/dev/sda1"
-      dev_size = 1050624
-      pe_start = 2048
-      pe_count = 128
-    }
-  }
-  logical_volumes {
-    lv0 {
-      status = ["READ", "WRITE", "VISIBLE"]
-      segment_count = 1
-      segment1 {
-        start_extent = 0
-        extent_count = 25
-        type = "striped"
-        stripe_count = 1
-        stripes = ["pv0", 0]
-      }
-    }
-  }
-}
-"#;
-
-/// The same with a second volume after the first.
-const BOTH: &str = r#"contents = "Text Format Volume Group"
 version = 1
 vg0 {
   extent_size = 8192
@@ -135,41 +107,41 @@ static HELD: [(&str, &str, &str); 65] = [
         "vg0 logical_volumes lv0 segment1 stripes",
         "22: [Text(\"pv0\"), Int(0)]",
     ),
-    (BOTH, "vg0 logical_volumes", "13: lv0 14 lv-1 25"),
-    (BOTH, "vg0 logical_volumes lv-1", "25: segment1 28"),
+    (GROUP, "vg0 logical_volumes", "13: lv0 14 lv-1 25"),
+    (GROUP, "vg0 logical_volumes lv-1", "25: segment1 28"),
     (
-        BOTH,
+        GROUP,
         "vg0 logical_volumes lv-1 status",
         "26: [Text(\"READ\")]",
     ),
-    (BOTH, "vg0 logical_volumes lv-1 segment_count", "27: 1"),
+    (GROUP, "vg0 logical_volumes lv-1 segment_count", "27: 1"),
     (
-        BOTH,
+        GROUP,
         "vg0 logical_volumes lv-1 segment1 start_extent",
         "29: 0",
     ),
     (
-        BOTH,
+        GROUP,
         "vg0 logical_volumes lv-1 segment1 extent_count",
         "30: 4",
     ),
     (
-        BOTH,
+        GROUP,
         "vg0 logical_volumes lv-1 segment1 type",
         "31: text striped",
     ),
     (
-        BOTH,
+        GROUP,
         "vg0 logical_volumes lv-1 segment1 stripe_count",
         "32: 2",
     ),
     (
-        BOTH,
+        GROUP,
         "vg0 logical_volumes lv-1 segment1 stripe_size",
         "33: 128",
     ),
     (
-        BOTH,
+        GROUP,
         "vg0 logical_volumes lv-1 segment1 stripes",
         "34: [Text(\"pv0\"), Int(25), Text(\"pv0\"), Int(27)]",
     ),

@@ -37,31 +37,8 @@ vg0 {
 }
 "#;
 
-/// The same with a second volume, of two stripes, in lines 25 to 36.
-const BOTH: &str = r#"contents = "Text Format Volume Group"
-version = 1
-vg0 {
-  extent_size = 8192
-  physical_volumes {
-    pv0 {
-      device = "/dev/sda1"
-      dev_size = 1050624
-      pe_start = 2048
-      pe_count = 128
-    }
-  }
-  logical_volumes {
-    lv0 {
-      status = ["READ", "WRITE", "VISIBLE"]
-      segment_count = 1
-      segment1 {
-        start_extent = 0
-        extent_count = 25
-        type = "striped"
-        stripe_count = 1
-        stripes = ["pv0", 0]
-      }
-    }
+/// What stands in place of line 24 of `ONE` where there is a second volume, of two stripes, in lines 25 to 36.
+const SECOND: &str = r#"    }
     lv-1 {
       status = ["READ"]
       segment_count = 1
@@ -73,36 +50,10 @@ vg0 {
         stripe_size = 128
         stripes = ["pv0", 25, "pv0", 27]
       }
-    }
-  }
-}
-"#;
+    }"#;
 
-/// One volume, in lines 25 to 35 the store of its snapshot, and in lines 36 to 47 the record of that.
-const RECORDED: &str = r#"contents = "Text Format Volume Group"
-version = 1
-vg0 {
-  extent_size = 8192
-  physical_volumes {
-    pv0 {
-      device = "/dev/sda1"
-      dev_size = 1050624
-      pe_start = 2048
-      pe_count = 128
-    }
-  }
-  logical_volumes {
-    lv0 {
-      status = ["READ", "WRITE", "VISIBLE"]
-      segment_count = 1
-      segment1 {
-        start_extent = 0
-        extent_count = 25
-        type = "striped"
-        stripe_count = 1
-        stripes = ["pv0", 0]
-      }
-    }
+/// The same with the store of a snapshot of the volume, in lines 25 to 35, and its record in lines 36 to 47.
+const SNAPSHOT: &str = r#"    }
     snap {
       status = ["READ", "WRITE", "VISIBLE"]
       segment_count = 1
@@ -125,10 +76,7 @@ vg0 {
         origin = "lv0"
         cow_store = "snap"
       }
-    }
-  }
-}
-"#;
+    }"#;
 
 /// The devices and the disks of a text.
 fn tables_of(rt: &impl Abort, alloc: Global, text: &str) -> (Vec<DeviceSpec>, Vec<Disk>) {
@@ -269,17 +217,17 @@ static OF_ONE: [(usize, &str, &str, &[DiskRow]); 14] = [
     ),
 ];
 
-/// Texts of several devices: those in the concise form, and the numbers of the lines of the text that each of
-/// them and its lines are from.
+/// What stands in place of line 24 of `ONE`, which then has several devices: those in the concise form, and the
+/// numbers of the lines of the text that each of them and its lines are from.
 static OF_SEVERAL: [(&str, &str, &[(u64, u64)]); 2] = [
     (
-        BOTH,
+        SECOND,
         "vg0-lv0,,,rw,0 204800 linear /dev/sda1 2048;\
         vg0-lv--1,,,ro,0 32768 striped 2 128 /dev/sda1 206848 /dev/sda1 223232\n",
         &[(14, 17), (25, 28)],
     ),
     (
-        RECORDED,
+        SNAPSHOT,
         "vg0-lv0-real,,,rw,0 204800 linear /dev/sda1 2048;\
         vg0-lv0,,,rw,0 204800 snapshot-origin /dev/mapper/vg0-lv0-real;\
         vg0-snap-cow,,,rw,0 16384 linear /dev/sda1 206848;\
@@ -319,8 +267,9 @@ fn one_device(rt: HostRuntime) {
 
 #[test]
 fn several_devices(rt: HostRuntime) {
-    for &(text, concise, lines) in &OF_SEVERAL {
-        check_tables(&rt, rt.alloc(), text, concise, lines, ON_DEVICE);
+    for &(more, concise, lines) in &OF_SEVERAL {
+        let text = with_line(rt.alloc(), ONE, 24, more).expect(&rt, "a text");
+        check_tables(&rt, rt.alloc(), text.as_str(), concise, lines, ON_DEVICE);
     }
 }
 

@@ -152,6 +152,7 @@ fn source_in(format: Format) -> Source<'static> {
     }
 }
 
+/// The job that asks for this. It has no paths, as no file is opened here.
 fn job_of(asked: Asked) -> Job<'static>
     ensures { is_other (job_words result) ≡ true }
 {

@@ -24,6 +24,7 @@ pub(super) struct Fake<'a> {
 }
 
 impl<'a> Fake<'a> {
+    /// Counts a call with a slice of this length, and returns what the script says of it.
     fn step(&self, len: usize) -> io::Result<usize>
         ensures { IfOk result (λ n. n ≤ len) }
     {
