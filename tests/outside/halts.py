@@ -26,7 +26,7 @@ TESTS = os.path.join("crates", "dm_replay", "out", "dm_replay_tests")
 READER, ROWS_NAME = "replay::tests::answers_after_stops_of_a_file", "stops"
 TEST = "replay::tests::growths_may_be_refused"
 
-# Rows whose requests are stopped after each of their units. One is left out, whose request a replay refuses: the
+# Rows whose requests are halted after each of their units. One is left out, whose request a replay refuses: the
 # device that it writes is the origin of a snapshot, so it is no top device.
 SMALL = [it[:3] for it in origins.WRITES if "snapshot /dev/mapper/o cow P 8" not in it[0]]
 SMALL += [it[:3] for it in [origins.REPLAYED] + kinds.REPLAYED]
@@ -35,7 +35,7 @@ SMALL += [it[:3] for it in [origins.REPLAYED] + kinds.REPLAYED]
 COPIES = origins.SNAPSHOTS * origins.CHUNK
 UNITS = COPIES + origins.CHUNK
 
-# After how many units the longest request is stopped: at the borders of copies, of writes and of chunks, and between
+# After how many units the longest request is halted: at the borders of copies, of writes and of chunks, and between
 # them. None is late, as a replay goes through all that it stored for each copy.
 LONG_STOPS = [
     0, 1, 1023, 1024, 1025, COPIES - 1, COPIES, COPIES + 1, UNITS - 1, UNITS, UNITS + 1, UNITS + COPIES + 512,
@@ -62,7 +62,7 @@ def reads(stack, tops):
 
 
 def answered(stack, asked):
-    """The lines of the requests that aren't stopped."""
+    """The lines of the requests that aren't halted."""
     values, wanted = {}, ""
     for number, (request, stop) in enumerate(asked, 1):
         units = stack.request(*request) if stop is None else first_units(stack, request, stop)
@@ -105,13 +105,13 @@ def small_rows():
                 stack.request(*it)
             for units in range(len(stack.request(*request)) + 1):
                 stack = plain(source, disks)
-                asked = stopped(stack, given, index, units)
+                asked = halted(stack, given, index, units)
                 name = "request %d after %d units" % (index + 1, units)
                 yield row(name, source, disks, asked, answered(stack, asked))
 
 
-def stopped(stack, given, index, stop):
-    """Requests of which one is stopped: after it all top devices are read, and at last once more."""
+def halted(stack, given, index, stop):
+    """Requests of which one is halted: after it all top devices are read, and at last once more."""
     all_read = reads(stack, origins.tops(stack))
     asked = [(it, None) for it in given]
     return asked[:index] + [(given[index], stop)] + all_read + asked[index + 1:] + all_read
@@ -123,7 +123,7 @@ def long_rows():
 
 
 def long_row(length, chunk, count):
-    """A write of a whole origin that is stopped, and then one of the chunk where that was and of the next. Each
+    """A write of a whole origin that is halted, and then one of the chunk where that was and of the next. Each
     chunk is copied to all snapshots before its first sector is written, so these go on as they were."""
     source, disks = origins.long_stack(length, chunk)
     snapshots = ["s%d" % it for it in range(origins.SNAPSHOTS)]
@@ -149,7 +149,7 @@ def check(tally, program, top):
     for count in range(4 * 2 * (origins.SNAPSHOTS + 1) + 2):
         source, disks, asked, wanted = long_row(8, 2, count)
         got = answered(plain(source, disks), asked)
-        tally.holds("a long write that is stopped after %d units" % count, got == wanted, "the plain rules give " + got)
+        tally.holds("a long write that is halted after %d units" % count, got == wanted, "the plain rules give " + got)
     tests = os.path.join(top, TESTS)
     if os.access(tests, os.X_OK):
         tests = Program(shutil.copy(tests, program.room), program.room)

@@ -27,7 +27,7 @@ PROMISES = [
     ("other_whole", ["other_whole"], "the same of the other commands"),
     ("Replay", ["Replay::new", "Replay::request", "Replay::halt"],
      "that a replay begins with no request; what a request answers on the disks as those before it left them; "
-     "and what a request leaves that is stopped, which the list of requests has too"),
+     "and what a request leaves that is halted, which the list of requests has too"),
     ("Mapper::request", ["Mapper::request"],
      "which units a request has, the state that they leave, and what finding them costs"),
 ]

@@ -1,6 +1,7 @@
 -- Lemmas of what disks hold: where no claims meet, each top device has what it would have alone, or
 -- errors.
 pub mod ChunkOutcomes
+pub mod HaltedRequests
 pub mod HomeLemmas
 pub mod Losses
 pub mod OwnRequests
@@ -8,7 +9,6 @@ pub mod OwnWrites
 pub mod Plays
 pub mod ServedRuns
 pub mod StepClaims
-pub mod StoppedRequests
 pub mod TakenInARow
 pub mod Takes
 pub mod UniqueSteps

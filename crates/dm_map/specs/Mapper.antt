@@ -6,19 +6,19 @@ use Rattle.dm_map.specs.state.State.{State}
 use Rattle.dm_map.specs.declared.mapper.MapFault.{MapFault}
 use Rattle.dm_map.specs.declared.mapper.MapFault.TheVariants as faults
 
--- a mapper: its stack, the state that the requests so far left, whether one of its sinks failed, what its looker counted so far, and how much of that in the last request that it did not refuse as stopped
+-- a mapper: its stack, the state that the requests so far left, whether one of its sinks failed, what its looker counted so far, and how much of that in the last request that it did not refuse as `Stopped`
 pub record MapperView : Type 0 where
   pub stack : Description
   pub state : State
-  pub stopped : Bool
+  pub failed : Bool
   pub looked : Counts
   pub last : Counts
 
 -- a mapper after look-ups that belong to no request
 abbrev pub with_looked : MapperView → Counts → MapperView
-with_looked mapper counts = record { stack = mapper.stack; state = mapper.state; stopped = mapper.stopped; looked = counts; last = mapper.last }
+with_looked mapper counts = record { stack = mapper.stack; state = mapper.state; failed = mapper.failed; looked = counts; last = mapper.last }
 
--- where the result is that the sink failed, or that the mapper is stopped
+-- where the result is that the sink failed, or that the mapper had failed before
 abbrev pub OnSinkFault : {F : Type 0} → Result (Unit {0}) (MapFault F) → Type 0 → Type 0
 OnSinkFault (Ok done) P = Unit {0}
 OnSinkFault (Err (faults.Sink fault)) P = P
@@ -29,7 +29,7 @@ OnStopped (Ok done) P = Unit {0}
 OnStopped (Err (faults.Sink fault)) P = Unit {0}
 OnStopped (Err faults.Stopped) P = P
 
--- where the mapper was not stopped before
+-- where the mapper had not failed before
 abbrev pub OnTried : {F : Type 0} → Result (Unit {0}) (MapFault F) → Type 0 → Type 0
 OnTried (Ok done) P = P
 OnTried (Err (faults.Sink fault)) P = P

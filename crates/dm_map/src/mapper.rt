@@ -8,7 +8,7 @@ ghost use Rattle.std.specs.Prelude.{◌≡◌, ◌+◌, ◌*◌, ◌<◌, ◌≤
 ghost use Rattle.dm_table.specs.declared.requests.request.Op.TheVariants.{Read};
 ghost use Rattle.dm_stack.specs.Snapshots.{snapshots, IsSnapshot};
 ghost use Rattle.dm_stack.specs.Depth.{stack_depth};
-ghost use Rattle.dm_map.specs.walk.Mapping.{request_step};
+ghost use Rattle.dm_map.specs.walk.Mapping.{request_step, step_for};
 ghost use Rattle.dm_map.specs.state.Counts.{grown_by, most_comparisons, no_counts, AreAdded};
 ghost use Rattle.dm_map.specs.state.Fitting.{IsWithinPlaces};
 ghost use Rattle.dm_map.specs.Mapper.{with_looked, OnSinkFault, OnStopped, OnTried};
@@ -52,7 +52,7 @@ pub enum MapFault<F> {
 #[derive(Drop)]
 pub struct Mapper<'s, T: Taken> {
     walker: Walker<'s, T>,
-    stopped: bool,
+    failed: bool,
     /// The searches before the last request, of those that belong to one.
     searches_before: u64,
     /// The comparisons of these searches.
@@ -68,7 +68,7 @@ impl<'s, T: Taken> Model for Mapper<'s, T> {
     ghost view = { λ mapper. record {
       stack = mapper.walker.stack;
       state = mapper.walker.state;
-      stopped = mapper.stopped;
+      failed = mapper.failed;
       looked = mapper.walker.looked;
       last = record {
         searches = mapper.walker.looked.searches - mapper.searches_before;
@@ -81,7 +81,7 @@ impl<'s, T: Taken> Model for Mapper<'s, T> {
 }
 
 impl<'s, T: Taken> Mapper<'s, T> {
-    /// A mapper of the looker's stack, in the state at the start, and not stopped. It makes at most one
+    /// A mapper of the looker's stack, in the state at the start, that has not failed. It makes at most one
     /// line search for each snapshot.
     ///
     /// # Errors
@@ -90,7 +90,7 @@ impl<'s, T: Taken> Mapper<'s, T> {
     pub fn new(alloc: Global, mut looker: Looker<'s>) -> Result<Mapper<'s, T>, AllocError>
         ensures stack { IfOk result (λ mapper. mapper.stack ≡ looker.entry.stack) }
         ensures state { IfOk result (λ mapper. mapper.state ≡ start_state looker.entry.stack) }
-        ensures going { IfOk result (λ mapper. mapper.stopped ≡ false) }
+        ensures going { IfOk result (λ mapper. mapper.failed ≡ false) }
         ensures looked { IfOk result (λ mapper. mapper.looked.searches ≤ looker.entry.searches
             + length (snapshots looker.entry.stack)) }
         ensures last { IfOk result (λ mapper. mapper.last ≡ no_counts) }
@@ -103,7 +103,7 @@ impl<'s, T: Taken> Mapper<'s, T> {
             searches_before: walker.searches(),
             comparisons_before: walker.comparisons(),
             walker,
-            stopped: false,
+            failed: false,
         })
     }
 
@@ -119,8 +119,8 @@ impl<'s, T: Taken> Mapper<'s, T> {
     ///
     /// # Errors
     ///
-    /// `Sink` if the sink failed: it took a beginning of the units, and the mapper is stopped from
-    /// then on. `Stopped` if the mapper was stopped before: nothing changes.
+    /// `Sink` if the sink failed: it took a beginning of the units, and the mapper has failed from
+    /// then on. `Stopped` if the mapper had failed before: nothing changes.
     #[inline(always)]
     pub fn request<S: Sink>(
         &mut self,
@@ -133,22 +133,19 @@ impl<'s, T: Taken> Mapper<'s, T> {
         requires room { request.now.len ≤ (S.view sink.old).room }
         ensures stack { self.new.stack ≡ self.old.stack }
         ensures took { OnOk result (S.took sink.old
-            (request_step self.old.stack request.now.op device request.now.start request.now.len
-            self.old.state).units sink.new) }
+            (step_for self.old.stack request.now device self.old.state).units sink.new) }
         ensures state { OnOk result (self.new.state
-            ≡ (request_step self.old.stack request.now.op device request.now.start request.now.len
-            self.old.state).state) }
+            ≡ (step_for self.old.stack request.now device self.old.state).state) }
         ensures kept { OnOk result (((S.view sink.new).stack ≡ (S.view sink.old).stack)
             × ((S.view sink.new).faults ≡ (S.view sink.old).faults)) }
-        ensures going { OnOk result ((self.old.stopped ≡ false) × (self.new.stopped ≡ false)) }
+        ensures going { OnOk result ((self.old.failed ≡ false) × (self.new.failed ≡ false)) }
         ensures left { OnSinkFault result
             (OfBeginning S.left sink.old
-            (request_step self.old.stack request.now.op device request.now.start request.now.len
-            self.old.state).units sink.new) }
+            (step_for self.old.stack request.now device self.old.state).units sink.new) }
         ensures failed { OnSinkFault result ((S.view sink.new).faults ≡ (S.view sink.old).faults + 1) }
-        ensures stops { OnSinkFault result ((self.old.stopped ≡ false) × (self.new.stopped ≡ true)) }
+        ensures stops { OnSinkFault result ((self.old.failed ≡ false) × (self.new.failed ≡ true)) }
         ensures stopped { OnStopped result
-            ((self.old.stopped ≡ true) × (self.new ≡ self.old) × (sink.new ≡ sink.old)) }
+            ((self.old.failed ≡ true) × (self.new ≡ self.old) × (sink.new ≡ sink.old)) }
         ensures counted { OnTried result (self.new.looked ≡ grown_by self.old.looked self.new.last) }
         ensures few { OnTried result (self.new.last.comparisons ≤ most_comparisons * self.new.last.searches) }
         ensures bounded { OnTried result
@@ -158,7 +155,7 @@ impl<'s, T: Taken> Mapper<'s, T> {
             request.now.start request.now.len) }
         ensures within { IsWithinPlaces self.new.stack self.new.state }
     {
-        if self.stopped {
+        if self.failed {
             self.walker.is_within_places();
             return Err(MapFault::Stopped);
         }
@@ -176,7 +173,7 @@ impl<'s, T: Taken> Mapper<'s, T> {
         match mapped {
             Ok(()) => Ok(()),
             Err(fault) => {
-                self.stopped = true;
+                self.failed = true;
                 Err(MapFault::Sink(fault))
             }
         }
@@ -185,7 +182,7 @@ impl<'s, T: Taken> Mapper<'s, T> {
     /// How much of the store of a snapshot is used, and whether the snapshot is valid.
     ///
     /// The device is a snapshot of the mapper's stack. No snapshot has taken more chunks than its store has
-    /// places, also where the mapper is stopped. Cost: one look-up, which belongs to no request. No memory
+    /// places, also where the mapper has failed. Cost: one look-up, which belongs to no request. No memory
     /// is taken.
     pub fn usage(&mut self, device: DeviceId) -> Usage
         requires { IsSnapshot self.old.stack device }

@@ -5,7 +5,8 @@ use Rattle.dm_stack.specs.declared.graph.TheConstants.{MOST_DEPTH}
 use Rattle.dm_stack.specs.declared.id.Lower.TheVariants.{Device}
 use Rattle.dm_stack.specs.Claims.{IsTidy, IsTop}
 use Rattle.dm_stack.specs.Description.{Description, device_len}
-use Rattle.dm_map.specs.own.Contents.{Stays, content}
+use Rattle.dm_map.specs.own.Contents.{Stays, content, value_read}
+use Rattle.dm_map.specs.own.Rows.{Rows}
 use Rattle.dm_map.specs.walk.Mapping.{request_step, sector_step}
 use Rattle.dm_map.specs.walk.SnapshotWrites.{read}
 use Rattle.dm_map.specs.state.State.{State}
@@ -16,37 +17,44 @@ use Rattle.dm_replay.specs.declared.value.Value.{Value}
 use Rattle.dm_replay.specs.declared.value.Value.TheVariants as value
 use Rattle.dm_replay.specs.Histories.{Asked, World, asked_answers, world_after}
 use Rattle.dm_replay.specs.Replay.{AreOfTops}
-use Rattle.dm_replay.specs.Rows.{AreOfRow, Rows, read_answer, rows_after}
-use Rattle.dm_replay.specs.Values.{Gives, Failed, Values, played_answers}
-use Rattle.dm_replay.proofs.OwnWorlds.{AreAlone, IsOwn, answer_of, own_after, read_same}
+use Rattle.dm_replay.specs.Rows.{AreOfRow, answer_of, rows_after}
+use Rattle.dm_replay.specs.Values.{Answer, Gives, Failed, Values, played_answers}
+use Rattle.dm_replay.proofs.OwnWorlds.{AreAlone, IsOwn, own_after}
+
+-- what the unit of a read answers
+abbrev read_answer : BlockUnit → Values → Answer
+read_answer unit values = answer_of (value_read value.Zero values unit)
+
+-- an answer is that of a sector of a row, or an error
+abbrev IsOfSector : Rows Value → (device sector : ℕ) → Answer → Type 0
+IsOfSector rows device sector answer = (answer ≡ answer_of (rows device sector)) ⊎ (answer ≡ Failed)
 
 -- one sector after the other
-abbrev AreRead : Description → State → Values → Rows → (device : ℕ) → Type 0
-AreRead stack state values rows device = (sector : ℕ) → (read_answer (read stack state (Device device) sector) values ≡ rows device sector) ⊎ (read_answer (read stack state (Device device) sector) values ≡ Failed)
+abbrev AreRead : Description → State → Values → Rows Value → (device : ℕ) → Type 0
+AreRead stack state values rows device = (sector : ℕ) → IsOfSector rows device sector (read_answer (read stack state (Device device) sector) values)
 
 read_of : (row given : Option Value) → Stays row given → (answer_of given ≡ answer_of row) ⊎ (answer_of given ≡ Failed)
 read_of row given (inl same) = inl (ap answer_of same)
 read_of row given (inr gone) = inr (ap answer_of gone)
 
-are_read : (stack : Description) (world : World) (rows : Rows) (device : ℕ) → IsTop stack device → IsOwn stack world rows → AreRead stack world.state world.values rows device
-are_read stack world rows device top is sector =
-    let unit = read stack world.state (Device device) sector in
-    rw (is.same device sector, read_same unit world.values) (read_of (is.kept device sector) (content value.Zero stack world.state world.values (Device device) sector) (is.own.tops device sector top))
+are_read : (stack : Description) (world : World) (rows : Rows Value) (device : ℕ) → IsTop stack device → IsOwn stack world rows → AreRead stack world.state world.values rows device
+are_read stack world rows device top own sector =
+    read_of (rows device sector) (content value.Zero stack world.state world.values (Device device) sector) (own.tops device sector top)
 
-first_of_row : (number device sector : ℕ) (unit : BlockUnit) (units : List BlockUnit) (values : Values) (rows : Rows) → IsRead unit → (read_answer unit values ≡ rows device sector) ⊎ (read_answer unit values ≡ Failed)
+first_of_row : (number device sector : ℕ) (unit : BlockUnit) (units : List BlockUnit) (values : Values) (rows : Rows Value) → IsRead unit → IsOfSector rows device sector (read_answer unit values)
     → AreOfRow rows device (suc sector) (played_answers number (suc sector) units values) → AreOfRow rows device sector (played_answers number sector (unit ∷ units) values)
 unfolding played_answers
 first_of_row number device sector unit units values rows (Sector disk at is) first later =
     subst (λ (u : BlockUnit). AreOfRow rows device sector (played_answers number sector (u ∷ units) values)) (sym is)
-    (on_disk (subst (λ (u : BlockUnit). (read_answer u values ≡ rows device sector) ⊎ (read_answer u values ≡ Failed)) is first))
+    (on_disk (subst (λ (u : BlockUnit). IsOfSector rows device sector (read_answer u values)) is first))
   where
-    on_disk : (Gives (values disk at) ≡ rows device sector) ⊎ (Gives (values disk at) ≡ Failed) → AreOfRow rows device sector (played_answers number sector (ReadOf disk at ∷ units) values)
+    on_disk : IsOfSector rows device sector (Gives (values disk at)) → AreOfRow rows device sector (played_answers number sector (ReadOf disk at ∷ units) values)
     on_disk here = (here, later)
 first_of_row number device sector unit units values rows (Nothing is) first later =
     subst (λ (u : BlockUnit). AreOfRow rows device sector (played_answers number sector (u ∷ units) values)) (sym is)
-    (of_zeros (subst (λ (u : BlockUnit). (read_answer u values ≡ rows device sector) ⊎ (read_answer u values ≡ Failed)) is first))
+    (of_zeros (subst (λ (u : BlockUnit). IsOfSector rows device sector (read_answer u values)) is first))
   where
-    of_zeros : (Gives value.Zero ≡ rows device sector) ⊎ (Gives value.Zero ≡ Failed) → AreOfRow rows device sector (played_answers number sector (Zeros ∷ units) values)
+    of_zeros : IsOfSector rows device sector (Gives value.Zero) → AreOfRow rows device sector (played_answers number sector (Zeros ∷ units) values)
     of_zeros here = (here, later)
 first_of_row number device sector unit units values rows (Fault is) first later =
     subst (λ (u : BlockUnit). AreOfRow rows device sector (played_answers number sector (u ∷ units) values)) (sym is) of_nothing
@@ -54,7 +62,7 @@ first_of_row number device sector unit units values rows (Fault is) first later 
     of_nothing : AreOfRow rows device sector (played_answers number sector (Fails ∷ units) values)
     of_nothing = (inr refl, later)
 
-reads_of_row : (stack : Description) (state : State) (number device start len : ℕ) (values : Values) (rows : Rows) → AreRead stack state values rows device
+reads_of_row : (stack : Description) (state : State) (number device start len : ℕ) (values : Values) (rows : Rows Value) → AreRead stack state values rows device
     → AreOfRow rows device start (played_answers number start (steps (sector_step stack ops.Read MOST_DEPTH (Device device)) state start len).units values)
 unfolding played_answers
 reads_of_row stack state number device start zero values rows each = none_of_row
@@ -65,12 +73,12 @@ reads_of_row stack state number device start (suc len) values rows each =
     first_of_row number device start (read stack state (Device device) start) (steps (sector_step stack ops.Read MOST_DEPTH (Device device)) state (suc start) len).units values rows
     (is_read stack state MOST_DEPTH (Device device) start) (each start) (reads_of_row stack state number device (suc start) len values rows each)
 
-errors_of_row : (number device start len : ℕ) (values : Values) (rows : Rows) → AreOfRow rows device start (played_answers number start (replicate len Fails) values)
+errors_of_row : (number device start len : ℕ) (values : Values) (rows : Rows Value) → AreOfRow rows device start (played_answers number start (replicate len Fails) values)
 unfolding played_answers
 errors_of_row number device start zero values rows = tt
 errors_of_row number device start (suc len) values rows = (inr refl, errors_of_row number device (suc start) len values rows)
 
-request_of_row : (stack : Description) (state : State) (number device start len : ℕ) (values : Values) (rows : Rows) → AreRead stack state values rows device
+request_of_row : (stack : Description) (state : State) (number device start len : ℕ) (values : Values) (rows : Rows Value) → AreRead stack state values rows device
     → AreOfRow rows device start (played_answers number start (request_step stack ops.Read device start len state).units values)
 request_of_row stack state number device start len values rows each = by_end (nat_lt (device_len stack device) (start + len))
   where
@@ -78,7 +86,7 @@ request_of_row stack state number device start len values rows each = by_end (na
     by_end true = errors_of_row number device start len values rows
     by_end false = reads_of_row stack state number device start len values rows each
 
-pub own_answers : (stack : Description) (all : List Asked) (asked : Asked) → AreAlone stack → IsTidy stack → AreOfTops stack all → IsTop stack asked.device → asked.stopped_after ≡ None → asked.op ≡ ops.Read
+pub own_answers : (stack : Description) (all : List Asked) (asked : Asked) → AreAlone stack → IsTidy stack → AreOfTops stack all → IsTop stack asked.device → asked.halted_after ≡ None → asked.op ≡ ops.Read
     → AreOfRow (rows_after stack all) asked.device asked.start (asked_answers stack (world_after stack all) asked)
 own_answers stack all asked law tidy each top whole reads =
     let world = world_after stack all in let rows = rows_after stack all in

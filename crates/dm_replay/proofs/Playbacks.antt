@@ -7,10 +7,10 @@ use Rattle.dm_table.specs.declared.requests.request.Op.{Op}
 use Rattle.dm_table.specs.declared.requests.request.Request.{Request}
 use Rattle.dm_stack.specs.Description.{Description, device_len}
 use Rattle.dm_map.specs.own.Contents.{sector_past}
-use Rattle.dm_map.specs.walk.Mapping.{request_step}
+use Rattle.dm_map.specs.walk.Mapping.{request_step, step_for}
 use Rattle.dm_map.specs.state.State.{State}
 use Rattle.dm_map.specs.walk.Steps.{Step}
-use Rattle.dm_map.specs.own.Stops.{stopped_units}
+use Rattle.dm_map.specs.own.Halts.{halted_units}
 use Rattle.dm_map.specs.pieces.Units.{BlockUnit, Fails, units_in}
 use Rattle.dm_map.proofs.Rows.{step_past_end}
 use Rattle.dm_replay.specs.declared.disk_values.DiskValues.{DiskValues}
@@ -58,18 +58,18 @@ front_fails (suc count) (suc n) =
     (suc rest.0, ap (λ (units : List BlockUnit). Fails ∷ units) rest.1)
 
 front_from : (stack : Description) (op : Op) (device start len count number : ℕ) (state : State) (values : Values) → 1 ≤ len
-    → played number (min start (device_len stack device)) (stopped_units stack op device start len count state) values ≡ played number start (stopped_units stack op device start len count state) values
+    → played number (min start (device_len stack device)) (halted_units stack op device start len count state) values ≡ played number start (halted_units stack op device start len count state) values
 front_from stack op device start len count number state values some = elim (cases_lt (device_len stack device) start) [
   | inl beyond ↦
       let front = front_fails count len in
-      (fails_anywhere (stopped_units stack op device start len count state) front.0 number (min start (device_len stack device)) start values
+      (fails_anywhere (halted_units stack op device start len count state) front.0 number (min start (device_len stack device)) start values
       (front.1 ∙ ap (λ (step : Step). take count step.units) (step_past_end stack op device start len state (is_past (device_len stack device) start len some beyond)))).0
   | inr within ↦
       let same : min start (device_len stack device) ≡ start = omega (arith, within) in rw same refl
 ]
 
 abbrev pub units_asked : Description → Request → (device : ℕ) → State → List BlockUnit
-units_asked stack request device state = (request_step stack request.op device request.start request.len state).units
+units_asked stack request device state = (step_for stack request device state).units
 
 abbrev held : Playing → Values
 held p = values_of p.values.disks.items
@@ -91,12 +91,12 @@ playback_values old begun ended new stack request device first state first_is be
     ∙ ap (λ (k : ℕ). played request.number k units (held old) disk sector) first_is
     ∙ ap (λ (values : Values). values disk sector) (played_from stack request.op device request.start request.len request.number state (held old) request.at_least).0
 
--- and those that one leaves that was stopped
+-- and those that one leaves that was halted
 front_values : (old begun ended : Playing) (stack : Description) (request : Request) (device count first : ℕ) (state : State) → first ≡ min request.start (device_len stack device)
-    → begun ≡ record { values = old.values; number = request.number; next = first; runs = [] } → HasPlayed begun (stopped_units stack request.op device request.start request.len count state) ended
-    → (disk sector : ℕ) → held ended disk sector ≡ played request.number request.start (stopped_units stack request.op device request.start request.len count state) (held old) disk sector
+    → begun ≡ record { values = old.values; number = request.number; next = first; runs = [] } → HasPlayed begun (halted_units stack request.op device request.start request.len count state) ended
+    → (disk sector : ℕ) → held ended disk sector ≡ played request.number request.start (halted_units stack request.op device request.start request.len count state) (held old) disk sector
 front_values old begun ended stack request device count first state first_is begun_is has disk sector =
-    let units = stopped_units stack request.op device request.start request.len count state in
+    let units = halted_units stack request.op device request.start request.len count state in
     begun_values old begun ended request.number first units begun_is has disk sector
     ∙ ap (λ (k : ℕ). played request.number k units (held old) disk sector) first_is
     ∙ ap (λ (values : Values). values disk sector) (front_from stack request.op device request.start request.len count request.number state (held old) request.at_least)
@@ -116,8 +116,8 @@ playback_answers old begun ended runs stack request device first state first_is 
 -- what is known of a player after the first units of a request, or all of them
 pub record IsFrontPlayed (stack : Description) (request : Request) (device count : ℕ) (state : State) (old : Playing) (later : Player) : Type 0 where
   pub stack_is : later.stack.now ≡ stack
-  pub next : later.playing.next ≡ sector_past (stopped_units stack request.op device request.start request.len count state) (min request.start (device_len stack device))
-  pub values : (disk sector : ℕ) → held later.playing disk sector ≡ played request.number request.start (stopped_units stack request.op device request.start request.len count state) (held old) disk sector
+  pub next : later.playing.next ≡ sector_past (halted_units stack request.op device request.start request.len count state) (min request.start (device_len stack device))
+  pub values : (disk sector : ℕ) → held later.playing disk sector ≡ played request.number request.start (halted_units stack request.op device request.start request.len count state) (held old) disk sector
   pub disks : AreValuesOf (length stack.disks) (held later.playing)
 
 pub front_played : (stack : Description) (request : Request) (device count first : ℕ) (state : State) (old : Playing) (begun later : Player) (before after : Halting) → first ≡ min request.start (device_len stack device)
@@ -125,7 +125,7 @@ pub front_played : (stack : Description) (request : Request) (device count first
     → HasPlayedFront before (units_asked stack request device state) after → later ≡ after.player → IsFrontPlayed stack request device count state old later
 front_played stack request device count first state old begun later before after first_is begun_is stack_is before_is left_is were front later_is =
     let all = units_asked stack request device state in
-    let units = stopped_units stack request.op device request.start request.len count state in
+    let units = halted_units stack request.op device request.start request.len count state in
     let playing_is : before.player.playing ≡ record { values = old.values; number = request.number; next = first; runs = [] } = ap (λ (p : Player). p.playing) before_is ∙ begun_is in
     let same : before.player.stack.now ≡ stack = ap (λ (p : Player). p.stack.now) before_is ∙ stack_is in
     let has : HasPlayed before.player.playing units after.player.playing = subst (λ (n : ℕ). HasPlayed before.player.playing (take n all) after.player.playing) left_is front.played in

@@ -1,4 +1,4 @@
--- The state that a stopped request leaves, by mapping its whole sectors once more.
+-- The state that a halted request leaves, by mapping its whole sectors once more.
 use Rattle.std.proofs.Common.{◌≡◌, ℕ, zero, suc, ◌+◌, ◌-◌, ◌<◌, ◌≤◌, Bool, true, false, cond, List, [], ◌∷◌, ◌++◌, get_or, length, min, nat_lt, replicate, take, refl, sym, ap, ◌∙◌, arith}
 use Rattle.std.proofs.lemmas.Bool.Decides.{nat_tests}
 use Rattle.std.proofs.lemmas.List.{take_more}
@@ -12,7 +12,7 @@ use Rattle.dm_map.specs.Mapper.{MapperView}
 use Rattle.dm_map.specs.walk.Mapping.{request_step, sector_step}
 use Rattle.dm_map.specs.state.State.{State, start_state}
 use Rattle.dm_map.specs.walk.Steps.{keep, steps}
-use Rattle.dm_map.specs.own.Stops.{stopped_state, stopped_units}
+use Rattle.dm_map.specs.own.Halts.{halted_state, halted_units}
 use Rattle.dm_map.specs.pieces.Units.{BlockUnit, Fails}
 use Rattle.dm_replay.specs.declared.kept_write.KeptWrite.{KeptWrite}
 use Rattle.dm_replay.specs.Reruns.{rerun_from, rerun_step, with_request}
@@ -73,17 +73,17 @@ whole_few end start len next whole units is few whole_is = by_end (nat_lt end (s
         let some : whole ≡ next - start = w in let at = next_inside end start len next units is (inside end start len e) in
         omega (arith, some, few, at)
 
-pub rerun_halted : (stack : Description) (op : Op) (device start len count next whole : ℕ) (state : State) → next ≡ sector_past (stopped_units stack op device start len count state) (min start (device_len stack device))
-    → sector_past (stopped_units stack op device start len count state) 0 ≤ len → whole ≡ cond (nat_lt (device_len stack device) (start + len)) 0 (next - start)
-    → (request_step stack op device start whole state).state ≡ stopped_state stack op device start len count state
+pub rerun_halted : (stack : Description) (op : Op) (device start len count next whole : ℕ) (state : State) → next ≡ sector_past (halted_units stack op device start len count state) (min start (device_len stack device))
+    → sector_past (halted_units stack op device start len count state) 0 ≤ len → whole ≡ cond (nat_lt (device_len stack device) (start + len)) 0 (next - start)
+    → (request_step stack op device start whole state).state ≡ halted_state stack op device start len count state
 rerun_halted stack op device start len count next whole state is few whole_is = by_end (nat_lt (device_len stack device) (start + len)) refl whole_is
   where
     by_end : (past : Bool) → nat_lt (device_len stack device) (start + len) ≡ past → whole ≡ cond past 0 (next - start)
-        → (request_step stack op device start whole state).state ≡ cond past state (steps (sector_step stack op MOST_DEPTH (Device device)) state start (sector_past (stopped_units stack op device start len count state) 0)).state
+        → (request_step stack op device start whole state).state ≡ cond past state (steps (sector_step stack op MOST_DEPTH (Device device)) state start (sector_past (halted_units stack op device start len count state) 0)).state
     by_end true e none = ap (λ (n : ℕ). (request_step stack op device start n state).state) none ∙ none_mapped stack op device start state
     by_end false e some =
         let end = device_len stack device in
-        let units = stopped_units stack op device start len count state in
+        let units = halted_units stack op device start len count state in
         let step = sector_step stack op MOST_DEPTH (Device device) in
         let fits = inside end start len e in
         let rest : whole ≡ next - start = some in
@@ -97,7 +97,7 @@ rerun_halted stack op device start len count next whole state is few whole_is = 
 
 -- a mapper in the state after writes, and a sink of its stack
 pub record IsRerun (stack sink : Description) (mapper : MapperView) (all : List KeptWrite) : Type 0 where
-  pub going : mapper.stopped ≡ false
+  pub going : mapper.failed ≡ false
   pub of : mapper.stack ≡ stack
   pub same : sink ≡ stack
   pub state : mapper.state ≡ rerun_from stack (start_state stack) all
@@ -113,12 +113,12 @@ pub rerun_more : (stack : Description) (op : Op) (write : KeptWrite) (writes : L
 rerun_more stack ops.Read write writes before after is step = is ∙ sym (read_mapped stack write.device write.start write.whole before) ∙ step
 rerun_more stack ops.Write write writes before after is step = rerun-push stack (start_state stack) writes write ∙ ap (rerun_step stack write) is ∙ step
 
-pub rerun_first : (stack sink : Description) (mapper : MapperView) (all : List KeptWrite) → mapper.stopped ≡ false → mapper.stack ≡ stack → sink ≡ stack → mapper.state ≡ start_state stack → IsRerun stack sink mapper (take 0 all)
+pub rerun_first : (stack sink : Description) (mapper : MapperView) (all : List KeptWrite) → mapper.failed ≡ false → mapper.stack ≡ stack → sink ≡ stack → mapper.state ≡ start_state stack → IsRerun stack sink mapper (take 0 all)
 unfolding rerun_from
 rerun_first stack sink mapper all going of same state = record { going = going; of = of; same = same; state = state }
 
 pub rerun_next : (stack sink newer : Description) (mapper later : MapperView) (all : List KeptWrite) (i : ℕ) (kept : KeptWrite) → i < length all → kept ≡ get_or all i kept → IsRerun stack sink mapper (take i all)
-    → later.stopped ≡ false → later.stack ≡ mapper.stack → newer ≡ sink → later.state ≡ rerun_step mapper.stack kept mapper.state
+    → later.failed ≡ false → later.stack ≡ mapper.stack → newer ≡ sink → later.state ≡ rerun_step mapper.stack kept mapper.state
     → IsRerun stack newer later (take (i + 1) all)
 rerun_next stack sink newer mapper later all i kept within is was going of same state = record {
   going = going;

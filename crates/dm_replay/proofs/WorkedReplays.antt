@@ -8,12 +8,13 @@ use Rattle.dm_table.specs.declared.tables.table.Target.TheVariants as targets
 use Rattle.dm_stack.specs.Description.{Description}
 use Rattle.dm_map.specs.walk.Homes.{home_to}
 use Rattle.dm_map.specs.own.Contents.{sector_past, played as contents_played}
+use Rattle.dm_map.specs.own.Rows.{rows_played}
 use Rattle.dm_map.specs.walk.Mapping.{write_step}
 use Rattle.dm_map.specs.walk.Reads.{read_unit}
 use Rattle.dm_map.proofs.WorkedRows.{device, disk, line}
 use Rattle.dm_replay.specs.declared.value.Value.TheVariants as value
 use Rattle.dm_replay.specs.Histories.{Asked, asked_answers, world_after, world_from}
-use Rattle.dm_replay.specs.Rows.{row_units, rows_after, rows_from}
+use Rattle.dm_replay.specs.Rows.{rows_after, rows_from}
 use Rattle.dm_replay.specs.Values.{Gives, Failed, played_answers}
 
 -- s, of four sectors, and t, of two, over disk 0; the store of s is disk 1 and has a place for one chunk, that of t is disk 2
@@ -25,7 +26,7 @@ sample = record {
 }
 
 abbrev request_to : Option ℕ → (number : ℕ) → Op → (device start len : ℕ) → Asked
-request_to stop number op device start len = record { number = number; op = op; device = device; start = start; len = len; stopped_after = stop }
+request_to stop number op device start len = record { number = number; op = op; device = device; start = start; len = len; halted_after = stop }
 
 abbrev request : (number : ℕ) → Op → (device start len : ℕ) → Asked
 request = request_to None
@@ -43,12 +44,12 @@ other_read : asked_answers sample (world_after sample written) (request 3 Read 1
 unfolding world_from contents_played played_answers write_step read_unit home_to
 other_read = refl
 
-own_row : rows_after sample written 0 0 ≡ Gives (value.Wrote 1 0)
-unfolding rows_from row_units write_step read_unit home_to
+own_row : rows_after sample written 0 0 ≡ Some (value.Wrote 1 0)
+unfolding rows_from rows_played write_step read_unit home_to
 own_row = refl
 
-other_row : rows_after sample written 1 0 ≡ Gives (value.Wrote 2 0)
-unfolding rows_from row_units write_step read_unit home_to
+other_row : rows_after sample written 1 0 ≡ Some (value.Wrote 2 0)
+unfolding rows_from rows_played write_step read_unit home_to
 other_row = refl
 
 -- request 3 takes a second chunk of s, for which there is no place
@@ -60,13 +61,13 @@ lost_read : asked_answers sample (world_after sample overfull) (request 4 Read 0
 unfolding world_from contents_played played_answers write_step read_unit home_to
 lost_read = refl
 
-lost_row : rows_after sample overfull 0 0 ≡ Gives (value.Wrote 1 0)
-unfolding rows_from row_units write_step read_unit home_to
+lost_row : rows_after sample overfull 0 0 ≡ Some (value.Wrote 1 0)
+unfolding rows_from rows_played write_step read_unit home_to
 lost_row = refl
 
 -- the write that failed is in no row
-failed_row : rows_after sample overfull 0 2 ≡ Gives (value.Old 0 2)
-unfolding rows_from row_units write_step read_unit home_to
+failed_row : rows_after sample overfull 0 2 ≡ Some (value.Old 0 2)
+unfolding rows_from rows_played write_step read_unit home_to
 failed_row = refl
 
 -- request 1 writes two sectors of s, which are one chunk: it has two copies and two writes, of which the first three are played
@@ -78,8 +79,8 @@ halted_read : asked_answers sample (world_after sample halted) (request 2 Read 0
 unfolding world_from contents_played played_answers sector_past write_step read_unit home_to
 halted_read = refl
 
-halted_row : rows_after sample halted 0 0 ≡ Gives (value.Wrote 1 0)
-unfolding rows_from row_units write_step read_unit home_to
+halted_row : rows_after sample halted 0 0 ≡ Some (value.Wrote 1 0)
+unfolding rows_from rows_played write_step read_unit home_to
 halted_row = refl
 
 -- of another one only the copies: its chunk is not taken, and the place is taken by a later write

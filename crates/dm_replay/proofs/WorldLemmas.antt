@@ -1,4 +1,4 @@
--- Worlds after one request more, played to its end or stopped.
+-- Worlds after one request more, played to its end or halted.
 use Rattle.std.proofs.Common.{◌≡◌, ℕ, ◌+◌, ◌-◌, ◌<◌, ◌≤◌, false, cond, List, [], ◌∷◌, ◌++◌, length, min, nat_lt, Option, Some, None, refl, sym, ap, subst, ◌∙◌, arith}
 use Rattle.std.specs.List.{AllByRecursion}
 use Rattle.dm_table.specs.declared.requests.request.Op.{Op}
@@ -8,11 +8,10 @@ use Rattle.dm_stack.specs.Claims.{IsTidy, IsTop}
 use Rattle.dm_stack.specs.Description.{Description, device_len}
 use Rattle.dm_stack.proofs.HandedOn.{all_append}
 use Rattle.dm_map.specs.Mapper.{MapperView}
-use Rattle.dm_map.specs.walk.Mapping.{request_step}
+use Rattle.dm_map.specs.walk.Mapping.{request_step, step_for}
 use Rattle.dm_map.specs.state.State.{State, start_state}
 use Rattle.dm_map.specs.own.Contents.{sector_past}
-use Rattle.dm_map.specs.own.Stops.{stopped_units}
-use Rattle.dm_map.specs.pieces.Units.{BlockUnit}
+use Rattle.dm_map.specs.own.Halts.{halted_units}
 use Rattle.dm_replay.specs.declared.kept_write.KeptWrite.{KeptWrite}
 use Rattle.dm_replay.specs.declared.range_values.RangeValues.{RangeValues}
 use Rattle.dm_replay.specs.declared.value_run.ValueRun.{ValueRun}
@@ -26,6 +25,7 @@ use Rattle.dm_replay.specs.Runs.{flat}
 use Rattle.dm_replay.specs.Values.{old_values, played, played_answers}
 use Rattle.dm_replay.proofs.OfDiskLemmas.{old_of, same_of}
 use Rattle.dm_replay.proofs.OwnWorlds.{AreAlone, own_after}
+use Rattle.dm_replay.proofs.Playbacks.{units_asked}
 use Rattle.dm_replay.proofs.RerunLemmas.{next_inside, rerun_halted, rerun_more, whole_few}
 use Rattle.dm_replay.proofs.StoredLemmas.{nothing_held}
 
@@ -37,11 +37,8 @@ from-push stack world (first ∷ all) asked = from-push stack (next_world stack 
 pub world-push : (stack : Description) (all : List Asked) (asked : Asked) → world_after stack (all ++ asked ∷ []) ≡ next_world stack (world_after stack all) asked
 world-push stack all asked = from-push stack (first_world stack) all asked
 
-abbrev pub step_units : Description → Request → (device : ℕ) → State → List BlockUnit
-step_units stack request device state = (request_step stack request.op device request.start request.len state).units
-
 -- at the start
-pub going_first : (stack disks : Description) (mapper : MapperView) (ranges : List (List (ℕ × RangeValues))) → mapper.stopped ≡ false → mapper.stack ≡ stack → mapper.state ≡ start_state stack → disks ≡ stack → ranges ≡ [] → IsGoing stack mapper disks ranges [] []
+pub going_first : (stack disks : Description) (mapper : MapperView) (ranges : List (List (ℕ × RangeValues))) → mapper.failed ≡ false → mapper.stack ≡ stack → mapper.state ≡ start_state stack → disks ≡ stack → ranges ≡ [] → IsGoing stack mapper disks ranges [] []
 unfolding world_from rerun_from
 going_first stack disks mapper ranges maps of state_is disks_is none = record {
   maps = maps;
@@ -58,19 +55,19 @@ going_first stack disks mapper ranges maps of state_is disks_is none = record {
 -- what a mapper and a player made of a request, in the world before it
 next_values : (stack : Description) (mapper : MapperView) (ranges newer : List (List (ℕ × RangeValues))) (world : World) (request : Request) (device : ℕ) (stop : Option ℕ) → mapper.stack ≡ stack → mapper.state ≡ world.state
     → ((disk sector : ℕ) → values_of ranges disk sector ≡ world.values disk sector)
-    → ((disk sector : ℕ) → values_of newer disk sector ≡ played request.number request.start (played_of stop (step_units mapper.stack request device mapper.state)) (values_of ranges) disk sector)
+    → ((disk sector : ℕ) → values_of newer disk sector ≡ played request.number request.start (played_of stop (units_asked mapper.stack request device mapper.state)) (values_of ranges) disk sector)
     → (disk sector : ℕ) → values_of newer disk sector ≡ (next_world stack world (kept_request request device stop)).values disk sector
 next_values stack mapper ranges newer world request device stop of state_is same is disk sector =
     is disk sector
-    ∙ ap (λ (of : Description). played request.number request.start (played_of stop (step_units of request device mapper.state)) (values_of ranges) disk sector) of
-    ∙ ap (λ (state : State). played request.number request.start (played_of stop (step_units stack request device state)) (values_of ranges) disk sector) state_is
-    ∙ played_cong request.number request.start (played_of stop (step_units stack request device world.state)) (values_of ranges) world.values same disk sector
+    ∙ ap (λ (of : Description). played request.number request.start (played_of stop (units_asked of request device mapper.state)) (values_of ranges) disk sector) of
+    ∙ ap (λ (state : State). played request.number request.start (played_of stop (units_asked stack request device state)) (values_of ranges) disk sector) state_is
+    ∙ played_cong request.number request.start (played_of stop (units_asked stack request device world.state)) (values_of ranges) world.values same disk sector
 
 -- after one request more
 going_next : (stack disks later_disks : Description) (mapper later : MapperView) (ranges newer : List (List (ℕ × RangeValues))) (all : List Asked) (writes more : List KeptWrite) (request : Request) (device : ℕ) (stop : Option ℕ)
     → IsTop stack device → AllByRecursion (IsKept stack) more → IsGoing stack mapper disks ranges all writes
-    → later.stopped ≡ false → later.stack ≡ stack → later_disks ≡ disks → later.state ≡ left_state stack stop (kept_request request device stop) (world_after stack all).state
-    → ((disk sector : ℕ) → values_of newer disk sector ≡ played request.number request.start (played_of stop (step_units mapper.stack request device mapper.state)) (values_of ranges) disk sector)
+    → later.failed ≡ false → later.stack ≡ stack → later_disks ≡ disks → later.state ≡ left_state stack stop (kept_request request device stop) (world_after stack all).state
+    → ((disk sector : ℕ) → values_of newer disk sector ≡ played request.number request.start (played_of stop (units_asked mapper.stack request device mapper.state)) (values_of ranges) disk sector)
     → AreValuesOf (length mapper.stack.disks) (values_of newer)
     → rerun_from stack (start_state stack) more ≡ left_state stack stop (kept_request request device stop) (world_after stack all).state
     → IsGoing stack later later_disks newer (all ++ kept_request request device stop ∷ []) more
@@ -106,60 +103,60 @@ is_kept stack request device whole there top few = record { there = there; top =
 -- after one that was played to its end
 pub going_whole : (stack disks later_disks : Description) (mapper later : MapperView) (ranges newer : List (List (ℕ × RangeValues))) (all : List Asked) (writes : List KeptWrite) (request : Request) (device : ℕ)
     → IsKept stack (write_of request device request.len) → IsGoing stack mapper disks ranges all writes
-    → later.stopped ≡ false → later.stack ≡ mapper.stack → later_disks ≡ disks → later.state ≡ (request_step mapper.stack request.op device request.start request.len mapper.state).state
-    → ((disk sector : ℕ) → values_of newer disk sector ≡ played request.number request.start (step_units mapper.stack request device mapper.state) (values_of ranges) disk sector)
+    → later.failed ≡ false → later.stack ≡ mapper.stack → later_disks ≡ disks → later.state ≡ (step_for mapper.stack request device mapper.state).state
+    → ((disk sector : ℕ) → values_of newer disk sector ≡ played request.number request.start (units_asked mapper.stack request device mapper.state) (values_of ranges) disk sector)
     → AreValuesOf (length mapper.stack.disks) (values_of newer)
     → IsGoing stack later later_disks newer (all ++ whole_request request device ∷ []) (with_request request.op (write_of request device request.len) writes)
 going_whole stack disks later_disks mapper later ranges newer all writes request device one was maps same same_disks state_is values_are disks_are =
     let before = world_after stack all in let write = write_of request device request.len in
     going_next stack disks later_disks mapper later ranges newer all writes (with_request request.op write writes) request device None one.top (kept_more stack request.op write writes one was.kept_are) was maps (same ∙ was.mapper_stack) same_disks
     (state_is
-    ∙ ap (λ (of : Description). (request_step of request.op device request.start request.len mapper.state).state) was.mapper_stack
-    ∙ ap (λ (state : State). (request_step stack request.op device request.start request.len state).state) was.state_is)
+    ∙ ap (λ (of : Description). (step_for of request device mapper.state).state) was.mapper_stack
+    ∙ ap (λ (state : State). (step_for stack request device state).state) was.state_is)
     values_are disks_are
-    (rerun_more stack request.op write writes before.state (request_step stack request.op device request.start request.len before.state).state was.rerun_is refl)
+    (rerun_more stack request.op write writes before.state (step_for stack request device before.state).state was.rerun_is refl)
 
--- no more sectors of a stopped request are whole than it has
+-- no more sectors of a halted request are whole than it has
 pub few_whole : (stack : Description) (mapper : MapperView) (all : List Asked) (request : Request) (device units : ℕ) → AreAlone stack → IsTidy stack → AreOfTops stack all → IsTop stack device
     → mapper.stack ≡ stack → mapper.state ≡ (world_after stack all).state
-    → sector_past (stopped_units mapper.stack request.op device request.start request.len units mapper.state) 0 ≤ request.len
+    → sector_past (halted_units mapper.stack request.op device request.start request.len units mapper.state) 0 ≤ request.len
 few_whole stack mapper all request device units law tidy each top of state_is =
     let own = own_after stack all law tidy each in let before = world_after stack all in
-    subst (λ (of : Description). sector_past (stopped_units of request.op device request.start request.len units mapper.state) 0 ≤ request.len) (sym of)
-    (subst (λ (state : State). sector_past (stopped_units stack request.op device request.start request.len units state) 0 ≤ request.len) (sym state_is)
-    (law.few _ request.op before.state device request.start request.len units before.values own.kept tidy top own.own))
+    subst (λ (of : Description). sector_past (halted_units of request.op device request.start request.len units mapper.state) 0 ≤ request.len) (sym of)
+    (subst (λ (state : State). sector_past (halted_units stack request.op device request.start request.len units state) 0 ≤ request.len) (sym state_is)
+    (law.few _ request.op before.state device request.start request.len units before.values _ tidy top own))
 
--- what is known of the whole sectors of a stopped request, where the one that is answered next is given
+-- what is known of the whole sectors of a halted request, where the one that is answered next is given
 pub record AreWhole (mapper : MapperView) (request : Request) (device units whole : ℕ) : Type 0 where
   pub few : whole ≤ request.len
   pub again : (request_step mapper.stack request.op device request.start whole mapper.state).state ≡ left_state mapper.stack (Some units) (kept_request request device (Some units)) mapper.state
 
 pub are_whole : (stack : Description) (mapper : MapperView) (request : Request) (device units next whole : ℕ) → mapper.stack ≡ stack
-    → next ≡ sector_past (stopped_units mapper.stack request.op device request.start request.len units mapper.state) (min request.start (device_len mapper.stack device))
-    → sector_past (stopped_units mapper.stack request.op device request.start request.len units mapper.state) 0 ≤ request.len
+    → next ≡ sector_past (halted_units mapper.stack request.op device request.start request.len units mapper.state) (min request.start (device_len mapper.stack device))
+    → sector_past (halted_units mapper.stack request.op device request.start request.len units mapper.state) 0 ≤ request.len
     → whole ≡ cond (nat_lt (device_len stack device) (request.start + request.len)) 0 (next - request.start) → AreWhole mapper request device units whole
 are_whole stack mapper request device units next whole of next_is few whole_is =
     let same : whole ≡ cond (nat_lt (device_len mapper.stack device) (request.start + request.len)) 0 (next - request.start) =
     whole_is ∙ ap (λ (s : Description). cond (nat_lt (device_len s device) (request.start + request.len)) 0 (next - request.start)) (sym of) in
     record {
-      few = whole_few (device_len mapper.stack device) request.start request.len next whole (stopped_units mapper.stack request.op device request.start request.len units mapper.state) next_is few same;
+      few = whole_few (device_len mapper.stack device) request.start request.len next whole (halted_units mapper.stack request.op device request.start request.len units mapper.state) next_is few same;
       again = rerun_halted mapper.stack request.op device request.start request.len units next whole mapper.state next_is few same;
     }
 
 -- what is answered next is no sector before its start
 pub next_start : (stack : Description) (mapper : MapperView) (request : Request) (device units next : ℕ) → mapper.stack ≡ stack
-    → next ≡ sector_past (stopped_units mapper.stack request.op device request.start request.len units mapper.state) (min request.start (device_len mapper.stack device))
+    → next ≡ sector_past (halted_units mapper.stack request.op device request.start request.len units mapper.state) (min request.start (device_len mapper.stack device))
     → request.start + request.len ≤ device_len stack device → request.start ≤ next
 next_start stack mapper request device units next of next_is fits =
     let inside : request.start + request.len ≤ device_len mapper.stack device = subst (λ (s : Description). request.start + request.len ≤ device_len s device) (sym of) fits in
-    let at = next_inside (device_len mapper.stack device) request.start request.len next (stopped_units mapper.stack request.op device request.start request.len units mapper.state) next_is inside in
+    let at = next_inside (device_len mapper.stack device) request.start request.len next (halted_units mapper.stack request.op device request.start request.len units mapper.state) next_is inside in
     omega (arith, at)
 
--- after one that was stopped, in the state that a rerun gives
+-- after one that was halted, in the state that a rerun gives
 
-pub rerun_stopped : (stack : Description) (mapper : MapperView) (disks : Description) (ranges : List (List (ℕ × RangeValues))) (all : List Asked) (writes : List KeptWrite) (request : Request) (device units whole : ℕ) → IsGoing stack mapper disks ranges all writes → AreWhole mapper request device units whole
+pub same_again : (stack : Description) (mapper : MapperView) (disks : Description) (ranges : List (List (ℕ × RangeValues))) (all : List Asked) (writes : List KeptWrite) (request : Request) (device units whole : ℕ) → IsGoing stack mapper disks ranges all writes → AreWhole mapper request device units whole
     → rerun_from stack (start_state stack) (with_request request.op (write_of request device whole) writes) ≡ left_state stack (Some units) (kept_request request device (Some units)) (world_after stack all).state
-rerun_stopped stack mapper disks ranges all writes request device units whole was is =
+same_again stack mapper disks ranges all writes request device units whole was is =
     let before = world_after stack all in
     rerun_more stack request.op (write_of request device whole) writes before.state _ was.rerun_is
     (subst (λ (of : Description). (request_step of request.op device request.start whole before.state).state ≡ left_state of (Some units) (kept_request request device (Some units)) before.state) was.mapper_stack
@@ -167,23 +164,23 @@ rerun_stopped stack mapper disks ranges all writes request device units whole wa
 
 pub going_halted : (stack disks later_disks : Description) (mapper later : MapperView) (ranges newer : List (List (ℕ × RangeValues))) (all : List Asked) (writes : List KeptWrite) (request : Request) (device units whole : ℕ)
     → IsKept stack (write_of request device whole) → IsGoing stack mapper disks ranges all writes
-    → later.stopped ≡ false → later.stack ≡ stack → later_disks ≡ disks → later.state ≡ rerun_from stack (start_state stack) (with_request request.op (write_of request device whole) writes)
-    → ((disk sector : ℕ) → values_of newer disk sector ≡ played request.number request.start (stopped_units mapper.stack request.op device request.start request.len units mapper.state) (values_of ranges) disk sector)
+    → later.failed ≡ false → later.stack ≡ stack → later_disks ≡ disks → later.state ≡ rerun_from stack (start_state stack) (with_request request.op (write_of request device whole) writes)
+    → ((disk sector : ℕ) → values_of newer disk sector ≡ played request.number request.start (halted_units mapper.stack request.op device request.start request.len units mapper.state) (values_of ranges) disk sector)
     → AreValuesOf (length mapper.stack.disks) (values_of newer)
     → AreWhole mapper request device units whole
     → IsGoing stack later later_disks newer (all ++ kept_request request device (Some units) ∷ []) (with_request request.op (write_of request device whole) writes)
 going_halted stack disks later_disks mapper later ranges newer all writes request device units whole one was maps same same_disks state_is values_are disks_are is =
-    let write = write_of request device whole in let again = rerun_stopped stack mapper disks ranges all writes request device units whole was is in
+    let write = write_of request device whole in let again = same_again stack mapper disks ranges all writes request device units whole was is in
     going_next stack disks later_disks mapper later ranges newer all writes (with_request request.op write writes) request device (Some units) one.top (kept_more stack request.op write writes one was.kept_are) was maps same same_disks
     (state_is ∙ again) values_are disks_are again
 
 -- what a request answers is what it answers in the world before it
 pub answers_after : (stack disks : Description) (mapper : MapperView) (ranges : List (List (ℕ × RangeValues))) (all : List Asked) (writes : List KeptWrite) (request : Request) (device : ℕ) (runs : List ValueRun) → IsGoing stack mapper disks ranges all writes
-    → flat runs ≡ played_answers request.number request.start (step_units mapper.stack request device mapper.state) (values_of ranges)
+    → flat runs ≡ played_answers request.number request.start (units_asked mapper.stack request device mapper.state) (values_of ranges)
     → flat runs ≡ asked_answers stack (world_after stack all) (whole_request request device)
 answers_after stack disks mapper ranges all writes request device runs was is =
     let before = world_after stack all in
     is
-    ∙ ap (λ (of : Description). played_answers request.number request.start (step_units of request device mapper.state) (values_of ranges)) was.mapper_stack
-    ∙ ap (λ (state : State). played_answers request.number request.start (step_units stack request device state) (values_of ranges)) was.state_is
-    ∙ answers_cong request.number request.start (step_units stack request device before.state) (values_of ranges) before.values was.values_are
+    ∙ ap (λ (of : Description). played_answers request.number request.start (units_asked of request device mapper.state) (values_of ranges)) was.mapper_stack
+    ∙ ap (λ (state : State). played_answers request.number request.start (units_asked stack request device state) (values_of ranges)) was.state_is
+    ∙ answers_cong request.number request.start (units_asked stack request device before.state) (values_of ranges) before.values was.values_are

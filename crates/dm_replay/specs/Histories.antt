@@ -5,18 +5,18 @@ use Rattle.dm_stack.specs.Description.{Description}
 use Rattle.dm_map.specs.walk.Mapping.{request_step}
 use Rattle.dm_map.specs.state.State.{State, start_state}
 use Rattle.dm_map.specs.walk.Steps.{Step}
-use Rattle.dm_map.specs.own.Stops.{stopped_state}
+use Rattle.dm_map.specs.own.Halts.{halted_state}
 use Rattle.dm_map.specs.pieces.Units.{BlockUnit}
 use Rattle.dm_replay.specs.Values.{Answer, Values, old_values, played, played_answers}
 
--- a request that was accepted, of a device by its id; it was played whole, or stopped after this many of its units
+-- a request that was accepted, of a device by its id; it was played whole, or halted after this many of its units
 pub record Asked : Type 0 where
   pub number : ℕ
   pub op : Op
   pub device : ℕ
   pub start : ℕ
   pub len : ℕ
-  pub stopped_after : Option ℕ
+  pub halted_after : Option ℕ
 
 -- what becomes of it in a state
 abbrev pub asked_step : Description → Asked → State → Step
@@ -28,12 +28,12 @@ played_of None units = units
 played_of (Some count) units = take count units
 
 abbrev pub asked_units : Description → Asked → State → List BlockUnit
-asked_units stack asked state = played_of asked.stopped_after (asked_step stack asked state).units
+asked_units stack asked state = played_of asked.halted_after (asked_step stack asked state).units
 
 -- the state that it leaves: that after all its sectors, or after those whose units were all played
 abbrev pub left_state : Description → Option ℕ → Asked → State → State
 left_state stack None asked state = (asked_step stack asked state).state
-left_state stack (Some count) asked state = stopped_state stack asked.op asked.device asked.start asked.len count state
+left_state stack (Some count) asked state = halted_state stack asked.op asked.device asked.start asked.len count state
 
 -- the state of a stack, and what its disks hold
 pub record World : Type 0 where
@@ -46,7 +46,7 @@ first_world stack = record { state = start_state stack; values = old_values }
 -- the world after a request, and what the request answers
 abbrev pub next_world : Description → World → Asked → World
 next_world stack world asked = record {
-  state = left_state stack asked.stopped_after asked world.state;
+  state = left_state stack asked.halted_after asked world.state;
   values = played asked.number asked.start (asked_units stack asked world.state) world.values;
 }
 

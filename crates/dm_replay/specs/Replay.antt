@@ -17,14 +17,14 @@ use Rattle.dm_replay.specs.OfDisks.{AreValuesOf}
 use Rattle.dm_replay.specs.Stored.{values_of}
 use Rattle.dm_replay.specs.Reruns.{kept_request, rerun_from}
 
--- a replay: its stack, the requests that it accepted, and whether it stopped
+-- a replay: its stack, the requests that it accepted, and whether it failed: it was out of memory
 pub record Replaying : Type 0 where
   pub stack : Description
   pub asked : List Asked
-  pub stopped : Bool
+  pub failed : Bool
 
 abbrev pub new_replay : Description → Replaying
-new_replay of = record { stack = of; asked = []; stopped = false }
+new_replay of = record { stack = of; asked = []; failed = false }
 
 -- a request of a device that is played to its end
 abbrev pub whole_request : Request → (id : ℕ) → Asked
@@ -34,7 +34,7 @@ whole_request request id = kept_request request id None
 abbrev pub asked_request : Description → Request → Asked
 asked_request stack request = whole_request request (device_id stack request.device.now)
 
--- and one that is stopped after this many units
+-- and one that is halted after this many units
 abbrev pub halted_request : Description → Request → (units : ℕ) → Asked
 halted_request stack request units = kept_request request (device_id stack request.device.now) (Some units)
 
@@ -54,16 +54,16 @@ IsNotBegun faults.Stopped of = ⊥
 -- why a request for the device of a name was not answered, and what the replay is then
 abbrev pub IsNotAnswered : ReplayFault → List ℕ → (old new : Replaying) → Type 0
 IsNotAnswered faults.Untidy name old new = ⊥
-IsNotAnswered faults.Memory name old new = (old.stopped ≡ false) × HasTop old.stack name × (new.stopped ≡ true)
-IsNotAnswered faults.NotTop name old new = (old.stopped ≡ false) × (HasTop old.stack name → ⊥) × (new ≡ old)
-IsNotAnswered faults.Stopped name old new = (old.stopped ≡ true) × (new ≡ old)
+IsNotAnswered faults.Memory name old new = (old.failed ≡ false) × HasTop old.stack name × (new.failed ≡ true)
+IsNotAnswered faults.NotTop name old new = (old.failed ≡ false) × (HasTop old.stack name → ⊥) × (new ≡ old)
+IsNotAnswered faults.Stopped name old new = (old.failed ≡ true) × (new ≡ old)
 
 -- why a request for the device of a name was not halted: the replay is spent
 abbrev pub IsNotHalted : ReplayFault → List ℕ → Replaying → Type 0
 IsNotHalted faults.Untidy name old = ⊥
-IsNotHalted faults.Memory name old = (old.stopped ≡ false) × HasTop old.stack name
-IsNotHalted faults.NotTop name old = (old.stopped ≡ false) × (HasTop old.stack name → ⊥)
-IsNotHalted faults.Stopped name old = old.stopped ≡ true
+IsNotHalted faults.Memory name old = (old.failed ≡ false) × HasTop old.stack name
+IsNotHalted faults.NotTop name old = (old.failed ≡ false) × (HasTop old.stack name → ⊥)
+IsNotHalted faults.Stopped name old = old.failed ≡ true
 
 -- a write to a top device of the stack, of which no more sectors are whole than a request has
 pub record IsKept (of : Description) (kept : KeptWrite) : Type 0 where
@@ -77,7 +77,7 @@ AreOfTops of all = AllByRecursion (λ asked. IsTop of asked.device) all
 
 -- what a replay keeps is the world after its requests; where its writes are mapped once more, they leave its state
 pub record IsGoing (of : Description) (mapper : MapperView) (disks : Description) (ranges : List (List (ℕ × RangeValues))) (all : List Asked) (writes : List KeptWrite) : Type 0 where
-  pub maps : mapper.stopped ≡ false
+  pub maps : mapper.failed ≡ false
   pub mapper_stack : mapper.stack ≡ of
   pub player_stack : disks ≡ of
   pub state_is : mapper.state ≡ (world_after of all).state
@@ -87,7 +87,7 @@ pub record IsGoing (of : Description) (mapper : MapperView) (disks : Description
   pub kept_are : AllByRecursion (IsKept of) writes
   pub rerun_is : rerun_from of (start_state of) writes ≡ (world_after of all).state
 
--- unless it stopped; no claims of its stack meet
+-- unless it failed; no claims of its stack meet
 pub record IsReplay (of : Description) (mapper : MapperView) (disks : Description) (ranges : List (List (ℕ × RangeValues))) (all : List Asked) (writes : List KeptWrite) (ended : Bool) : Type 0 where
   pub tidy : IsTidy of
   pub going : ended ≡ false → IsGoing of mapper disks ranges all writes

@@ -10,12 +10,12 @@ use Rattle.dm_replay.specs.declared.asked_request.AskedRequest.{AskedRequest}
 use Rattle.dm_replay.specs.declared.kept_write.KeptWrite.{KeptWrite}
 use Rattle.dm_replay.specs.Histories.{Asked}
 
--- a request of a device, played to its end or stopped after this many units
+-- a request of a device, played to its end or halted after this many units
 abbrev pub kept_request : Request → (id : ℕ) → Option ℕ → Asked
-kept_request request id stop = record { number = request.number; op = request.op; device = id; start = request.start; len = request.len; stopped_after = stop }
+kept_request request id halt = record { number = request.number; op = request.op; device = id; start = request.start; len = request.len; halted_after = halt }
 
 abbrev pub asked_of : AskedRequest → Asked
-asked_of kept = record { number = kept.number; op = kept.op; device = kept.device; start = kept.start; len = kept.len; stopped_after = kept.stopped_after }
+asked_of kept = record { number = kept.number; op = kept.op; device = kept.device; start = kept.start; len = kept.len; halted_after = kept.halted_after }
 
 abbrev pub all_asked : List AskedRequest → List Asked
 all_asked kept = map asked_of kept

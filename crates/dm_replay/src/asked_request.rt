@@ -6,7 +6,7 @@ ghost use Rattle.dm_replay.specs.Reruns.{asked_of, kept_request};
 use dm_stack::DeviceId;
 use dm_table::{Op, Request};
 
-/// A request of a device that was played to its end, or stopped after a number of units.
+/// A request of a device that was played to its end, or halted after a number of units.
 #[derive(Clone, Copy, Drop)]
 pub(crate) struct AskedRequest {
     pub number: u64,
@@ -14,7 +14,7 @@ pub(crate) struct AskedRequest {
     pub device: DeviceId,
     pub start: u64,
     pub len: u64,
-    pub stopped_after: Option<u64>,
+    pub halted_after: Option<u64>,
 }
 
 impl AskedRequest {
@@ -22,9 +22,9 @@ impl AskedRequest {
     pub(crate) fn new(
         request: &Request<'_>,
         device: DeviceId,
-        stopped_after: Option<u64>,
+        halted_after: Option<u64>,
     ) -> AskedRequest
-        ensures { asked_of result ≡ kept_request request.now device stopped_after }
+        ensures { asked_of result ≡ kept_request request.now device halted_after }
     {
         AskedRequest {
             number: request.number,
@@ -32,7 +32,7 @@ impl AskedRequest {
             device,
             start: request.start,
             len: request.len,
-            stopped_after,
+            halted_after,
         }
     }
 }

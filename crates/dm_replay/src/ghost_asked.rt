@@ -33,15 +33,10 @@ impl GhostAsked {
     }
 
     /// Adds a request of a device after those so far.
-    pub(crate) fn add(
-        &mut self,
-        request: &Request<'_>,
-        device: DeviceId,
-        stopped_after: Option<u64>,
-    )
-        ensures { self.new.asked ≡ self.old.asked ++ kept_request request.now device stopped_after ∷ [] }
+    pub(crate) fn add(&mut self, request: &Request<'_>, device: DeviceId, halted_after: Option<u64>)
+        ensures { self.new.asked ≡ self.old.asked ++ kept_request request.now device halted_after ∷ [] }
     {
-        self.note(&[AskedRequest::new(request, device, stopped_after)]);
+        self.note(&[AskedRequest::new(request, device, halted_after)]);
     }
 
     /// Adds requests after those so far, in no time.

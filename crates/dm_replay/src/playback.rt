@@ -4,8 +4,8 @@ ghost use Rattle.std.specs.Prelude.{◌≡◌, ℕ, ◌<◌, false, length, min,
 ghost use Rattle.std.specs.List.{AllByRecursion};
 ghost use Rattle.dm_stack.specs.Description.{device_len};
 ghost use Rattle.dm_map.specs.own.Contents.{sector_past};
-ghost use Rattle.dm_map.specs.walk.Mapping.{request_step};
-ghost use Rattle.dm_map.specs.own.Stops.{stopped_units};
+ghost use Rattle.dm_map.specs.walk.Mapping.{step_for};
+ghost use Rattle.dm_map.specs.own.Halts.{halted_units};
 ghost use Rattle.dm_replay.specs.OfDisks.{AreValuesOf, IsRunOf};
 ghost use Rattle.dm_replay.specs.Stored.{values_of};
 ghost use Rattle.dm_replay.specs.Runs.{AreMaximal, flat};
@@ -31,26 +31,23 @@ pub(crate) fn play_request<T: Taken>(
     request: &Request<'_>,
     device: DeviceId,
 ) -> Result<Vec<ValueRun>, AllocError>
-    requires going { mapper.old.stopped ≡ false }
+    requires going { mapper.old.failed ≡ false }
     requires stack { player.old.stack.now ≡ mapper.old.stack }
     requires device { device < length mapper.old.stack.devices }
     requires disks { AreValuesOf (length mapper.old.stack.disks)
         (values_of player.old.playing.values.disks.items) }
     ensures stack { mapper.new.stack ≡ mapper.old.stack }
     ensures same_stack { OnOk result (player.new.stack.now ≡ player.old.stack.now) }
-    ensures going { OnOk result (mapper.new.stopped ≡ false) }
+    ensures going { OnOk result (mapper.new.failed ≡ false) }
     ensures state { OnOk result
-        (mapper.new.state ≡ (request_step mapper.old.stack request.now.op device request.now.start
-        request.now.len mapper.old.state).state) }
+        (mapper.new.state ≡ (step_for mapper.old.stack request.now device mapper.old.state).state) }
     ensures values { OnOk result
         ((disk sector : ℕ) → values_of player.new.playing.values.disks.items disk sector
         ≡ played request.now.number request.now.start
-        (request_step mapper.old.stack request.now.op device request.now.start request.now.len
-        mapper.old.state).units (values_of player.old.playing.values.disks.items) disk sector) }
+        (step_for mapper.old.stack request.now device mapper.old.state).units (values_of player.old.playing.values.disks.items) disk sector) }
     ensures answers { IfOk result (λ runs. flat runs.items
         ≡ played_answers request.now.number request.now.start
-        (request_step mapper.old.stack request.now.op device request.now.start request.now.len
-        mapper.old.state).units (values_of player.old.playing.values.disks.items)) }
+        (step_for mapper.old.stack request.now device mapper.old.state).units (values_of player.old.playing.values.disks.items)) }
     ensures maximal { IfOk result (λ runs. AreMaximal runs.items) }
     ensures disks { OnOk result
         (AreValuesOf (length mapper.old.stack.disks) (values_of player.new.playing.values.disks.items)) }
@@ -66,7 +63,7 @@ pub(crate) fn play_request<T: Taken>(
 }
 
 /// Plays the first `units` units of a request of a device of the stack, or all that it has. The mapper
-/// is spent: it is stopped where there are more.
+/// is spent: it has failed where there are more.
 ///
 /// # Errors
 ///
@@ -79,19 +76,19 @@ pub(crate) fn play_front<'s, T: Taken>(
     device: DeviceId,
     units: u64,
 ) -> Result<Player<'s>, AllocError>
-    requires going { mapper.stopped ≡ false }
+    requires going { mapper.failed ≡ false }
     requires stack { player.stack.now ≡ mapper.stack }
     requires device { device < length mapper.stack.devices }
     requires disks { AreValuesOf (length mapper.stack.disks) (values_of player.playing.values.disks.items) }
     ensures stack { IfOk result (λ later. later.stack.now ≡ player.entry.stack.now) }
     ensures next { IfOk result (λ later. later.playing.next
-        ≡ sector_past (stopped_units mapper.entry.stack request.now.op device request.now.start
+        ≡ sector_past (halted_units mapper.entry.stack request.now.op device request.now.start
         request.now.len units mapper.entry.state)
         (min request.now.start (device_len mapper.entry.stack device))) }
     ensures values { IfOk result
         (λ later. (disk sector : ℕ) → values_of later.playing.values.disks.items disk sector
         ≡ played request.now.number request.now.start
-        (stopped_units mapper.entry.stack request.now.op device request.now.start request.now.len units
+        (halted_units mapper.entry.stack request.now.op device request.now.start request.now.len units
         mapper.entry.state) (values_of player.entry.playing.values.disks.items) disk sector) }
     ensures disks { IfOk result
         (λ later. AreValuesOf (length mapper.entry.stack.disks)

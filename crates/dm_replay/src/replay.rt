@@ -33,7 +33,7 @@ use std::alloc::Global;
 use std::marker::Model;
 
 /// The disks of a stack, on which requests of its top devices are played one after the other. A clause
-/// sees the stack, the requests that were accepted, and whether the replay stopped.
+/// sees the stack, the requests that were accepted, and whether the replay failed, since it was out of memory.
 #[derive(Drop)]
 pub struct Replay<'s, T: Taken> {
     stack: &'s Stack,
@@ -41,7 +41,7 @@ pub struct Replay<'s, T: Taken> {
     player: Player<'s>,
     asked: GhostAsked,
     writes: Vec<KeptWrite>,
-    stopped: bool,
+    failed: bool,
 }
 
 impl<'s, T: Taken> Model for Replay<'s, T> {
@@ -50,10 +50,10 @@ impl<'s, T: Taken> Model for Replay<'s, T> {
     ghost Value = { Replaying };
 
     ghost view = { λ replay.
-        record { stack = replay.stack.now; asked = replay.asked.asked; stopped = replay.stopped } };
+        record { stack = replay.stack.now; asked = replay.asked.asked; failed = replay.failed } };
 
     ghost invariant = { λ replay. IsReplay replay.stack.now replay.mapper replay.player.stack.now
-        replay.player.playing.values.disks.items replay.asked.asked replay.writes.items replay.stopped };
+        replay.player.playing.values.disks.items replay.asked.asked replay.writes.items replay.failed };
 }
 
 impl<'s, T: Taken> Replay<'s, T> {
@@ -76,7 +76,7 @@ impl<'s, T: Taken> Replay<'s, T> {
                 player: Player::new(alloc, stack),
                 asked: GhostAsked::new(),
                 writes: Vec::new(alloc),
-                stopped: false,
+                failed: false,
             }),
             Err(_) => Err(ReplayFault::Memory),
         }
@@ -93,7 +93,7 @@ impl<'s, T: Taken> Replay<'s, T> {
     /// # Errors
     ///
     /// `NotTop` where no top device has the name, and `Stopped` where it was out of memory at an
-    /// earlier request: nothing changes. `Memory` where it is out of memory: the replay is stopped
+    /// earlier request: nothing changes. `Memory` where it is out of memory: the replay has failed
     /// from then on.
     pub fn request(
         &mut self,
@@ -116,10 +116,10 @@ impl<'s, T: Taken> Replay<'s, T> {
         ensures top { OnOk result (HasTop self.old.stack request.now.device.now) }
         ensures asked { OnOk result
             (self.new.asked ≡ self.old.asked ++ asked_request self.old.stack request.now ∷ []) }
-        ensures going { OnOk result ((self.old.stopped ≡ false) × (self.new.stopped ≡ false)) }
+        ensures going { OnOk result ((self.old.failed ≡ false) × (self.new.failed ≡ false)) }
         ensures fault { IfErr result (λ fault. IsNotAnswered fault request.now.device.now self.old self.new) }
     {
-        if self.stopped {
+        if self.failed {
             return Err(ReplayFault::Stopped);
         }
         let Some(device) = top_device(self.stack, request.device) else {
@@ -127,8 +127,8 @@ impl<'s, T: Taken> Replay<'s, T> {
         };
         // Called because its contract is the law that top devices are like disks of their own.
         requests_are_alone::<Value>(self.stack);
-        // What fails on the way leaves it stopped.
-        self.stopped = true;
+        // So it has failed wherever memory runs out on the way.
+        self.failed = true;
         let Ok(runs) = play_request(alloc, &mut self.mapper, &mut self.player, request, device)
         else {
             return Err(ReplayFault::Memory);
@@ -142,7 +142,7 @@ impl<'s, T: Taken> Replay<'s, T> {
         let Ok(()) = keep(&mut self.writes, request.op, write) else {
             return Err(ReplayFault::Memory);
         };
-        self.stopped = false;
+        self.failed = false;
         Ok(runs)
     }
 
@@ -150,7 +150,7 @@ impl<'s, T: Taken> Replay<'s, T> {
     /// replay that goes on from there, in the state after the sectors whose units were all played.
     ///
     /// So a chunk of which not all was copied, or whose sector wasn't written after that, is not taken.
-    /// Each unit is played whole, and they are played in order. Requests and further stops may follow.
+    /// Each unit is played whole, and they are played in order. Requests and further halts may follow.
     ///
     /// Cost: that of the request, and of mapping all writes so far once more.
     ///
@@ -168,7 +168,7 @@ impl<'s, T: Taken> Replay<'s, T> {
         ensures asked { IfOk result
             (λ later. later.asked
             ≡ self.entry.asked ++ halted_request self.entry.stack request.now units ∷ []) }
-        ensures going { IfOk result (λ later. (self.entry.stopped ≡ false) × (later.stopped ≡ false)) }
+        ensures going { IfOk result (λ later. (self.entry.failed ≡ false) × (later.failed ≡ false)) }
         ensures top { OnOk result (HasTop self.entry.stack request.now.device.now) }
         ensures fault { IfErr result (λ fault. IsNotHalted fault request.now.device.now self.entry) }
     {
@@ -178,9 +178,9 @@ impl<'s, T: Taken> Replay<'s, T> {
             player,
             mut asked,
             mut writes,
-            stopped,
+            failed,
         } = self;
-        if stopped {
+        if failed {
             return Err(ReplayFault::Stopped);
         }
         let Some(device) = top_device(stack, request.device) else {
@@ -210,7 +210,7 @@ impl<'s, T: Taken> Replay<'s, T> {
             player,
             asked,
             writes,
-            stopped: false,
+            failed: false,
         })
     }
 }

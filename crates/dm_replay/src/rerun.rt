@@ -62,7 +62,7 @@ pub(crate) fn rerun<'s, T: Taken>(
 ) -> Result<Mapper<'s, T>, AllocError>
     requires { AllByRecursion (IsKept stack.now) writes.now }
     ensures stack { IfOk result (λ mapper. mapper.stack ≡ stack.now) }
-    ensures going { IfOk result (λ mapper. mapper.stopped ≡ false) }
+    ensures going { IfOk result (λ mapper. mapper.failed ≡ false) }
     ensures state { IfOk result
         (λ mapper. mapper.state ≡ rerun_from stack.now (start_state stack.now) writes.now) }
 {
@@ -76,10 +76,10 @@ pub(crate) fn rerun<'s, T: Taken>(
 
 /// Maps once more what was whole of a write.
 fn map_again<T: Taken>(kept: &KeptWrite, mapper: &mut Mapper<'_, T>, discard: &mut Discard<'_>)
-    requires going { mapper.old.stopped ≡ false }
+    requires going { mapper.old.failed ≡ false }
     requires stack { discard.old.stack.now ≡ mapper.old.stack }
     requires kept { IsKept mapper.old.stack kept.now }
-    ensures going { mapper.new.stopped ≡ false }
+    ensures going { mapper.new.failed ≡ false }
     ensures stack { mapper.new.stack ≡ mapper.old.stack }
     ensures discard { discard.new.stack.now ≡ discard.old.stack.now }
     ensures state { mapper.new.state ≡ rerun_step mapper.old.stack kept.now mapper.old.state }

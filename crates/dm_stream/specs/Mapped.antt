@@ -14,10 +14,10 @@ use Rattle.dm_stream.specs.declared.ending.NotMapped.{NotMapped}
 use Rattle.dm_stream.specs.declared.ending.NotMapped.TheVariants as causes
 use Rattle.dm_stream.specs.declared.ending.RequestWord as word
 
--- the mapper and the join are of this stack, and a request can come: the mapper is not stopped, and nothing is held
+-- the mapper and the join are of this stack, and a request can come: the mapper has not failed, and nothing is held
 pub record IsReady (stack : Description) (mapper : MapperView) (held : Pending) : Type 0 where
   pub mapped : mapper.stack ≡ stack
-  pub going : mapper.stopped ≡ false
+  pub going : mapper.failed ≡ false
   pub joined : held.stack ≡ stack
   pub nothing : held.piece ≡ None
 
@@ -31,7 +31,7 @@ failed_writes cause = write_faults (ending_for cause)
 
 -- why it stopped at the last of these requests: no device has the name, and the outcome ends here; or a write failed, and something is left to write
 abbrev pub HasStopped : Description → NotMapped → State → MapperView → List NumberedRequest → (before after : List ℕ) → Type 0
-HasStopped stack (causes.Unknown number) old new requests before after = (new.stopped ≡ false) × ((rest : List NumberedRequest) (e : Option ending.Ending) → outcome_from stack old (requests ++ rest) e
+HasStopped stack (causes.Unknown number) old new requests before after = (new.failed ≡ false) × ((rest : List NumberedRequest) (e : Option ending.Ending) → outcome_from stack old (requests ++ rest) e
     ≡ record { output = since before after; state = new.state; ending = Some (ending.TheVariants.BadRequest number word.TheVariants.Unknown) })
 HasStopped stack causes.Output old new requests before after =
     (rest : List NumberedRequest) (e : Option ending.Ending) → IsCutShort (outcome_from stack old (requests ++ rest) e).output (since before after)

@@ -27,12 +27,12 @@ write_faults ending.TheVariants.WriteFault = 1
 -- a mapper of the stack that can map requests
 pub record CanMap (of : Description) (mapper : MapperView) : Type 0 where
   pub stack : mapper.stack ≡ of
-  pub going : mapper.stopped ≡ false
+  pub going : mapper.failed ≡ false
 
 -- it stays one of its stack, and can go on unless the output failed
 pub record StaysMapper (before after : MapperView) (e : ending.Ending) : Type 0 where
   pub stack : after.stack ≡ before.stack
-  pub going : e ≢ ending.TheVariants.WriteFault → after.stopped ≡ false
+  pub going : e ≢ ending.TheVariants.WriteFault → after.failed ≡ false
 
 -- what was done before the flush: the whole of an outcome, or, where a write failed, a beginning of its output that is not all of it
 pub record IsMapped (outcome : Outcome) (text : List ℕ) (left : State) (e : ending.Ending) : Type 0 where

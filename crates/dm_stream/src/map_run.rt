@@ -126,7 +126,7 @@ fn write_rest<T: Taken, W: Output>(
 /// | `ReadFault` | reading requests failed; those before it were answered |
 /// | `WriteFault` | writing or flushing the output failed; a beginning of what there was to write was written |
 ///
-/// The mapper is one of this stack and not stopped; its state moves on with the requests. The output
+/// The mapper is one of this stack and has not failed; its state moves on with the requests. The output
 /// is flushed once at the end, unless a write failed; then a message of one line is written, except
 /// at `Done`. An output is not written to if there is nothing to write.
 ///
@@ -141,10 +141,10 @@ pub fn run<'s, T: Taken, R: Input, W: Output, E: Output>(
     status: bool,
 ) -> Ending
     requires stack { mapper.old.stack ≡ stack.now }
-    requires going { mapper.old.stopped ≡ false }
+    requires going { mapper.old.failed ≡ false }
     // The mapper stays one of its stack, and can go on unless the output failed.
     ensures stack { mapper.new.stack ≡ mapper.old.stack }
-    ensures going { result ≢ Ending.WriteFault → mapper.new.stopped ≡ false }
+    ensures going { result ≢ Ending.WriteFault → mapper.new.failed ≡ false }
     // What the requests delivered gives what is written, and how it ends and the state that is left
     // unless the output failed. The output was flushed once; if it failed, it had taken a beginning:
     // all, if the flush failed, and less, if a write did.

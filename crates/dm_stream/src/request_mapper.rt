@@ -30,11 +30,11 @@ fn map_request<T: Taken, W: Output>(
     join: &mut Join<'_, W>,
 ) -> Result<(), OutFault>
     requires stack { mapper.old.stack ≡ join.old.held.stack }
-    requires going { mapper.old.stopped ≡ false }
+    requires going { mapper.old.failed ≡ false }
     requires device { device < length join.old.held.stack.devices }
     requires nothing { join.old.held.piece ≡ None }
     ensures stack { mapper.new.stack ≡ mapper.old.stack }
-    ensures going { OnOk result (mapper.new.stopped ≡ false) }
+    ensures going { OnOk result (mapper.new.failed ≡ false) }
     ensures state { OnOk result
         (mapper.new.state ≡ (step_of join.old.held.stack device (numbered request.now)
         mapper.old.state).state) }

@@ -22,7 +22,7 @@ asked_of stack request = record {
   device = device_id stack request.values.device;
   start = request.values.start;
   len = request.values.len;
-  stopped_after = None;
+  halted_after = None;
 }
 
 -- what is written for a request after those that were asked: a line for each maximal run of what its sectors answer

@@ -36,7 +36,7 @@ impl<'s, W: Output> Handler for RequestPlayer<'_, 's, W> {
 
     type Fault = Exit;
 
-    ghost ready = { λ h replay. (replay.stack ≡ h.stack.now) × (replay.stopped ≡ false) };
+    ghost ready = { λ h replay. (replay.stack ≡ h.stack.now) × (replay.failed ≡ false) };
 
     ghost answered = { λ old before requests new after.
         HasPlayed before.stack before.asked after.asked requests (W.past old.output.now).written

@@ -14,7 +14,7 @@ asked_as stop stack request = record {
   device = device_id stack request.values.device;
   start = request.values.start;
   len = request.values.len;
-  stopped_after = stop;
+  halted_after = stop;
 }
 
 abbrev pub asked_of : Description → NumberedRequest → Asked

@@ -28,7 +28,7 @@ pub record IsOwnWrite {V : Type 0} (zeros : V) (written : ℕ → V) (stack : De
   pub answered : answers last ≡ true
   -- it leaves a state that the stack can be in
   pub fits : IsFitting stack step.state
-  -- where it stops before the last unit, all top devices have what they had in the state before it
+  -- where it is halted before the last unit, all top devices have what they had in the state before it
   pub torn : (values : Values V) (some rest : List BlockUnit) → front ≡ some ++ rest → (other other_sector : ℕ) → IsTop stack other
       → content zeros stack state (played zeros written sector some values) (Device other) other_sector ≡ content zeros stack state values (Device other) other_sector
   -- up to the last unit they have the same in the state after it too, or an error

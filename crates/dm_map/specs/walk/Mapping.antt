@@ -2,6 +2,7 @@
 use Rattle.std.specs.Prelude.{ℕ, zero, suc, ◌+◌, ◌-◌, ◌≡◌, ◌≤◌, ◌<◌, [], ◌∷◌, Option, Some, None, length, nat_lt, replicate, if◌then◌else◌}
 use Rattle.dm_table.specs.declared.requests.request.Op.{Op}
 use Rattle.dm_table.specs.declared.requests.request.Op.TheVariants as ops
+use Rattle.dm_table.specs.declared.requests.request.Request.{Request}
 use Rattle.dm_stack.specs.declared.id.Lower.{Lower}
 use Rattle.dm_stack.specs.declared.id.Lower.TheVariants.{Device, Disk}
 use Rattle.dm_stack.specs.declared.found_line.FoundLine.{FoundLine}
@@ -46,6 +47,10 @@ abbrev pub request_step : Description → Op → (device start len : ℕ) → St
 request_step stack op device start len state =
     if nat_lt (device_len stack device) (start + len) then keep (replicate len Fails) state
     else steps (sector_step stack op MOST_DEPTH (Device device)) state start len
+
+-- the same, of a request as the code has it
+abbrev pub step_for : Description → Request → (device : ℕ) → State → Step
+step_for stack request device state = request_step stack request.op device request.start request.len state
 
 -- any number of levels that is at least a device's depth gives the step that the greatest does, in any state
 pub record IsFreeOfLevels (stack : Description) (op : Op) : Type 0 where

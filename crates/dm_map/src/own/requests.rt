@@ -7,7 +7,7 @@ ghost use Rattle.dm_map.specs.own.Contents.{Values, played, sector_past};
 ghost use Rattle.dm_map.specs.walk.Mapping.{request_step};
 ghost use Rattle.dm_map.specs.own.Rows.{AreOwn, Rows, first_rows, rows_played};
 ghost use Rattle.dm_map.specs.state.State.{State, start_state};
-ghost use Rattle.dm_map.specs.own.Stops.{stopped_state, stopped_units};
+ghost use Rattle.dm_map.specs.own.Halts.{halted_state, halted_units};
 
 use dm_stack::Stack;
 
@@ -26,16 +26,16 @@ pub fn requests_are_alone<V>(stack: &Stack)
         → AreOwn zeros stack.now (request_step stack.now op top start len state).state
         (played zeros written start (request_step stack.now op top start len state).units values)
         (rows_played written top start (request_step stack.now op top start len state).units rows) }
-    ensures stopped { (zeros : V) (written : ℕ → V) (op : Op) (state : State) (top start len count : ℕ)
+    ensures halted { (zeros : V) (written : ℕ → V) (op : Op) (state : State) (top start len count : ℕ)
         (values : Values V) (rows : Rows V)
         → IsTidy stack.now → IsTop stack.now top → AreOwn zeros stack.now state values rows
-        → AreOwn zeros stack.now (stopped_state stack.now op top start len count state)
-        (played zeros written start (stopped_units stack.now op top start len count state) values)
-        (rows_played written top start (stopped_units stack.now op top start len count state) rows) }
+        → AreOwn zeros stack.now (halted_state stack.now op top start len count state)
+        (played zeros written start (halted_units stack.now op top start len count state) values)
+        (rows_played written top start (halted_units stack.now op top start len count state) rows) }
     ensures few { (zeros : V) (op : Op) (state : State) (top start len count : ℕ)
         (values : Values V) (rows : Rows V)
         → IsTidy stack.now → IsTop stack.now top → AreOwn zeros stack.now state values rows
-        → sector_past (stopped_units stack.now op top start len count state) 0 ≤ len }
+        → sector_past (halted_units stack.now op top start len count state) 0 ≤ len }
 {
     // Called because its contract says that the stack is sound.
     stack.depth();

@@ -15,7 +15,7 @@ ghost use Rattle.dm_map.specs.state.State.{State, start_state};
 use dm_stack::Stack;
 
 /// The write of a sector of a top device of a tidy stack, in a state that the stack can be in. Up to
-/// its last unit it changes nothing of what top devices have, also where it is stopped; and what its
+/// its last unit it changes nothing of what top devices have, also where it is halted; and what its
 /// last unit writes is read at that sector, and at no other of a top device. The values that sectors
 /// have are of any type. It does nothing and returns nothing: its contract is the law.
 #[tactic(auto, using(crate::proofs::own::OwnWrites::own_write, crate::proofs::own::OwnWrites::start_fits))]

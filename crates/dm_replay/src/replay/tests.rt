@@ -51,7 +51,7 @@ const TWO: (&str, &str) = (
     "base 16\nc1 64\nc2 64\n",
 );
 
-/// Tables and disks, requests, each after the number of units after which it is stopped or a hyphen, and
+/// Tables and disks, requests, each after the number of units after which it is halted or a hyphen, and
 /// the lines of what the others answer.
 static HALTS: [((&str, &str), &str, &str); 22] = [
     // A write of two sectors: four copies, for the chunk is cut short, and two writes.
@@ -87,19 +87,19 @@ static HALTS: [((&str, &str), &str, &str); 22] = [
         "3 W s 18 2\n- W s 8 1\n- R s 8 12\n",
         "2 wrote 2 8 1\n3 wrote 2 8 1\n3 old base 9 11\n",
     ),
-    // A write that was stopped is written again.
+    // A write that was halted is written again.
     (
         SHORT,
         "3 W s 18 2\n- W s 18 2\n- R s 16 4\n",
         "2 wrote 2 18 2\n3 old base 16 2\n3 wrote 2 18 2\n",
     ),
-    // Reads that are stopped.
+    // Reads that are halted.
     (
         SHORT,
         "- W s 18 1\n2 R s 16 4\n9 R s 16 4\n- R s 16 4\n",
         "1 wrote 1 18 1\n4 old base 16 2\n4 wrote 1 18 1\n4 old base 19 1\n",
     ),
-    // Requests that pass the end take no chunk, wherever they are stopped.
+    // Requests that pass the end take no chunk, wherever they are halted.
     (
         SHORT,
         "1 W s 18 3\n3 W s 18 3\n1 W s 20 1\n- R s 16 4\n- W s 8 1\n",
@@ -135,7 +135,7 @@ static HALTS: [((&str, &str), &str, &str); 22] = [
         "- W s 0 1\n0 W o 4 1\n- R s 0 8\n1 W o 4 1\n- R s 0 8\n- R o 0 8\n",
         "1 wrote 1 0 1\n3 wrote 1 0 1\n3 old base 1 7\n5 error 8\n6 old base 0 4\n6 wrote 4 4 1\n6 old base 5 3\n",
     ),
-    // Two snapshots of one origin, stopped in turn, each followed by requests.
+    // Two snapshots of one origin, halted in turn, each followed by requests.
     (
         TWO,
         "6 W s 2 4\n- R t 0 4\n9 W t 1 2\n- R t 0 4\n- R s 0 8\n",
@@ -194,7 +194,7 @@ static REFUSED: [(&str, &str, &str, ReplayFault); 4] = [
     ("a: 0 8 zero\n", "", "R b 0 1", ReplayFault::NotTop),
 ];
 
-/// Tables, disks, a request that is stopped after two units, and why there is no replay after it.
+/// Tables, disks, a request that is halted after two units, and why there is no replay after it.
 static NOT_HALTED: [(&str, &str, &str, ReplayFault); 2] = [
     (
         "o: 0 8 zero\ns: 0 8 snapshot /dev/mapper/o cow P 8\n",
@@ -232,7 +232,7 @@ fn lines_of(rt: &impl Abort, alloc: Global, stack: &Stack, requests: &[&str]) ->
 }
 
 /// The lines of what a new replay answers, where each request comes after the number of units after
-/// which it is stopped, or a hyphen.
+/// which it is halted, or a hyphen.
 fn lines_with_stops(rt: &impl Abort, alloc: Global, stack: &Stack, steps: &str) -> ShortOut {
     let mut replay: Replay<'_, PlainTaken> = Replay::new(alloc, stack).expect(rt, "a replay");
     let mut output = ShortOut::new(alloc, 1, 4096).expect(rt, "an output");
@@ -246,7 +246,7 @@ fn lines_with_stops(rt: &impl Abort, alloc: Global, stack: &Stack, steps: &str) 
     output
 }
 
-/// The replay after a request, of which the answer is written unless it is stopped.
+/// The replay after a request, of which the answer is written unless it is halted.
 fn replay_after<'s>(
     rt: &impl Abort,
     alloc: Global,
@@ -342,15 +342,16 @@ fn what_is_not_halted(rt: HostRuntime) {
             Some(want),
             "{table}"
         );
-        // That the replay is stopped goes before that no top device has the name.
+        // That the replay has failed goes before that no top device has the name.
         replay = Replay::new(alloc, &stack).expect(&rt, "a replay");
-        replay.stopped = true;
+        replay.failed = true;
         let fault = replay.halt(alloc, &request, 2).err();
         assert_eq!(&rt; fault, Some(ReplayFault::Stopped), "{table}");
     }
 }
 
-/// Run with the Nth growth refused, for each N: out of memory is answered then, and nothing else.
+/// Any growth of memory may be refused here (`rt try --test --fail-alloc N` refuses the Nth): then the answer is
+/// that memory ran out, and no other.
 #[test]
 fn growths_may_be_refused(rt: HostRuntime) {
     let alloc = rt.alloc();
@@ -370,7 +371,7 @@ fn growths_may_be_refused(rt: HostRuntime) {
     }
 }
 
-/// What a read answers after two writes that are stopped.
+/// What a read answers after two writes that are halted.
 fn answered_after_stops(alloc: Global, stack: &Stack) -> Result<Vec<ValueRun>, ReplayFault> {
     let mut replay: Replay<'_, PlainTaken> = Replay::new(alloc, stack)?;
     replay = replay.halt(alloc, &request_of_four(1, Op::Write), 13)?;

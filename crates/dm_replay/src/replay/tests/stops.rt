@@ -3,7 +3,7 @@
 //! Rows of one text, so that a file of many more is read in the same way, as `tests/outside/halts.py` writes
 //! it, which also works out these answers by the plain rules. Each row but the first comes after a `#`, and
 //! has its parts with a `|` between them: what it shows, devices as concise text, disks, requests, and the
-//! lines of what they answer. A request comes after the number of units after which it is stopped, and is
+//! lines of what they answer. A request comes after the number of units after which it is halted, and is
 //! then not answered, or after a hyphen.
 
 pub(crate) static STOPS: &str = "\
@@ -123,7 +123,7 @@ cow 32
 2 old base 4 1
 2 error 3
 4 error 8
-#Two snapshots of one disk, stopped in turn.
+#Two snapshots of one disk, halted in turn.
 |s,,,,0 8 snapshot base c1 P 4;t,,,,0 8 snapshot base c2 N 2
 |base 8
 c1 32
@@ -181,7 +181,7 @@ c3 12
 4 old base 1 7
 6 wrote 3 0 1
 6 old base 1 7
-#An origin with two snapshots, stopped among the copies of the first.
+#An origin with two snapshots, halted among the copies of the first.
 |o,,,,0 8 snapshot-origin base;s,,,,0 8 snapshot base c1 P 4;t,,,,0 8 snapshot base c2 P 2
 |base 8
 c1 32
@@ -203,7 +203,7 @@ c2 32
 6 old base 3 5
 7 old base 0 8
 8 old base 0 8
-#The same, stopped where the first is served and the second is not.
+#The same, halted where the first is served and the second is not.
 |o,,,,0 8 snapshot-origin base;s,,,,0 8 snapshot base c1 P 4;t,,,,0 8 snapshot base c2 N 2
 |base 8
 c1 32
@@ -225,7 +225,7 @@ c2 8
 6 wrote 3 2 1
 6 old base 3 5
 7 old base 0 8
-#The same, stopped before its first write, and then among the writes.
+#The same, halted before its first write, and then among the writes.
 |o,,,,0 8 snapshot-origin base;s,,,,0 8 snapshot base c1 K 4;t,,,,0 8 snapshot base c2 P 2
 |base 8
 c1 32
@@ -355,7 +355,7 @@ base 2
 6 zero 2
 6 error 2
 6 wrote 5 7 2
-#Reads that are stopped, and requests that pass the end.
+#Reads that are halted, and requests that pass the end.
 |s,,,,0 6 snapshot base cow P 4
 |base 6
 cow 32

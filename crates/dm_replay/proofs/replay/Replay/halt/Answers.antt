@@ -12,27 +12,27 @@ use Rattle.dm_replay.proofs.replay.Replay.halt.Goals as goal
 pub returns-in_default-keep-clause-fault : goal.returns-in_default-keep-clause-fault
 returns-in_default-keep-clause-fault g c =
     let found = c.in-Some.ensures.some in (
-      ap (λ (r : Replaying). r.stopped) (sym c.self.view_is) ∙ c.if-stopped.false,
+      ap (λ (r : Replaying). r.failed) (sym c.self.view_is) ∙ c.if-failed.false,
       subst (λ (r : Replaying). HasTop r.stack c.args.request.now.device.now) c.self.view_is (record { id = c.in-Some.device; named = found.0; top = found.1 }),
     )
 
 pub returns-in_default-rerun-clause-fault : goal.returns-in_default-rerun-clause-fault
 returns-in_default-rerun-clause-fault g c =
     let found = c.in-Some.ensures.some in (
-      ap (λ (r : Replaying). r.stopped) (sym c.self.view_is) ∙ c.if-stopped.false,
+      ap (λ (r : Replaying). r.failed) (sym c.self.view_is) ∙ c.if-failed.false,
       subst (λ (r : Replaying). HasTop r.stack c.args.request.now.device.now) c.self.view_is (record { id = c.in-Some.device; named = found.0; top = found.1 }),
     )
 
 pub whole_sectors-whole-requires-clause-next : goal.whole_sectors-whole-requires-clause-next
 whole_sectors-whole-requires-clause-next g c =
     let inside = c.self.inside in
-    λ fits. next_start inside.stack.now inside.mapper c.args.request.now c.in-Some.device c.args.units c.in-Ok.player.playing.next (c.self.invariant.going c.if-stopped.false).mapper_stack c.in-Ok.ensures.next fits
+    λ fits. next_start inside.stack.now inside.mapper c.args.request.now c.in-Some.device c.args.units c.in-Ok.player.playing.next (c.self.invariant.going c.if-failed.false).mapper_stack c.in-Ok.ensures.next fits
 
 pub rerun-requires : goal.rerun-requires
 rerun-requires g c =
-    let inside = c.self.inside in let request = c.args.request.now in let device = c.in-Some.device in let going = c.self.invariant.going c.if-stopped.false in
+    let inside = c.self.inside in let request = c.args.request.now in let device = c.in-Some.device in let going = c.self.invariant.going c.if-failed.false in
     let law = c.requests_are_alone.ensures in let size = c.whole_sectors-whole.result in
-    let few = few_whole inside.stack.now inside.mapper inside.asked.asked request device c.args.units (record { begins = law.start; stays = law.request; stops = law.stopped; few = law.few })
+    let few = few_whole inside.stack.now inside.mapper inside.asked.asked request device c.args.units (record { begins = law.start; stays = law.request; stops = law.halted; few = law.few })
     c.self.invariant.tidy going.asked_are c.in-Some.ensures.some.1 going.mapper_stack going.state_is in
     let whole = are_whole inside.stack.now inside.mapper request device c.args.units c.in-Ok.player.playing.next size going.mapper_stack c.in-Ok.ensures.next few c.whole_sectors-whole.ensures in
     let one = is_kept inside.stack.now request device size (named_there inside.stack.now request.device.now device c.in-Some.ensures.some.0) c.in-Some.ensures.some.1 whole.few in
@@ -40,9 +40,9 @@ rerun-requires g c =
 
 pub invariant_of-result : goal.invariant_of-result
 invariant_of-result g c =
-    let inside = c.self.inside in let request = c.args.request.now in let device = c.in-Some.device in let did = c.in-Ok.ensures in let going = c.self.invariant.going c.if-stopped.false in
+    let inside = c.self.inside in let request = c.args.request.now in let device = c.in-Some.device in let did = c.in-Ok.ensures in let going = c.self.invariant.going c.if-failed.false in
     let law = c.requests_are_alone.ensures in let size = c.whole_sectors-whole.result in let player = c.in-Ok.player in let again = c.in-Ok-rerun.ensures in
-    let few = few_whole inside.stack.now inside.mapper inside.asked.asked request device c.args.units (record { begins = law.start; stays = law.request; stops = law.stopped; few = law.few })
+    let few = few_whole inside.stack.now inside.mapper inside.asked.asked request device c.args.units (record { begins = law.start; stays = law.request; stops = law.halted; few = law.few })
     c.self.invariant.tidy going.asked_are c.in-Some.ensures.some.1 going.mapper_stack going.state_is in
     let whole = are_whole inside.stack.now inside.mapper request device c.args.units player.playing.next size going.mapper_stack did.next few c.whole_sectors-whole.ensures in
     let one = is_kept inside.stack.now request device size (named_there inside.stack.now request.device.now device c.in-Some.ensures.some.0) c.in-Some.ensures.some.1 whole.few in

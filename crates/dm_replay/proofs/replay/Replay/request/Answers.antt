@@ -15,7 +15,7 @@ use Rattle.dm_replay.proofs.replay.Replay.request.Goals as goal
 pub returns-in_default-keep-clause-fault : goal.returns-in_default-keep-clause-fault
 returns-in_default-keep-clause-fault g c =
     let found = c.in-Some.ensures.some in (
-      ap (λ (r : Replaying). r.stopped) (sym c.self.view_is) ∙ c.if-self.false,
+      ap (λ (r : Replaying). r.failed) (sym c.self.view_is) ∙ c.if-self.false,
       subst (λ (r : Replaying). HasTop r.stack c.args.request.now.device.now) c.self.view_is (record { id = c.in-Some.device; named = found.0; top = found.1 }),
       refl,
     )
@@ -61,7 +61,7 @@ returns-clause-own g c reads =
     (subst (λ (id : ℕ). AreOfRow rows id request.start (flat c.in-Ok.runs.items)) (named_id inside.stack.now request.device.now c.in-Some.device c.in-Some.ensures.some.0)
     (subst (λ (answers : List Answer). AreOfRow rows c.in-Some.device request.start answers)
     (sym (answers_after inside.stack.now inside.player.stack.now inside.mapper inside.player.playing.values.disks.items inside.asked.asked inside.writes.items request c.in-Some.device c.in-Ok.runs.items going did.answers))
-    (own_answers inside.stack.now inside.asked.asked (whole_request request c.in-Some.device) (record { begins = law.start; stays = law.request; stops = law.stopped; few = law.few }) c.self.invariant.tidy going.asked_are c.in-Some.ensures.some.1 refl reads)))
+    (own_answers inside.stack.now inside.asked.asked (whole_request request c.in-Some.device) (record { begins = law.start; stays = law.request; stops = law.halted; few = law.few }) c.self.invariant.tidy going.asked_are c.in-Some.ensures.some.1 refl reads)))
 
 pub returns-clause-one : goal.returns-clause-one
 returns-clause-one g c = λ others are same. one_runs others c.in-Ok.runs.items are c.in-Ok.ensures.maximal same

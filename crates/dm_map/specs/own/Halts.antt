@@ -16,10 +16,10 @@ state_past stack op device start len sectors state =
     if nat_lt (device_len stack device) (start + len) then state
     else (steps (sector_step stack op MOST_DEPTH (Device device)) state start sectors).state
 
-abbrev pub stopped_units : Description → Op → (device start len count : ℕ) → State → List BlockUnit
-stopped_units stack op device start len count state = take count (request_step stack op device start len state).units
+abbrev pub halted_units : Description → Op → (device start len count : ℕ) → State → List BlockUnit
+halted_units stack op device start len count state = take count (request_step stack op device start len state).units
 
 -- the state after the sectors whose units were all played: of the units of a sector the last one answers, and no other (`IsOwnWrite`, which is clause `own` of `tops_are_alone`; a read has one unit)
-abbrev pub stopped_state : Description → Op → (device start len count : ℕ) → State → State
-stopped_state stack op device start len count state =
-    state_past stack op device start len (sector_past (stopped_units stack op device start len count state) 0) state
+abbrev pub halted_state : Description → Op → (device start len count : ℕ) → State → State
+halted_state stack op device start len count state =
+    state_past stack op device start len (sector_past (halted_units stack op device start len count state) 0) state

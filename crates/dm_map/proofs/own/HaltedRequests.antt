@@ -14,7 +14,7 @@ use Rattle.dm_map.specs.walk.Mapping.{sector_step}
 use Rattle.dm_map.specs.own.Rows.{AreOwn, Rows, rows_played}
 use Rattle.dm_map.specs.state.State.{State}
 use Rattle.dm_map.specs.walk.Steps.{Step, keep, steps}
-use Rattle.dm_map.specs.own.Stops.{stopped_state, stopped_units}
+use Rattle.dm_map.specs.own.Halts.{halted_state, halted_units}
 use Rattle.dm_map.specs.pieces.Units.{BlockUnit, Fails}
 use Rattle.dm_map.proofs.own.OwnRequests.{both_own, none_own, played_first, rows_first, step_own}
 
@@ -23,16 +23,16 @@ take_none zero = refl
 take_none (suc n) = refl
 
 -- some number of sectors is whole, and the state is that after them: it is counted from any sector on
-record IsStopped {V : Type 0} (zeros : V) (written : ℕ → V) (stack : Description) (top : ℕ) (step : State → ℕ → Step) (state : State) (sector at len : ℕ) (units : List BlockUnit) (values : Values V) (rows : Rows V) : Type 0 where
+record IsHalted {V : Type 0} (zeros : V) (written : ℕ → V) (stack : Description) (top : ℕ) (step : State → ℕ → Step) (state : State) (sector at len : ℕ) (units : List BlockUnit) (values : Values V) (rows : Rows V) : Type 0 where
   pub sectors : ℕ
   pub past : sector_past units at ≡ at + sectors
   pub few : sectors ≤ len
   pub own : AreOwn zeros stack (steps step state sector sectors).state (played zeros written sector units values) (rows_played written top sector units rows)
 
-none_stopped : {V : Type 0} (zeros : V) (written : ℕ → V) (stack : Description) (top : ℕ) (step : State → ℕ → Step) (state : State) (sector at len : ℕ) (values : Values V) (rows : Rows V) → AreOwn zeros stack state values rows
-    → IsStopped zeros written stack top step state sector at len [] values rows
+none_halted : {V : Type 0} (zeros : V) (written : ℕ → V) (stack : Description) (top : ℕ) (step : State → ℕ → Step) (state : State) (sector at len : ℕ) (values : Values V) (rows : Rows V) → AreOwn zeros stack state values rows
+    → IsHalted zeros written stack top step state sector at len [] values rows
 unfolding sector_past
-none_stopped zeros written stack top step state sector at len values rows own = record {
+none_halted zeros written stack top step state sector at len values rows own = record {
   sectors = 0;
   past = (let e : at ≡ at + 0 = omega arith in e);
   few = omega arith;
@@ -40,19 +40,19 @@ none_stopped zeros written stack top step state sector at len values rows own = 
 }
 
 -- the units of the first sector may be more than are played, or there are those of later ones to come
-steps_stopped : {V : Type 0} (zeros : V) (written : ℕ → V) (stack : Description) (op : Op) (top count len : ℕ) (state : State) (sector at : ℕ) (values : Values V) (rows : Rows V) → IsSound stack → IsTidy stack → IsTop stack top → AreOwn zeros stack state values rows
-    → IsStopped zeros written stack top (sector_step stack op MOST_DEPTH (Device top)) state sector at len (take count (steps (sector_step stack op MOST_DEPTH (Device top)) state sector len).units) values rows
-steps_stopped {V} zeros written stack op top count zero state sector at values rows sound tidy is_top own =
-    subst (λ (us : List BlockUnit). IsStopped zeros written stack top (sector_step stack op MOST_DEPTH (Device top)) state sector at zero us values rows) (sym (take_none count))
-    (none_stopped zeros written stack top (sector_step stack op MOST_DEPTH (Device top)) state sector at zero values rows own)
-steps_stopped {V} zeros written stack op top count (suc len) state sector at values rows sound tidy is_top own =
+steps_halted : {V : Type 0} (zeros : V) (written : ℕ → V) (stack : Description) (op : Op) (top count len : ℕ) (state : State) (sector at : ℕ) (values : Values V) (rows : Rows V) → IsSound stack → IsTidy stack → IsTop stack top → AreOwn zeros stack state values rows
+    → IsHalted zeros written stack top (sector_step stack op MOST_DEPTH (Device top)) state sector at len (take count (steps (sector_step stack op MOST_DEPTH (Device top)) state sector len).units) values rows
+steps_halted {V} zeros written stack op top count zero state sector at values rows sound tidy is_top own =
+    subst (λ (us : List BlockUnit). IsHalted zeros written stack top (sector_step stack op MOST_DEPTH (Device top)) state sector at zero us values rows) (sym (take_none count))
+    (none_halted zeros written stack top (sector_step stack op MOST_DEPTH (Device top)) state sector at zero values rows own)
+steps_halted {V} zeros written stack op top count (suc len) state sector at values rows sound tidy is_top own =
     let step = sector_step stack op MOST_DEPTH (Device top) in
     let first = step_own zeros written stack op state top sector values rows sound tidy is_top own in
     let us = (step state sector).units in
     let rest = (steps step (step state sector).state (suc sector) len).units in
     elim (cases_lt count (length us)) [
       | inl below ↦
-          subst (λ (vs : List BlockUnit). IsStopped zeros written stack top step state sector at (suc len) vs values rows) (sym (take-append-le count us rest (omega (arith, below)))) (record {
+          subst (λ (vs : List BlockUnit). IsHalted zeros written stack top step state sector at (suc len) vs values rows) (sym (take-append-le count us rest (omega (arith, below)))) (record {
             sectors = 0;
             past = first.none count at below ∙ (let e : at ≡ at + 0 = omega arith in e);
             few = omega arith;
@@ -61,8 +61,8 @@ steps_stopped {V} zeros written stack op top count (suc len) state sector at val
       | inr past ↦
           let more = count - length us in
           let units_are : take count (us ++ rest) ≡ us ++ take more rest = ap (λ (n : ℕ). take n (us ++ rest)) (let e : count ≡ length us + more = omega (arith, past) in e) ∙ take-append-add us rest more in
-          let later = steps_stopped zeros written stack op top more len (step state sector).state (suc sector) (suc at) first.later first.after sound tidy is_top first.whole in
-          subst (λ (vs : List BlockUnit). IsStopped zeros written stack top step state sector at (suc len) vs values rows) (sym units_are) (record {
+          let later = steps_halted zeros written stack op top more len (step state sector).state (suc sector) (suc at) first.later first.after sound tidy is_top first.whole in
+          subst (λ (vs : List BlockUnit). IsHalted zeros written stack top step state sector at (suc len) vs values rows) (sym units_are) (record {
             sectors = suc later.sectors;
             past = first.past (take more rest) at ∙ later.past ∙ (let e : suc at + later.sectors ≡ at + suc later.sectors = omega arith in e);
             few = omega (arith, later.few);
@@ -71,28 +71,28 @@ steps_stopped {V} zeros written stack op top count (suc len) state sector at val
     ]
 
 -- one that passes the device's end fails sector by sector, and changes nothing
-fails_stopped : {V : Type 0} (zeros : V) (written : ℕ → V) (stack : Description) (state : State) (top start count len : ℕ) (values : Values V) (rows : Rows V) → AreOwn zeros stack state values rows
+fails_halted : {V : Type 0} (zeros : V) (written : ℕ → V) (stack : Description) (state : State) (top start count len : ℕ) (values : Values V) (rows : Rows V) → AreOwn zeros stack state values rows
     → AreOwn zeros stack state (played zeros written start (take count (replicate len Fails)) values) (rows_played written top start (take count (replicate len Fails)) rows)
-fails_stopped zeros written stack state top start zero len values rows own = none_own zeros written stack state top start values rows own
-fails_stopped zeros written stack state top start (suc count) zero values rows own = none_own zeros written stack state top start values rows own
-fails_stopped zeros written stack state top start (suc count) (suc len) values rows own =
+fails_halted zeros written stack state top start zero len values rows own = none_own zeros written stack state top start values rows own
+fails_halted zeros written stack state top start (suc count) zero values rows own = none_own zeros written stack state top start values rows own
+fails_halted zeros written stack state top start (suc count) (suc len) values rows own =
     both_own zeros stack state _ _ _ _ (played_first zeros written start Fails (take count (replicate len Fails)) values refl) (rows_first written top start Fails (take count (replicate len Fails)) rows refl)
-    (fails_stopped zeros written stack state top (suc start) count len values rows own)
+    (fails_halted zeros written stack state top (suc start) count len values rows own)
 
-pub stopped_own : {V : Type 0} (zeros : V) (written : ℕ → V) (stack : Description) (op : Op) (state : State) (top start len count : ℕ) (values : Values V) (rows : Rows V) → IsSound stack → IsTidy stack → IsTop stack top → AreOwn zeros stack state values rows
-    → AreOwn zeros stack (stopped_state stack op top start len count state) (played zeros written start (stopped_units stack op top start len count state) values) (rows_played written top start (stopped_units stack op top start len count state) rows)
-stopped_own {V} zeros written stack op state top start len count values rows sound tidy is_top own = by_end (nat_lt (device_len stack top) (start + len))
+pub halted_own : {V : Type 0} (zeros : V) (written : ℕ → V) (stack : Description) (op : Op) (state : State) (top start len count : ℕ) (values : Values V) (rows : Rows V) → IsSound stack → IsTidy stack → IsTop stack top → AreOwn zeros stack state values rows
+    → AreOwn zeros stack (halted_state stack op top start len count state) (played zeros written start (halted_units stack op top start len count state) values) (rows_played written top start (halted_units stack op top start len count state) rows)
+halted_own {V} zeros written stack op state top start len count values rows sound tidy is_top own = by_end (nat_lt (device_len stack top) (start + len))
   where
     by_end : (past : Bool) → AreOwn zeros stack
         (cond past state (steps (sector_step stack op MOST_DEPTH (Device top)) state start (sector_past (take count (cond past (keep (replicate len Fails) state) (steps (sector_step stack op MOST_DEPTH (Device top)) state start len)).units) 0)).state)
         (played zeros written start (take count (cond past (keep (replicate len Fails) state) (steps (sector_step stack op MOST_DEPTH (Device top)) state start len)).units) values)
         (rows_played written top start (take count (cond past (keep (replicate len Fails) state) (steps (sector_step stack op MOST_DEPTH (Device top)) state start len)).units) rows)
-    by_end true = fails_stopped zeros written stack state top start count len values rows own
+    by_end true = fails_halted zeros written stack state top start count len values rows own
     by_end false =
         let step = sector_step stack op MOST_DEPTH (Device top) in
-        let stopped = steps_stopped zeros written stack op top count len state start 0 values rows sound tidy is_top own in
+        let halted = steps_halted zeros written stack op top count len state start 0 values rows sound tidy is_top own in
         let units = take count (steps step state start len).units in
-        subst (λ (n : ℕ). AreOwn zeros stack (steps step state start n).state (played zeros written start units values) (rows_played written top start units rows)) (sym (stopped.past ∙ (let e : 0 + stopped.sectors ≡ stopped.sectors = omega arith in e))) stopped.own
+        subst (λ (n : ℕ). AreOwn zeros stack (steps step state start n).state (played zeros written start units values) (rows_played written top start units rows)) (sym (halted.past ∙ (let e : 0 + halted.sectors ≡ halted.sectors = omega arith in e))) halted.own
 
 -- no more sectors are whole than there are
 
@@ -103,11 +103,11 @@ fails_few (suc count) zero at = omega arith
 fails_few (suc count) (suc len) at = omega (arith, fails_few count len (suc at))
 
 pub few_own : {V : Type 0} (zeros : V) (stack : Description) (op : Op) (state : State) (top start len count : ℕ) (values : Values V) (rows : Rows V) → IsSound stack → IsTidy stack → IsTop stack top → AreOwn zeros stack state values rows
-    → sector_past (stopped_units stack op top start len count state) 0 ≤ len
+    → sector_past (halted_units stack op top start len count state) 0 ≤ len
 few_own {V} zeros stack op state top start len count values rows sound tidy is_top own = by_end (nat_lt (device_len stack top) (start + len))
   where
     by_end : (past : Bool) → sector_past (take count (cond past (keep (replicate len Fails) state) (steps (sector_step stack op MOST_DEPTH (Device top)) state start len)).units) 0 ≤ len
     by_end true = let few : sector_past (take count (replicate len Fails)) 0 ≤ 0 + len = fails_few count len 0 in omega (arith, few)
     by_end false =
-        let stopped = steps_stopped zeros (λ s. zeros) stack op top count len state start 0 values rows sound tidy is_top own in
-        omega (arith, stopped.past, stopped.few)
+        let halted = steps_halted zeros (λ s. zeros) stack op top count len state start 0 values rows sound tidy is_top own in
+        omega (arith, halted.past, halted.few)
