@@ -12,7 +12,7 @@ mod requests;
 mod tables;
 mod words;
 
-pub use io::block::{as_room, put_bytes, put_digits, put_next_digits, put_room};
+pub use io::block::{put_bytes, put_digits, put_next_digits, put_room};
 pub use io::counted::Counted;
 pub use io::device_io::{InFault, Input, OutFault, Output};
 pub use io::gathered::Gathered;
@@ -37,4 +37,5 @@ pub use words::device_name::{DeviceNameRule, Name};
 pub use words::disk_name::{DiskName, DiskNameRule};
 pub use words::name::{CheckFault, CheckedName, NameRule};
 pub use words::number_text::{MOST_DIGITS, append, append_number};
+pub use words::room::as_room;
 pub use words::same_bytes::are_same;

@@ -7,4 +7,5 @@ pub mod front_digits;
 pub mod name;
 pub mod number;
 pub mod number_text;
+pub mod room;
 pub mod same_bytes;

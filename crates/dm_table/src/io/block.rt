@@ -8,6 +8,7 @@ ghost use Rattle.std.specs.Prelude.{◌≡◌, ◌++◌, ◌∷◌, ◌+◌, ◌
 ghost use Rattle.dm_table.specs.io.Block.{IsPut, four_digits};
 
 use crate::words::number_text::MOST_DIGITS;
+use crate::words::room::as_room;
 
 /// Copies bytes to an offset in a block.
 #[inline(always)]
@@ -30,15 +31,6 @@ fn set_room<const ROOM: usize>(place: &mut [u8], room: &[u8; ROOM])
         unreachable!()
     };
     *whole = *room;
-}
-
-/// Bytes of a known length, as a room.
-#[inline(always)]
-pub fn as_room<const ROOM: usize>(bytes: &[u8]) -> &[u8; ROOM]
-    requires { length bytes.now ≡ ROOM }
-    ensures { result.now ≡ bytes.now }
-{
-    bytes.first_chunk::<ROOM>().unwrap()
 }
 
 /// Copies a room to an offset in a block, and returns where the text ends that the room begins with.

@@ -9,7 +9,7 @@ ghost use Rattle.dm_table.specs.declared.words.front_digits.TheConstants.{FRONT}
 ghost use Rattle.dm_table.specs.words.Number.{number_of};
 ghost use lib.Lanes.{Each1};
 
-use crate::io::block::as_room;
+use crate::words::room::as_room;
 use std::simd::prelude::*;
 
 /// How many bytes are read together.

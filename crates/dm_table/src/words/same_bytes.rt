@@ -6,7 +6,7 @@
 ghost use Rattle.std.specs.Prelude.{◌≡◌, ◌≢◌, ◌*◌, ◌≤◌, length};
 ghost use Rattle.std.specs.Bool.{OnTrue, OnFalse};
 
-use crate::io::block::as_room;
+use crate::words::room::as_room;
 
 /// Whether two texts have the same bytes. It is quickest for texts of up to 16 bytes.
 #[inline(always)]
