@@ -13,7 +13,7 @@ use Rattle.dm_stack.specs.Description.{Description, lower_len}
 use Rattle.dm_stack.specs.Soundness.{IsSound}
 use Rattle.dm_stack.specs.StripePosition.{IsStripePosition}
 
--- a line with this target, of a stack without a fault, has len sectors from a distance from its start on
+-- a line with this target could stand in a stack without a fault, and has len sectors from a distance from its start on
 pub record HasSectors (target : FoundTarget) (distance len : ℕ) : Type 0 where
   pub stack : Description
   pub sound : IsSound stack

@@ -2,10 +2,10 @@
 //!
 //! Depths come first, by rounds that are linear in the links, since only a device that is too deep
 //! can reach itself; what a device reaches is then searched for few devices or none.
-//! The clauses write the bound as 33, one level more than `MOST_DEPTH`: change both together.
 
 ghost use Rattle.std.specs.Prelude.{◌≡◌, ◌≤◌, ◌<◌, ℕ, length, map, IfOk, IfSome, IfNone, OnOk, IsTrue, false};
 ghost use Rattle.std.specs.List.{All, Contains};
+ghost use Rattle.dm_stack.specs.declared.graph.TheConstants.{FOLLOWED_LEVELS};
 ghost use Rattle.dm_stack.specs.Graph.{IsClosed, Names, Reaches, Visits, depth_over, depths_to, links_in};
 
 use std::alloc::{AllocError, Global};
@@ -13,19 +13,23 @@ use std::alloc::{AllocError, Global};
 /// The greatest depth that a stack of devices may have.
 pub const MOST_DEPTH: u32 = 32;
 
-/// The depth of each device, followed through at most `MOST_DEPTH + 1` levels.
+/// Through how many levels a depth is followed: one more than a stack may have, so that a greater depth
+/// is seen.
+const FOLLOWED_LEVELS: u32 = MOST_DEPTH + 1;
+
+/// The depth of each device, followed through at most `FOLLOWED_LEVELS`.
 ///
 /// A device that names nothing has depth 1, else its depth is 1 plus the greatest of those that it
-/// names. `MOST_DEPTH + 1` stands for every greater depth, and for that of a device in a ring.
+/// names. `FOLLOWED_LEVELS` stands for every greater depth too, and for that of a device in a ring.
 ///
 /// Fails only when out of memory. Cost: linear in the links for each level that there is, and for
-/// `MOST_DEPTH + 1` levels at most, with memory for two numbers a device.
+/// `FOLLOWED_LEVELS` at most, with memory for two numbers a device.
 pub(crate) fn depths(alloc: Global, links: &[Vec<usize>]) -> Result<Vec<u32>, AllocError>
     requires { IsClosed (links_in links.now) }
-    ensures { IfOk result (λ depths. depths.items ≡ depths_to (links_in links.now) 33) }
+    ensures { IfOk result (λ depths. depths.items ≡ depths_to (links_in links.now) FOLLOWED_LEVELS) }
 {
     let mut depths: Vec<u32> = vec![in alloc; 0; links.len()]?;
-    for _level in 0..MOST_DEPTH + 1 {
+    for _level in 0..FOLLOWED_LEVELS {
         let next = next_depths(alloc, links, &depths)?;
         if next == depths {
             return Ok(depths);
@@ -38,7 +42,7 @@ pub(crate) fn depths(alloc: Global, links: &[Vec<usize>]) -> Result<Vec<u32>, Al
 /// The depths through one level more than these.
 fn next_depths(alloc: Global, links: &[Vec<usize>], depths: &[u32]) -> Result<Vec<u32>, AllocError>
     requires closed { (d e : ℕ) → Names (links_in links.now) d e → e < length depths.now }
-    requires bounded { All (λ depth. depth ≤ 33) depths.now }
+    requires bounded { All (λ depth. depth ≤ FOLLOWED_LEVELS) depths.now }
     ensures { IfOk result (λ next. next.items ≡ map (depth_over depths.now) (links_in links.now)) }
 {
     let mut next = Vec::new(alloc);
@@ -48,10 +52,10 @@ fn next_depths(alloc: Global, links: &[Vec<usize>], depths: &[u32]) -> Result<Ve
     Ok(next)
 }
 
-/// One more than the greatest of the depths of devices that a device names, up to 33.
+/// One more than the greatest of the depths of devices that a device names, up to `FOLLOWED_LEVELS`.
 fn depth_over(named: &[usize], depths: &[u32]) -> u32
     requires closed { All (λ e. e < length depths.now) named.now }
-    requires bounded { All (λ depth. depth ≤ 33) depths.now }
+    requires bounded { All (λ depth. depth ≤ FOLLOWED_LEVELS) depths.now }
     ensures { result ≡ depth_over depths.now named.now }
 {
     let mut greatest = 0;
@@ -108,7 +112,7 @@ pub(crate) fn first_cycle(
     depths: &[u32],
 ) -> Result<Option<usize>, AllocError>
     requires closed { IsClosed (links_in links.now) }
-    requires depths { depths.now ≡ depths_to (links_in links.now) 33 }
+    requires depths { depths.now ≡ depths_to (links_in links.now) FOLLOWED_LEVELS }
     ensures found { IfOk result (λ found. IfSome found
         (λ d. d < length links.now × Reaches (links_in links.now) d d)) }
     ensures first { IfOk result (λ found. IfSome found

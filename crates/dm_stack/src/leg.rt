@@ -1,8 +1,8 @@
 //! Legs: where the first sectors of a line lie, and how many go on like that.
 //!
-//! What a target without a state does with its sectors is said here and nowhere else: a walk goes
-//! down leg by leg, and of targets it knows no more than what may lie beneath a leg. A new target is an
-//! arm of `leg`. Stripes alone have more than one leg (`legs`).
+//! What a target without a state does with its sectors is said here, and of stripes, which alone have
+//! more than one leg, in `legs`: a walk goes down leg by leg, and goes by what lies beneath a leg, not by
+//! the target. A new target is an arm of `leg`.
 
 ghost use Rattle.std.specs.Prelude.{ℕ, ◌+◌, ◌≤◌};
 ghost use Rattle.dm_stack.specs.Below.{IsTargetSound};
@@ -39,7 +39,8 @@ impl FoundTarget {
     /// of at most `most` go on like that.
     ///
     /// A leg ends where a chunk of stripes does; any other target has one leg for all the sectors. Where
-    /// those of a snapshot or an origin lie is for the state to say. No memory is taken.
+    /// those of a snapshot lie, and what a write to an origin does first, is for the state to say. No memory
+    /// is taken.
     #[inline(always)]
     pub fn leg(&self, distance: u64, most: u64) -> Leg<'_>
         requires some { 1 ≤ most }

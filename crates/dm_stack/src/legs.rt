@@ -1,7 +1,8 @@
 //! Rows of legs: a part of a striped line, one leg after the other.
 //!
-//! Each leg is what is left of a chunk, and its position follows from that of the one before without a
-//! division. What the target says is read once, so a loop over legs keeps it in registers.
+//! Each leg is what is left of a chunk, or of the part where that ends first, and its position follows from
+//! that of the one before without a division. What the target says is read once, so a loop over legs keeps
+//! it in registers.
 
 ghost use Rattle.std.specs.Prelude.{◌≡◌, true, IfNone, IfSome};
 ghost use Rattle.dm_stack.specs.Below.{is_striped};

@@ -6,6 +6,7 @@
 ghost use Rattle.std.specs.Prelude.{◌≡◌, ◌⊎◌, IfErr, IfOk, OnOk};
 ghost use Rattle.dm_table.specs.load.LoadFault.{IsMemoryFault};
 ghost use Rattle.dm_table.specs.declared.load.place.Part.TheVariants.{Source};
+ghost use Rattle.dm_stack.specs.declared.graph.TheConstants.{FOLLOWED_LEVELS};
 ghost use Rattle.dm_stack.specs.Description.{described, links};
 ghost use Rattle.dm_stack.specs.Graph.{IsClosed, IsFirstRing, depths_to};
 ghost use Rattle.dm_stack.specs.Stack.{IsLoaded};
@@ -99,8 +100,8 @@ pub(crate) fn check(
 /// Which device reaches itself first, and how deep each is.
 fn follow(alloc: Global, stack: &Indexed) -> Result<Graph, AllocError>
     requires { IsClosed (links stack.now) }
-    ensures depths { IfOk result (λ graph. graph.depths.items ≡ depths_to (links stack.now) 33) }
-    ensures stores { IfOk result (λ graph. graph.store_depths.items ≡ depths_to (store_links stack.now) 33) }
+    ensures depths { IfOk result (λ graph. graph.depths.items ≡ depths_to (links stack.now) FOLLOWED_LEVELS) }
+    ensures stores { IfOk result (λ graph. graph.store_depths.items ≡ depths_to (store_links stack.now) FOLLOWED_LEVELS) }
     ensures cycle { IfOk result (λ graph. IsFirstRing (links stack.now) graph.cycle) }
 {
     let links = links(alloc, stack)?;

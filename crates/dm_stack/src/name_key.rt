@@ -4,8 +4,7 @@
 //! together, and those from its end on are set to zero. Of a longer one they are a mix of its first sixteen
 //! bytes and its last sixteen, which other names may have too.
 
-ghost use Rattle.std.specs.Prelude.{◌≡◌, ◌-◌, ◌<◌, ◌≤◌, ◌++◌, IfSome, get_or, length, replicate, take};
-ghost use Rattle.std.specs.Bool.{OnTrue};
+ghost use Rattle.std.specs.Prelude.{◌≡◌, ◌-◌, ◌<◌, ◌≤◌, ◌++◌, ◌↔◌, IfSome, IsTrue, get_or, length, replicate, take};
 ghost use Rattle.std.specs.Int.{to_le_bytes, w64};
 ghost use Rattle.dm_table.specs.words.Bytes.{space};
 ghost use Rattle.dm_stack.specs.FrontNames.{IsKeyOf};
@@ -67,7 +66,7 @@ impl NameKey {
     /// Whether two keys are one.
     #[inline(always)]
     pub(crate) fn is(&self, other: &NameKey) -> bool
-        ensures { OnTrue result (self.now ≡ other.now) }
+        ensures { IsTrue result ↔ self.now ≡ other.now }
     {
         self.first == other.first && self.last == other.last && self.len == other.len
     }

@@ -165,8 +165,8 @@ impl Stack {
     }
 
     /// The device whose name stands at the front of a text, up to a space, and how long the name is: the
-    /// quick way to the device of a request. `None` says nothing of the text, as near its end, or where many
-    /// names are alike.
+    /// quick way to the device of a request. `None` says nothing of the text, as near its end, or where
+    /// another name is alike.
     ///
     /// No memory is taken. Cost: about the same at any number of devices, and for any name of up to 15 bytes.
     #[inline(always)]

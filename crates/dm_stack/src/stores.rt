@@ -8,6 +8,7 @@ ghost use Rattle.std.specs.Prelude.{◌≡◌, IfOk, None};
 ghost use Rattle.std.specs.List.{list_all};
 ghost use Rattle.std.specs.Result.{result_err};
 ghost use Rattle.dm_table.specs.load.LoadFault.{first_or};
+ghost use Rattle.dm_stack.specs.declared.graph.TheConstants.{FOLLOWED_LEVELS};
 ghost use Rattle.dm_stack.specs.Description.{links};
 ghost use Rattle.dm_stack.specs.Graph.{IsClosed, depths_to, links_in};
 ghost use Rattle.dm_stack.specs.Soundness.{store};
@@ -31,7 +32,7 @@ pub(crate) fn store_depths(
 ) -> Result<Vec<u32>, AllocError>
     requires named { links_in named.now ≡ links stack.now }
     requires closed { IsClosed (links stack.now) }
-    ensures { IfOk result (λ depths. depths.items ≡ depths_to (store_links stack.now) 33) }
+    ensures { IfOk result (λ depths. depths.items ≡ depths_to (store_links stack.now) FOLLOWED_LEVELS) }
 {
     let named = store_links(alloc, stack, named)?;
     depths(alloc, &named)
@@ -93,7 +94,7 @@ fn is_plain(target: &Target) -> bool
 ///
 /// Cost: a walk over the lines.
 pub(crate) fn check_stores(stack: &Indexed, depths: &[u32]) -> Result<(), LoadFault>
-    requires { depths.now ≡ depths_to (store_links stack.now) 33 }
+    requires { depths.now ≡ depths_to (store_links stack.now) FOLLOWED_LEVELS }
     ensures { result_err result ≡ first_or (store stack.now) None }
 {
     check_lines(LoadKind::Store, stack.devices(), |line| {

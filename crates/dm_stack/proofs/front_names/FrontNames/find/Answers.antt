@@ -1,4 +1,4 @@
-use Rattle.std.proofs.Common.{List, ap, ◌∙◌, sym, subst}
+use Rattle.std.proofs.Common.{List, ap, ◌∙◌, refl, sym, subst}
 use Rattle.std.specs.List.{All, Contains}
 use Rattle.dm_stack.proofs.KeyLemmas.{part_of}
 use Rattle.dm_stack.specs.declared.front_names.Place.{Place}
@@ -15,5 +15,5 @@ loop-place-init c =
 pub returns-then-is : goal.returns-then-is
 returns-then-is c =
     let place = c.place-item.result in
-    subst (Contains c.args.self.now) (sym c.place-item.is ∙ ap (λ (key : NameKey). record { key = key; device = place.device }) c.if-is.ensures)
+    subst (Contains c.args.self.now) (sym c.place-item.is ∙ ap (λ (key : NameKey). record { key = key; device = place.device }) (c.if-is.ensures.0 refl))
     (c.loop-place.invariant c.loop-place.place-index place c.loop-place-test.true)
