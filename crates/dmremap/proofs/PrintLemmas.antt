@@ -1,6 +1,6 @@
 -- What a command that prints wrote, and how it would exit.
-use Rattle.std.proofs.Common.{◌≡◌, ℕ, List, Result, Ok, Err, refl, sym, ap, subst}
-use Rattle.dm_table.specs.io.DeviceIo.{Delivery, OutputPast, written_since}
+use Rattle.std.proofs.Common.{◌≡◌, ℕ, List, Result, Ok, Err, refl, sym, ap, subst, arith}
+use Rattle.dm_table.specs.io.DeviceIo.{Delivery, InputPast, OutputPast, written_since}
 use Rattle.dm_table.specs.io.Progress.{HasWritten, Wrote}
 use Rattle.dm_stack.specs.Description.{Description}
 use Rattle.dm_stream.specs.declared.ending.Ending.TheVariants as endings
@@ -12,6 +12,8 @@ use Rattle.dmremap.specs.declared.job.TableForm.{TableForm}
 use Rattle.dmremap.specs.Exit.{exit_after, failed_writes}
 use Rattle.dmremap.specs.Load.{PartsGive, SoundAs}
 use Rattle.dmremap.specs.Printing.{CheckSays, FilesSay, IsPrinted, IsTextPrinted, Prints, ReportSays, Said, line, name_said, written_as}
+use Rattle.dmremap.specs.Streams.{AskedBy}
+use Rattle.dmremap.proofs.ExitLemmas.{read_on_none}
 
 -- a text was written, or a write of it failed
 pub printed_after : {E : Type 0} {old new : OutputPast} (result : Result (Unit {0}) E) (text : List ℕ) (exit : Exit) → exit ≡ exit_after result → Wrote old new result text
@@ -29,6 +31,13 @@ pub says_printed : (Says : Said → Type 0) (text output : List ℕ) (exit : Exi
 says_printed Says text output (exits.Ended endings.Done) says is = subst (λ (t : List ℕ). Says (Prints t)) is says
 says_printed Says text output (exits.Ended endings.WriteFault) says cut = (text, says, cut)
 says_printed Says text output exit says is = absurd is
+
+-- no requests were asked for by what was printed
+pub asked_none : (Says : Said → Type 0) (text : List ℕ) (exit : Exit) (past : InputPast) → IsPrinted Says text exit → AskedBy past past exit
+asked_none Says text (exits.Ended endings.Done) past is = record { read_on = read_on_none past; met = omega arith; unasked = λ refused. refl }
+asked_none Says text (exits.Ended endings.WriteFault) past is = record { read_on = read_on_none past; met = tt; unasked = λ refused. refl }
+asked_none Says text (exits.Refused refusal) past is = record { read_on = read_on_none past; met = tt; unasked = λ refused. refl }
+asked_none Says text exit past is = absurd is
 
 -- the devices of a load
 pub stack_printed : (form : TableForm) (format other : Format) (source disks : Delivery) (description : Description) (output : List ℕ) (exit : Exit) → other ≡ format → PartsGive other source disks (SoundAs description)

@@ -92,6 +92,7 @@ pub fn other_whole<S: Input, D: Input, Q: Input, W: Output, M: Output>(
 }
 
 /// Does what a job asks for, and says how the command would exit. Nothing is flushed.
+#[tactic(auto, using(crate::proofs::LoadLemmas::untouched))]
 fn answer<S: Input, D: Input, Q: Input, W: Output>(
     alloc: Global,
     job: Job<'_>,
@@ -114,8 +115,20 @@ fn answer<S: Input, D: Input, Q: Input, W: Output>(
     ensures disks { IsReadOnIf D.past disks.old disks.new }
 {
     match job {
+        Job::Map { .. } => unreachable!(),
         Job::Replay(from) => replay(alloc, from.format(), source, disks, requests, output),
-        _ => print(alloc, job, source, disks, output),
+        Job::Print { form, source: from } => {
+            match load_if(alloc, from.format(), source, disks) {
+                Ok(stack) => print_stack(form, stack, output),
+                Err(fault) => Exit::unloaded(fault),
+            }
+        }
+        Job::Check(from) => match load_if(alloc, from.format(), source, disks) {
+            Ok(stack) => print_report(alloc, &stack, output),
+            Err(fault) => Exit::unloaded(fault),
+        },
+        Job::Name { vg, lv, layer } => print_name(alloc, vg, lv, layer, output),
+        Job::SplitName(name) => print_parts(alloc, name, output),
     }
 }
 
@@ -141,40 +154,5 @@ fn replay<S: Input, D: Input, Q: Input, W: Output>(
     match load_if(alloc, format, source, disks) {
         Ok(stack) => replay_stack(alloc, &stack, requests, output),
         Err(fault) => Exit::unloaded(fault),
-    }
-}
-
-/// Prints what a job without requests asks for.
-#[tactic(auto, using(crate::proofs::LoadLemmas::untouched))]
-fn print<S: Input, D: Input, W: Output>(
-    alloc: Global,
-    job: Job<'_>,
-    source: &mut Option<S>,
-    disks: &mut Option<D>,
-    output: &mut W,
-) -> Exit
-    requires unasked { has_requests (job_words job) ≡ false }
-    ensures printed { IsPrinted (JobSays (job_words job.entry)
-        (delivery_if S.past source.old source.new)
-        (delivery_if D.past disks.old disks.new))
-        (written_since (W.past output.old) (W.past output.new)) result }
-    ensures writes { HasWritten (W.past output.old) (W.past output.new) (failed_writes result) }
-    ensures source { IsReadOnIf S.past source.old source.new }
-    ensures disks { IsReadOnIf D.past disks.old disks.new }
-{
-    match job {
-        Job::Map { .. } | Job::Replay(_) => unreachable!(),
-        Job::Print { form, source: from } => {
-            match load_if(alloc, from.format(), source, disks) {
-                Ok(stack) => print_stack(form, stack, output),
-                Err(fault) => Exit::unloaded(fault),
-            }
-        }
-        Job::Check(from) => match load_if(alloc, from.format(), source, disks) {
-            Ok(stack) => print_report(alloc, &stack, output),
-            Err(fault) => Exit::unloaded(fault),
-        },
-        Job::Name { vg, lv, layer } => print_name(alloc, vg, lv, layer, output),
-        Job::SplitName(name) => print_parts(alloc, name, output),
     }
 }

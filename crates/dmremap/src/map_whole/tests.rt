@@ -17,6 +17,7 @@ mod counted;
 mod described;
 mod fault_texts;
 mod faults;
+mod fronts;
 mod gathered;
 mod part_files;
 mod parts;

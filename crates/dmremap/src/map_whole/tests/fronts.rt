@@ -1,0 +1,43 @@
+//! Devices are found where their names stand. No contract says that any is: where none is found, a request
+//! is read more slowly, with the same answer.
+
+use super::*;
+use dm_stack::Stack;
+use dm_table::{parse_disks, parse_table};
+
+/// Names of 1, 15, 16 and 127 bytes, the shortest and the longest of those that are compared as words, and of
+/// those that are compared byte by byte.
+static NAMES: [&str; 4] = [
+    "n",
+    "fifteen_letters",
+    "sixteen_letters_",
+    "a_name_of_one_hundred_and_twenty_seven_bytes_which_is_the_longest_that_a_device_may_have_and_goes_\
+        on_until_all_of_them_are_here",
+];
+
+/// What follows a name in a request, and more bytes than the longest name has.
+const REST: &str =
+    " 0 1\nR n 0 1\nR n 0 1\nR n 0 1\nR n 0 1\nR n 0 1\nR n 0 1\nR n 0 1\nR n 0 1\nR n 0 1\n\
+    R n 0 1\nR n 0 1\nR n 0 1\nR n 0 1\nR n 0 1\nR n 0 1\nR n 0 1\nR n 0 1\nR n 0 1\n";
+
+#[test]
+fn names_are_found_where_they_stand(rt: HostRuntime) {
+    let alloc = rt.alloc();
+    let mut table = String::new(alloc);
+    for name in &NAMES {
+        let line = format!(in alloc; "{name}: 0 1 zero\n").expect(&rt, "a line");
+        table.push_str(&line).expect(&rt, "a table");
+    }
+    let devices = parse_table(alloc, table.as_bytes()).expect(&rt, "devices");
+    let disks = parse_disks(alloc, b"").expect(&rt, "no disks");
+    let stack = Stack::load(alloc, devices, disks).expect(&rt, "a stack");
+    for name in &NAMES {
+        let text = format!(in alloc; "{name}{REST}").expect(&rt, "a text");
+        let device = stack.device(name).expect(&rt, "a device");
+        assert_eq!(&rt;
+            stack.front(text.as_bytes()),
+            Some((device, name.len())),
+            "{name}"
+        );
+    }
+}
