@@ -5,7 +5,7 @@ pub mod block;
 pub mod counted;
 pub mod device_io;
 pub mod gathered;
-pub mod ghost_bytes;
+pub mod ghost_list;
 pub mod short_io;
 pub mod text;
 pub mod writing;

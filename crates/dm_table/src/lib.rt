@@ -16,7 +16,7 @@ pub use io::block::{put_bytes, put_digits, put_next_digits, put_room};
 pub use io::counted::Counted;
 pub use io::device_io::{InFault, Input, OutFault, Output};
 pub use io::gathered::Gathered;
-pub use io::ghost_bytes::Tally;
+pub use io::ghost_list::{GhostList, Tally};
 pub use io::short_io::{ShortIn, ShortOut};
 pub use io::text::{TEXT_ROOM, Text};
 pub use io::writing::{close, write_all};

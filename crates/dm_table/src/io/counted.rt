@@ -6,18 +6,18 @@ ghost use Rattle.std.specs.Io.KnownBytes.{Keeps, ReadConsumes, WriteAppends};
 ghost use Rattle.dm_table.specs.io.DeviceIo.{given, fault_of, end_of, unflushed};
 
 use crate::io::device_io::{InFault, Input, OutFault, Output};
-use crate::io::ghost_bytes::{GhostBytes, Tally};
+use crate::io::ghost_list::{GhostList, Tally};
 use std::io::{Read, Write};
 
 /// A reader or a writer, with a past that takes no room and no time.
 #[derive(Drop)]
 pub struct Counted<T> {
     inner: T,
-    handed: GhostBytes,
+    handed: GhostList<u8>,
     read_faults: Tally,
     ends: Tally,
-    written: GhostBytes,
-    waiting: GhostBytes,
+    written: GhostList<u8>,
+    waiting: GhostList<u8>,
     write_faults: Tally,
     flushes: Tally,
 }
@@ -26,18 +26,18 @@ impl<T> Counted<T> {
     /// The device with nothing noted yet.
     pub fn new(inner: T) -> Counted<T>
         ensures inner { result.inner ≡ inner }
-        ensures bytes { (result.handed.bytes ≡ []) × (result.written.bytes ≡ [])
-            × (result.waiting.bytes ≡ []) }
+        ensures bytes { (result.handed.items ≡ []) × (result.written.items ≡ [])
+            × (result.waiting.items ≡ []) }
         ensures counts { (result.read_faults ≡ 0) × (result.ends ≡ 0)
             × (result.write_faults ≡ 0) × (result.flushes ≡ 0) }
     {
         Counted {
             inner,
-            handed: GhostBytes::new(),
+            handed: GhostList::new(),
             read_faults: Tally::new(),
             ends: Tally::new(),
-            written: GhostBytes::new(),
-            waiting: GhostBytes::new(),
+            written: GhostList::new(),
+            waiting: GhostList::new(),
             write_faults: Tally::new(),
             flushes: Tally::new(),
         }
@@ -45,12 +45,12 @@ impl<T> Counted<T> {
 }
 
 impl<T: Read> Input for Counted<T> {
-    ghost past = { λ c. record { handed = c.handed.bytes; faults = c.read_faults; ends = c.ends } };
+    ghost past = { λ c. record { handed = c.handed.items; faults = c.read_faults; ends = c.ends } };
 
     /// One read of the reader. Each of its errors is a fault, an interrupted call too.
     fn read(&mut self, buffer: &mut [u8]) -> Result<usize, InFault>
         ensures within { IfOk result (λ n. n ≤ length buffer.new) }
-        ensures bytes { self.new.handed.bytes ≡ self.old.handed.bytes ++ given result buffer.new }
+        ensures bytes { self.new.handed.items ≡ self.old.handed.items ++ given result buffer.new }
         ensures faults { self.new.read_faults ≡ self.old.read_faults + fault_of result }
         ensures ends { self.new.ends ≡ self.old.ends + end_of result (length buffer.new) }
         // Where std knows the reader's bytes, none is lost or made up.
@@ -75,8 +75,8 @@ impl<T: Read> Input for Counted<T> {
 
 impl<T: Write> Output for Counted<T> {
     ghost past = { λ c. record {
-      written = c.written.bytes;
-      waiting = c.waiting.bytes;
+      written = c.written.items;
+      waiting = c.waiting.items;
       faults = c.write_faults;
       flushes = c.flushes;
     } };
@@ -86,8 +86,8 @@ impl<T: Write> Output for Counted<T> {
     fn write(&mut self, bytes: &[u8]) -> Result<usize, OutFault>
         ensures within { IfOk result (λ n. n ≤ length bytes.now) }
         ensures progress { IfOk result (λ n. 0 < length bytes.now → 0 < n) }
-        ensures bytes { self.new.written.bytes ≡ self.old.written.bytes ++ given result bytes.now }
-        ensures waiting { self.new.waiting.bytes ≡ self.old.waiting.bytes ++ given result bytes.now }
+        ensures bytes { self.new.written.items ≡ self.old.written.items ++ given result bytes.now }
+        ensures waiting { self.new.waiting.items ≡ self.old.waiting.items ++ given result bytes.now }
         ensures faults { self.new.write_faults ≡ self.old.write_faults + fault_of result }
         ensures flushes { self.new.flushes ≡ self.old.flushes }
         // Where std knows the writer's bytes, they grow by what was taken, and by nothing else.
@@ -108,8 +108,8 @@ impl<T: Write> Output for Counted<T> {
     }
 
     fn flush(&mut self) -> Result<(), OutFault>
-        ensures bytes { self.new.written.bytes ≡ self.old.written.bytes }
-        ensures waiting { self.new.waiting.bytes ≡ unflushed result self.old.waiting.bytes }
+        ensures bytes { self.new.written.items ≡ self.old.written.items }
+        ensures waiting { self.new.waiting.items ≡ unflushed result self.old.waiting.items }
         ensures faults { self.new.write_faults ≡ self.old.write_faults + fault_of result }
         ensures flushes { self.new.flushes ≡ self.old.flushes + 1 }
         ensures inner { Keeps (T.contents self.old.inner) (T.contents self.new.inner) }
@@ -117,7 +117,7 @@ impl<T: Write> Output for Counted<T> {
         self.flushes.raise();
         match self.inner.flush() {
             Ok(()) => {
-                self.waiting = GhostBytes::new();
+                self.waiting = GhostList::new();
                 Ok(())
             }
             Err(_) => {

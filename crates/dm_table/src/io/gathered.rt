@@ -12,7 +12,7 @@ ghost use Rattle.dm_table.specs.io.Progress.{Wrote};
 
 use crate::io::block::put_bytes;
 use crate::io::device_io::{OutFault, Output};
-use crate::io::ghost_bytes::Tally;
+use crate::io::ghost_list::Tally;
 use crate::io::text::{TEXT_ROOM, Text};
 use std::marker::Model;
 

@@ -6,7 +6,7 @@ ghost use Rattle.dm_table.specs.io.DeviceIo.{after_flush, after_read, after_writ
 ghost use Rattle.dm_table.specs.io.ShortIo.{Supply, fresh_supply, Intake, fresh_intake, HandsOut, TakesIn, PassesOn};
 
 use crate::io::device_io::{InFault, Input, OutFault, Output};
-use crate::io::ghost_bytes::{GhostBytes, Tally};
+use crate::io::ghost_list::{GhostList, Tally};
 use std::alloc::{AllocError, Global};
 use std::marker::Model;
 
@@ -117,7 +117,7 @@ pub struct ShortOut {
     room: usize,
     step: usize,
     flush_fails: bool,
-    waiting: GhostBytes,
+    waiting: GhostList<u8>,
     faults: Tally,
     flushes: Tally,
 }
@@ -128,7 +128,7 @@ impl Model for ShortOut {
     ghost view = { λ s. record {
       past = record {
         written = s.taken.items;
-        waiting = s.waiting.bytes;
+        waiting = s.waiting.items;
         faults = s.faults;
         flushes = s.flushes;
       };
@@ -172,7 +172,7 @@ impl ShortOut {
             room: count,
             step,
             flush_fails,
-            waiting: GhostBytes::new(),
+            waiting: GhostList::new(),
             faults: Tally::new(),
             flushes: Tally::new(),
         })
@@ -220,7 +220,7 @@ impl Output for ShortOut {
             self.faults.raise();
             return Err(OutFault);
         }
-        self.waiting = GhostBytes::new();
+        self.waiting = GhostList::new();
         Ok(())
     }
 }

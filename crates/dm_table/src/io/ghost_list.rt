@@ -1,47 +1,48 @@
-//! Bytes and counts that only proofs read.
+//! Lists and counts that only proofs read.
 //! What a device did so far has no greatest length or count, so no data of the machine could hold it.
-//! Two proofs by hand set the bytes: add a method only where no call of these two does.
+//! Two proofs by hand set the lists: add a method only where no call of these two does.
 ghost use Rattle.std.specs.Prelude.{◌≡◌, ◌+◌, ◌++◌, ℕ, List, [], length};
 ghost use Rattle.std.specs.Borrow.{ftrue};
 
-use std::marker::Model;
+use std::marker::{Model, PhantomData};
 
-/// A growing list of bytes, of size zero.
+/// A growing list, of size zero.
 #[derive(Drop)]
-pub struct GhostBytes {
-    pub ghost bytes: { List ℕ },
+pub struct GhostList<T> {
+    of: PhantomData<T>,
+    pub ghost items: { List T },
 }
 
-impl Model for GhostBytes {
+impl<T> Model for GhostList<T> {
     ghost also_owns = { λ _. ftrue };
 }
 
-impl GhostBytes {
-    /// No bytes.
+impl<T> GhostList<T> {
+    /// No items.
     #[inline(always)]
-    pub fn new() -> GhostBytes
-        ensures { result.bytes ≡ [] }
+    pub fn new() -> GhostList<T>
+        ensures { result.items ≡ [] }
     {
-        GhostBytes {}
+        GhostList { of: PhantomData }
     }
 
-    /// Adds the slice after the bytes so far, in no time.
+    /// Adds the slice after the items so far, in no time.
     #[inline(always)]
-    pub fn note(&mut self, _more: &[u8])
-        ensures { self.new.bytes ≡ self.old.bytes ++ _more.now }
+    pub fn note(&mut self, _more: &[T])
+        ensures { self.new.items ≡ self.old.items ++ _more.now }
     {}
 }
 
 /// A count with no greatest value, of size zero.
 #[derive(Drop)]
 pub struct Tally {
-    ticks: GhostBytes,
+    ticks: GhostList<()>,
 }
 
 impl Model for Tally {
     ghost Value = { ℕ };
 
-    ghost view = { λ t. length t.ticks.bytes };
+    ghost view = { λ t. length t.ticks.items };
 }
 
 impl Tally {
@@ -51,7 +52,7 @@ impl Tally {
         ensures { result ≡ 0 }
     {
         Tally {
-            ticks: GhostBytes::new(),
+            ticks: GhostList::new(),
         }
     }
 
@@ -60,6 +61,6 @@ impl Tally {
     pub fn raise(&mut self)
         ensures { self.new ≡ self.old + 1 }
     {
-        self.ticks.note(&[0]);
+        self.ticks.note(&[()]);
     }
 }
