@@ -50,10 +50,10 @@ impl<'s, T: Taken> Model for Replay<'s, T> {
     ghost Value = { Replaying };
 
     ghost view = { λ replay.
-        record { stack = replay.stack.now; asked = replay.asked.asked; failed = replay.failed } };
+        record { stack = replay.stack.now; asked = replay.asked; failed = replay.failed } };
 
     ghost invariant = { λ replay. IsReplay replay.stack.now replay.mapper replay.player.stack.now
-        replay.player.playing.values.disks.items replay.asked.asked replay.writes.items replay.failed };
+        replay.player.playing.values.disks.items replay.asked replay.writes.items replay.failed };
 }
 
 impl<'s, T: Taken> Replay<'s, T> {

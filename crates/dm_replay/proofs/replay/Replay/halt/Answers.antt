@@ -32,7 +32,7 @@ pub rerun-requires : goal.rerun-requires
 rerun-requires g c =
     let inside = c.self.inside in let request = c.args.request.now in let device = c.in-Some.device in let going = c.self.invariant.going c.if-failed.false in
     let law = c.requests_are_alone.ensures in let size = c.whole_sectors-whole.result in
-    let few = few_whole inside.stack.now inside.mapper inside.asked.asked request device c.args.units (record { begins = law.start; stays = law.request; stops = law.halted; few = law.few })
+    let few = few_whole inside.stack.now inside.mapper inside.asked request device c.args.units (record { begins = law.start; stays = law.request; stops = law.halted; few = law.few })
     c.self.invariant.tidy going.asked_are c.in-Some.ensures.some.1 going.mapper_stack going.state_is in
     let whole = are_whole inside.stack.now inside.mapper request device c.args.units c.in-Ok.player.playing.next size going.mapper_stack c.in-Ok.ensures.next few c.whole_sectors-whole.ensures in
     let one = is_kept inside.stack.now request device size (named_there inside.stack.now request.device.now device c.in-Some.ensures.some.0) c.in-Some.ensures.some.1 whole.few in
@@ -42,15 +42,15 @@ pub invariant_of-result : goal.invariant_of-result
 invariant_of-result g c =
     let inside = c.self.inside in let request = c.args.request.now in let device = c.in-Some.device in let did = c.in-Ok.ensures in let going = c.self.invariant.going c.if-failed.false in
     let law = c.requests_are_alone.ensures in let size = c.whole_sectors-whole.result in let player = c.in-Ok.player in let again = c.in-Ok-rerun.ensures in
-    let few = few_whole inside.stack.now inside.mapper inside.asked.asked request device c.args.units (record { begins = law.start; stays = law.request; stops = law.halted; few = law.few })
+    let few = few_whole inside.stack.now inside.mapper inside.asked request device c.args.units (record { begins = law.start; stays = law.request; stops = law.halted; few = law.few })
     c.self.invariant.tidy going.asked_are c.in-Some.ensures.some.1 going.mapper_stack going.state_is in
     let whole = are_whole inside.stack.now inside.mapper request device c.args.units player.playing.next size going.mapper_stack did.next few c.whole_sectors-whole.ensures in
     let one = is_kept inside.stack.now request device size (named_there inside.stack.now request.device.now device c.in-Some.ensures.some.0) c.in-Some.ensures.some.1 whole.few in
     record {
       tidy = c.self.invariant.tidy;
       going = λ _. subst (λ (all : List Asked). IsGoing inside.stack.now c.in-Ok-rerun.mapper player.stack.now player.playing.values.disks.items all c.keep.new.writes.items) (sym c.add.ensures)
-          (subst (λ (writes : List KeptWrite). IsGoing inside.stack.now c.in-Ok-rerun.mapper player.stack.now player.playing.values.disks.items (inside.asked.asked ++ kept_request request device (Some c.args.units) ∷ []) writes) (sym c.in-Ok-keep.ensures)
-          (going_halted inside.stack.now inside.player.stack.now player.stack.now inside.mapper c.in-Ok-rerun.mapper inside.player.playing.values.disks.items player.playing.values.disks.items inside.asked.asked inside.writes.items request device c.args.units size
+          (subst (λ (writes : List KeptWrite). IsGoing inside.stack.now c.in-Ok-rerun.mapper player.stack.now player.playing.values.disks.items (inside.asked ++ kept_request request device (Some c.args.units) ∷ []) writes) (sym c.in-Ok-keep.ensures)
+          (going_halted inside.stack.now inside.player.stack.now player.stack.now inside.mapper c.in-Ok-rerun.mapper inside.player.playing.values.disks.items player.playing.values.disks.items inside.asked inside.writes.items request device c.args.units size
           one going again.going again.stack did.stack
           (again.state ∙ ap (rerun_from inside.stack.now (start_state inside.stack.now)) (c.deref.ensures.value ∙ c.in-Ok-keep.ensures)) did.values did.disks whole));
     }
@@ -59,7 +59,7 @@ pub returns-clause-asked : goal.returns-clause-asked
 returns-clause-asked g c =
     let inside = c.self.inside in let request = c.args.request.now in
     c.add.ensures
-    ∙ ap (λ (id : ℕ). inside.asked.asked ++ kept_request request id (Some c.args.units) ∷ []) (named_id inside.stack.now request.device.now c.in-Some.device c.in-Some.ensures.some.0)
+    ∙ ap (λ (id : ℕ). inside.asked ++ kept_request request id (Some c.args.units) ∷ []) (named_id inside.stack.now request.device.now c.in-Some.device c.in-Some.ensures.some.0)
     ∙ ap (λ (r : Replaying). r.asked ++ halted_request r.stack request c.args.units ∷ []) c.self.view_is
 
 pub returns-clause-top : goal.returns-clause-top
