@@ -11,7 +11,7 @@ use Rattle.dm_table.specs.laws.Progress.{written_more}
 use Rattle.dm_table.specs.io.Progress.{IsClosedAfter, Wrote}
 use Rattle.dm_table.specs.declared.tables.table.Line.{Line}
 use Rattle.dm_table.specs.declared.tables.table.Target.{Target}
-use Rattle.dm_table.specs.declared.tables.table.Target.TheVariants.{Linear, Striped, Zero, Error, Snapshot, Origin}
+use Rattle.dm_table.specs.declared.tables.table.Target.TheVariants.{Striped}
 use Rattle.dm_table.specs.tables.LineBody.{column_text, target_text, body_text}
 use Rattle.dm_table.specs.tables.LineHead.{target_head, body_head, columns_of}
 use Rattle.dm_table.specs.laws.Progress.{since_more}
@@ -161,12 +161,8 @@ joined_then byte f xs x some is h more = and_then (f x) _ (joined_slice byte f x
 
 -- a line after its label, in the two parts that it is written in
 body_split : (before : List ℕ) (target : Target) → before ++ target_text target ≡ (before ++ target_head target) ++ flat_map column_text (columns_of target)
-body_split before (Linear to offset) = sym (append-nil _)
 body_split before (Striped chunk columns) = simp append_assoc
-body_split before Zero = sym (append-nil _)
-body_split before Error = sym (append-nil _)
-body_split before (Snapshot origin store kind chunk) = sym (append-nil _)
-body_split before (Origin origin) = sym (append-nil _)
+body_split before _ = sym (append-nil _)
 
 pub line_split : (name mark : List ℕ) (line : Line) → name ++ mark ++ body_text line ≡ (name ++ mark ++ body_head line) ++ flat_map column_text (columns_of line.target)
 line_split name mark line =

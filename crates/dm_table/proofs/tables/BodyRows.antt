@@ -53,12 +53,8 @@ columns_text before (column ∷ columns) = rw (columns_text (decimal column.offs
 
 -- fields after one that comes before a body
 target_joined : (before start len : List ℕ) (target : Target) → join_with_byte 32 (before ∷ start ∷ len ∷ target_fields target) ≡ before ++ 32 ∷ start ++ 32 ∷ len ++ 32 ∷ target_text target
-target_joined before start len (Linear to offset) = simp append_assoc
 target_joined before start len (Striped chunk columns) = rw (columns_text (decimal chunk) columns) (simp append_assoc)
-target_joined before start len Zero = simp append_assoc
-target_joined before start len Error = simp append_assoc
-target_joined before start len (Snapshot origin store kind chunk) = simp append_assoc
-target_joined before start len (Origin origin) = simp append_assoc
+target_joined before start len _ = simp append_assoc
 
 pub body_joined : (before : List ℕ) (line : Line) → join_with_byte 32 (before ∷ body_fields line) ≡ before ++ 32 ∷ body_text line
 body_joined before line = target_joined before (decimal line.start) (decimal line.len) line.target ∙ simp append_assoc
@@ -320,12 +316,8 @@ kind_inked Transient = (refl, refl)
 kind_inked Keeping = (refl, refl)
 
 target_inked : (target : Target) → IsTarget target → AllByRecursion IsInked (target_fields target)
-target_inked (Linear to offset) h = ((refl, refl), (dev_inked to h.0, (number_inked offset h.1, tt)))
 target_inked (Striped chunk columns) h = ((refl, refl), (number_inked (length columns) h.0, (number_inked chunk h.1, columns_inked columns h.2)))
-target_inked Zero h = ((refl, refl), tt)
-target_inked Error h = ((refl, refl), tt)
-target_inked (Snapshot origin store kind chunk) h = ((refl, refl), (dev_inked origin h.0, (dev_inked store h.1, (kind_inked kind, (number_inked chunk h.2, tt)))))
-target_inked (Origin origin) h = ((refl, refl), (dev_inked origin h, tt))
+target_inked _ h = search (dev_inked, kind_inked, number_inked)
 
 pub body_inked : (line : Line) → IsBody line → AllByRecursion IsInked (body_fields line)
 body_inked line h = (number_inked line.start h.start, (number_inked line.len h.len, target_inked line.target h.target))
@@ -369,12 +361,8 @@ kind_again Transient = refl
 kind_again Keeping = refl
 
 target_again : (target : Target) → IsTarget target → target_in (target_fields target) ≡ Some target
-target_again (Linear to offset) h = rw (number_of-decimal offset h.1, dev_again to h.0) refl
 target_again (Striped chunk columns) h = rw (count_passes columns h.0, number_of-decimal chunk h.1, columns_again columns h.2) refl
-target_again Zero h = refl
-target_again Error h = refl
-target_again (Snapshot origin store kind chunk) h = rw (kind_again kind, number_of-decimal chunk h.2, dev_again origin h.0, dev_again store h.1) refl
-target_again (Origin origin) h = rw (dev_again origin h) refl
+target_again _ h = search (kind_again, number_of-decimal, dev_again)
 
 -- a start, a length, and at least the type of a target
 three_fields : (start len : List ℕ) (fs : List (List ℕ)) (target : Target) → target_in fs ≡ Some target → nat_le 3 (length (start ∷ len ∷ fs)) ≡ true
@@ -390,12 +378,8 @@ columns_named [] h = refl
 columns_named (column ∷ columns) h = and_from _ _ h.0.0 (columns_named columns h.1)
 
 target_named : (len : ℕ) (target : Target) → IsTarget target → has_target_names len target ≡ true
-target_named len (Linear to offset) h = and_from _ _ h.0 refl
 target_named len (Striped chunk columns) h = column_names (len / length columns) columns ∙ columns_named columns h.2
-target_named len Zero h = refl
-target_named len Error h = refl
-target_named len (Snapshot origin store kind chunk) h = and_from _ _ h.1 (and_from _ _ h.0 refl)
-target_named len (Origin origin) h = and_from _ _ h refl
+target_named len _ h = search and_from
 
 -- and say that body
 abbrev body_of : Line → Body
