@@ -20,7 +20,7 @@ use Rattle.dm_table.specs.declared.tables.table.Line.{Line}
 use Rattle.dm_table.specs.declared.load.place.Place.{Place}
 use Rattle.dm_table.specs.words.Name.{is_device_byte, is_device_name, is_disk_byte, names_device, mapper}
 use Rattle.dm_table.specs.words.Number.{Spells, number_of, number_in}
-use Rattle.dm_table.specs.tables.LineBody.{dev_text, column_text, kind_text, target_text, body_text, is_dev_ref, IsDevRef, IsColumn, IsTarget, IsBody, dev_in, if_both, linear_in, columns_in, is_half, if_all, striped_in, kind_in, snapshot_in, origin_in, bare_in, target_in, Body, body_in, is_body_row, is_body, has_target_names, has_body_names}
+use Rattle.dm_table.specs.tables.LineBody.{dev_text, column_text, kind_text, target_text, body_text, is_dev_ref, IsDevRef, IsColumn, IsTarget, IsBody, dev_in, if_both, pair_in, columns_in, is_half, if_all, striped_in, kind_in, snapshot_in, origin_in, bare_in, target_in, Body, body_in, is_body_row, is_body, has_target_names, has_body_names}
 use Rattle.dm_table.specs.tables.Span.{column_span}
 use Rattle.dm_table.specs.tables.LineReading.{line_at, line_in, has_column_names}
 use Rattle.std.specs.Prelude.{◌/◌, map}
@@ -101,17 +101,19 @@ record SaysTarget (fields : List (List ℕ)) (target : Target) : Type 0 where
   again : target_fields target ≡ fields
   said : (len : ℕ) → has_target_names len target ≡ true → IsTarget target
 
-linear_says : (fs : List (List ℕ)) (target : Target) → linear_in fs ≡ Some target → SaysTarget (codes "linear" ∷ fs) target
-linear_says [] target h = absurd cc
-linear_says (to ∷ []) target h = absurd cc
-linear_says (to ∷ offset ∷ []) target h =
-    let m = mapped (λ n. Linear (dev_in to) n) (number_of offset) target h in
+-- a word before a text and a number
+pair_says : (word : List ℕ) (make : DevRef → ℕ → Target) → ((to : DevRef) (n : ℕ) → target_fields (make to n) ≡ word ∷ dev_text to ∷ decimal n ∷ []) → ((len : ℕ) (to : DevRef) (n : ℕ) → has_target_names len (make to n) ≡ true → n < 10 ^ 19 → IsTarget (make to n))
+    → (fs : List (List ℕ)) (target : Target) → pair_in make fs ≡ Some target → SaysTarget (word ∷ fs) target
+pair_says word make written named [] target h = absurd cc
+pair_says word make written named (to ∷ []) target h = absurd cc
+pair_says word make written named (to ∷ offset ∷ []) target h =
+    let m = mapped (λ n. make (dev_in to) n) (number_of offset) target h in
     let spelled = Spells-number_of offset m.0 m.1 in
     rw (← m.2) record {
-      again = rw (dev_spelled to, ← spelled.digits) refl;
-      said = λ len named. ((and_parts (is_dev_ref (dev_in to)) true named).0, spelled.short);
+      again = written (dev_in to) m.0 ∙ (rw (dev_spelled to, ← spelled.digits) refl);
+      said = λ len names. named len (dev_in to) m.0 names spelled.short;
     }
-linear_says (to ∷ offset ∷ more ∷ rest) target h = absurd cc
+pair_says word make written named (to ∷ offset ∷ more ∷ rest) target h = absurd cc
 
 -- the names of columns are those of their spans
 pub column_names : (share : ℕ) (columns : List Column) → list_all (λ span. is_dev_ref span.to) (map (column_span share) columns) ≡ has_column_names columns
@@ -228,7 +230,7 @@ bare_says type (f ∷ fs) target h = absurd cc
 target_says : (fs : List (List ℕ)) (target : Target) → target_in fs ≡ Some target → SaysTarget fs target
 target_says [] target h = absurd cc
 target_says (type ∷ fs) target h =
-    by_word type (codes "linear") fs target _ _ (linear_says fs target)
+    by_word type (codes "linear") fs target _ _ (pair_says (codes "linear") Linear (λ to n. refl) (λ len to n named short. ((and_parts (is_dev_ref to) true named).0, short)) fs target)
     (by_word type (codes "striped") fs target _ _ (striped_says fs target)
     (by_word type (codes "snapshot") fs target _ _ (snapshot_says fs target)
     (by_word type (codes "snapshot-origin") fs target _ _ (origin_says fs target)

@@ -10,14 +10,14 @@ use Rattle.dm_table.specs.declared.tables.table.Column.{Column}
 use Rattle.dm_table.specs.declared.tables.table.DevRef.{DevRef}
 use Rattle.dm_table.specs.declared.tables.table.StoreKind.{StoreKind}
 use Rattle.dm_table.specs.declared.tables.table.Target.{Target}
-use Rattle.dm_table.specs.declared.tables.table.Target.TheVariants.{Linear, Striped, Snapshot, Origin}
+use Rattle.dm_table.specs.declared.tables.table.Target.TheVariants.{Striped, Snapshot, Origin}
 use Rattle.dm_table.specs.declared.tables.table.Line.{Line}
 use Rattle.dm_table.specs.declared.load.place.Place.{Place}
 use Rattle.dm_table.specs.declared.load.row_faults.RowFault.{RowFault}
 use Rattle.dm_table.specs.declared.load.row_faults.RowFault.TheVariants.{Field, Name, Memory}
 use Rattle.dm_table.specs.words.Number.{number_of}
 use Rattle.dm_table.specs.words.Fields.{texts}
-use Rattle.dm_table.specs.tables.LineBody.{is_dev_ref, dev_in, if_both, linear_in, columns_in, is_half, striped_in, kind_in, snapshot_in, origin_in, bare_in, target_in, Body, has_target_names}
+use Rattle.dm_table.specs.tables.LineBody.{is_dev_ref, dev_in, if_both, pair_in, columns_in, is_half, striped_in, kind_in, snapshot_in, origin_in, bare_in, target_in, Body, has_target_names}
 use Rattle.dm_table.proofs.tables.BodyRows.{column_names}
 use Rattle.dm_table.specs.tables.LineReading.{line_at, has_column_names, dev_reading, reading_of, columns_reading, fault_before, target_reading, body_reading}
 
@@ -140,11 +140,15 @@ column_unknown (f ∷ g ∷ fs) e h n = rw n refl
 abbrev pub arguments_reading : (len : ℕ) → (List (List ℕ) → Option Target) → List (Bor (List ℕ)) → Result Target RowFault
 arguments_reading len said fs = reading_of (has_target_names len) (said (texts fs))
 
-pub linear_none : (len : ℕ) (fs : List (Bor (List ℕ))) → length fs ≢ 2 → arguments_reading len linear_in fs ≡ Err Field
-linear_none len [] h = refl
-linear_none len (f ∷ []) h = refl
-linear_none len (f ∷ g ∷ []) h = absurd (h refl)
-linear_none len (f ∷ g ∷ k ∷ fs) h = refl
+pub pair_none : (len : ℕ) (make : DevRef → ℕ → Target) (fs : List (Bor (List ℕ))) → length fs ≢ 2 → arguments_reading len (pair_in make) fs ≡ Err Field
+pair_none len make [] h = refl
+pair_none len make (f ∷ []) h = refl
+pair_none len make (f ∷ g ∷ []) h = absurd (h refl)
+pair_none len make (f ∷ g ∷ k ∷ fs) h = refl
+
+-- what is made of a text and a number names the text alone
+abbrev pub NamesOne : (len : ℕ) → (DevRef → ℕ → Target) → Type 0
+NamesOne len make = (to : DevRef) (n : ℕ) → has_target_names len (make to n) ≡ (is_dev_ref to && true)
 
 -- two arguments as the code has them
 texts_two : (fs : List (Bor (List ℕ))) (d e : Bor (List ℕ)) → length fs ≡ 2 → texts fs ≡ (slice_index_or fs 0 d).now ∷ (slice_index_or fs 1 e).now ∷ []
@@ -153,13 +157,13 @@ texts_two (f ∷ []) d e h = absurd (omega arith)
 texts_two (f ∷ g ∷ []) d e h = refl
 texts_two (f ∷ g ∷ k ∷ fs) d e h = absurd (omega arith)
 
-pub linear_unnamed : (len : ℕ) (fs : List (Bor (List ℕ))) (d e : Bor (List ℕ)) (offset : ℕ) (fault : RowFault) → length fs ≡ 2 → number_of (slice_index_or fs 1 e).now ≡ Some offset → dev_reading (slice_index_or fs 0 d).now ≡ Err fault
-    → arguments_reading len linear_in fs ≡ Err fault
-linear_unnamed len fs d e offset fault two n r = let a = dev_unnamed (slice_index_or fs 0 d).now fault r in rw (texts_two fs d e two, n, a.0, a.1) refl
+pub pair_unnamed : (len : ℕ) (make : DevRef → ℕ → Target) (fs : List (Bor (List ℕ))) (d e : Bor (List ℕ)) (offset : ℕ) (fault : RowFault) → NamesOne len make → length fs ≡ 2 → number_of (slice_index_or fs 1 e).now ≡ Some offset → dev_reading (slice_index_or fs 0 d).now ≡ Err fault
+    → arguments_reading len (pair_in make) fs ≡ Err fault
+pair_unnamed len make fs d e offset fault one two n r = let a = dev_unnamed (slice_index_or fs 0 d).now fault r in rw (texts_two fs d e two, n, one (dev_in (slice_index_or fs 0 d).now) offset, a.0, a.1) refl
 
-pub linear_read : (len : ℕ) (fs : List (Bor (List ℕ))) (d e : Bor (List ℕ)) (offset : ℕ) (to : DevRef) → length fs ≡ 2 → number_of (slice_index_or fs 1 e).now ≡ Some offset → dev_reading (slice_index_or fs 0 d).now ≡ Ok to
-    → arguments_reading len linear_in fs ≡ Ok (Linear to offset)
-linear_read len fs d e offset to two n r = let a = dev_parts (slice_index_or fs 0 d).now to r in rw (texts_two fs d e two, n, a.1, a.0) refl
+pub pair_read : (len : ℕ) (make : DevRef → ℕ → Target) (fs : List (Bor (List ℕ))) (d e : Bor (List ℕ)) (offset : ℕ) (to : DevRef) → NamesOne len make → length fs ≡ 2 → number_of (slice_index_or fs 1 e).now ≡ Some offset → dev_reading (slice_index_or fs 0 d).now ≡ Ok to
+    → arguments_reading len (pair_in make) fs ≡ Ok (make to offset)
+pair_read len make fs d e offset to one two n r = let a = dev_parts (slice_index_or fs 0 d).now to r in rw (texts_two fs d e two, n, a.1, one to offset, a.0) refl
 
 pub striped_none : (len : ℕ) (fs : List (Bor (List ℕ))) → length fs < 2 → arguments_reading len striped_in fs ≡ Err Field
 striped_none len [] h = refl

@@ -90,10 +90,14 @@ abbrev pub if_all : {W X Y Z : Type 0} → (W → X → Y → Z) → Option W �
 if_all make None x y = None
 if_all make (Some w) x y = if_both (make w) x y
 
+-- what is made of a text and a number
+abbrev pub pair_in : (DevRef → ℕ → Target) → List (List ℕ) → Option Target
+pair_in make (to ∷ number ∷ []) = option_map (λ n. make (dev_in to) n) (number_of number)
+pair_in make _ = None
+
 -- a text and a number
 abbrev pub linear_in : List (List ℕ) → Option Target
-linear_in (to ∷ offset ∷ []) = option_map (λ n. Linear (dev_in to) n) (number_of offset)
-linear_in _ = None
+linear_in fields = pair_in Linear fields
 
 -- two fields for each column: a text and a number
 abbrev pub columns_in : List (List ℕ) → Option (List Column)
