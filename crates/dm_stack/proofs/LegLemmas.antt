@@ -21,19 +21,8 @@ use Rattle.dm_stack.proofs.StripeLemmas.{below_chunk, column_got, column_inside,
 later_sectors : (target : FoundTarget) (distance m n : ℕ) → m ≤ n → HasSectors target distance n → HasSectors target (distance + m) (n - m)
 later_sectors target distance m n few has = record { stack = has.stack; sound = has.sound; device = has.device; start = has.start; line_len = has.line_len; lies = has.lies; inside = omega (arith, few, has.inside); small = has.small }
 
-same_sectors : (target other : FoundTarget) (distance n : ℕ) → target ≡ other → HasSectors target distance n → HasSectors other distance n
-same_sectors target other distance n is has = subst (λ (t : FoundTarget). HasSectors t distance n) is has
-
 pub shorter : (target : FoundTarget) (distance m n : ℕ) (row : ℕ → Below) → m ≤ n → GoesOn target distance n row → GoesOn target distance m row
 shorter target distance m n row few on = record { plain = on.plain; below = λ i within. on.below i (omega (arith, few, within)); chunk = λ i within. on.chunk i (omega (arith, few, within)) }
-
--- where they lie in another device or a disk, that is no longer than a line may be
-pub linear_small : (target : FoundTarget) (to : Lower) (offset distance n : ℕ) → target ≡ found.Linear to offset → HasSectors target distance n → offset + distance ≤ 2 ^ 50
-linear_small target to offset distance n is has =
-    let there = same_sectors target (found.Linear to offset) distance n is has in
-    let inside : offset + there.line_len ≤ lower_len there.stack to = there.lies in
-    let small = lower_small there.stack to there.sound in
-    omega (arith, inside, small, there.inside)
 
 -- Stripes
 
@@ -73,10 +62,13 @@ striped_next chunk_size distance most n columns position next within len_is has 
 
 -- What a leg lies on has its sectors
 
-plain_inside : (stack : Description) (device start len distance : ℕ) (target : FoundTarget) (to : Lower) (sector : ℕ) → IsTargetSound stack device start len target → distance < len → has_state target ≡ false → below_plain target distance ≡ Lies to sector → sector < lower_len stack to
-plain_inside stack device start len distance (found.Linear lower offset) to sector sound inside plain is =
+-- a row of sectors
+row_inside : (stack : Description) (len distance offset sector : ℕ) (lower to : Lower) → offset + len ≤ lower_len stack lower → distance < len → Lies lower (offset + distance) ≡ Lies to sector → sector < lower_len stack to
+row_inside stack len distance offset sector lower to there inside is =
     let lower_is : lower ≡ to = cc in let at : offset + distance ≡ sector = cc in
-    subst (λ (l : Lower). sector < lower_len stack l) lower_is (omega (arith, sound, inside, at))
+    subst (λ (l : Lower). sector < lower_len stack l) lower_is (omega (arith, there, inside, at))
+
+pub plain_inside : (stack : Description) (device start len distance : ℕ) (target : FoundTarget) (to : Lower) (sector : ℕ) → IsTargetSound stack device start len target → distance < len → has_state target ≡ false → below_plain target distance ≡ Lies to sector → sector < lower_len stack to
 plain_inside stack device start len distance (found.Striped chunk_size columns) to sector sound inside plain is = column_of_sector (slice_get columns (column_of chunk_size (length columns) distance)) refl is
   where
     column_of_sector : (column : Option FoundColumn) → slice_get columns (column_of chunk_size (length columns) distance) ≡ column → below_column column (in_column chunk_size (length columns) distance) ≡ Lies to sector → sector < lower_len stack to
@@ -86,7 +78,14 @@ plain_inside stack device start len distance (found.Striped chunk_size columns) 
         let room = column_inside stack len chunk_size distance _ columns column sound inside at in
         let some = sound.chunk_some in
         subst (λ (l : Lower). sector < lower_len stack l) lower_is (omega (arith, room, sector_is, some))
-plain_inside stack device start len distance target to sector sound inside plain is = absurd cc
+plain_inside stack device start len distance target to sector sound inside plain is = first_of (search row_inside, cc)
+
+-- a device or a disk that it lies on is no longer than a line may be
+pub lies_small : (target : FoundTarget) (to : Lower) (sector distance n : ℕ) → has_state target ≡ false → below_plain target distance ≡ Lies to sector → 1 ≤ n → HasSectors target distance n → sector ≤ 2 ^ 50
+lies_small target to sector distance n plain is some has =
+    let inside = plain_inside has.stack has.device has.start has.line_len distance target to sector has.lies (omega (arith, some, has.inside)) plain is in
+    let small = lower_small has.stack to has.sound in
+    omega (arith, inside, small)
 
 leg_inside : (stack : Description) (device start len distance most n : ℕ) (target : FoundTarget) (below : Beneath) → 1 ≤ n → n ≤ most → IsBeneath target distance n below → IsTargetSound stack device start len target → distance + most ≤ len → AreInside stack n below
 leg_inside stack device start len distance most n target (beneath.Lies to sector) some few is sound inside =

@@ -50,14 +50,10 @@ record IsTargetOf (stack : Description) (device : ℕ) (target : Target) (one : 
   is : found_target stack target ≡ found.Snapshot one.snapshot
 
 target_one : (stack : Description) (device : ℕ) (target : Target) (one : FoundOver) → Contains (over_of stack device target) one → IsTargetOf stack device target one
-target_one stack device (targets.Linear to offset) one named = absurd (none_there one named)
-target_one stack device (targets.Striped chunk columns) one named = absurd (none_there one named)
-target_one stack device targets.Zero one named = absurd (none_there one named)
-target_one stack device targets.Error one named = absurd (none_there one named)
-target_one stack device (targets.Origin origin) one named = absurd (none_there one named)
 target_one stack device (targets.Snapshot origin store kind chunk) one named =
     let same = only one (record { device = device; snapshot = found_snapshot stack origin store kind chunk }) named in
     record { here = sym (ap (λ (o : FoundOver). o.device) same); over = refl; is = ap (λ (o : FoundOver). found.Snapshot o.snapshot) same }
+target_one stack device _ one named = absurd (none_there one named)
 
 has_one : (stack : Description) (device : ℕ) (lines : List Line) (one : FoundOver) → Contains (flat_map (λ line. over_of stack device line.target) lines) one → has_snapshot lines ≡ true
 has_one stack device [] one named = absurd (none_there one named)
@@ -96,14 +92,10 @@ over_sound stack to one sound named =
 -- From a device to the list
 
 target_all : (stack : Description) (device : ℕ) (target : Target) (snapshot : FoundSnapshot) → found_target stack target ≡ found.Snapshot snapshot → Contains (over_of stack device target) (record { device = device; snapshot = snapshot })
-target_all stack device (targets.Linear to offset) snapshot is = absurd cc
-target_all stack device (targets.Striped chunk columns) snapshot is = absurd cc
-target_all stack device targets.Zero snapshot is = absurd cc
-target_all stack device targets.Error snapshot is = absurd cc
-target_all stack device (targets.Origin origin) snapshot is = absurd cc
 target_all stack device (targets.Snapshot origin store kind chunk) snapshot is =
     let same : found_snapshot stack origin store kind chunk ≡ snapshot = cc in
     only_there (record { device = device; snapshot = snapshot }) _ (ap (λ (s : FoundSnapshot). let one : FoundOver = record { device = device; snapshot = s } in one) same)
+target_all stack device _ snapshot is = absurd cc
 
 found_over : (stack : Description) (device : ℕ) (test : Line → Bool) (lines : List Line) (line : FoundLine) (snapshot : FoundSnapshot) → option_map (found_line stack) (find test lines) ≡ Some line → line.target ≡ found.Snapshot snapshot
     → Contains (flat_map (λ l. over_of stack device l.target) lines) (record { device = device; snapshot = snapshot })

@@ -35,13 +35,9 @@ each_kept P p a (suc n) each =
 -- A device with a snapshot's line has no other
 
 one_by : (stack : Description) (lines len : ℕ) (target : Target) → is_bad_snapshot stack lines len target ≡ false → is_snapshot target ≡ true → lines ≡ 1
-one_by stack lines len (targets.Linear to offset) good is = absurd cc
-one_by stack lines len (targets.Striped chunk columns) good is = absurd cc
-one_by stack lines len targets.Zero good is = absurd cc
-one_by stack lines len targets.Error good is = absurd cc
-one_by stack lines len (targets.Origin origin) good is = absurd cc
 one_by stack lines len (targets.Snapshot origin store kind chunk) good is =
     eqb-true _ _ (not-false _ (or_parts (not (lines == 1)) (is_bad_chunk chunk || not (len == lower_len stack (lower_of stack origin))) good).0)
+one_by stack lines len _ good is = absurd cc
 
 one_of : (stack : Description) (count : ℕ) (lines : List Line) → AllByRecursion (λ line. is_bad_snapshot stack count line.len line.target ≡ false) lines → has_snapshot lines ≡ true → count ≡ 1
 one_of stack count [] good is = absurd cc
@@ -57,12 +53,8 @@ pub record IsOver (stack : Description) (target : Target) : Type 0 where
   pub is : found_target stack target ≡ found.Snapshot snapshot
 
 over : (stack : Description) (target : Target) → is_snapshot target ≡ true → IsOver stack target
-over stack (targets.Linear to offset) is = absurd cc
-over stack (targets.Striped chunk columns) is = absurd cc
-over stack targets.Zero is = absurd cc
-over stack targets.Error is = absurd cc
 over stack (targets.Snapshot origin store kind chunk) is = record { snapshot = found_snapshot stack origin store kind chunk; is = refl }
-over stack (targets.Origin origin) is = absurd cc
+over stack _ is = absurd cc
 
 -- the only line of a device
 pub record IsOnly (lines : List Line) : Type 0 where
@@ -128,12 +120,8 @@ each_snapshot stack sound device within is =
 -- A device whose first sector lies in a snapshot's line has one
 
 target_over : (stack : Description) (target : Target) (snapshot : FoundSnapshot) → found_target stack target ≡ found.Snapshot snapshot → is_snapshot target ≡ true
-target_over stack (targets.Linear to offset) snapshot is = absurd cc
-target_over stack (targets.Striped chunk columns) snapshot is = absurd cc
-target_over stack targets.Zero snapshot is = absurd cc
-target_over stack targets.Error snapshot is = absurd cc
 target_over stack (targets.Snapshot origin store kind chunk) snapshot is = refl
-target_over stack (targets.Origin origin) snapshot is = absurd cc
+target_over stack _ snapshot is = absurd cc
 
 pub any_found : (stack : Description) (test : Line → Bool) (lines : List Line) (line : FoundLine) (snapshot : FoundSnapshot) → option_map (found_line stack) (find test lines) ≡ Some line → line.target ≡ found.Snapshot snapshot → has_snapshot lines ≡ true
 any_found stack test [] line snapshot at is = absurd cc

@@ -146,14 +146,16 @@ origin_sound stack id lines line origin whole good =
     let alone = whole (eqb-true _ _ (not-false _ a.0)) in
     record { from = alone.from; whole = alone.len; same = sym (eqb-true _ _ (not-false _ a.1)); over = refl }
 
+-- a line of one row of sectors: they are there
+row_sound : (stack : Description) (to : DevRef) (offset len : ℕ) → list_any (is_past stack) (record { to = to; offset = offset; len = Some len; kind = Own } ∷ []) ≡ false → offset + len ≤ lower_len stack (lower_of stack to)
+row_sound stack to offset len inside = ltb-false _ _ (or_parts (is_past stack (record { to = to; offset = offset; len = Some len; kind = Own })) false inside).0
+
 target_sound : (stack : Description) (id lines : ℕ) (line : Line) (target : Target) → (lines ≡ 1 → IsWhole stack id line) → has_bad_stripes line target ≡ false → list_any (is_past stack) (target_spans line.len target) ≡ false → is_bad_snapshot stack lines line.len target ≡ false → has_bad_store stack target ≡ false
     → IsTargetSound stack id line.start line.len (found_target stack target)
-target_sound stack id lines line (targets.Linear to offset) whole good inside fitting stored = ltb-false _ _ (or_parts (is_past stack (record { to = to; offset = offset; len = Some line.len; kind = Own })) false inside).0
 target_sound stack id lines line (targets.Striped chunk columns) whole good inside fitting stored = stripes_sound stack line.len chunk columns good inside
-target_sound stack id lines line targets.Zero whole good inside fitting stored = tt
-target_sound stack id lines line targets.Error whole good inside fitting stored = tt
 target_sound stack id lines line (targets.Snapshot origin store kind chunk) whole good inside fitting stored = snapshot_sound stack id lines line origin store kind chunk whole fitting stored
 target_sound stack id lines line (targets.Origin origin) whole good inside fitting stored = origin_sound stack id lines line origin whole fitting
+target_sound stack id lines line _ whole good inside fitting stored = search row_sound
 
 -- The line of a sector of a sound stack
 

@@ -206,12 +206,8 @@ shallow_same stack depths (Device device) is = ap (λ (all : List ℕ). nat_le (
         ∙ sym (past_store stack device past)
 
 deep_same : (stack : Description) (depths : List ℕ) (target : Target) → depths ≡ depths_to (store_links stack) 33 → has_deep_store stack depths target ≡ has_bad_store stack target
-deep_same stack depths (targets.Linear to offset) is = refl
-deep_same stack depths (targets.Striped chunk columns) is = refl
-deep_same stack depths targets.Zero is = refl
-deep_same stack depths targets.Error is = refl
-deep_same stack depths (targets.Origin origin) is = refl
 deep_same stack depths (targets.Snapshot origin store kind chunk) is = ap not (shallow_same stack depths (lower_of stack store) is)
+deep_same stack depths _ is = refl
 
 pub deep_stores : (stack : Description) (depths : List ℕ) → depths ≡ depths_to (store_links stack) 33 → faults_by Store (λ line. line.at) (λ line. has_deep_store stack depths line.target) (all_lines stack.devices) ≡ store stack
 deep_stores stack depths is = by_same Store (λ line. line.at) (λ line. has_deep_store stack depths line.target) (λ line. has_bad_store stack line.target) (all_lines stack.devices) (λ line. deep_same stack depths line.target is)

@@ -1,12 +1,12 @@
-use Rattle.std.proofs.Common.{subst, arith}
+use Rattle.std.proofs.Common.{◌+◌, refl, subst, arith}
 use Rattle.dm_stack.specs.Leg.{IsLeg, LegsView}
-use Rattle.dm_stack.proofs.LegLemmas.{leg_lies_inside, linear_small}
+use Rattle.dm_stack.proofs.LegLemmas.{leg_lies_inside, lies_small}
 use Rattle.dm_stack.proofs.found_line.FoundTarget.leg.Goals as goal
 
 pub overflow_add-result : goal.overflow_add-result
 overflow_add-result c =
     let a = c.args in
-    let small = linear_small a.self.now c.in-Linear.to c.in-Linear.offset a.distance a.most c.in-Linear.is c.requires.there in
+    let small = lies_small a.self.now c.in-Linear.to (c.in-Linear.offset + a.distance) a.distance a.most (rw c.in-Linear.is refl) (rw c.in-Linear.is refl) c.requires.some c.requires.there in
     omega (arith, small)
 
 pub returns-in-Some-clause-inside : goal.returns-in-Some-clause-inside
