@@ -15,14 +15,15 @@ use Rattle.dm_table.specs.declared.load.row_faults.RowFault.TheVariants.{Syntax,
 use Rattle.dm_table.specs.declared.load.row_faults.FirstFaults.{FirstFaults}
 use Rattle.dm_table.specs.words.Fields.{texts}
 use Rattle.dm_table.specs.words.Name.{is_device_name}
+use Rattle.dm_table.specs.load.LoadFault.{unless}
 use Rattle.dm_table.specs.load.RowFaults.{first_failed, Reads, fault_in, noted_at, first_noted}
 use Rattle.dm_table.specs.tables.LineBody.{is_body_row, is_body, has_body_names}
 use Rattle.dm_table.specs.tables.LineReading.{line_in}
-use Rattle.dm_table.specs.tables.ConciseText.{place_of, lacks, is_uuid, is_ro, entries, body_fields, is_label, has_label_values, has_label_names}
+use Rattle.dm_table.specs.tables.ConciseText.{place_of, lacks, is_uuid, is_ro, entries, body_fields, is_device, is_label, has_label_values, has_label_names, has_names, has_values}
 use Rattle.dm_table.specs.tables.ConciseReading.{earlier_of, fault_of_body, fault_of_bodies, fault_of_label, fault_of_entries, fault_of_device, lines_in, device_in, device_unless, entries_reading, device_reading, bodies_reading, devices_from}
 use Rattle.dm_table.proofs.load.FaultLemmas.{unless-ok, unless-err}
 use Rattle.dm_table.proofs.load.RowFaultLemmas.{names_true, read_clear}
-use Rattle.dm_table.proofs.tables.TargetRows.{and_false}
+use Rattle.dm_table.proofs.tables.TargetRows.{and_false, read_ok}
 
 -- The earlier of two
 
@@ -187,3 +188,36 @@ body_further bodies i d at label fault found old new below is added known made =
           let both = earlier_of-clear fault found clear in
           rw (added (sym is ∙ both.1)) (one_more old (line_in at fields) (lines_in at (texts (drop (i + 1) bodies))) ∙ (rw next at (made both.0)));
     }
+
+-- A device that was read has no fault, and its text says it; one that was refused has that fault
+
+read_by : (fault : Option RowFault) (said : Option DeviceSpec) (device : DeviceSpec) → device_unless fault said ≡ Ok device → (unless fault (tt {0}) ≡ Ok (tt {0})) × (said ≡ Some device)
+read_by None None device h = absurd cc
+read_by None (Some other) device h = (refl, ap Some (read_ok other device h))
+read_by (Some fault) said device h = absurd cc
+
+pub device_taken : (n : ℕ) (text : List ℕ) (device : DeviceSpec) → device_reading n text ≡ Ok device → (unless (fault_of_device text) (tt {0}) ≡ Ok (tt {0})) × (device_in n (entries text) ≡ Some device)
+device_taken n text device h = read_by (fault_of_device text) (device_in n (entries text)) device h
+
+refused_by : (fault : Option RowFault) (said : Option DeviceSpec) (found : RowFault) → (fault ≡ None → (device : DeviceSpec) × (said ≡ Some device)) → device_unless fault said ≡ Err found → unless fault (tt {0}) ≡ Err found
+refused_by None said found there h = let it = there refl in absurd (let no : Ok it.0 ≡ Err found = rw it.1 at h in cc)
+refused_by (Some fault) said found there h = let same : fault ≡ found = cc in ap Err same
+
+first_passed : (row values names : Bool) → first_failed row values names ≡ None → row ≡ true
+first_passed true values names h = refl
+first_passed false values names h = absurd cc
+
+label_says : (n : ℕ) (es : List (List ℕ)) → is_label es ≡ true → (device : DeviceSpec) × (device_in n es ≡ Some device)
+label_says n [] h = absurd cc
+label_says n (a ∷ []) h = absurd cc
+label_says n (a ∷ b ∷ []) h = absurd cc
+label_says n (a ∷ b ∷ c ∷ []) h = absurd cc
+label_says n (name ∷ uuid ∷ minor ∷ flags ∷ bodies) h = (_, refl)
+
+pub device_refused : (n : ℕ) (text : List ℕ) (fault : RowFault) → device_reading n text ≡ Err fault → unless (fault_of_device text) (tt {0}) ≡ Err fault
+device_refused n text fault h =
+    refused_by (fault_of_device text) (device_in n (entries text)) fault
+    (λ none.
+    let passed = first_passed (is_device text) (has_values text) (has_names text) none in
+    label_says n (entries text) (and_parts (lacks 10 text) (is_label (entries text)) (and_parts (lacks 10 text && is_label (entries text)) _ passed).0).1)
+    h
