@@ -16,6 +16,7 @@ pub mod ReadSteps
 pub mod Rows
 pub mod Served
 pub mod Settled
+pub mod Spans
 pub mod Stores
 pub mod UnitRows
 pub mod WalkedOn

@@ -32,12 +32,8 @@ stays_as a b c d p q (inr gone) = inr (q ∙ gone)
 -- Where a read goes on: as before, or nowhere
 
 lost_target : (old taken : Taken) (target : FoundTarget) (distance : ℕ) → taken.valid ≡ false → (below_target (read_over taken) target distance ≡ below_target (read_over old) target distance) ⊎ (below_target (read_over taken) target distance ≡ IsError)
-lost_target old taken (founds.Linear to offset) distance off = inl refl
-lost_target old taken (founds.Striped chunk_size columns) distance off = inl refl
-lost_target old taken founds.Zero distance off = inl refl
-lost_target old taken founds.Error distance off = inl refl
 lost_target old taken (founds.Snapshot snapshot) distance off = inr (rw off refl)
-lost_target old taken (founds.Origin origin) distance off = inl refl
+lost_target old taken _ distance off = inl refl
 
 lost_line : (old taken : Taken) (line : Option FoundLine) (sector : ℕ) → taken.valid ≡ false → (below_line (read_over taken) line sector ≡ below_line (read_over old) line sector) ⊎ (below_line (read_over taken) line sector ≡ IsError)
 lost_line old taken None sector off = inl refl

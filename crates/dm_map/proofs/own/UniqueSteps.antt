@@ -1,11 +1,11 @@
 -- Where no claims meet, at most one step of a read leads to a sector of a column, a store or an origin, and none to a top device.
-use Rattle.std.proofs.Common.{◌≡◌, ℕ, ◌+◌, ◌-◌, ◌*◌, ◌/◌, ◌%◌, ◌<◌, true, false, List, Option, Some, None, length, refl, sym, ap, subst, ◌∙◌, arith}
+use Rattle.std.proofs.Common.{◌≡◌, ℕ, ◌-◌, ◌/◌, ◌<◌, true, false, List, Option, Some, None, refl, sym, ap, subst, ◌∙◌, arith}
 use Rattle.std.specs.Prelude.{slice_get}
 use Rattle.std.proofs.lemmas.Bool.{leb-true}
 use Rattle.dm_table.specs.declared.tables.table.Line.{Line}
 use Rattle.dm_table.specs.declared.tables.table.Use.{Use}
 use Rattle.dm_table.specs.declared.tables.table.Use.TheVariants.{Own, Reading, Serving}
-use Rattle.dm_stack.specs.declared.found_columns.FoundColumn.{FoundColumn}
+use Rattle.dm_table.specs.tables.Span.{Span, spans}
 use Rattle.dm_stack.specs.declared.found_line.FoundLine.{FoundLine}
 use Rattle.dm_stack.specs.declared.found_line.FoundOrigin.{FoundOrigin}
 use Rattle.dm_stack.specs.declared.found_line.FoundOver.{FoundOver}
@@ -14,12 +14,13 @@ use Rattle.dm_stack.specs.declared.found_line.FoundTarget.{FoundTarget}
 use Rattle.dm_stack.specs.declared.found_line.FoundTarget.TheVariants as founds
 use Rattle.dm_stack.specs.declared.id.Lower.{Lower}
 use Rattle.dm_stack.specs.declared.id.Lower.TheVariants.{Device}
-use Rattle.dm_stack.specs.Below.{AreStripes, IsTargetSound, Lies, below_line, column_of, found_at, found_line, found_target, in_column}
+use Rattle.dm_stack.specs.Below.{Lies, below_line, found_at, found_line, found_target, has_state}
 use Rattle.dm_stack.specs.Claims.{IsTidy, IsTop}
 use Rattle.dm_stack.specs.Description.{Description, device_len, lower_len}
 use Rattle.dm_stack.specs.Over.{snapshots_over}
 use Rattle.dm_stack.specs.Soundness.{IsSound}
 use Rattle.dm_stack.proofs.Apart.{IsVia, IsNamed, one_via, top_named}
+use Rattle.dm_stack.proofs.LegLemmas.{plain_inside}
 use Rattle.dm_map.specs.state.Fitting.{IsFitting}
 use Rattle.dm_map.specs.walk.Reads.{read_below}
 use Rattle.dm_map.specs.walk.Serving.{AreSettled}
@@ -28,48 +29,29 @@ use Rattle.dm_map.specs.state.Snapshots.{store_sector, number_in, read_over}
 use Rattle.dm_map.specs.state.State.{State, Taken, taken_at}
 use Rattle.dm_map.specs.state.Tables.{origin_at, snapshot_at}
 use Rattle.dm_map.proofs.state.FoundLines.{line_sound, origin_sound, snapshot_sound, some_is}
-use Rattle.dm_map.proofs.walk.ReadSteps.{ReadStep, ByLine, ByStore, ByRead, ByServe, IsColumnStep, column_at, columns_of, within_at}
-use Rattle.dm_map.proofs.state.Numbers.{store_sector_inside, stripe_back}
+use Rattle.dm_map.proofs.walk.ReadSteps.{ReadStep, ByLine, ByStore, ByRead, ByServe}
+use Rattle.dm_map.proofs.walk.Spans.{IsPlainStep, distance_one, span_distance, span_index}
+use Rattle.dm_map.proofs.state.Numbers.{store_sector_inside}
 use Rattle.dm_map.proofs.walk.Overs.{settled_over}
 use Rattle.dm_map.proofs.state.TableLemmas.{number_within}
-use Rattle.dm_map.proofs.own.StepClaims.{IsLineVia, IsSnapshotVia, column_inside, via_line, via_origin, via_snapshot}
+use Rattle.dm_map.proofs.own.StepClaims.{IsLineVia, IsSnapshotVia, via_line, via_origin, via_snapshot}
 
--- One column and one sector of that column are one sector of the line
+-- A line has one target
 
-distance_one : (stack : Description) (device start len : ℕ) (target : FoundTarget) (d e : ℕ) (column : FoundColumn) → IsTargetSound stack device start len target → slice_get (columns_of target) (column_at target d) ≡ Some column
-    → column_at target d ≡ column_at target e → within_at target d ≡ within_at target e → d ≡ e
-distance_one stack device start len (founds.Linear to offset) d e column sound is columns within = within
-distance_one stack device start len (founds.Striped chunk_size columns) d e column sound is same within =
-    let stripes : AreStripes stack len chunk_size columns = sound in
-    let n = length columns in
-    sym (stripe_back chunk_size n d stripes.chunk_some)
-    ∙ ap (λ (w : ℕ). (w / chunk_size * n + column_of chunk_size n d) * chunk_size + w % chunk_size) within
-    ∙ ap (λ (i : ℕ). (in_column chunk_size n e / chunk_size * n + i) * chunk_size + in_column chunk_size n e % chunk_size) same
-    ∙ stripe_back chunk_size n e stripes.chunk_some
-distance_one stack device start len target d e column sound is columns within = absurd cc
+true_false : true ≡ false → ⊥
+true_false e = cc
 
--- one column and one sector below are one distance
-step_one : (stack : Description) (device start len : ℕ) (target : FoundTarget) (d e : ℕ) (lower : Lower) (at : ℕ) → IsTargetSound stack device start len target → IsColumnStep target d lower at → IsColumnStep target e lower at → column_at target d ≡ column_at target e → d ≡ e
-step_one stack device start len target d e lower at sound a b same =
-    let columns = some_is a.column b.column (sym a.is ∙ ap (slice_get (columns_of target)) same ∙ b.is) in
-    let offsets : a.column.offset ≡ b.column.offset = ap (λ (c : FoundColumn). c.offset) columns in
-    let on_a = a.sector in let on_b = b.sector in
-    distance_one stack device start len target d e a.column sound a.is same (omega (arith, offsets, on_a, on_b))
+-- a target without a state is neither a snapshot nor an origin
+no_plain : (target other : FoundTarget) (distance : ℕ) (lower : Lower) (at : ℕ) → target ≡ other → has_state other ≡ true → IsPlainStep target distance lower at → ⊥
+no_plain target other distance lower at is state step = true_false (sym state ∙ sym (ap has_state is) ∙ step.plain)
 
--- neither a snapshot's line nor an origin's has columns
-no_column : (target other : FoundTarget) (distance : ℕ) (lower : Lower) (at : ℕ) → target ≡ other → slice_get (columns_of other) (column_at other distance) ≡ None → IsColumnStep target distance lower at → ⊥
-no_column target other distance lower at is none step = absurd_none (sym (ap (λ (t : FoundTarget). slice_get (columns_of t) (column_at t distance)) is ∙ none) ∙ step.is)
-  where
-    absurd_none : None ≡ Some step.column → ⊥
-    absurd_none e = cc
-
-line_no_snapshot : (stack : Description) (device sector : ℕ) (line : FoundLine) (lower : Lower) (at : ℕ) (l m : Line) (snapshot : FoundSnapshot) → found_line stack l ≡ line → IsColumnStep line.target (sector - line.start) lower at → l ≡ m → found_target stack m.target ≡ founds.Snapshot snapshot → ⊥
+line_no_snapshot : (stack : Description) (device sector : ℕ) (line : FoundLine) (lower : Lower) (at : ℕ) (l m : Line) (snapshot : FoundSnapshot) → found_line stack l ≡ line → IsPlainStep line.target (sector - line.start) lower at → l ≡ m → found_target stack m.target ≡ founds.Snapshot snapshot → ⊥
 line_no_snapshot stack device sector line lower at l m snapshot is step same target =
-    no_column line.target (founds.Snapshot snapshot) (sector - line.start) lower at (sym (ap (λ (x : FoundLine). x.target) is) ∙ ap (λ (x : Line). found_target stack x.target) same ∙ target) refl step
+    no_plain line.target (founds.Snapshot snapshot) (sector - line.start) lower at (sym (ap (λ (x : FoundLine). x.target) is) ∙ ap (λ (x : Line). found_target stack x.target) same ∙ target) refl step
 
-line_no_origin : (stack : Description) (device sector : ℕ) (line : FoundLine) (lower : Lower) (at : ℕ) (l m : Line) (origin : FoundOrigin) → found_line stack l ≡ line → IsColumnStep line.target (sector - line.start) lower at → l ≡ m → found_target stack m.target ≡ founds.Origin origin → ⊥
+line_no_origin : (stack : Description) (device sector : ℕ) (line : FoundLine) (lower : Lower) (at : ℕ) (l m : Line) (origin : FoundOrigin) → found_line stack l ≡ line → IsPlainStep line.target (sector - line.start) lower at → l ≡ m → found_target stack m.target ≡ founds.Origin origin → ⊥
 line_no_origin stack device sector line lower at l m origin is step same target =
-    no_column line.target (founds.Origin origin) (sector - line.start) lower at (sym (ap (λ (x : FoundLine). x.target) is) ∙ ap (λ (x : Line). found_target stack x.target) same ∙ target) refl step
+    no_plain line.target (founds.Origin origin) (sector - line.start) lower at (sym (ap (λ (x : FoundLine). x.target) is) ∙ ap (λ (x : Line). found_target stack x.target) same ∙ target) refl step
 
 -- and no line is both
 snapshot_no_origin : (stack : Description) (l m : Line) (snapshot : FoundSnapshot) (origin : FoundOrigin) → found_target stack l.target ≡ founds.Snapshot snapshot → l ≡ m → found_target stack m.target ≡ founds.Origin origin → ⊥
@@ -112,37 +94,41 @@ pub record IsAt (d s e u : ℕ) : Type 0 where
 two_columns : (i j : ℕ) → i ≡ 0 → j ≡ 1 → i ≡ j → ⊥
 two_columns i j first second same = omega (arith, first, second, same)
 
--- to one that a line's column has: that line's sector
+-- to one of a line whose target has no state: that line's sector
 pub only_by_line : (stack : Description) (state : State) (d s e t : ℕ) (lower : Lower) (at : ℕ) (line : FoundLine) → IsSound stack → IsFitting stack state → IsTidy stack → t < device_len stack e
-    → found_at stack d s ≡ Some line → IsColumnStep line.target (s - line.start) lower at → ReadStep stack state e t lower at → IsAt e t d s
+    → found_at stack d s ≡ Some line → IsPlainStep line.target (s - line.start) lower at → ReadStep stack state e t lower at → IsAt e t d s
 only_by_line stack state d s e t lower at line sound fitting tidy inside is step (ByLine other is_other step_other) =
     let a = via_line stack d s line lower at sound is step in let b = via_line stack e t other lower at sound is_other step_other in
-    let one = one_via stack d e a.index b.index (column_at line.target (s - line.start)) (column_at other.target (t - other.start)) a.it b.it lower at Own Own tidy a.via b.via refl in
+    let one = one_via stack d e a.index b.index (span_index line.target (s - line.start)) (span_index other.target (t - other.start)) a.it b.it lower at Own Own tidy a.via b.via refl in
     let same : line ≡ other = sym a.is ∙ ap (found_line stack) one.lines ∙ b.is in
     let of = (line_sound stack d s line sound is).soundly in let of_other = (line_sound stack e t other sound is_other).soundly in
     let starts : line.start ≡ other.start = ap (λ (l : FoundLine). l.start) same in
-    let moved : IsColumnStep line.target (t - other.start) lower at = subst (λ (l : FoundLine). IsColumnStep l.target (t - other.start) lower at) (sym same) step_other in
-    let columns : column_at line.target (s - line.start) ≡ column_at line.target (t - other.start) = one.columns ∙ ap (λ (l : FoundLine). column_at l.target (t - other.start)) (sym same) in
-    let distances = step_one stack d line.start line.len line.target (s - line.start) (t - other.start) lower at of.target step moved columns in
+    let indices : span_index line.target (s - line.start) ≡ span_index line.target (t - other.start) = one.columns ∙ ap (λ (l : FoundLine). span_index l.target (t - other.start)) (sym same) in
+    let same_span : a.via.span ≡ b.via.span = some_is a.via.span b.via.span (sym a.via.span_at ∙ ap (λ (l : Line). slice_get (spans l) (span_index line.target (s - line.start))) one.lines ∙ ap (slice_get (spans b.it)) one.columns ∙ b.via.span_at) in
+    let offsets : a.via.span.offset ≡ b.via.span.offset = ap (λ (span : Span). span.offset) same_span in
+    let moved : span_distance line.target (t - other.start) ≡ span_distance other.target (t - other.start) = ap (λ (l : FoundLine). span_distance l.target (t - other.start)) same in
+    let on = a.lies in let on_other = b.lies in
+    let within : span_distance line.target (s - line.start) ≡ span_distance line.target (t - other.start) = omega (arith, offsets, moved, on, on_other) in
+    let distances = distance_one stack d line.start line.len line.target (s - line.start) (t - other.start) of.target indices within in
     let from = of.from in let from_other = of_other.from in
     record { device = sym one.devices; sector = omega (arith, distances, starts, from, from_other) }
 only_by_line stack state d s e t lower at line sound fitting tidy inside is step (ByStore snapshot number over valid n lower_is at_is) =
     let a = via_line stack d s line lower at sound is step in let b = via_snapshot stack e snapshot sound over in
     let below : at < lower_len stack snapshot.store = subst (λ (x : ℕ). x < lower_len stack snapshot.store) (sym at_is) (fits stack state e t number snapshot sound fitting over n) in
     let via : IsVia stack e b.index 0 b.it lower at Own = subst (λ (x : Lower). IsVia stack e b.index 0 b.it x at Own) (sym lower_is) (b.store at below) in
-    let one = one_via stack d e a.index b.index (column_at line.target (s - line.start)) 0 a.it b.it lower at Own Own tidy a.via via refl in
+    let one = one_via stack d e a.index b.index (span_index line.target (s - line.start)) 0 a.it b.it lower at Own Own tidy a.via via refl in
     absurd (line_no_snapshot stack d s line lower at a.it b.it snapshot a.is step one.lines b.target)
 only_by_line stack state d s e t lower at line sound fitting tidy inside is step (ByRead snapshot over valid n lower_is at_is) =
     let a = via_line stack d s line lower at sound is step in let b = via_snapshot stack e snapshot sound over in
     let below : at < lower_len stack snapshot.origin = subst (λ (x : ℕ). x < lower_len stack snapshot.origin) (sym at_is) (read_inside stack state e t snapshot sound over inside) in
     let via : IsVia stack e b.index 1 b.it lower at Reading = subst (λ (x : Lower). IsVia stack e b.index 1 b.it x at Reading) (sym lower_is) (b.origin at below) in
-    let one = one_via stack d e a.index b.index (column_at line.target (s - line.start)) 1 a.it b.it lower at Own Reading tidy a.via via refl in
+    let one = one_via stack d e a.index b.index (span_index line.target (s - line.start)) 1 a.it b.it lower at Own Reading tidy a.via via refl in
     absurd (line_no_snapshot stack d s line lower at a.it b.it snapshot a.is step one.lines b.target)
 only_by_line stack state d s e t lower at line sound fitting tidy inside is step (ByServe origin over lower_is at_is) =
     let a = via_line stack d s line lower at sound is step in let b = via_origin stack e origin sound over in
     let below : at < lower_len stack origin.to = subst (λ (x : ℕ). x < lower_len stack origin.to) (sym at_is) (serve_inside stack e t origin sound over inside) in
     let via : IsVia stack e b.index 0 b.it lower at Serving = subst (λ (x : Lower). IsVia stack e b.index 0 b.it x at Serving) (sym lower_is) (b.via at below) in
-    let one = one_via stack d e a.index b.index (column_at line.target (s - line.start)) 0 a.it b.it lower at Own Serving tidy a.via via refl in
+    let one = one_via stack d e a.index b.index (span_index line.target (s - line.start)) 0 a.it b.it lower at Own Serving tidy a.via via refl in
     absurd (line_no_origin stack d s line lower at a.it b.it origin a.is step one.lines b.target)
 
 -- to one of a store: its snapshot, by a taken chunk
@@ -159,7 +145,7 @@ pub only_by_store : (stack : Description) (state : State) (d e t at : ℕ) (snap
     → snapshot_at stack d ≡ Some snapshot → at < lower_len stack snapshot.store → ReadStep stack state e t snapshot.store at → IsInStore state d snapshot at e t
 only_by_store stack state d e t at snapshot sound fitting tidy inside over below (ByLine line is step) =
     let a = via_line stack e t line snapshot.store at sound is step in let b = via_snapshot stack d snapshot sound over in
-    let one = one_via stack e d a.index b.index (column_at line.target (t - line.start)) 0 a.it b.it snapshot.store at Own Own tidy a.via (b.store at below) refl in
+    let one = one_via stack e d a.index b.index (span_index line.target (t - line.start)) 0 a.it b.it snapshot.store at Own Own tidy a.via (b.store at below) refl in
     absurd (line_no_snapshot stack e t line snapshot.store at a.it b.it snapshot a.is step one.lines b.target)
 only_by_store stack state d e t at snapshot sound fitting tidy inside over below (ByStore other number over_other valid n store_is at_is) =
     let a = via_snapshot stack d snapshot sound over in let b = via_snapshot stack e other sound over_other in
@@ -184,18 +170,18 @@ only_by_store stack state d e t at snapshot sound fitting tidy inside over below
 -- Roots: no line leads into them, and they are no store
 
 pub record IsNoLines (stack : Description) (lower : Lower) : Type 0 where
-  pub none : (device sector : ℕ) (line : FoundLine) (at : ℕ) → found_at stack device sector ≡ Some line → IsColumnStep line.target (sector - line.start) lower at → ⊥
+  pub none : (device sector : ℕ) (line : FoundLine) (at : ℕ) → found_at stack device sector ≡ Some line → IsPlainStep line.target (sector - line.start) lower at → ⊥
 
 pub record IsNoStore (stack : Description) (lower : Lower) : Type 0 where
   pub none : (device : ℕ) (snapshot : FoundSnapshot) → snapshot_at stack device ≡ Some snapshot → lower ≡ snapshot.store → ⊥
 
 -- no line leads into a store or an origin, and no store is an origin
 
-step_inside : (stack : Description) (device sector : ℕ) (line : FoundLine) (lower : Lower) (at : ℕ) → IsSound stack → found_at stack device sector ≡ Some line → IsColumnStep line.target (sector - line.start) lower at → at < lower_len stack lower
+step_inside : (stack : Description) (device sector : ℕ) (line : FoundLine) (lower : Lower) (at : ℕ) → IsSound stack → found_at stack device sector ≡ Some line → IsPlainStep line.target (sector - line.start) lower at → at < lower_len stack lower
 step_inside stack device sector line lower at sound is step =
     let of = (line_sound stack device sector line sound is).soundly in
     let from = of.from in let before = of.before in
-    column_inside stack device line.start line.len line.target (sector - line.start) lower at of.target step (omega (arith, from, before))
+    plain_inside stack device line.start line.len (sector - line.start) line.target lower at of.target (omega (arith, from, before)) step.plain step.lies
 
 -- nor into what a snapshot's line names at a column
 named_no_lines : (stack : Description) (device column : ℕ) (snapshot : FoundSnapshot) (lower : Lower) (kind : Use) → IsSound stack → IsTidy stack → (b : IsSnapshotVia stack device snapshot)
@@ -203,7 +189,7 @@ named_no_lines : (stack : Description) (device column : ℕ) (snapshot : FoundSn
 named_no_lines stack device column snapshot lower kind sound tidy b via = record {
   none = λ e t line at is step.
       let a = via_line stack e t line lower at sound is step in
-      let one = one_via stack e device a.index b.index (column_at line.target (t - line.start)) column a.it b.it lower at Own kind tidy a.via (via at (step_inside stack e t line lower at sound is step)) refl in
+      let one = one_via stack e device a.index b.index (span_index line.target (t - line.start)) column a.it b.it lower at Own kind tidy a.via (via at (step_inside stack e t line lower at sound is step)) refl in
       line_no_snapshot stack e t line lower at a.it b.it snapshot a.is step one.lines b.target;
 }
 
@@ -233,16 +219,13 @@ pub record IsUnserved (stack : Description) (lower : Lower) : Type 0 where
 -- a snapshot that would still read it is none whose chunk is settled
 not_settled : (taken : Taken) (chunk : ℕ) → taken.valid ≡ true → number_in chunk taken.chunks ≡ None → is_settled taken chunk ≡ true → ⊥
 not_settled taken chunk valid none settled = true_false (sym settled ∙ (rw (valid, none) refl))
-  where
-    true_false : true ≡ false → ⊥
-    true_false e = cc
 
 -- to one of it, where all its snapshots are settled: that device's sector
 pub only_by_origin : (stack : Description) (state : State) (d e t at : ℕ) (origin : FoundOrigin) → IsSound stack → IsTidy stack → origin_at stack d ≡ Some origin → at < lower_len stack origin.to
     → AreSettled state origin.over at → ReadStep stack state e t origin.to at → IsAt e t d at
 only_by_origin stack state d e t at origin sound tidy served below settled (ByLine line is step) =
     let a = via_line stack e t line origin.to at sound is step in let b = via_origin stack d origin sound served in
-    let one = one_via stack e d a.index b.index (column_at line.target (t - line.start)) 0 a.it b.it origin.to at Own Serving tidy a.via (b.via at below) refl in
+    let one = one_via stack e d a.index b.index (span_index line.target (t - line.start)) 0 a.it b.it origin.to at Own Serving tidy a.via (b.via at below) refl in
     absurd (line_no_origin stack e t line origin.to at a.it b.it origin a.is step one.lines b.target)
 only_by_origin stack state d e t at origin sound tidy served below settled (ByStore snapshot number over valid n lower_is at_is) =
     let a = via_snapshot stack e snapshot sound over in let b = via_origin stack d origin sound served in
@@ -263,7 +246,7 @@ only_by_origin stack state d e t at origin sound tidy served below settled (BySe
 
 -- Top devices: nothing leads to them
 
-line_named : (stack : Description) (device sector : ℕ) (line : FoundLine) (lower : Lower) (at : ℕ) (via : IsLineVia stack device sector line lower at) → IsNamed stack device via.index (column_at line.target (sector - line.start)) via.it lower
+line_named : (stack : Description) (device sector : ℕ) (line : FoundLine) (lower : Lower) (at : ℕ) (via : IsLineVia stack device sector line lower at) → IsNamed stack device via.index (span_index line.target (sector - line.start)) via.it lower
 line_named stack device sector line lower at via = record { there = via.via.there; line_at = via.via.line_at; span = via.via.span; span_at = via.via.span_at; on = via.via.on }
 
 pub record IsRoot (stack : Description) (lower : Lower) : Type 0 where
@@ -278,7 +261,7 @@ top_root stack top sound is_top = record {
   lines = record {
     none = λ e t line at is step.
         let a = via_line stack e t line (Device top) at sound is step in
-        top_named stack top e a.index (column_at line.target (t - line.start)) a.it (Device top) is_top (line_named stack e t line (Device top) at a) refl;
+        top_named stack top e a.index (span_index line.target (t - line.start)) a.it (Device top) is_top (line_named stack e t line (Device top) at a) refl;
   };
   stores = record {
     none = λ e snapshot over same. let b = via_snapshot stack e snapshot sound over in top_named stack top e b.index 0 b.it snapshot.store is_top b.store_named (sym same);

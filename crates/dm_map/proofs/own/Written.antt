@@ -1,8 +1,7 @@
 -- The write of a sector: chunks are taken, then one unit follows; what is read then, and by whom.
-use Rattle.std.proofs.Common.{◌≡◌, ◌⊎◌, inl, inr, ℕ, ◌+◌, ◌-◌, ◌/◌, ◌<◌, Bool, true, false, cond, List, [], ◌∷◌, ◌++◌, map, Option, Some, None, length, refl, sym, ap, subst, ◌∙◌, arith}
+use Rattle.std.proofs.Common.{◌≡◌, ◌⊎◌, inl, inr, ℕ, ◌-◌, ◌/◌, ◌<◌, Bool, true, false, cond, List, [], ◌∷◌, ◌++◌, map, Option, Some, None, length, refl, sym, ap, subst, ◌∙◌, arith}
 use Rattle.std.specs.List.{AllByRecursion}
 use Rattle.std.proofs.lemmas.List.{append-nil}
-use Rattle.dm_stack.specs.declared.found_columns.FoundColumn.{FoundColumn}
 use Rattle.dm_stack.specs.declared.found_line.FoundLine.{FoundLine}
 use Rattle.dm_stack.specs.declared.found_line.FoundOrigin.{FoundOrigin}
 use Rattle.dm_stack.specs.declared.found_line.FoundOver.{FoundOver}
@@ -12,7 +11,7 @@ use Rattle.dm_stack.specs.declared.found_line.FoundTarget.TheVariants as founds
 use Rattle.dm_stack.specs.declared.graph.TheConstants.{MOST_DEPTH}
 use Rattle.dm_stack.specs.declared.id.Lower.{Lower}
 use Rattle.dm_stack.specs.declared.id.Lower.TheVariants.{Device, Disk}
-use Rattle.dm_stack.specs.Below.{Below, Lies, IsZero, IsError, below, below_stripes, found_at}
+use Rattle.dm_stack.specs.Below.{Below, Lies, IsZero, IsError, below, below_line, below_plain, found_at, has_state}
 use Rattle.dm_stack.specs.Claims.{IsTidy}
 use Rattle.dm_stack.specs.Description.{Description, is_ro_at, lower_len}
 use Rattle.dm_stack.specs.Depth.{lower_depth}
@@ -32,7 +31,8 @@ use Rattle.dm_map.specs.own.Ways.{Node, node, Touches}
 use Rattle.dm_map.proofs.own.UniqueSteps.{IsRoot, IsUnserved, only_by_origin, only_by_store, fits, goes_on_inside}
 use Rattle.dm_map.proofs.state.FoundLines.{line_origin, line_snapshot, line_sound, origin_sound, snapshot_sound, some_is}
 use Rattle.dm_map.proofs.own.HomeLemmas.{home_node, home_touched, node_is, touch_up}
-use Rattle.dm_map.proofs.walk.ReadSteps.{has_columns, read_step, line_step}
+use Rattle.dm_map.proofs.walk.ReadSteps.{read_step, line_step}
+use Rattle.dm_map.proofs.walk.Spans.{below_is}
 use Rattle.dm_map.proofs.own.ChunkOutcomes.{full_outcome, full_outcome_fits}
 use Rattle.dm_map.proofs.state.Numbers.{same_sector}
 use Rattle.dm_map.proofs.walk.OneLevel.{by_depth, next_depth, read_disk, read_down, write_down}
@@ -92,7 +92,7 @@ read_next stack state device sector to at sound e = read_down stack state device
 step_state : (a b : Step) → a ≡ b → a.state ≡ b.state
 step_state a b e = ap (λ (x : Step). x.state) e
 
-line_written : (stack : Description) (state : State) (device sector : ℕ) (to : Lower) (at : ℕ) (step : Step) → IsSound stack → IsFitting stack state → IsTidy stack → ((held : FoundLine) → found_at stack device sector ≡ Some held → has_columns held.target ≡ true) → ((over : FoundSnapshot → ℕ → Below) → below over stack device sector ≡ Lies to at)
+line_written : (stack : Description) (state : State) (device sector : ℕ) (to : Lower) (at : ℕ) (step : Step) → IsSound stack → IsFitting stack state → IsTidy stack → ((held : FoundLine) → found_at stack device sector ≡ Some held → has_state held.target ≡ false) → ((over : FoundSnapshot → ℕ → Below) → below over stack device sector ≡ Lies to at)
     → Writes stack to → step ≡ write_step stack MOST_DEPTH to state at → Written stack state (Device device) sector step
 unfolding Writes
 line_written stack state device sector to at step sound fitting tidy has goes lower_writes step_is =
@@ -238,28 +238,21 @@ origin_written stack state device sector line origin step sound fitting tidy ser
 
 -- Each write
 
-held_is : (stack : Description) (device sector : ℕ) (line held : FoundLine) (target : FoundTarget) → found_at stack device sector ≡ Some line → line.target ≡ target → has_columns target ≡ true → found_at stack device sector ≡ Some held → has_columns held.target ≡ true
-held_is stack device sector line held target is t has held_at = subst (λ (l : FoundLine). has_columns l.target ≡ true) (some_is line held (sym is ∙ held_at)) (rw t has)
+held_is : (stack : Description) (device sector : ℕ) (line held : FoundLine) → found_at stack device sector ≡ Some line → has_state line.target ≡ false → found_at stack device sector ≡ Some held → has_state held.target ≡ false
+held_is stack device sector line held is plain held_at = subst (λ (l : FoundLine). has_state l.target ≡ false) (some_is line held (sym is ∙ held_at)) plain
 
-stripes_written : (stack : Description) (state : State) (device sector : ℕ) (line : FoundLine) (chunk_size : ℕ) (columns : List FoundColumn) (b : Below) (step : Step) → IsSound stack → IsFitting stack state → IsTidy stack → found_at stack device sector ≡ Some line → line.target ≡ founds.Striped chunk_size columns
-    → below_stripes chunk_size columns (sector - line.start) ≡ b → ((to : Lower) → lower_depth stack to < lower_depth stack (Device device) → Writes stack to)
+plain_written : (stack : Description) (state : State) (device sector : ℕ) (line : FoundLine) (b : Below) (step : Step) → IsSound stack → IsFitting stack state → IsTidy stack → found_at stack device sector ≡ Some line → has_state line.target ≡ false
+    → below_plain line.target (sector - line.start) ≡ b → ((to : Lower) → lower_depth stack to < lower_depth stack (Device device) → Writes stack to)
     → step ≡ by_below b (keep (Drops ∷ []) state) (keep (Fails ∷ []) state) (λ to at. write_step stack MOST_DEPTH to state at) → Written stack state (Device device) sector step
-stripes_written stack state device sector line chunk_size columns (Lies to at) step sound fitting tidy is target b_is each step_is =
-    let goes : (over : FoundSnapshot → ℕ → Below) → below over stack device sector ≡ Lies to at = λ over. rw (is, target) b_is in
-    line_written stack state device sector to at step sound fitting tidy (λ held held_at. held_is stack device sector line held (founds.Striped chunk_size columns) is target refl held_at) goes (each to (next_depth stack state device sector to at sound (goes (read_over (taken_at state device))))) step_is
-stripes_written stack state device sector line chunk_size columns IsZero step sound fitting tidy is target b_is each step_is = written_none stack state (Device device) sector step Drops (inr refl) step_is
-stripes_written stack state device sector line chunk_size columns IsError step sound fitting tidy is target b_is each step_is = written_none stack state (Device device) sector step Fails (inl refl) step_is
+plain_written stack state device sector line (Lies to at) step sound fitting tidy is plain b_is each step_is =
+    let goes : (over : FoundSnapshot → ℕ → Below) → below over stack device sector ≡ Lies to at =
+    λ over. ap (λ (l : Option FoundLine). below_line over l sector) is ∙ below_is over line.target (sector - line.start) plain ∙ b_is in
+    line_written stack state device sector to at step sound fitting tidy (λ held held_at. held_is stack device sector line held is plain held_at) goes (each to (next_depth stack state device sector to at sound (goes (read_over (taken_at state device))))) step_is
+plain_written stack state device sector line IsZero step sound fitting tidy is plain b_is each step_is = written_none stack state (Device device) sector step Drops (inr refl) step_is
+plain_written stack state device sector line IsError step sound fitting tidy is plain b_is each step_is = written_none stack state (Device device) sector step Fails (inl refl) step_is
 
 target_written : (stack : Description) (state : State) (device sector : ℕ) (line : FoundLine) (target : FoundTarget) (step : Step) → IsSound stack → IsFitting stack state → IsTidy stack → found_at stack device sector ≡ Some line → line.target ≡ target
     → ((to : Lower) → lower_depth stack to < lower_depth stack (Device device) → Writes stack to) → step ≡ write_target stack state device target (sector - line.start) (λ to after at. write_step stack MOST_DEPTH to after at) → Written stack state (Device device) sector step
-target_written stack state device sector line (founds.Linear to offset) step sound fitting tidy is target each step_is =
-    let at = offset + (sector - line.start) in
-    let goes : (over : FoundSnapshot → ℕ → Below) → below over stack device sector ≡ Lies to at = λ over. rw (is, target) refl in
-    line_written stack state device sector to at step sound fitting tidy (λ held held_at. held_is stack device sector line held (founds.Linear to offset) is target refl held_at) goes (each to (next_depth stack state device sector to at sound (goes (read_over (taken_at state device))))) step_is
-target_written stack state device sector line (founds.Striped chunk_size columns) step sound fitting tidy is target each step_is =
-    stripes_written stack state device sector line chunk_size columns (below_stripes chunk_size columns (sector - line.start)) step sound fitting tidy is target refl each step_is
-target_written stack state device sector line founds.Zero step sound fitting tidy is target each step_is = written_none stack state (Device device) sector step Drops (inr refl) step_is
-target_written stack state device sector line founds.Error step sound fitting tidy is target each step_is = written_none stack state (Device device) sector step Fails (inl refl) step_is
 target_written stack state device sector line (founds.Snapshot snapshot) step sound fitting tidy is target each step_is =
     let over = line_snapshot stack device sector line snapshot sound is target in
     let first = over.0 in
@@ -272,6 +265,8 @@ target_written stack state device sector line (founds.Origin origin) step sound 
     let goes : (after : State) → read_below stack after device sector ≡ Lies origin.to sector = λ after. rw (is, target, same) refl in
     origin_written stack state device sector line origin step sound fitting tidy over.1 is goes (each origin.to (next_depth stack state device sector origin.to sector sound (goes state)))
     (step_is ∙ ap (λ (s : ℕ). served_step stack origin.over (λ after at. write_step stack MOST_DEPTH origin.to after at) state s) same)
+target_written stack state device sector line target step sound fitting tidy is t each step_is =
+    plain_written stack state device sector line (below_plain target (sector - line.start)) step sound fitting tidy is (ap has_state t) (ap (λ (x : FoundTarget). below_plain x (sector - line.start)) t) each step_is
 
 found_written : (stack : Description) (state : State) (device sector : ℕ) (line : Option FoundLine) (step : Step) → IsSound stack → IsFitting stack state → IsTidy stack → found_at stack device sector ≡ line
     → ((to : Lower) → lower_depth stack to < lower_depth stack (Device device) → Writes stack to) → step ≡ write_line stack state device line sector (λ to after at. write_step stack MOST_DEPTH to after at) → Written stack state (Device device) sector step

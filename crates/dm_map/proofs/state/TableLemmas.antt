@@ -136,12 +136,8 @@ state_new chunks valid tables device count new there before nothing good =
 -- A device that has no snapshot's line
 
 plain_target : (stack : Description) (target : Target) → is_snapshot target ≡ false → snapshot_of (found_target stack target) ≡ None
-plain_target stack (targets.Linear to offset) e = refl
-plain_target stack (targets.Striped chunk_size columns) e = refl
-plain_target stack targets.Zero e = refl
-plain_target stack targets.Error e = refl
 plain_target stack (targets.Snapshot origin store kind chunk_size) e = absurd cc
-plain_target stack (targets.Origin origin) e = refl
+plain_target stack _ e = refl
 
 each_plain : (lines : List Line) → has_snapshot lines ≡ false → AllByRecursion (λ line. is_snapshot line.target ≡ false) lines
 each_plain [] e = tt
@@ -230,12 +226,8 @@ pub other_room : (stack : Description) (device number : ℕ) (line : FoundLine) 
 other_room stack device number line is other = rw (is, none_of line.target other) refl
   where
     none_of : (target : FoundTarget) → ((snapshot : FoundSnapshot) → target ≡ founds.Snapshot snapshot → ⊥) → snapshot_of target ≡ None
-    none_of (founds.Linear to offset) other = refl
-    none_of (founds.Striped chunk_size columns) other = refl
-    none_of founds.Zero other = refl
-    none_of founds.Error other = refl
     none_of (founds.Snapshot snapshot) other = absurd (other snapshot refl)
-    none_of (founds.Origin origin) other = refl
+    none_of _ other = refl
 
 -- Its store is there
 
@@ -257,15 +249,11 @@ lower_some stack (refs.Disk name) sound known =
     rw it.at (disk_some stack (disk_id stack name) it.it sound it.at)
 
 store_at : (stack : Description) (target : Target) (len : ℕ) (snapshot : FoundSnapshot) → IsSound stack → list_any (λ span. is_unknown_ref stack span.to) (target_spans len target) ≡ false → found_target stack target ≡ founds.Snapshot snapshot → 0 < lower_len stack snapshot.store
-store_at stack (targets.Linear to offset) len snapshot sound known is = absurd cc
-store_at stack (targets.Striped chunk_size columns) len snapshot sound known is = absurd cc
-store_at stack targets.Zero len snapshot sound known is = absurd cc
-store_at stack targets.Error len snapshot sound known is = absurd cc
 store_at stack (targets.Snapshot origin store kind chunk_size) len snapshot sound known is =
     let same : found_snapshot stack origin store kind chunk_size ≡ snapshot = cc in
     let parts = or_parts (is_unknown_ref stack store) (list_any (λ span. is_unknown_ref stack span.to) (whole_span origin Reading ∷ [])) known in
     subst (λ (s : FoundSnapshot). 0 < lower_len stack s.store) same (lower_some stack store sound parts.0)
-store_at stack (targets.Origin origin) len snapshot sound known is = absurd cc
+store_at stack _ len snapshot sound known is = absurd cc
 
 store_in : (stack : Description) (lines : List Line) (sector : ℕ) (line : Option Line) (found_line_is : FoundLine) (snapshot : FoundSnapshot) → IsSound stack → AllByRecursion (λ l. is_unknown stack l ≡ false) lines → line_of lines sector ≡ line → option_map (found_line stack) line ≡ Some found_line_is
     → found_line_is.target ≡ founds.Snapshot snapshot → 0 < lower_len stack snapshot.store

@@ -13,7 +13,7 @@ use Rattle.dm_stack.specs.declared.found_line.FoundTarget.TheVariants.{Origin, S
 use Rattle.dm_stack.specs.declared.graph.TheConstants.{MOST_DEPTH}
 use Rattle.dm_stack.specs.declared.id.Lower.{Lower}
 use Rattle.dm_stack.specs.declared.id.Lower.TheVariants.{Device}
-use Rattle.dm_stack.specs.Below.{Below, Lies, below_plain, below_target, chunk_at, found_at, has_state, is_same_chunk, IsLine, IsLineOf}
+use Rattle.dm_stack.specs.Below.{Below, Lies, below_target, chunk_at, found_at, is_same_chunk, IsLine, IsLineOf}
 use Rattle.dm_stack.specs.Description.{Description, device_len}
 use Rattle.dm_stack.specs.Depth.{lower_depth, stack_depth}
 use Rattle.dm_stack.specs.Leg.{GoesOn}
@@ -32,6 +32,7 @@ use Rattle.dm_map.specs.walk.Chunk.{AreInChunk, AreReadAt}
 use Rattle.dm_map.proofs.walk.Chunks.{same_chunk}
 use Rattle.dm_map.proofs.walk.Depths.{below_less, depth_most, depth_some}
 use Rattle.dm_map.proofs.walk.Paths.{other_chunk, other_start, searches_below, searches_line, searches_more, searches_on, stretches_after, stretches_same}
+use Rattle.dm_map.proofs.walk.Spans.{below_is}
 
 -- A read keeps the state
 
@@ -55,12 +56,6 @@ lower_path stack state levels device target distance = by_below (below_target (r
 
 abbrev target_path : Description → State → (levels device start : ℕ) → FoundTarget → (distance : ℕ) → List PathStep
 target_path stack state levels device start target distance = record { device = device; start = start; chunk = chunk_at target distance } ∷ lower_path stack state levels device target distance
-
--- a target without a state has the same below it in every state
-below_is : (over : FoundSnapshot → ℕ → Below) (target : FoundTarget) (distance : ℕ) → has_state target ≡ false → below_target over target distance ≡ below_plain target distance
-below_is over (Snapshot snapshot) distance plain = absurd cc
-below_is over (Origin origin) distance plain = absurd cc
-below_is over target distance plain = refl
 
 pub leg_bound : (before after : WalkerView) (op : Op) (levels device : ℕ) (line : FoundLine) (to : Lower) (distance sector n : ℕ) → IsLine before.stack device line → 1 ≤ n → distance + n ≤ line.len → GoesOn line.target distance n (λ i. Lies to (sector + i))
     → IsBounded before after op (lower_depth before.stack to) (path before.stack before.state levels to) sector n → IsLineBounded before after op levels device line distance n

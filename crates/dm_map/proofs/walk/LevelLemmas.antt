@@ -6,7 +6,6 @@ use Rattle.std.proofs.lemmas.Bool.{ltb-false}
 use Rattle.std.proofs.lemmas.Option.{get_or_from_slice_get, slice_get-map}
 use Rattle.dm_table.specs.declared.tables.table.DevRef.{DevRef}
 use Rattle.dm_table.specs.declared.tables.table.DevRef.TheVariants as refs
-use Rattle.dm_table.specs.declared.tables.table.Column.{Column}
 use Rattle.dm_table.specs.declared.tables.table.Target.{Target}
 use Rattle.dm_table.specs.declared.tables.table.Target.TheVariants as targets
 use Rattle.dm_table.specs.declared.tables.table.Use.TheVariants.{Reading}
@@ -18,15 +17,14 @@ use Rattle.dm_table.specs.declared.requests.request.Op.TheVariants as ops
 use Rattle.dm_stack.specs.declared.id.Lower.{Lower}
 use Rattle.dm_stack.specs.declared.id.Lower.TheVariants.{Device, Disk}
 use Rattle.dm_stack.specs.declared.graph.TheConstants.{MOST_DEPTH}
-use Rattle.dm_stack.specs.declared.found_columns.FoundColumn.{FoundColumn}
 use Rattle.dm_stack.specs.declared.found_line.FoundLine.{FoundLine}
 use Rattle.dm_stack.specs.declared.found_line.FoundTarget.{FoundTarget}
 use Rattle.dm_stack.specs.declared.found_line.FoundTarget.TheVariants as founds
 use Rattle.dm_stack.specs.Description.{Description, is_ro_at, lower_of, ref_link, line_links, device_links, links, lines_or_none}
-use Rattle.dm_table.specs.tables.Span.{Span, column_span, target_spans, whole_span}
+use Rattle.dm_table.specs.tables.Span.{Span, target_spans, whole_span}
 use Rattle.dm_stack.specs.Graph.{links_of, greatest, depth_to}
 use Rattle.dm_stack.specs.declared.found_line.FoundSnapshot.{FoundSnapshot}
-use Rattle.dm_stack.specs.Below.{Below, Lies, IsZero, IsError, below, below_line, below_plain, below_target, below_column, column_of, in_column, found_line, found_target, found_columns, found_at, holds, line_of}
+use Rattle.dm_stack.specs.Below.{Below, Lies, IsZero, IsError, below, below_line, below_plain, below_target, found_line, found_target, found_at, holds, line_of}
 use Rattle.dm_stack.specs.Over.{found_snapshot}
 use Rattle.dm_stack.specs.Soundness.{IsSound, faults_by_id, depth_of}
 use Rattle.dm_stack.proofs.Passes.{all_parts, passes_all}
@@ -41,6 +39,7 @@ use Rattle.dm_map.specs.walk.Homes.{AreHomesFreeOfLevels, home_to, nowhere}
 use Rattle.dm_map.specs.walk.Mapping.{write_line, write_target, write_step, IsFreeOfLevels}
 use Rattle.dm_map.proofs.walk.Rows.{and_then_at}
 use Rattle.dm_stack.proofs.StripeLemmas.{at_index}
+use Rattle.dm_map.proofs.walk.Spans.{plain_span, span_index}
 
 -- What lies below a device is among what it names
 
@@ -61,16 +60,19 @@ on_ref stack P (refs.Disk name) each = tt
 abbrev span_links : Description → List Span → List ℕ
 span_links stack spans = flat_map (λ span. ref_link stack span.to) spans
 
-on_columns : (stack : Description) (P : ℕ → Type 0) (share : ℕ) (columns : List Column) → AllByRecursion P (span_links stack (map (column_span share) columns)) → AllByRecursion (λ column. OnLower P column.to) (found_columns stack columns)
-on_columns stack P share [] each = tt
-on_columns stack P share (column ∷ columns) each =
-    let parts = all_parts P (ref_link stack column.to) (span_links stack (map (column_span share) columns)) each in
-    (on_ref stack P column.to parts.0, on_columns stack P share columns parts.1)
+on_spans : (stack : Description) (P : ℕ → Type 0) (spans : List Span) → AllByRecursion P (span_links stack spans) → AllByRecursion (λ span. OnLower P (lower_of stack span.to)) spans
+on_spans stack P [] each = tt
+on_spans stack P (span ∷ spans) each =
+    let parts = all_parts P (ref_link stack span.to) (span_links stack spans) each in
+    (on_ref stack P span.to parts.0, on_spans stack P spans parts.1)
 
-on_column : (P : ℕ → Type 0) (columns : List FoundColumn) (i sector : ℕ) (found : Option FoundColumn) → AllByRecursion (λ column. OnLower P column.to) columns → slice_get columns i ≡ found → OnBelow P (below_column found sector)
+on_plain : (stack : Description) (P : ℕ → Type 0) (len : ℕ) (target : Target) (distance : ℕ) (b : Below) → AllByRecursion P (span_links stack (target_spans len target)) → below_plain (found_target stack target) distance ≡ b → OnBelow P b
 unfolding OnBelow
-on_column P columns i sector None each e = tt
-on_column P columns i sector (Some column) each e = at_index (λ c. OnLower P c.to) columns i column each e
+on_plain stack P len target distance (Lies to at) each is =
+    let in_span = plain_span stack len target distance to at is in
+    subst (OnLower P) in_span.on (at_index (λ span. OnLower P (lower_of stack span.to)) (target_spans len target) (span_index (found_target stack target) distance) in_span.span (on_spans stack P (target_spans len target) each) in_span.is)
+on_plain stack P len target distance IsZero each is = tt
+on_plain stack P len target distance IsError each is = tt
 
 -- a snapshot goes on in its store or its origin, where it goes on
 unfoldable pub GoesOn : (over : FoundSnapshot → ℕ → Below) (P : ℕ → Type 0) → Type 0
@@ -88,15 +90,11 @@ over_read P taken snapshot sector store origin = over_by P snapshot sector taken
 
 pub on_target : (over : FoundSnapshot → ℕ → Below) (stack : Description) (P : ℕ → Type 0) (len : ℕ) (target : Target) (distance : ℕ) → GoesOn over P → AllByRecursion P (span_links stack (target_spans len target)) → OnBelow P (below_target over (found_target stack target) distance)
 unfolding OnBelow GoesOn
-on_target over stack P len (targets.Linear to offset) distance on each = on_ref stack P to (all_parts P (ref_link stack to) [] each).0
-on_target over stack P len (targets.Striped chunk_size columns) distance on each =
-    on_column P (found_columns stack columns) (column_of chunk_size (length (found_columns stack columns)) distance) (in_column chunk_size (length (found_columns stack columns)) distance) _ (on_columns stack P (len / length columns) columns each) refl
-on_target over stack P len targets.Zero distance on each = tt
-on_target over stack P len targets.Error distance on each = tt
 on_target over stack P len (targets.Snapshot origin store kind chunk_size) distance on each =
     let store_first = all_parts P (ref_link stack store) (span_links stack (whole_span origin Reading ∷ [])) each in
     on (found_snapshot stack origin store kind chunk_size) distance (on_ref stack P store store_first.0) (on_ref stack P origin (all_parts P (ref_link stack origin) [] store_first.1).0)
 on_target over stack P len (targets.Origin to) distance on each = on_ref stack P to (all_parts P (ref_link stack to) [] each).0
+on_target over stack P len target distance on each = on_plain stack P len target distance (below_plain (found_target stack target) distance) each refl
 
 pub on_lines : (stack : Description) (P : ℕ → Type 0) (lines : List Line) → AllByRecursion P (flat_map (line_links stack) lines) → AllByRecursion (λ line. AllByRecursion P (line_links stack line)) lines
 on_lines stack P [] each = tt

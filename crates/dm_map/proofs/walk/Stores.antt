@@ -1,9 +1,8 @@
 -- A store: each sector of it is read at its home, whatever the state.
-use Rattle.std.proofs.Common.{◌≡◌, ℕ, zero, suc, ◌+◌, ◌-◌, ◌/◌, ◌<◌, ◌≤◌, Bool, true, List, [], ◌∷◌, Option, Some, None, length, map, refl, sym, ap, subst, ◌∙◌, arith}
-use Rattle.std.specs.Prelude.{◌&&◌, not, option_map, slice_get}
+use Rattle.std.proofs.Common.{◌≡◌, ℕ, zero, suc, ◌+◌, ◌-◌, ◌<◌, ◌≤◌, Bool, true, false, List, [], ◌∷◌, Option, Some, None, length, refl, sym, ap, subst, ◌∙◌, arith}
+use Rattle.std.specs.Prelude.{◌&&◌, not, option_map}
 use Rattle.std.specs.List.{AllByRecursion, list_all}
 use Rattle.std.proofs.lemmas.Bool.{and_parts}
-use Rattle.dm_table.specs.declared.tables.table.Column.{Column}
 use Rattle.dm_table.specs.declared.tables.table.Line.{Line}
 use Rattle.dm_table.specs.declared.tables.table.Target.{Target}
 use Rattle.dm_table.specs.declared.tables.table.Target.TheVariants as targets
@@ -13,10 +12,10 @@ use Rattle.dm_stack.specs.declared.found_line.FoundSnapshot.{FoundSnapshot}
 use Rattle.dm_stack.specs.declared.graph.TheConstants.{MOST_DEPTH}
 use Rattle.dm_stack.specs.declared.id.Lower.{Lower}
 use Rattle.dm_stack.specs.declared.id.Lower.TheVariants.{Device, Disk}
-use Rattle.dm_stack.specs.Below.{Below, Lies, IsError, below, below_line, below_target, below_column, column_of, in_column, found_at, found_columns, found_line, found_target, holds, line_of, AreStripes, IsTargetSound}
+use Rattle.dm_stack.specs.Below.{Below, Lies, IsError, below, below_line, below_plain, below_target, below_column, column_of, in_column, found_at, found_columns, found_line, found_target, has_state, holds, line_of, IsTargetSound}
 use Rattle.dm_stack.specs.Description.{Description, device_len, is_ro_at, lines_at, lower_len, lower_of}
 use Rattle.dm_stack.specs.Soundness.{IsSound}
-use Rattle.dm_table.specs.tables.Span.{column_span, spans, target_spans}
+use Rattle.dm_table.specs.tables.Span.{Span, spans, target_spans}
 use Rattle.dm_stack.specs.Store.{is_plain, is_store_to, IsStore}
 use Rattle.dm_stack.proofs.SoundLines.{HoldsSoundly, found, sector_found, there}
 use Rattle.dm_map.specs.declared.walk.stretch.Ground.{Ground}
@@ -28,9 +27,10 @@ use Rattle.dm_map.specs.state.Snapshots.{read_over}
 use Rattle.dm_map.specs.state.State.{State, taken_at}
 use Rattle.dm_map.specs.walk.Stretch.{ground_unit}
 use Rattle.dm_map.specs.pieces.Units.{BlockUnit, ReadOf, Zeros, Fails, units_in}
-use Rattle.dm_map.proofs.walk.ReadSteps.{has_columns}
-use Rattle.dm_stack.proofs.StripeLemmas.{at_index, in_column_room}
+use Rattle.dm_stack.proofs.LegLemmas.{plain_inside}
+use Rattle.dm_stack.proofs.StripeLemmas.{at_index}
 use Rattle.dm_stack.proofs.InStack.{device_there}
+use Rattle.dm_map.proofs.walk.Spans.{below_is, plain_span, span_index}
 use Rattle.dm_map.proofs.walk.UnitRows.{row_same}
 
 -- What lies below a sector of a store
@@ -47,42 +47,48 @@ each_true : {X : Type 0} (test : X → Bool) (xs : List X) → list_all test xs 
 each_true test [] all = tt
 each_true test (x ∷ xs) all = let parts = and_parts (test x) (list_all test xs) all in (parts.0, each_true test xs parts.1)
 
--- each column of a striped line is one
-store_columns : (stack : Description) (levels share : ℕ) (columns : List Column) → list_all (λ span. is_store_to stack levels (lower_of stack span.to)) (map (column_span share) columns) ≡ true
-    → AllByRecursion (λ column. is_store_to stack levels column.to ≡ true) (found_columns stack columns)
-store_columns stack levels share [] all = tt
-store_columns stack levels share (column ∷ columns) all =
-    let parts = and_parts (is_store_to stack levels (lower_of stack column.to)) (list_all (λ span. is_store_to stack levels (lower_of stack span.to)) (map (column_span share) columns)) all in
-    (parts.0, store_columns stack levels share columns parts.1)
+-- whether a sector of something lies below
+abbrev goes_on : Below → Bool
+goes_on (Lies to sector) = true
+goes_on _ = false
 
-below_striped : (stack : Description) (levels len chunk_size : ℕ) (columns : List FoundColumn) (distance : ℕ) → AreStripes stack len chunk_size columns → AllByRecursion (λ column. is_store_to stack levels column.to ≡ true) columns → distance < len
-    → LiesInStore stack levels (λ over. below_column (slice_get columns (column_of chunk_size (length columns) distance)) (in_column chunk_size (length columns) distance))
-below_striped stack levels len chunk_size columns distance stripes stores inside =
-    let count = length columns in let index = column_of chunk_size count distance in let some = stripes.some in
-    let column = there columns index (omega (arith, some)) in
-    let share = at_index (λ c. c.offset + stripes.column_len ≤ lower_len stack c.to) columns index column.it stripes.inside column.at in
-    let room = in_column_room chunk_size count stripes.column_len stripes.chunks len distance stripes.chunk_some stripes.some stripes.shares stripes.whole inside in
-    let chunk_some = stripes.chunk_some in
-    record {
-      to = column.it.to;
-      at = column.it.offset + in_column chunk_size count distance;
-      is = λ over. ap (λ (c : Option FoundColumn). below_column c (in_column chunk_size count distance)) column.at;
-      store = at_index (λ c. is_store_to stack levels c.to ≡ true) columns index column.it stores column.at;
-      inside = omega (arith, share, room, chunk_some);
-    }
+record GoesOn (b : Below) : Type 0 where
+  to : Lower
+  at : ℕ
+  is : b ≡ Lies to at
 
-below_plain : (stack : Description) (levels device start len : ℕ) (target : Target) (distance : ℕ) → is_plain target ≡ true → list_all (λ span. is_store_to stack levels (lower_of stack span.to)) (target_spans len target) ≡ true
+on_it : (b : Below) → goes_on b ≡ true → GoesOn b
+on_it (Lies to at) goes = record { to = to; at = at; is = refl }
+on_it _ goes = absurd cc
+
+-- a line that a store may be made of has no state, and a sector of what it names below each of its own
+plain_state : (stack : Description) (target : Target) → is_plain target ≡ true → has_state (found_target stack target) ≡ false
+plain_state stack (targets.Snapshot origin store kind chunk_size) plain = absurd cc
+plain_state stack (targets.Origin origin) plain = absurd cc
+plain_state stack _ plain = refl
+
+plain_goes : (stack : Description) (device start len : ℕ) (target : Target) (distance : ℕ) → is_plain target ≡ true → IsTargetSound stack device start len (found_target stack target) → goes_on (below_plain (found_target stack target) distance) ≡ true
+plain_goes stack device start len (targets.Striped chunk_size columns) distance plain sound =
+    let found = found_columns stack columns in let some = sound.some in
+    let column = there found (column_of chunk_size (length found) distance) (omega (arith, some)) in
+    ap (λ (c : Option FoundColumn). goes_on (below_column c (in_column chunk_size (length found) distance))) column.at
+plain_goes stack device start len _ distance plain sound = cc
+
+below_plain_line : (stack : Description) (levels device start len : ℕ) (target : Target) (distance : ℕ) → is_plain target ≡ true → list_all (λ span. is_store_to stack levels (lower_of stack span.to)) (target_spans len target) ≡ true
     → IsTargetSound stack device start len (found_target stack target) → distance < len → LiesInStore stack levels (λ over. below_target over (found_target stack target) distance)
-below_plain stack levels device start len (targets.Linear to offset) distance plain stores sound inside = record {
-  to = lower_of stack to;
-  at = offset + distance;
-  is = λ over. refl;
-  store = (and_parts (is_store_to stack levels (lower_of stack to)) true stores).0;
-  inside = omega (arith, sound, inside);
-}
-below_plain stack levels device start len (targets.Striped chunk_size columns) distance plain stores sound inside =
-    below_striped stack levels len chunk_size (found_columns stack columns) distance sound (store_columns stack levels (len / length columns) columns stores) inside
-below_plain stack levels device start len _ distance plain stores sound inside = absurd cc
+below_plain_line stack levels device start len target distance plain stores sound inside =
+    let found = found_target stack target in
+    let state = plain_state stack target plain in
+    let lies = on_it (below_plain found distance) (plain_goes stack device start len target distance plain sound) in
+    let in_span = plain_span stack len target distance lies.to lies.at lies.is in
+    let each = each_true (λ (span : Span). is_store_to stack levels (lower_of stack span.to)) (target_spans len target) stores in
+    record {
+      to = lies.to;
+      at = lies.at;
+      is = λ over. below_is over found distance state ∙ lies.is;
+      store = subst (λ (lower : Lower). is_store_to stack levels lower ≡ true) in_span.on (at_index (λ (span : Span). is_store_to stack levels (lower_of stack span.to) ≡ true) (target_spans len target) (span_index found distance) in_span.span each in_span.is);
+      inside = plain_inside stack device start len distance found lies.to lies.at sound inside state lies.is;
+    }
 
 OnFound : Option FoundLine → (FoundLine → Type 0) → Type 0
 OnFound (Some line) P = P line
@@ -96,7 +102,7 @@ below_held stack levels device sector (Some line) each is soundly =
     let both = (found (λ l. (is_plain l.target && list_all (λ span. is_store_to stack levels (lower_of stack span.to)) (spans l)) ≡ true) (holds sector) (lines_at stack device) line each is).1 in
     let parts = and_parts (is_plain line.target) (list_all (λ span. is_store_to stack levels (lower_of stack span.to)) (spans line)) both in
     let from = soundly.from in let before = soundly.before in
-    below_plain stack levels device line.start line.len line.target (sector - line.start) parts.0 parts.1 soundly.target (omega (arith, from, before))
+    below_plain_line stack levels device line.start line.len line.target (sector - line.start) parts.0 parts.1 soundly.target (omega (arith, from, before))
 
 found_on : (stack : Description) (device sector : ℕ) (line : Option FoundLine) → found_at stack device sector ≡ line → IsSound stack → sector < device_len stack device → OnFound line (λ l. HoldsSoundly stack device l sector)
 unfolding OnFound
@@ -111,27 +117,22 @@ below_store stack levels device sector sound store inside =
     below_held stack levels device sector (line_of (lines_at stack device) sector) (each_true (λ l. is_plain l.target && list_all (λ span. is_store_to stack levels (lower_of stack span.to)) (spans l)) (lines_at stack device) parts.1) refl
     (found_on stack device sector (found_at stack device sector) refl sound inside)
 
--- its lines are linear or striped
+-- its lines have no state
 
-plain_columns : (stack : Description) (target : Target) → is_plain target ≡ true → has_columns (found_target stack target) ≡ true
-plain_columns stack (targets.Linear to offset) plain = refl
-plain_columns stack (targets.Striped chunk_size columns) plain = refl
-plain_columns stack _ plain = absurd cc
-
-columns_held : (stack : Description) (levels device sector : ℕ) (line : Option Line) (held : FoundLine) → AllByRecursion (λ l. (is_plain l.target && list_all (λ span. is_store_to stack levels (lower_of stack span.to)) (spans l)) ≡ true) (lines_at stack device)
-    → line_of (lines_at stack device) sector ≡ line → option_map (found_line stack) line ≡ Some held → has_columns held.target ≡ true
-columns_held stack levels device sector None held each is e = absurd cc
-columns_held stack levels device sector (Some line) held each is e =
+state_held : (stack : Description) (levels device sector : ℕ) (line : Option Line) (held : FoundLine) → AllByRecursion (λ l. (is_plain l.target && list_all (λ span. is_store_to stack levels (lower_of stack span.to)) (spans l)) ≡ true) (lines_at stack device)
+    → line_of (lines_at stack device) sector ≡ line → option_map (found_line stack) line ≡ Some held → has_state held.target ≡ false
+state_held stack levels device sector None held each is e = absurd cc
+state_held stack levels device sector (Some line) held each is e =
     let both = (found (λ l. (is_plain l.target && list_all (λ span. is_store_to stack levels (lower_of stack span.to)) (spans l)) ≡ true) (holds sector) (lines_at stack device) line each is).1 in
     let parts = and_parts (is_plain line.target) (list_all (λ span. is_store_to stack levels (lower_of stack span.to)) (spans line)) both in
     let same : found_line stack line ≡ held = cc in
-    subst (λ (l : FoundLine). has_columns l.target ≡ true) same (plain_columns stack line.target parts.0)
+    subst (λ (l : FoundLine). has_state l.target ≡ false) same (plain_state stack line.target parts.0)
 
-pub store_line : (stack : Description) (levels device sector : ℕ) (held : FoundLine) → is_store_to stack (suc levels) (Device device) ≡ true → found_at stack device sector ≡ Some held → has_columns held.target ≡ true
+pub store_line : (stack : Description) (levels device sector : ℕ) (held : FoundLine) → is_store_to stack (suc levels) (Device device) ≡ true → found_at stack device sector ≡ Some held → has_state held.target ≡ false
 unfolding is_store_to
 store_line stack levels device sector held store is =
     let parts = and_parts (not (is_ro_at stack device)) (list_all (λ l. is_plain l.target && list_all (λ span. is_store_to stack levels (lower_of stack span.to)) (spans l)) (lines_at stack device)) store in
-    columns_held stack levels device sector (line_of (lines_at stack device) sector) held (each_true (λ l. is_plain l.target && list_all (λ span. is_store_to stack levels (lower_of stack span.to)) (spans l)) (lines_at stack device) parts.1) refl is
+    state_held stack levels device sector (line_of (lines_at stack device) sector) held (each_true (λ l. is_plain l.target && list_all (λ span. is_store_to stack levels (lower_of stack span.to)) (spans l)) (lines_at stack device) parts.1) refl is
 
 -- The reads of a store
 
