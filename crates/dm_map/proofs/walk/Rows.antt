@@ -44,16 +44,16 @@ on_ok_then (Ok x) P Q f p = f p
 on_ok_then (Err e) P Q f p = tt
 
 -- a walk whose step is said in another way
-pub walked_as : {S F : Type 0} (took left : S → List BlockUnit → S → Type 0) (view : S → SinkView) (result : Result (Unit {0}) F) (old new : S) (before after : WalkerView) (step other : Step) (len : ℕ) → step ≡ other
+pub walked_as : {S F : Type 0} {took left : S → List BlockUnit → S → Type 0} {view : S → SinkView} {result : Result (Unit {0}) F} {old new : S} {before after : WalkerView} {step other : Step} {len : ℕ} → step ≡ other
     → IsWalked took left view result old new before after step len → IsWalked took left view result old new before after other len
-walked_as took left view result old new before after step other len same walked = subst (λ (x : Step). IsWalked took left view result old new before after x len) same walked
+walked_as {took} {left} {view} {result} {old} {new} {before} {after} {len} same walked = subst (λ (x : Step). IsWalked took left view result old new before after x len) same walked
 
 -- one piece as a walk
-pub walked_piece : {S F : Type 0} (took left : S → List BlockUnit → S → Type 0) (view : S → SinkView) (result : Result (Unit {0}) F) (old new : S) (walk : WalkerView) (units : List BlockUnit) (step : Step) (diskless len : ℕ)
+pub walked_piece : {S F : Type 0} {took left : S → List BlockUnit → S → Type 0} {view : S → SinkView} {result : Result (Unit {0}) F} {old new : S} {walk : WalkerView} {units : List BlockUnit} {step : Step} {diskless len : ℕ}
     → keep units walk.state ≡ step → diskless ≤ len → OnOk result (took old units new) → OnErr result (left old units new) → (view new).faults ≡ (view old).faults + fault_of result → OnOk result ((view new).stack ≡ (view old).stack) → OnOk result ((view old).room ≤ (view new).room + diskless)
     → IsWalked took left view result old new walk walk step len
-walked_piece took left view result old new walk units step diskless len same few took_is left_is faults_is kept_is room_is =
-    walked_as took left view result old new walk walk (keep units walk.state) step len same (record {
+walked_piece {left} {view} {result} {old} {new} {walk} {units} {diskless} {len} same few took_is left_is faults_is kept_is room_is =
+    walked_as same (record {
       took = took_is;
       state = on_ok result (walk.state ≡ walk.state) refl;
       kept = kept_is;

@@ -158,7 +158,7 @@ served_on took left view both cut result old middle new before between after ove
     let second = take_chunk_one between.stack one sector between.state in
     let list : take (i + 1) over ≡ take i over ++ one ∷ [] = take_more over i one within ∙ ap (λ (x : FoundOver). take i over ++ x ∷ []) (sym is) in
     let here : take_chunk_one before.stack one sector first.state ≡ second = ap (λ (s : Description). take_chunk_one s one sector first.state) (sym so_far.stack) ∙ ap (λ (state : State). take_chunk_one between.stack one sector state) (sym so_far.state) in
-    walked_as took left view result old new before after _ _ 0 (sym (ap (λ (xs : List FoundOver). serve before.stack xs sector before.state) list ∙ serve_more before.stack (take i over) one sector before.state))
+    walked_as (sym (ap (λ (xs : List FoundOver). serve before.stack xs sector before.state) list ∙ serve_more before.stack (take i over) one sector before.state))
     (walked_then took left view result old middle new before between after first second (λ later. take_chunk_one before.stack one sector later) 0 0 both cut so_far.took here (omega arith) so_far.kept (omega (arith, so_far.room)) (omega (arith, so_far.faults)) so_far.stack so_far.looked next)
 
 -- or the sink failed at it

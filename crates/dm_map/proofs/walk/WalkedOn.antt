@@ -1,16 +1,24 @@
--- A walk over a row of sectors, part by part.
-use Rattle.std.proofs.Common.{◌≡◌, ℕ, ◌+◌, ◌-◌, List, [], ◌++◌, append_assoc, refl, sym, ap, subst, ◌∙◌, arith}
+-- A row of sectors that is walked part by part.
+use Rattle.std.proofs.Common.{◌≡◌, ℕ, zero, suc, ◌+◌, ◌-◌, ◌*◌, ◌<◌, ◌≤◌, false, List, [], ◌++◌, append_assoc, refl, sym, ap, subst, ◌∙◌, arith}
 use Rattle.std.specs.Result.{IsErr}
-use Rattle.std.specs.Prelude.{◌≤◌, Result, Ok, Err}
+use Rattle.std.specs.Prelude.{Result, Ok, Err}
+use Rattle.dm_table.specs.declared.requests.request.Op.{Op}
+use Rattle.dm_table.specs.declared.requests.request.Op.TheVariants.{Read}
+use Rattle.dm_stack.specs.declared.found_line.FoundTarget.{FoundTarget}
+use Rattle.dm_stack.specs.declared.id.Lower.{Lower}
 use Rattle.dm_stack.specs.Description.{Description}
+use Rattle.dm_stack.specs.Soundness.{IsSound}
 use Rattle.dm_map.specs.state.Counts.{AreAdded}
 use Rattle.dm_map.specs.pieces.Sink.{OfBeginning, SinkView}
 use Rattle.dm_map.specs.state.State.{State}
+use Rattle.dm_map.specs.walk.Bound.{IsMapped, Mapping, range_mapping, target_mapping}
+use Rattle.dm_map.specs.walk.Path.{is_same_path, stretches}
 use Rattle.dm_map.specs.walk.Steps.{Step, keep, steps}
 use Rattle.dm_map.specs.pieces.Units.{BlockUnit}
 use Rattle.dm_map.specs.state.Walker.{StackState, WalkerView, stack_state}
-use Rattle.dm_map.specs.walk.Range.{IsWalked}
-use Rattle.dm_map.proofs.walk.Rows.{added_then, none_added, steps-append}
+use Rattle.dm_map.specs.walk.Range.{IsHanded, IsWalked}
+use Rattle.dm_map.proofs.walk.Paths.{searches_more, searches_on}
+use Rattle.dm_map.proofs.walk.Rows.{added_then, none_added, steps-append, walked_as, walked_piece}
 
 -- a walk so far, in which the sink did not fail
 abbrev pub going_on : Result (Unit {0}) (Unit {0})
@@ -53,73 +61,177 @@ left_on took left both a b c step state after sector m n len within is first sec
       holds = both a b c _ _ first cut.holds;
     }
 
--- the first sectors, and then the next ones
-pub walked_on : {S F : Type 0} (took left : S → List BlockUnit → S → Type 0) (view : S → SinkView) (both : (a b c : S) (us vs : List BlockUnit) → took a us b → took b vs c → took a (us ++ vs) c)
-    (fine : Unit {0}) (old middle new : S) (before between after : WalkerView) (step : State → ℕ → Step) (sector m n all : ℕ) → m + n ≡ all → IsWalked took left view going_on old middle before between (steps step before.state sector m) m
-    → IsWalked {F = F} took left view (Ok fine) middle new between after (steps step between.state (sector + m) n) n → IsWalked took left view going_on old new before after (steps step before.state sector all) all
-walked_on took left view both fine old middle new before between after step sector m n all is one two =
-    subst (λ (k : ℕ). IsWalked took left view going_on old new before after (steps step before.state sector k) k) is (record {
-      took = took_on took both old middle new step before.state between.state sector m n one.state one.took two.took;
-      state = state_on step before.state between.state after.state sector m n one.state two.state;
-      kept = two.kept ∙ one.kept;
-      room = omega (arith, one.room, two.room);
-      left = tt;
-      faults = omega (arith, one.faults, two.faults);
-      stack = two.stack ∙ one.stack;
-      looked = added_then before.looked between.looked after.looked one.looked two.looked;
-    })
+-- A read keeps the state
+
+steps_kept : (step : State → ℕ → Step) (state : State) (sector n : ℕ) → ((after : State) (i : ℕ) → (step after i).state ≡ after) → (steps step state sector n).state ≡ state
+steps_kept step state sector zero each = refl
+steps_kept step state sector (suc n) each = steps_kept step (step state sector).state (suc sector) n each ∙ each state sector
+
+abbrev pub Keeps : Mapping → Type 0
+Keeps mapping = mapping.op ≡ Read → (stack : Description) (state : State) (sector : ℕ) → (mapping.step stack state sector).state ≡ state
+
+pub range_keeps : (op : Op) (levels : ℕ) (lower : Lower) → Keeps (range_mapping op levels lower)
+range_keeps op levels lower is stack state sector = rw is refl
+
+pub target_keeps : (op : Op) (levels device start : ℕ) (target : FoundTarget) → Keeps (target_mapping op levels device start target)
+target_keeps op levels device start target is stack state distance = rw is refl
+
+-- Sectors that are mapped in parts
+
+-- a sector has another path than the one before it
+abbrev pub Turns : Mapping → WalkerView → (at : ℕ) → Type 0
+Turns mapping walk at = is_same_path (mapping.path walk.stack walk.state (at - 1)) (mapping.path walk.stack walk.state at) ≡ false
+
+-- of len sectors from the first one on as many are left, from this one on, and those before it were mapped
+pub record IsMappedTo {S : Type 0} (took left : S → List BlockUnit → S → Type 0) (view : S → SinkView) (old new : S) (before after : WalkerView) (mapping : Mapping) (first len at rest : ℕ) : Type 0 where
+  pub mapped : IsMapped took left view going_on old new before after mapping first (len - rest)
+  pub within : rest ≤ len
+  pub position : at + rest ≡ first + len
+  pub turns : mapping.op ≡ Read → 0 < len - rest → 0 < rest → Turns mapping before at
+
+-- none of them
+pub mapped_none : {S : Type 0} {took left : S → List BlockUnit → S → Type 0} {view : S → SinkView} {sink : S} {walk : WalkerView} {mapping : Mapping} {first len : ℕ} → took sink [] sink → mapping.found ≡ 0 → IsMappedTo took left view sink sink walk walk mapping first len first len
+mapped_none {took} {left} {view} {sink} {walk} {mapping} {first} {len} taken none =
+    let nothing : IsMapped took left view going_on sink sink walk walk mapping first 0 = record { walked = walked_none took left view sink walk taken; bounded = λ is sound. omega (arith, none) } in
+    record {
+      mapped = subst (λ (n : ℕ). IsMapped took left view going_on sink sink walk walk mapping first n) (let e : 0 ≡ len - len = omega arith in e) nothing;
+      within = omega arith;
+      position = refl;
+      turns = λ is some more. absurd (omega (arith, some));
+    }
+
+-- a piece without a disk
+pub mapped_handed : {S F : Type 0} {took left : S → List BlockUnit → S → Type 0} {view : S → SinkView} {result : Result (Unit {0}) F} {old new : S} {walk : WalkerView} {units : List BlockUnit} {first len : ℕ} (mapping : Mapping) → mapping.found ≡ 0
+    → keep units walk.state ≡ steps (mapping.step walk.stack) walk.state first len → IsHanded took left view result old new units len → IsMapped took left view result old new walk walk mapping first len
+mapped_handed {walk} mapping none same p = record { walked = walked_piece same (omega arith) p.took p.left p.faults p.stack p.room; bounded = λ is sound. omega (arith, none) }
+
+-- the step of the next ones
+next_step : {S : Type 0} {took left : S → List BlockUnit → S → Type 0} {view : S → SinkView} {old middle : S} {before between : WalkerView} {mapping : Mapping} {first len at rest : ℕ} (n : ℕ) → IsMappedTo took left view old middle before between mapping first len at rest
+    → steps (mapping.step between.stack) between.state at n ≡ steps (mapping.step before.stack) between.state (first + (len - rest)) n
+next_step {before} {between} {mapping} {first} {len} {at} {rest} n one =
+    ap (λ (s : Description). steps (mapping.step s) between.state at n) one.mapped.walked.stack
+    ∙ ap (λ (p : ℕ). steps (mapping.step before.stack) between.state p n) (let e : at ≡ first + (len - rest) = omega (arith, one.position, one.within) in e)
+
+-- the searches of those so far and of the next ones
+searches_next : {S F : Type 0} {took left : S → List BlockUnit → S → Type 0} {view : S → SinkView} {result : Result (Unit {0}) F} {old middle new : S} {before between after : WalkerView} {mapping : Mapping} {found first len at rest n : ℕ}
+    → Keeps mapping → 1 ≤ n → n ≤ rest → IsMappedTo took left view old middle before between mapping first len at rest → IsMapped took left view result middle new between after (record mapping { found = found }) at n
+    → mapping.op ≡ Read → IsSound before.stack → after.looked.searches + found ≤ before.looked.searches + mapping.depth before.stack * stretches (mapping.path before.stack before.state) first (len - rest + n)
+searches_next {before} {between} {after} {mapping} {found} {first} {len} {at} {rest} {n} keeps some few one two is sound =
+    let done = len - rest in let depth = mapping.depth before.stack in let paths = mapping.path before.stack before.state in let walked = one.mapped.walked in
+    let position : at ≡ first + done = omega (arith, one.position, one.within) in
+    let state : between.state ≡ before.state = walked.state ∙ steps_kept (mapping.step before.stack) before.state first done (keeps is before.stack) in
+    let same : stack_state between ≡ stack_state before =
+    ap (λ (s : Description). record { stack = s; state = between.state }) walked.stack ∙ ap (λ (s : State). record { stack = before.stack; state = s }) state in
+    let more : after.looked.searches + found ≤ between.looked.searches + depth * stretches paths at n =
+    subst (λ (v : StackState). after.looked.searches + found ≤ between.looked.searches + mapping.depth v.stack * stretches (mapping.path v.stack v.state) at n) same (two.bounded is (subst IsSound (sym walked.stack) sound)) in
+    let so_far = one.mapped.bounded is sound in
+    searches_on paths depth first done n before.looked.searches between.looked.searches (after.looked.searches + found)
+    (λ later. subst (λ (p : ℕ). is_same_path (paths (p - 1)) (paths p) ≡ false) position (one.turns is later (omega (arith, some, few)))) some (omega (arith, so_far))
+    (subst (λ (p : ℕ). after.looked.searches + found ≤ between.looked.searches + depth * stretches paths p n) position more)
+
+-- the next ones too
+pub mapped_on : {S F : Type 0} {took left : S → List BlockUnit → S → Type 0} {view : S → SinkView} {fine : Unit {0}} {old middle new : S} {before between after : WalkerView} {mapping : Mapping} {found first len at rest n : ℕ} → ((a b c : S) (us vs : List BlockUnit) → took a us b → took b vs c → took a (us ++ vs) c)
+    → Keeps mapping → IsMappedTo took left view old middle before between mapping first len at rest → IsMapped {F = F} took left view (Ok fine) middle new between after (record mapping { found = found }) at n → 1 ≤ n → n ≤ rest → (mapping.op ≡ Read → n < rest → Turns mapping before (at + n))
+    → IsMappedTo took left view old new before after (record mapping { found = found }) first len (at + n) (rest - n)
+mapped_on {took} {left} {view} {old} {middle} {new} {before} {between} {after} {mapping} {found} {first} {len} {at} {rest} {n} both keeps one two some few turns =
+    let done = len - rest in let step = mapping.step before.stack in let first_walk = one.mapped.walked in let walk = walked_as (next_step n one) two.walked in
+    let on : IsMapped took left view going_on old new before after (record mapping { found = found }) first (done + n) = record {
+      walked = record {
+        took = took_on took both old middle new step before.state between.state first done n first_walk.state first_walk.took walk.took;
+        state = state_on step before.state between.state after.state first done n first_walk.state walk.state;
+        kept = walk.kept ∙ first_walk.kept;
+        room = omega (arith, first_walk.room, walk.room);
+        left = tt;
+        faults = omega (arith, first_walk.faults, walk.faults);
+        stack = walk.stack ∙ first_walk.stack;
+        looked = added_then before.looked between.looked after.looked first_walk.looked walk.looked;
+      };
+      bounded = searches_next keeps some few one two;
+    } in
+    record {
+      mapped = subst (λ (k : ℕ). IsMapped took left view going_on old new before after (record mapping { found = found }) first k) (let e : done + n ≡ len - (rest - n) = omega (arith, few, one.within) in e) on;
+      within = omega (arith, one.within);
+      position = omega (arith, one.position, few);
+      turns = λ is later more. turns is (omega (arith, more));
+    }
+
+-- all of them
+pub mapped_whole : {S F : Type 0} {took left : S → List BlockUnit → S → Type 0} {view : S → SinkView} {fine : Unit {0}} {old new : S} {before after : WalkerView} {mapping : Mapping} {first len at rest : ℕ} → IsMappedTo took left view old new before after mapping first len at rest → rest ≤ 0
+    → IsMapped {F = F} took left view (Ok fine) old new before after mapping first len
+mapped_whole {F} {took} {left} {view} {fine} {old} {new} {before} {after} {mapping} {first} {len} {rest} one none =
+    let walk = one.mapped.walked in
+    subst (λ (k : ℕ). IsMapped {F = F} took left view (Ok fine) old new before after mapping first k) (let e : len - rest ≡ len = omega (arith, none) in e)
+    (record { walked = record { took = walk.took; state = walk.state; kept = walk.kept; room = walk.room; left = tt; faults = walk.faults; stack = walk.stack; looked = walk.looked }; bounded = one.mapped.bounded })
 
 -- or a beginning of the next ones, and then a fault
-pub cut_on : {S F : Type 0} (took left : S → List BlockUnit → S → Type 0) (view : S → SinkView) (both : (a b c : S) (us vs : List BlockUnit) → took a us b → left b vs c → left a (us ++ vs) c)
-    (fault : F) (result : Result (Unit {0}) F) (old middle new : S) (before between after : WalkerView) (step : State → ℕ → Step) (sector m n len : ℕ) → IsErr result → m + n ≤ len → IsWalked took left view going_on old middle before between (steps step before.state sector m) m
-    → IsWalked took left view (Err fault) middle new between after (steps step between.state (sector + m) n) n → IsWalked took left view result old new before after (steps step before.state sector len) len
-cut_on took left view both fault (Ok done) old middle new before between after step sector m n len is_err within one two = absurd cc
-cut_on took left view both fault (Err cause) old middle new before between after step sector m n len is_err within one two = record {
-  took = tt;
-  state = tt;
-  kept = tt;
-  room = tt;
-  left = left_on took left both old middle new step before.state between.state sector m n len within one.state one.took two.left;
-  faults = omega (arith, one.faults, two.faults);
-  stack = two.stack ∙ one.stack;
-  looked = added_then before.looked between.looked after.looked one.looked two.looked;
-}
+pub mapped_cut : {S F : Type 0} {took left : S → List BlockUnit → S → Type 0} {view : S → SinkView} {fault : F} {result : Result (Unit {0}) F} {old middle new : S} {before between after : WalkerView} {mapping : Mapping} {found first len at rest n : ℕ} → ((a b c : S) (us vs : List BlockUnit) → took a us b → left b vs c → left a (us ++ vs) c)
+    → Keeps mapping → IsErr result → IsMappedTo took left view old middle before between mapping first len at rest → IsMapped took left view (Err fault) middle new between after (record mapping { found = found }) at n → 1 ≤ n → n ≤ rest → IsMapped took left view result old new before after (record mapping { found = found }) first len
+mapped_cut {result = Ok done} both keeps is_err one two some few = absurd cc
+mapped_cut {took} {left} {result = Err cause} {old} {middle} {new} {before} {between} {after} {mapping} {found} {first} {len} {at} {rest} {n} both keeps is_err one two some few =
+    let done = len - rest in let first_walk = one.mapped.walked in let walk = walked_as (next_step n one) two.walked in
+    record {
+      walked = record {
+        took = tt;
+        state = tt;
+        kept = tt;
+        room = tt;
+        left = left_on took left both old middle new (mapping.step before.stack) before.state between.state first done n len (omega (arith, few, one.within)) first_walk.state first_walk.took walk.left;
+        faults = omega (arith, first_walk.faults, walk.faults);
+        stack = walk.stack ∙ first_walk.stack;
+        looked = added_then before.looked between.looked after.looked first_walk.looked walk.looked;
+      };
+      bounded = λ is sound. searches_more (mapping.path before.stack before.state) (mapping.depth before.stack) first (done + n) len before.looked.searches (after.looked.searches + found) (omega (arith, few, one.within)) (searches_next keeps some few one two is sound);
+    }
 
 -- the last ones, whatever came of them
-pub walked_last : {S F : Type 0} (took left : S → List BlockUnit → S → Type 0) (view : S → SinkView) (both : (a b c : S) (us vs : List BlockUnit) → took a us b → took b vs c → took a (us ++ vs) c)
-    (cut : (a b c : S) (us vs : List BlockUnit) → took a us b → left b vs c → left a (us ++ vs) c) (result : Result (Unit {0}) F) (old middle new : S) (before between after : WalkerView) (step : State → ℕ → Step) (sector m n all : ℕ) → m + n ≡ all
-    → IsWalked took left view going_on old middle before between (steps step before.state sector m) m → IsWalked took left view result middle new between after (steps step between.state (sector + m) n) n
-    → IsWalked took left view result old new before after (steps step before.state sector all) all
-walked_last took left view both cut (Ok done) old middle new before between after step sector m n all is one two =
-    let walk = walked_on took left view both done old middle new before between after step sector m n all is one two in
-    record { took = walk.took; state = walk.state; kept = walk.kept; room = walk.room; left = tt; faults = walk.faults; stack = walk.stack; looked = walk.looked }
-walked_last took left view both cut (Err fault) old middle new before between after step sector m n all is one two =
-    cut_on took left view cut fault (Err fault) old middle new before between after step sector m n all refl (omega (arith, is)) one two
+pub mapped_last : {S F : Type 0} {took left : S → List BlockUnit → S → Type 0} {view : S → SinkView} {result : Result (Unit {0}) F} {old middle new : S} {before between after : WalkerView} {mapping : Mapping} {found first len at rest : ℕ} → ((a b c : S) (us vs : List BlockUnit) → took a us b → took b vs c → took a (us ++ vs) c)
+    → ((a b c : S) (us vs : List BlockUnit) → took a us b → left b vs c → left a (us ++ vs) c) → Keeps mapping → IsMappedTo took left view old middle before between mapping first len at rest → IsMapped took left view result middle new between after (record mapping { found = found }) at rest → 1 ≤ rest
+    → IsMapped took left view result old new before after (record mapping { found = found }) first len
+mapped_last {result = Ok done} both cut keeps one two some = mapped_whole (mapped_on both keeps one two some (omega arith) (λ is more. absurd (omega (arith, more)))) (omega arith)
+mapped_last {result = Err fault} both cut keeps one two some = mapped_cut {fault = fault} cut keeps refl one two some (omega arith)
 
--- a walk after a look, which changes nothing but the counts
-pub walked_after_look : {S F : Type 0} (took left : S → List BlockUnit → S → Type 0) (view : S → SinkView) (result : Result (Unit {0}) F) (old new : S) (before looked after : WalkerView) (step : Step) (len : ℕ) → stack_state looked ≡ stack_state before
-    → AreAdded before.looked looked.looked → IsWalked took left view result old new looked after step len → IsWalked took left view result old new before after step len
-walked_after_look took left view result old new before looked after step len same added walk = record {
-  took = walk.took;
-  state = walk.state;
-  kept = walk.kept;
-  room = walk.room;
-  left = walk.left;
-  faults = walk.faults;
-  stack = walk.stack ∙ ap (λ (v : StackState). v.stack) same;
-  looked = added_then before.looked looked.looked after.looked added walk.looked;
-}
+-- A look changes nothing but the counts, and is at most one search
 
--- a walk before a look
-pub walked_before_look : {S : Type 0} (took left : S → List BlockUnit → S → Type 0) (view : S → SinkView) (old new : S) (before after looked : WalkerView) (step : Step) (len : ℕ) → stack_state looked ≡ stack_state after
-    → AreAdded after.looked looked.looked → IsWalked took left view going_on old new before after step len → IsWalked took left view going_on old new before looked step len
-walked_before_look took left view old new before after looked step len same added walk = record {
-  took = walk.took;
-  state = ap (λ (v : StackState). v.state) same ∙ walk.state;
-  kept = walk.kept;
-  room = walk.room;
-  left = walk.left;
-  faults = walk.faults;
-  stack = ap (λ (v : StackState). v.stack) same ∙ walk.stack;
-  looked = added_then before.looked after.looked looked.looked walk.looked added;
-}
+pub mapped_after_look : {S F : Type 0} {took left : S → List BlockUnit → S → Type 0} {view : S → SinkView} {result : Result (Unit {0}) F} {old new : S} {before looked after : WalkerView} {first len : ℕ} (mapping : Mapping) → mapping.found ≡ 0
+    → stack_state looked ≡ stack_state before → AreAdded before.looked looked.looked → looked.looked.searches ≤ before.looked.searches + 1 → IsMapped took left view result old new looked after (record mapping { found = 1 }) first len → IsMapped took left view result old new before after mapping first len
+mapped_after_look {before} {looked} {after} {first} {len} mapping none same added one mapped =
+    let walk = walked_as (ap (λ (v : StackState). steps (mapping.step v.stack) v.state first len) same) mapped.walked in
+    record {
+      walked = record {
+        took = walk.took;
+        state = walk.state;
+        kept = walk.kept;
+        room = walk.room;
+        left = walk.left;
+        faults = walk.faults;
+        stack = walk.stack ∙ ap (λ (v : StackState). v.stack) same;
+        looked = added_then before.looked looked.looked after.looked added walk.looked;
+      };
+      bounded = λ is sound.
+          let few = subst (λ (v : StackState). after.looked.searches + 1 ≤ looked.looked.searches + mapping.depth v.stack * stretches (mapping.path v.stack v.state) first len) same
+          (mapped.bounded is (subst (λ (v : StackState). IsSound v.stack) (sym same) sound)) in
+          omega (arith, few, one, none);
+    }
+
+pub mapped_before_look : {S : Type 0} {took left : S → List BlockUnit → S → Type 0} {view : S → SinkView} {old new : S} {before after looked : WalkerView} {first len at rest : ℕ} (mapping : Mapping) → mapping.found ≡ 0
+    → stack_state looked ≡ stack_state after → AreAdded after.looked looked.looked → looked.looked.searches ≤ after.looked.searches + 1 → IsMappedTo took left view old new before after (record mapping { found = 1 }) first len at rest → IsMappedTo took left view old new before looked mapping first len at rest
+mapped_before_look {before} {after} {looked} mapping none same added one so_far =
+    let walk = so_far.mapped.walked in
+    record {
+      mapped = record {
+        walked = record {
+          took = walk.took;
+          state = ap (λ (v : StackState). v.state) same ∙ walk.state;
+          kept = walk.kept;
+          room = walk.room;
+          left = walk.left;
+          faults = walk.faults;
+          stack = ap (λ (v : StackState). v.stack) same ∙ walk.stack;
+          looked = added_then before.looked after.looked looked.looked walk.looked added;
+        };
+        bounded = λ is sound. let few = so_far.mapped.bounded is sound in omega (arith, few, one, none);
+      };
+      within = so_far.within;
+      position = so_far.position;
+      turns = so_far.turns;
+    }

@@ -1,34 +1,56 @@
--- A bound on the searches of a read, by the stretches of what is read.
-use Rattle.std.specs.Prelude.{ℕ, ◌≡◌, ◌+◌, ◌-◌, ◌*◌, ◌≤◌, List, Some}
+-- How sectors are mapped, and a bound on the searches of a read, by the stretches of what is read.
+use Rattle.std.specs.Prelude.{ℕ, ◌≡◌, ◌+◌, ◌-◌, ◌*◌, ◌≤◌, List, [], ◌∷◌, Result}
 use Rattle.dm_table.specs.declared.requests.request.Op.{Op}
 use Rattle.dm_table.specs.declared.requests.request.Op.TheVariants.{Read}
-use Rattle.dm_stack.specs.declared.found_line.FoundLine.{FoundLine}
+use Rattle.dm_stack.specs.declared.found_line.FoundOrigin.{FoundOrigin}
 use Rattle.dm_stack.specs.declared.found_line.FoundTarget.{FoundTarget}
-use Rattle.dm_stack.specs.Below.{found_at}
+use Rattle.dm_stack.specs.declared.id.Lower.{Lower}
+use Rattle.dm_stack.specs.declared.id.Lower.TheVariants.{Device}
+use Rattle.dm_stack.specs.Below.{below_target, chunk_at}
+use Rattle.dm_stack.specs.Depth.{lower_depth}
 use Rattle.dm_stack.specs.Description.{Description}
 use Rattle.dm_stack.specs.Soundness.{IsSound, depth_of}
-use Rattle.dm_map.specs.walk.Path.{PathStep, line_path, path, stretches}
-use Rattle.dm_map.specs.state.State.{State}
+use Rattle.dm_map.specs.pieces.Sink.{SinkView}
+use Rattle.dm_map.specs.pieces.Units.{BlockUnit}
+use Rattle.dm_map.specs.state.Snapshots.{read_over}
+use Rattle.dm_map.specs.state.State.{State, taken_at}
 use Rattle.dm_map.specs.state.Walker.{WalkerView}
+use Rattle.dm_map.specs.walk.Mapping.{sector_step}
+use Rattle.dm_map.specs.walk.Path.{PathStep, path, stretches}
+use Rattle.dm_map.specs.walk.Range.{IsWalked, served_sector, target_step}
+use Rattle.dm_map.specs.walk.Reads.{by_below}
+use Rattle.dm_map.specs.walk.Steps.{Step, steps}
 
--- a walk that reads len sectors searched at most once a level for each stretch of these paths
-abbrev pub IsBounded : (before after : WalkerView) → Op → (levels : ℕ) → (paths : ℕ → List PathStep) → (sector len : ℕ) → Type 0
-IsBounded before after op levels paths sector len = op ≡ Read → IsSound before.stack → after.looked.searches ≤ before.looked.searches + levels * stretches paths sector len
+-- how sectors are mapped: for which operation, by which step and along which path each of them, over how many levels of devices at most, and how many searches were made before
+pub record Mapping : Type 0 where
+  pub op : Op
+  pub step : Description → State → ℕ → Step
+  pub path : Description → State → ℕ → List PathStep
+  pub depth : Description → ℕ
+  pub found : ℕ
 
--- and one that begins after a look-up of its first line, which is counted among these
-abbrev pub IsBoundedFrom : (looked after : WalkerView) → Op → (levels : ℕ) → (paths : ℕ → List PathStep) → (sector len : ℕ) → Type 0
-IsBoundedFrom looked after op levels paths sector len = op ≡ Read → IsSound looked.stack → after.looked.searches + 1 ≤ looked.looked.searches + levels * stretches paths sector len
+-- the mapping of the sectors of a device or a disk, through at most this many levels of devices
+abbrev pub range_mapping : Op → ℕ → Lower → Mapping
+range_mapping op levels lower = record { op = op; step = λ stack. sector_step stack op levels lower; path = λ stack state. path stack state levels lower; depth = λ stack. lower_depth stack lower; found = 0 }
 
--- the paths of the sectors of a line of a device, by their distance from its start, with at most this many levels of devices below it
-abbrev pub line_paths : Description → State → (levels device : ℕ) → FoundLine → ℕ → List PathStep
-line_paths stack state levels device line distance = line_path state device line distance (λ to lower. path stack state levels to lower)
+-- that of a device, once the line of the first of them was looked up
+abbrev pub found_mapping : Op → ℕ → (device : ℕ) → Mapping
+found_mapping op levels device = record (range_mapping op levels (Device device)) { found = 1 }
 
--- the same below a line, where its device is no level any more
-abbrev pub IsLineBounded : (before after : WalkerView) → Op → (levels device : ℕ) → FoundLine → (distance len : ℕ) → Type 0
-IsLineBounded before after op levels device line distance len =
-    IsBounded before after op (depth_of before.stack device - 1) (line_paths before.stack before.state levels device line) distance len
+-- that of an origin's device, through at most this many levels of devices below it
+abbrev pub origin_mapping : Op → ℕ → FoundOrigin → Mapping
+origin_mapping op levels origin = record (range_mapping op levels origin.to) { step = λ stack. served_sector stack op levels origin }
 
--- and that for each line of a device that has this target
-abbrev pub IsTargetBounded : (before after : WalkerView) → Op → (levels device : ℕ) → FoundTarget → (distance len : ℕ) → Type 0
-IsTargetBounded before after op levels device target distance len =
-    (line : FoundLine) → found_at before.stack device line.start ≡ Some line → line.target ≡ target → IsLineBounded before after op levels device line distance len
+-- the path of a sector at a distance from the start of a line of a device, which has this target, and the mapping of the sectors of the line, through at most this many levels of devices below it
+abbrev pub target_path : Description → State → ℕ → (device start : ℕ) → FoundTarget → (distance : ℕ) → List PathStep
+target_path stack state levels device start target distance =
+    record { device = device; start = start; chunk = chunk_at target distance } ∷ by_below (below_target (read_over (taken_at state device)) target distance) [] [] (λ to lower. path stack state levels to lower)
+
+abbrev pub target_mapping : Op → ℕ → (device start : ℕ) → FoundTarget → Mapping
+target_mapping op levels device start target =
+    record { op = op; step = λ stack. target_step stack op levels device target; path = λ stack state. target_path stack state levels device start target; depth = λ stack. depth_of stack device - 1; found = 0 }
+
+-- len sectors from the first one on were mapped in this way. A read searched at most once a level for each stretch of their paths, with the searches that were made before
+pub record IsMapped {S F : Type 0} (takes leaves : S → List BlockUnit → S → Type 0) (view : S → SinkView) (result : Result (Unit {0}) F) (old new : S) (before after : WalkerView) (mapping : Mapping) (first len : ℕ) : Type 0 where
+  pub walked : IsWalked takes leaves view result old new before after (steps (mapping.step before.stack) before.state first len) len
+  pub bounded : mapping.op ≡ Read → IsSound before.stack → after.looked.searches + mapping.found ≤ before.looked.searches + mapping.depth before.stack * stretches (mapping.path before.stack before.state) first len

@@ -8,24 +8,21 @@
 //! over, which state it leaves, and, of a read, how often it searches: at most once a level for each
 //! stretch of sectors with one path (`specs/walk/Path`).
 
-ghost use Rattle.std.specs.Prelude.{◌≡◌, ℕ, ◌+◌, ◌<◌, ◌≤◌, false, true, length};
+ghost use Rattle.std.specs.Prelude.{◌≡◌, ◌+◌, ◌<◌, ◌≤◌, false, true, length};
 ghost use Rattle.dm_table.specs.declared.requests.request.Op.TheVariants.{Write};
 ghost use Rattle.dm_stack.specs.Below.{is_striped, IsLine, IsLineOf};
 ghost use Rattle.dm_stack.specs.Description.{Description, device_len, lower_len};
-ghost use Rattle.dm_stack.specs.Depth.{lower_depth};
-ghost use Rattle.dm_stack.specs.Soundness.{depth_of};
-ghost use Rattle.dm_stack.specs.declared.found_line.FoundTarget.TheVariants.{Origin, Snapshot};
+ghost use Rattle.dm_stack.specs.declared.found_line.FoundTarget.TheVariants.{Snapshot};
 ghost use Rattle.dm_stack.specs.declared.id.Lower.TheVariants.{Device};
 ghost use Rattle.dm_stack.specs.declared.graph.TheConstants.{MOST_DEPTH};
 ghost use Rattle.dm_stack.specs.declared.limits.TheConstants.{MOST_LENGTH};
-ghost use Rattle.dm_map.specs.walk.Bound.{IsBounded, IsBoundedFrom, IsLineBounded, IsTargetBounded};
-ghost use Rattle.dm_map.specs.walk.Path.{path};
+ghost use Rattle.dm_map.specs.walk.Bound.{found_mapping, origin_mapping, range_mapping, target_mapping};
+ghost use Rattle.dm_map.specs.walk.Bound.{IsMapped};
 ghost use Rattle.dm_map.specs.walk.SnapshotWrites.{write_snapshot};
 ghost use Rattle.dm_map.specs.walk.Steps.{steps};
 ghost use Rattle.dm_map.specs.pieces.Units.{diskless_len, piece_len, units_in, units_of};
 ghost use Rattle.dm_map.specs.pieces.Units.{Fails, IsOnDisk, IsOnDisks};
 ghost use Rattle.dm_map.specs.walk.Range.{disk_unit, zero_unit, refuses};
-ghost use Rattle.dm_map.specs.walk.Range.{range_step, line_step, origin_step};
 ghost use Rattle.dm_map.specs.walk.Range.{AreInOrigin, IsHanded, IsLegOf, HasRoomFor, IsWalked};
 ghost use Rattle.dm_map.specs.walk.Chunk.{AreInChunk, AreInSnapshot};
 
@@ -63,11 +60,8 @@ pub(crate) fn map_range<S: Sink, T: Taken>(
     requires some { 1 ≤ len }
     requires inside { sector + len ≤ lower_len walker.old.stack lower }
     requires sink { HasRoomFor S.view sink.old walker.old.stack len }
-    ensures walked { IsWalked S.took S.left S.view
-        result sink.old sink.new walker.old walker.new
-        (range_step walker.old.stack op levels lower walker.old.state sector len) len }
-    ensures bounded { IsBounded walker.old walker.new op (lower_depth walker.old.stack lower)
-        (path walker.old.stack walker.old.state levels lower) sector len }
+    ensures { IsMapped S.took S.left S.view result sink.old sink.new walker.old walker.new
+        (range_mapping op levels lower) sector len }
 {
     match lower {
         Lower::Disk(disk) => sink.piece(disk_piece(op, disk, sector, len)),
@@ -89,11 +83,8 @@ pub(crate) fn map_top<S: Sink, T: Taken>(
     requires some { 1 ≤ len }
     requires inside { sector + len ≤ device_len walker.old.stack device }
     requires sink { HasRoomFor S.view sink.old walker.old.stack len }
-    ensures walked { IsWalked S.took S.left S.view
-        result sink.old sink.new walker.old walker.new
-        (range_step walker.old.stack op MOST_DEPTH (Device device) walker.old.state sector len) len }
-    ensures bounded { IsBounded walker.old walker.new op (depth_of walker.old.stack device)
-        (path walker.old.stack walker.old.state MOST_DEPTH (Device device)) sector len }
+    ensures { IsMapped S.took S.left S.view result sink.old sink.new walker.old walker.new
+        (range_mapping op MOST_DEPTH (Device device)) sector len }
 {
     if refuses(walker, op, device) {
         return fail(len, sink);
@@ -136,11 +127,8 @@ fn map_device<S: Sink, T: Taken>(
     requires some { 1 ≤ len }
     requires inside { sector + len ≤ device_len walker.old.stack device }
     requires sink { HasRoomFor S.view sink.old walker.old.stack len }
-    ensures walked { IsWalked S.took S.left S.view
-        result sink.old sink.new walker.old walker.new
-        (range_step walker.old.stack op levels (Device device) walker.old.state sector len) len }
-    ensures bounded { IsBounded walker.old walker.new op (depth_of walker.old.stack device)
-        (path walker.old.stack walker.old.state levels (Device device)) sector len }
+    ensures { IsMapped S.took S.left S.view result sink.old sink.new walker.old walker.new
+        (range_mapping op levels (Device device)) sector len }
 {
     if levels == 0 || refuses(walker, op, device) {
         return fail(len, sink);
@@ -175,11 +163,8 @@ fn map_lines<S: Sink, T: Taken>(
     requires inside { sector + len ≤ device_len walker.old.stack device }
     requires line { IsLineOf walker.old.stack device first.now sector }
     requires sink { HasRoomFor S.view sink.old walker.old.stack len }
-    ensures walked { IsWalked S.took S.left S.view
-        result sink.old sink.new walker.old walker.new
-        (range_step walker.old.stack op levels (Device device) walker.old.state sector len) len }
-    ensures bounded { IsBoundedFrom walker.old walker.new op (depth_of walker.old.stack device)
-        (path walker.old.stack walker.old.state levels (Device device)) sector len }
+    ensures { IsMapped S.took S.left S.view result sink.old sink.new walker.old walker.new
+        (found_mapping op levels device) sector len }
 {
     let mut line = first;
     let mut at = sector;
@@ -216,11 +201,8 @@ fn map_line<S: Sink, T: Taken>(
     requires inside { sector + len ≤ line.now.start + line.now.len }
     requires line { IsLineOf walker.old.stack device line.now sector }
     requires sink { HasRoomFor S.view sink.old walker.old.stack len }
-    ensures walked { IsWalked S.took S.left S.view
-        result sink.old sink.new walker.old walker.new
-        (range_step walker.old.stack op levels (Device device) walker.old.state sector len) len }
-    ensures bounded { IsBoundedFrom walker.old walker.new op (depth_of walker.old.stack device)
-        (path walker.old.stack walker.old.state levels (Device device)) sector len }
+    ensures { IsMapped S.took S.left S.view result sink.old sink.new walker.old walker.new
+        (found_mapping op levels device) sector len }
 {
     walker.is_sound();
     let distance = sector - line.start;
@@ -252,10 +234,8 @@ fn map_legs<S: Sink, T: Taken>(
     requires line { IsLine walker.old.stack device line.now }
     requires striped { is_striped line.now.target ≡ true }
     requires sink { HasRoomFor S.view sink.old walker.old.stack len }
-    ensures walked { IsWalked S.took S.left S.view
-        result sink.old sink.new walker.old walker.new
-        (line_step walker.old.stack op levels device line.now.target walker.old.state distance len) len }
-    ensures bounded { IsLineBounded walker.old walker.new op levels device line.now distance len }
+    ensures { IsMapped S.took S.left S.view result sink.old sink.new walker.old walker.new
+        (target_mapping op levels device line.now.start line.now.target) distance len }
 {
     walker.is_sound();
     let mut legs = line.target.legs(distance, len);
@@ -283,11 +263,8 @@ fn map_leg<S: Sink, T: Taken>(
 ) -> Result<(), S::Fault>
     requires leg { IsLegOf walker.old.stack device line.now distance leg.now }
     requires sink { HasRoomFor S.view sink.old walker.old.stack leg.now.len }
-    ensures walked { IsWalked S.took S.left S.view
-        result sink.old sink.new walker.old walker.new
-        (line_step walker.old.stack op levels device line.now.target walker.old.state distance
-        leg.now.len) leg.now.len }
-    ensures bounded { IsLineBounded walker.old walker.new op levels device line.now distance leg.now.len }
+    ensures { IsMapped S.took S.left S.view result sink.old sink.new walker.old walker.new
+        (target_mapping op levels device line.now.start line.now.target) distance leg.now.len }
 {
     let len = leg.len;
     match &leg.below {
@@ -320,12 +297,8 @@ fn map_snapshot<S: Sink, T: Taken>(
     requires inside { AreInSnapshot walker.old.stack device snapshot.now sector len }
     requires small { sector + len ≤ MOST_LENGTH }
     requires sink { HasRoomFor S.view sink.old walker.old.stack len }
-    ensures walked { IsWalked S.took S.left S.view
-        result sink.old sink.new walker.old walker.new
-        (line_step walker.old.stack op levels device (Snapshot snapshot.now) walker.old.state sector
-        len) len }
-    ensures bounded { IsTargetBounded walker.old walker.new op levels device (Snapshot snapshot.now)
-        sector len }
+    ensures { IsMapped S.took S.left S.view result sink.old sink.new walker.old walker.new
+        (target_mapping op levels device 0 (Snapshot snapshot.now)) sector len }
 {
     let mut from = sector;
     let mut left = len;
@@ -354,12 +327,8 @@ fn map_chunk<S: Sink, T: Taken>(
     requires some { 1 ≤ len }
     requires chunk { AreInChunk walker.old.stack device snapshot.now sector len }
     requires sink { HasRoomFor S.view sink.old walker.old.stack len }
-    ensures walked { IsWalked S.took S.left S.view
-        result sink.old sink.new walker.old walker.new
-        (line_step walker.old.stack op levels device (Snapshot snapshot.now) walker.old.state sector
-        len) len }
-    ensures bounded { IsTargetBounded walker.old walker.new op levels device (Snapshot snapshot.now)
-        sector len }
+    ensures { IsMapped S.took S.left S.view result sink.old sink.new walker.old walker.new
+        (target_mapping op levels device 0 (Snapshot snapshot.now)) sector len }
 {
     match op {
         Op::Write => write_chunk(walker, device, snapshot, sector, len, sink),
@@ -417,11 +386,8 @@ fn map_origin<S: Sink, T: Taken>(
     requires some { 1 ≤ len }
     requires inside { AreInOrigin walker.old.stack origin.now sector len }
     requires sink { HasRoomFor S.view sink.old walker.old.stack len }
-    ensures walked { IsWalked S.took S.left S.view
-        result sink.old sink.new walker.old walker.new
-        (origin_step walker.old.stack op levels origin.now walker.old.state sector len) len }
-    ensures bounded { (device : ℕ) → IsTargetBounded walker.old walker.new op levels device
-        (Origin origin.now) sector len }
+    ensures { IsMapped S.took S.left S.view result sink.old sink.new walker.old walker.new
+        (origin_mapping op levels origin.now) sector len }
 {
     match op {
         Op::Read => map_range(walker, op, levels, origin.to, sector, len, sink),
@@ -446,9 +412,8 @@ fn write_origin<S: Sink, T: Taken>(
     requires some { 1 ≤ len }
     requires inside { AreInOrigin walker.old.stack origin.now sector len }
     requires sink { HasRoomFor S.view sink.old walker.old.stack len }
-    ensures { IsWalked S.took S.left S.view
-        result sink.old sink.new walker.old walker.new
-        (origin_step walker.old.stack Write levels origin.now walker.old.state sector len) len }
+    ensures { IsMapped S.took S.left S.view result sink.old sink.new walker.old walker.new
+        (origin_mapping Write levels origin.now) sector len }
 {
     walker.is_sound();
     let over = origin.over.as_slice();

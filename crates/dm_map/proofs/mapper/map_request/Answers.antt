@@ -9,7 +9,7 @@ pub returns-then-passes_end-clause-walked : goal.returns-then-passes_end-clause-
 returns-then-passes_end-clause-walked g c =
     let a = c.args in let m = a.walker.now in let f = c.fail in
     let past : nat_lt (device_len m.stack a.device) (a.start + a.len) ≡ true = ap (λ end. nat_lt end (a.start + a.len)) (sym c.len-end.ensures.len) ∙ sym c.if-passes_end.ensures in
-    walked_piece g.S.Sink.took g.S.Sink.left g.S.Sink.view f.result a.sink.now f.new.sink m _ _ a.len a.len (step_past_end m.stack a.op a.device a.start a.len m.state past) (omega arith)
+    walked_piece (step_past_end m.stack a.op a.device a.start a.len m.state past) (omega arith)
     f.ensures.took f.ensures.left f.ensures.faults f.ensures.stack f.ensures.room
 
 pub returns-clause-walked : goal.returns-clause-walked
@@ -22,4 +22,4 @@ pub returns-clause-bounded : goal.returns-clause-bounded
 returns-clause-bounded g c =
     let a = c.args in
     let inside : nat_lt (device_len a.walker.now.stack a.device) (a.start + a.len) ≡ false = ap (λ end. nat_lt end (a.start + a.len)) (sym c.len-end.ensures.len) ∙ sym c.passes_end.ensures ∙ c.if-passes_end.false in
-    request_bound a.walker.now c.map_top.new.walker a.op a.device a.start a.len c.is_sound.ensures c.requires.device inside c.map_top.ensures.bounded
+    request_bound a.op a.device a.start a.len c.is_sound.ensures c.requires.device inside c.map_top.ensures

@@ -23,8 +23,7 @@ is_refused-requires g c =
 pub returns-then-is_refused : goal.returns-then-is_refused
 returns-then-is_refused g c =
     let a = c.args in let w = a.walker.now in let p = c.piece in
-    walked_piece g.S.Sink.took g.S.Sink.left g.S.Sink.view p.result a.sink.now p.new.self w _ _ a.len a.len
-    (chunk_refused w.stack a.snapshot.now a.device a.sector a.len w.state c.requires.chunk (sym c.is_refused.ensures ∙ c.if-is_refused.true))
+    walked_piece (chunk_refused w.stack a.snapshot.now a.device a.sector a.len w.state c.requires.chunk (sym c.is_refused.ensures ∙ c.if-is_refused.true))
     (omega arith) p.ensures.took p.ensures.left p.ensures.faults p.ensures.stack p.ensures.room
 
 pub take_chunk-requires : goal.take_chunk-requires
@@ -77,8 +76,7 @@ returns-in-Some g c =
     let units : row (unit_in_store w.stack snapshot a.device after.state) a.sector a.len ≡ store_writes after.stack source.to source.sector a.len =
     ap (λ (s : Description). row (unit_in_store s snapshot a.device after.state) a.sector a.len) (sym made.stack)
     ∙ row_in_store after.stack snapshot a.device a.sector a.len after.state source (chunk_same w.stack after.stack a.device a.sector a.len snapshot made.stack c.requires.chunk) settled c.in-Some.ensures.source in
-    walked_as g.S.Sink.took g.S.Sink.left g.S.Sink.view walk.result a.sink.now walk.new.sink w walk.new.walker _ _ a.len
-    (chunk_written w.stack snapshot a.device a.sector a.len w.state c.requires.chunk c.requires.some (take_chunk_there w.stack snapshot a.device number w.state there) (sym c.is_refused.ensures ∙ c.if-is_refused.false))
+    walked_as (chunk_written w.stack snapshot a.device a.sector a.len w.state c.requires.chunk c.requires.some (take_chunk_there w.stack snapshot a.device number w.state there) (sym c.is_refused.ensures ∙ c.if-is_refused.false))
     (walked_then g.S.Sink.took g.S.Sink.left g.S.Sink.view walk.result a.sink.now c.take_chunk.new.sink walk.new.sink w after walk.new.walker (take_chunk w.stack snapshot a.device number w.state)
     (keep (store_writes after.stack source.to source.sector a.len) after.state) (λ state. keep (row (unit_in_store w.stack snapshot a.device state) a.sector a.len) state) 0 a.len g.met.S.Sink.took_then_took g.met.S.Sink.took_then_left
     made.took (ap (λ (s : State). keep (row (unit_in_store w.stack snapshot a.device s) a.sector a.len) s) (sym made.state) ∙ ap (λ (us : List BlockUnit). keep us after.state) units) (omega arith)
@@ -90,10 +88,9 @@ returns-in-None g c =
     let number = a.sector / snapshot.chunk in
     let there = subst (λ (s : State). a.device < length s) made.state c.read_at.ensures.there in
     let units = row_lost w.stack snapshot a.device a.sector a.len after.state c.in-None.ensures.lost in
-    walked_as g.S.Sink.took g.S.Sink.left g.S.Sink.view p.result a.sink.now p.new.self w after _ _ a.len
-    (chunk_written w.stack snapshot a.device a.sector a.len w.state c.requires.chunk c.requires.some (take_chunk_there w.stack snapshot a.device number w.state there) (sym c.is_refused.ensures ∙ c.if-is_refused.false))
+    walked_as (chunk_written w.stack snapshot a.device a.sector a.len w.state c.requires.chunk c.requires.some (take_chunk_there w.stack snapshot a.device number w.state there) (sym c.is_refused.ensures ∙ c.if-is_refused.false))
     (walked_then g.S.Sink.took g.S.Sink.left g.S.Sink.view p.result a.sink.now c.take_chunk.new.sink p.new.self w after after (take_chunk w.stack snapshot a.device number w.state)
     (keep (units_in Fails a.len) after.state) (λ state. keep (row (unit_in_store w.stack snapshot a.device state) a.sector a.len) state) a.len a.len g.met.S.Sink.took_then_took g.met.S.Sink.took_then_left
     made.took (ap (λ (s : State). keep (row (unit_in_store w.stack snapshot a.device s) a.sector a.len) s) (sym made.state) ∙ ap (λ (us : List BlockUnit). keep us after.state) units) (omega arith)
     made.kept (omega (arith, made.room)) (omega (arith, made.faults)) made.stack made.looked
-    (walked_piece g.S.Sink.took g.S.Sink.left g.S.Sink.view p.result c.take_chunk.new.sink p.new.self after _ _ a.len a.len refl (omega arith) p.ensures.took p.ensures.left p.ensures.faults p.ensures.stack p.ensures.room))
+    (walked_piece refl (omega arith) p.ensures.took p.ensures.left p.ensures.faults p.ensures.stack p.ensures.room))
