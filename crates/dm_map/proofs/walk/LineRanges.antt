@@ -1,18 +1,13 @@
--- The legs of a line, and the line that a look found.
-use Rattle.std.proofs.Common.{◌≡◌, ℕ, ◌+◌, ◌≤◌, sym, subst, arith}
+-- The legs of a line.
+use Rattle.std.proofs.Common.{◌≡◌, ℕ, ◌+◌, ◌≤◌, subst, arith}
 use Rattle.dm_stack.specs.declared.found_line.FoundLine.{FoundLine}
 use Rattle.dm_stack.specs.declared.found_line.FoundTarget.{FoundTarget}
 use Rattle.dm_stack.specs.declared.leg.Leg.{Leg}
-use Rattle.dm_stack.specs.Below.{IsLine, IsLineOf, IsTargetSound}
+use Rattle.dm_stack.specs.Below.{IsLine, IsTargetSound}
 use Rattle.dm_stack.specs.Description.{Description}
 use Rattle.dm_stack.specs.Leg.{AreInside, HasSectors, IsLeg}
 use Rattle.dm_stack.specs.Soundness.{IsSound}
-use Rattle.dm_map.specs.state.Walker.{StackState}
 use Rattle.dm_map.specs.walk.Range.{IsLegOf}
-
--- a look changes nothing but the counts
-pub line_of_look : (looked before : StackState) (device : ℕ) (line : FoundLine) (sector : ℕ) → looked ≡ before → IsLineOf before.stack device line sector → IsLineOf looked.stack device line sector
-line_of_look looked before device line sector same of = subst (λ (v : StackState). IsLineOf v.stack device line sector) (sym same) of
 
 -- a line has its sectors
 pub line_sectors : (stack : Description) (device distance len : ℕ) (line : FoundLine) → IsSound stack → IsLine stack device line → distance + len ≤ line.len → HasSectors line.target distance len

@@ -6,7 +6,8 @@ use Rattle.std.proofs.lemmas.List.Elements.{All-from_recursion}
 use Rattle.dm_table.specs.declared.requests.request.Op.TheVariants as ops
 use Rattle.dm_stack.specs.declared.found_line.FoundOrigin.{FoundOrigin}
 use Rattle.dm_stack.specs.declared.found_line.FoundOver.{FoundOver}
-use Rattle.dm_stack.specs.Description.{Description}
+use Rattle.dm_stack.specs.Description.{Description, lower_len}
+use Rattle.dm_stack.specs.Over.{snapshots_over}
 use Rattle.dm_stack.specs.Soundness.{IsSound}
 use Rattle.dm_map.specs.walk.Mapping.{sector_step}
 use Rattle.dm_map.specs.walk.Serving.{AreSettled, IsOver, serve}
@@ -16,18 +17,17 @@ use Rattle.dm_map.specs.walk.Steps.{Step, steps}
 use Rattle.dm_map.specs.pieces.Units.{BlockUnit}
 use Rattle.dm_map.specs.state.Walker.{WalkerView}
 use Rattle.dm_map.specs.walk.Bound.{IsMapped, origin_mapping, range_mapping}
-use Rattle.dm_map.specs.walk.Range.{AreInOrigin, IsWalked, range_step, served_sector}
+use Rattle.dm_map.specs.walk.Range.{IsWalked, range_step, served_sector}
 use Rattle.dm_map.proofs.walk.Overs.{overs}
 use Rattle.dm_map.proofs.walk.Rows.{left_more, walked_as, walked_then}
 use Rattle.dm_map.proofs.walk.Served.{StepsKeep, part}
 use Rattle.dm_map.proofs.walk.Settled.{write_keeps_settled}
 
 -- the snapshots of an origin, as a line has them, have its sectors
-pub line_overs : (stack before : Description) (origin : FoundOrigin) (over : List FoundOver) (sector len end : ℕ) → IsSound stack → before ≡ stack → over ≡ origin.over → AreInOrigin stack origin sector len → end ≤ sector + len → All (IsOver before end) over
-line_overs stack before origin over sector len end sound same list lies within =
-    let inside = lies.inside in
+pub line_overs : (stack before : Description) (origin : FoundOrigin) (over : List FoundOver) (sector len end : ℕ) → IsSound stack → before ≡ stack → over ≡ origin.over → origin.over ≡ snapshots_over stack origin.to → sector + len ≤ lower_len stack origin.to → end ≤ sector + len → All (IsOver before end) over
+line_overs stack before origin over sector len end sound same list all inside within =
     let each = All-from_recursion (IsOver stack end) _ (overs stack origin.to end sound (omega (arith, inside, within))) in
-    subst (λ (s : Description). All (IsOver s end) over) (sym same) (subst (λ (xs : List FoundOver). All (IsOver stack end) xs) (sym (list ∙ lies.over)) each)
+    subst (λ (s : Description). All (IsOver s end) over) (sym same) (subst (λ (xs : List FoundOver). All (IsOver stack end) xs) (sym (list ∙ all)) each)
 
 -- what serving gives, by what the origin has
 served_is : (stack : Description) (origin : FoundOrigin) (over : List FoundOver) (at : ℕ) (state : State) → over ≡ origin.over → serve stack over at state ≡ serve stack origin.over at state

@@ -6,14 +6,16 @@ use Rattle.dm_table.specs.io.DeviceIo.{fault_of}
 use Rattle.dm_stack.specs.declared.id.Lower.{Lower}
 use Rattle.dm_stack.specs.declared.found_line.FoundLine.{FoundLine}
 use Rattle.dm_stack.specs.declared.found_line.FoundOrigin.{FoundOrigin}
+use Rattle.dm_stack.specs.declared.found_line.FoundSnapshot.{FoundSnapshot}
 use Rattle.dm_stack.specs.declared.found_line.FoundTarget.{FoundTarget}
 use Rattle.dm_stack.specs.declared.leg.Leg.{Leg}
 use Rattle.dm_stack.specs.Description.{Description, is_ro_at, lower_len}
-use Rattle.dm_stack.specs.Below.{Below, below_target, IsLine}
+use Rattle.dm_stack.specs.Below.{Below, below_target, IsLine, IsLineOf}
 use Rattle.dm_stack.specs.Leg.{AreInside, IsBeneath}
 use Rattle.dm_stack.specs.Over.{snapshots_over}
 use Rattle.dm_map.specs.state.Counts.{AreAdded}
 use Rattle.dm_map.specs.pieces.Sink.{OfBeginning, SinkView}
+use Rattle.dm_map.specs.walk.Chunk.{AreInChunk}
 use Rattle.dm_map.specs.walk.Reads.{by_below, read_unit}
 use Rattle.dm_map.specs.walk.Serving.{served_step}
 use Rattle.dm_map.specs.state.Snapshots.{read_over}
@@ -68,6 +70,29 @@ pub record HasRoomFor {S : Type 0} (view : S → SinkView) (sink : S) (of : Desc
   pub stack : (view sink).stack ≡ of
   pub room : len ≤ (view sink).room
 
+-- len sectors are asked of a device or a disk: there are some, it has them, and the sink has room for them
+pub record AreAsked {S : Type 0} (view : S → SinkView) (taker : S) (stack : Description) (lower : Lower) (sector len : ℕ) : Type 0 where
+  pub some : 1 ≤ len
+  pub inside : sector + len ≤ lower_len stack lower
+  pub sink : HasRoomFor view taker stack len
+
+-- they are asked of an origin's device, whose line lists the snapshots of what it names
+pub record AreAskedOfOrigin {S : Type 0} (view : S → SinkView) (taker : S) (stack : Description) (origin : FoundOrigin) (sector len : ℕ) : Type 0 where
+  pub over : origin.over ≡ snapshots_over stack origin.to
+  pub asked : AreAsked view taker stack origin.to sector len
+
+-- they are asked of one chunk of a snapshot
+pub record AreAskedOfChunk {S : Type 0} (view : S → SinkView) (taker : S) (stack : Description) (device : ℕ) (snapshot : FoundSnapshot) (sector len : ℕ) : Type 0 where
+  pub some : 1 ≤ len
+  pub chunk : AreInChunk stack device snapshot sector len
+  pub sink : HasRoomFor view taker stack len
+
+-- a walk comes to a sector of this line, of a device that does not refuse it and is not below the last level
+pub record IsAtLine (stack : Description) (op : Op) (levels device : ℕ) (line : FoundLine) (sector : ℕ) : Type 0 where
+  pub deep : 1 ≤ levels
+  pub passes : refuses stack op device ≡ false
+  pub of : IsLineOf stack device line sector
+
 -- a leg of a line of a device, from a distance from its start on
 pub record IsLegOf (stack : Description) (device : ℕ) (line : FoundLine) (distance : ℕ) (leg : Leg) : Type 0 where
   pub of : IsLine stack device line
@@ -94,8 +119,3 @@ pub record IsHanded {S F : Type 0} (takes leaves : S → List BlockUnit → S �
   pub faults : (view new).faults ≡ (view old).faults + fault_of result
   pub stack : OnOk result ((view new).stack ≡ (view old).stack)
   pub room : OnOk result ((view old).room ≤ (view new).room + len)
-
--- what an origin's line names has len sectors from this one on, and the line lists the snapshots of it
-pub record AreInOrigin (stack : Description) (origin : FoundOrigin) (sector len : ℕ) : Type 0 where
-  pub over : origin.over ≡ snapshots_over stack origin.to
-  pub inside : sector + len ≤ lower_len stack origin.to

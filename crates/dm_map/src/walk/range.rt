@@ -8,10 +8,10 @@
 //! over, which state it leaves, and, of a read, how often it searches: at most once a level for each
 //! stretch of sectors with one path (`specs/walk/Path`).
 
-ghost use Rattle.std.specs.Prelude.{◌≡◌, ◌+◌, ◌<◌, ◌≤◌, false, true, length};
+ghost use Rattle.std.specs.Prelude.{◌≡◌, ◌+◌, ◌<◌, ◌≤◌, true, length};
 ghost use Rattle.dm_table.specs.declared.requests.request.Op.TheVariants.{Write};
-ghost use Rattle.dm_stack.specs.Below.{is_striped, IsLine, IsLineOf};
-ghost use Rattle.dm_stack.specs.Description.{Description, device_len, lower_len};
+ghost use Rattle.dm_stack.specs.Below.{is_striped, IsLine};
+ghost use Rattle.dm_stack.specs.Description.{Description};
 ghost use Rattle.dm_stack.specs.declared.found_line.FoundTarget.TheVariants.{Snapshot};
 ghost use Rattle.dm_stack.specs.declared.id.Lower.TheVariants.{Device};
 ghost use Rattle.dm_stack.specs.declared.graph.TheConstants.{MOST_DEPTH};
@@ -23,8 +23,9 @@ ghost use Rattle.dm_map.specs.walk.Steps.{steps};
 ghost use Rattle.dm_map.specs.pieces.Units.{diskless_len, piece_len, units_in, units_of};
 ghost use Rattle.dm_map.specs.pieces.Units.{Fails, IsOnDisk, IsOnDisks};
 ghost use Rattle.dm_map.specs.walk.Range.{disk_unit, zero_unit, refuses};
-ghost use Rattle.dm_map.specs.walk.Range.{AreInOrigin, IsHanded, IsLegOf, HasRoomFor, IsWalked};
-ghost use Rattle.dm_map.specs.walk.Chunk.{AreInChunk, AreInSnapshot};
+ghost use Rattle.dm_map.specs.walk.Range.{AreAsked, AreAskedOfChunk, AreAskedOfOrigin};
+ghost use Rattle.dm_map.specs.walk.Range.{HasRoomFor, IsAtLine, IsHanded, IsLegOf, IsWalked};
+ghost use Rattle.dm_map.specs.walk.Chunk.{AreInSnapshot};
 
 use crate::pieces::piece::Piece;
 use crate::pieces::sink::Sink;
@@ -57,9 +58,7 @@ pub(crate) fn map_range<S: Sink, T: Taken>(
     len: u64,
     sink: &mut S,
 ) -> Result<(), S::Fault>
-    requires some { 1 ≤ len }
-    requires inside { sector + len ≤ lower_len walker.old.stack lower }
-    requires sink { HasRoomFor S.view sink.old walker.old.stack len }
+    requires { AreAsked S.view sink.old walker.old.stack lower sector len }
     ensures { IsMapped S.took S.left S.view result sink.old sink.new walker.old walker.new
         (range_mapping op levels lower) sector len }
 {
@@ -80,9 +79,7 @@ pub(crate) fn map_top<S: Sink, T: Taken>(
     len: u64,
     sink: &mut S,
 ) -> Result<(), S::Fault>
-    requires some { 1 ≤ len }
-    requires inside { sector + len ≤ device_len walker.old.stack device }
-    requires sink { HasRoomFor S.view sink.old walker.old.stack len }
+    requires { AreAsked S.view sink.old walker.old.stack (Device device) sector len }
     ensures { IsMapped S.took S.left S.view result sink.old sink.new walker.old walker.new
         (range_mapping op MOST_DEPTH (Device device)) sector len }
 {
@@ -124,9 +121,7 @@ fn map_device<S: Sink, T: Taken>(
     len: u64,
     sink: &mut S,
 ) -> Result<(), S::Fault>
-    requires some { 1 ≤ len }
-    requires inside { sector + len ≤ device_len walker.old.stack device }
-    requires sink { HasRoomFor S.view sink.old walker.old.stack len }
+    requires { AreAsked S.view sink.old walker.old.stack (Device device) sector len }
     ensures { IsMapped S.took S.left S.view result sink.old sink.new walker.old walker.new
         (range_mapping op levels (Device device)) sector len }
 {
@@ -157,12 +152,8 @@ fn map_lines<S: Sink, T: Taken>(
     len: u64,
     sink: &mut S,
 ) -> Result<(), S::Fault>
-    requires deep { 1 ≤ levels }
-    requires passes { refuses walker.old.stack op device ≡ false }
-    requires some { 1 ≤ len }
-    requires inside { sector + len ≤ device_len walker.old.stack device }
-    requires line { IsLineOf walker.old.stack device first.now sector }
-    requires sink { HasRoomFor S.view sink.old walker.old.stack len }
+    requires at { IsAtLine walker.old.stack op levels device first.now sector }
+    requires asked { AreAsked S.view sink.old walker.old.stack (Device device) sector len }
     ensures { IsMapped S.took S.left S.view result sink.old sink.new walker.old walker.new
         (found_mapping op levels device) sector len }
 {
@@ -195,11 +186,9 @@ fn map_line<S: Sink, T: Taken>(
     len: u64,
     sink: &mut S,
 ) -> Result<(), S::Fault>
-    requires deep { 1 ≤ levels }
-    requires passes { refuses walker.old.stack op device ≡ false }
+    requires at { IsAtLine walker.old.stack op levels device line.now sector }
     requires some { 1 ≤ len }
     requires inside { sector + len ≤ line.now.start + line.now.len }
-    requires line { IsLineOf walker.old.stack device line.now sector }
     requires sink { HasRoomFor S.view sink.old walker.old.stack len }
     ensures { IsMapped S.took S.left S.view result sink.old sink.new walker.old walker.new
         (found_mapping op levels device) sector len }
@@ -324,9 +313,7 @@ fn map_chunk<S: Sink, T: Taken>(
     len: u64,
     sink: &mut S,
 ) -> Result<(), S::Fault>
-    requires some { 1 ≤ len }
-    requires chunk { AreInChunk walker.old.stack device snapshot.now sector len }
-    requires sink { HasRoomFor S.view sink.old walker.old.stack len }
+    requires { AreAskedOfChunk S.view sink.old walker.old.stack device snapshot.now sector len }
     ensures { IsMapped S.took S.left S.view result sink.old sink.new walker.old walker.new
         (target_mapping op levels device 0 (Snapshot snapshot.now)) sector len }
 {
@@ -350,9 +337,7 @@ fn write_chunk<S: Sink, T: Taken>(
     len: u64,
     sink: &mut S,
 ) -> Result<(), S::Fault>
-    requires some { 1 ≤ len }
-    requires chunk { AreInChunk walker.old.stack device snapshot.now sector len }
-    requires sink { HasRoomFor S.view sink.old walker.old.stack len }
+    requires { AreAskedOfChunk S.view sink.old walker.old.stack device snapshot.now sector len }
     ensures { IsWalked S.took S.left S.view
         result sink.old sink.new walker.old walker.new
         (steps (write_snapshot walker.old.stack snapshot.now device) walker.old.state sector len) len }
@@ -383,9 +368,7 @@ fn map_origin<S: Sink, T: Taken>(
     len: u64,
     sink: &mut S,
 ) -> Result<(), S::Fault>
-    requires some { 1 ≤ len }
-    requires inside { AreInOrigin walker.old.stack origin.now sector len }
-    requires sink { HasRoomFor S.view sink.old walker.old.stack len }
+    requires { AreAskedOfOrigin S.view sink.old walker.old.stack origin.now sector len }
     ensures { IsMapped S.took S.left S.view result sink.old sink.new walker.old walker.new
         (origin_mapping op levels origin.now) sector len }
 {
@@ -409,9 +392,7 @@ fn write_origin<S: Sink, T: Taken>(
     len: u64,
     sink: &mut S,
 ) -> Result<(), S::Fault>
-    requires some { 1 ≤ len }
-    requires inside { AreInOrigin walker.old.stack origin.now sector len }
-    requires sink { HasRoomFor S.view sink.old walker.old.stack len }
+    requires { AreAskedOfOrigin S.view sink.old walker.old.stack origin.now sector len }
     ensures { IsMapped S.took S.left S.view result sink.old sink.new walker.old walker.new
         (origin_mapping Write levels origin.now) sector len }
 {

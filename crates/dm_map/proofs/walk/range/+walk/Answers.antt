@@ -1,6 +1,5 @@
-use Rattle.std.proofs.Common.{rules, ◌≡◌, ℕ, ◌+◌, ◌-◌, ◌^◌, ◌≤◌, false, List, Some, refl, sym, ap, subst, ◌∙◌, arith}
+use Rattle.std.proofs.Common.{rules, ◌≡◌, ℕ, ◌+◌, ◌-◌, ◌^◌, ◌≤◌, List, Some, refl, sym, ap, subst, ◌∙◌, arith}
 use Rattle.dm_table.specs.declared.requests.request.Op.{Op}
-use Rattle.dm_stack.specs.declared.found_line.FoundOrigin.{FoundOrigin}
 use Rattle.dm_stack.specs.declared.found_line.FoundTarget.{FoundTarget}
 use Rattle.dm_stack.specs.declared.found_line.FoundTarget.TheVariants.{Snapshot, Origin}
 use Rattle.dm_stack.specs.declared.id.Lower.{Lower}
@@ -8,21 +7,21 @@ use Rattle.dm_stack.specs.declared.leg.Beneath.{Beneath}
 use Rattle.dm_stack.specs.Leg.{AreInside, LegsView}
 use Rattle.dm_stack.specs.declared.id.Lower.TheVariants.{Device, Disk}
 use Rattle.dm_stack.specs.Below.{IsLine, IsLineOf, IsOriginSound, IsSnapshotSound, IsTargetSound, found_at}
-use Rattle.dm_stack.specs.Description.{Description, device_len, lower_len}
+use Rattle.dm_stack.specs.Description.{Description, lower_len}
 use Rattle.dm_map.specs.walk.Bound.{IsMapped, origin_mapping, range_mapping, target_mapping}
 use Rattle.dm_map.specs.pieces.Units.{BlockUnit, units_in}
 use Rattle.dm_map.specs.state.Snapshots.{read_over}
 use Rattle.dm_map.specs.state.State.{taken_at}
 use Rattle.dm_map.specs.walk.Steps.{keep}
 use Rattle.dm_map.specs.state.Walker.{StackState, WalkerView}
-use Rattle.dm_map.specs.walk.Range.{disk_unit, refuses, origin_step, range_step, line_step, AreInOrigin}
+use Rattle.dm_map.specs.walk.Range.{disk_unit, origin_step, range_step, line_step, AreAsked, AreAskedOfChunk, AreAskedOfOrigin, HasRoomFor, IsAtLine}
 use Rattle.dm_stack.proofs.InStack.{device_there, lower_small}
 use Rattle.dm_stack.proofs.LegLemmas.{leg_lies_inside}
 use Rattle.dm_stack.proofs.StripeLemmas.{other_chunk}
 use Rattle.dm_map.proofs.state.FoundLines.{first_line}
 use Rattle.dm_map.proofs.walk.Bounds.{lines_apart, mapped_below, mapped_line, mapped_target, parts_apart}
 use Rattle.dm_map.proofs.walk.Chunks.{chunk_read, in_one_chunk, in_snapshot, lost_read, same_chunk, write_line_step}
-use Rattle.dm_map.proofs.walk.LineRanges.{leg_at, leg_of, line_of_look, line_sectors}
+use Rattle.dm_map.proofs.walk.LineRanges.{leg_at, leg_of, line_sectors}
 use Rattle.dm_map.proofs.walk.Ranges.{beneath_as, leg_errors, leg_lies, leg_zeros, line_served, origin_read, range_deepest, range_disk, range_refused}
 use Rattle.dm_map.proofs.walk.OriginParts.{line_overs, part_mapped, serve_failed}
 use Rattle.dm_map.proofs.walk.Rows.{walked_as, walked_piece}
@@ -60,24 +59,19 @@ map_device-look-line-requires-clause-device g t c = device_there c.args.walker.n
 
 pub map_device-map_lines-requires : goal.map_device-map_lines-requires
 map_device-map_lines-requires g t c κs within =
-    let a = c.args in let look = c.look-line.ensures in
+    let a = c.args in let look = c.look-line.ensures in let line = c.look-line.result.now in
     let stack : c.look-line.new.self.stack ≡ a.walker.now.stack = ap (λ (v : StackState). v.stack) look.same in
-    let deep : 1 ≤ a.levels = omega (arith, c.if-levels-eq0.false) in
-    let passes : refuses c.look-line.new.self.stack a.op a.device ≡ false = ap (λ (s : Description). refuses s a.op a.device) stack ∙ sym c.refuses.ensures ∙ c.if-refuses.false in
-    let inside : a.sector + a.len ≤ device_len c.look-line.new.self.stack a.device = subst (λ (s : Description). a.sector + a.len ≤ device_len s a.device) (sym stack) c.requires.inside in
-    let line = line_of_look _ _ a.device c.look-line.result.now a.sector look.same look.line in
-    let kept : (g.S.Sink.view a.sink.now).stack ≡ c.look-line.new.self.stack = c.requires.sink.stack ∙ sym stack in
+    let at = subst (λ (v : StackState). IsAtLine v.stack a.op a.levels a.device line a.sector) (sym look.same) (record { deep = omega (arith, c.if-levels-eq0.false); passes = sym c.refuses.ensures ∙ c.if-refuses.false; of = look.line }) in
+    let asked = subst (λ (s : Description). AreAsked g.S.Sink.view a.sink.now s (Device a.device) a.sector a.len) (sym stack) c.requires in
     search rules
 
 pub map_device-map_line-requires : goal.map_device-map_line-requires
 map_device-map_line-requires g t c κs within =
-    let a = c.args in let look = c.look-line.ensures in
+    let a = c.args in let look = c.look-line.ensures in let line = c.look-line.result.now in
     let stack : c.look-line.new.self.stack ≡ a.walker.now.stack = ap (λ (v : StackState). v.stack) look.same in
-    let deep : 1 ≤ a.levels = omega (arith, c.if-levels-eq0.false) in
-    let passes : refuses c.look-line.new.self.stack a.op a.device ≡ false = ap (λ (s : Description). refuses s a.op a.device) stack ∙ sym c.refuses.ensures ∙ c.if-refuses.false in
-    let inside : a.sector + a.len ≤ c.look-line.result.now.start + c.look-line.result.now.len = omega (arith, c.if-len-line.true, look.line.from, look.line.before) in
-    let line = line_of_look _ _ a.device c.look-line.result.now a.sector look.same look.line in
-    let kept : (g.S.Sink.view a.sink.now).stack ≡ c.look-line.new.self.stack = c.requires.sink.stack ∙ sym stack in
+    let at = subst (λ (v : StackState). IsAtLine v.stack a.op a.levels a.device line a.sector) (sym look.same) (record { deep = omega (arith, c.if-levels-eq0.false); passes = sym c.refuses.ensures ∙ c.if-refuses.false; of = look.line }) in
+    let inside : a.sector + a.len ≤ line.start + line.len = omega (arith, c.if-len-line.true, look.line.from, look.line.before) in
+    let sink = subst (λ (s : Description). HasRoomFor g.S.Sink.view a.sink.now s a.len) (sym stack) c.requires.sink in
     search rules
 
 pub map_device-returns-then-len-line : goal.map_device-returns-then-len-line
@@ -110,7 +104,7 @@ map_lines-lines-preserved g t c =
     record {
       so_far = mapped_before_look mapping refl next.ensures.same next.ensures.looked next.ensures.one
           (mapped_on g.met.S.Sink.took_then_took (range_keeps a.op a.levels (Device a.device)) l.invariant.so_far c.in_ok-map_line.ensures some (omega (arith, c.part_in-part.ensures))
-          (λ is more. lines_apart w.stack w.state a.levels (a.levels - 1) a.device l.at n l.line.now next.result.now (omega (arith, c.requires.deep)) some one (omega (arith, c.part_in-part.ensures, more, one.from, one.before)) line));
+          (λ is more. lines_apart w.stack w.state a.levels (a.levels - 1) a.device l.at n l.line.now next.result.now (omega (arith, c.requires.at.deep)) some one (omega (arith, c.part_in-part.ensures, more, one.from, one.before)) line));
       some = omega (arith, c.part_in-part.ensures, l.invariant.some, c.if-part-left.false);
       line = line;
     }
@@ -119,23 +113,23 @@ map_lines-lines-preserved g t c =
 
 pub map_line-leg-leg-requires-clause-there : goal.map_line-leg-leg-requires-clause-there
 map_line-leg-leg-requires-clause-there g t c =
-    let a = c.args in line_sectors a.walker.now.stack a.device (a.sector - a.line.now.start) a.len a.line.now c.is_sound.ensures c.requires.line.is (omega (arith, c.requires.inside, c.requires.line.from))
+    let a = c.args in line_sectors a.walker.now.stack a.device (a.sector - a.line.now.start) a.len a.line.now c.is_sound.ensures c.requires.at.of.is (omega (arith, c.requires.inside, c.requires.at.of.from))
 
 pub map_line-map_leg-requires : goal.map_line-map_leg-requires
 map_line-map_leg-requires g t c κs within =
     let a = c.args in
-    let leg = leg_of a.walker.now.stack a.device (a.sector - a.line.now.start) a.len a.line.now c.leg-leg.result c.requires.line.is (omega (arith, c.requires.inside, c.requires.line.from)) c.leg-leg.ensures.leg c.leg-leg.ensures.inside in
+    let leg = leg_of a.walker.now.stack a.device (a.sector - a.line.now.start) a.len a.line.now c.leg-leg.result c.requires.at.of.is (omega (arith, c.requires.inside, c.requires.at.of.from)) c.leg-leg.ensures.leg c.leg-leg.ensures.inside in
     search rules
 
 pub map_line-returns-then-leg-len : goal.map_line-returns-then-leg-len
 map_line-returns-then-leg-len g t c =
     let a = c.args in let w = a.walker.now in let walk = c.map_leg in let line = a.line.now in
-    mapped_line a.op a.levels (a.levels - 1) a.device a.sector a.len line (omega (arith, c.requires.deep)) c.requires.passes c.requires.line c.requires.some c.requires.inside
+    mapped_line a.op a.levels (a.levels - 1) a.device a.sector a.len line (omega (arith, c.requires.at.deep)) c.requires.at.passes c.requires.at.of c.requires.some c.requires.inside
     (subst (λ (n : ℕ). IsMapped g.S.Sink.took g.S.Sink.left g.S.Sink.view walk.result a.sink.now walk.new.sink w walk.new.walker (target_mapping a.op (a.levels - 1) a.device line.start line.target) (a.sector - line.start) n) c.if-leg-len.true walk.ensures)
 
 pub map_line-returns : goal.map_line-returns
 map_line-returns g t c =
-    let a = c.args in mapped_line a.op a.levels (a.levels - 1) a.device a.sector a.len a.line.now (omega (arith, c.requires.deep)) c.requires.passes c.requires.line c.requires.some c.requires.inside c.map_legs.ensures
+    let a = c.args in mapped_line a.op a.levels (a.levels - 1) a.device a.sector a.len a.line.now (omega (arith, c.requires.at.deep)) c.requires.at.passes c.requires.at.of c.requires.some c.requires.inside c.map_legs.ensures
 
 -- Leg by leg
 
@@ -183,17 +177,11 @@ map_legs-legs-preserved g t c =
 
 -- A leg
 
-in_origin : (stack : Description) (device start len distance n : ℕ) (target : FoundTarget) (origin : FoundOrigin) → target ≡ Origin origin → IsTargetSound stack device start len target → distance + n ≤ len → AreInOrigin stack origin distance n
-in_origin stack device start len distance n target origin is sound inside =
-    let it : IsOriginSound stack device start len origin = subst (λ (t : FoundTarget). IsTargetSound stack device start len t) is sound in
-    let same = it.same in
-    record { over = it.over; inside = omega (arith, same, inside) }
-
 pub map_leg-map_range-requires : goal.map_leg-map_range-requires
 map_leg-map_range-requires g t c κs within =
     let a = c.args in let of = c.requires.leg in
-    let some = of.some in
-    let inside : c.in-Lies.sector + a.leg.now.len ≤ lower_len a.walker.now.stack c.in-Lies.to = subst (λ (b : Beneath). AreInside a.walker.now.stack a.leg.now.len b) c.in-Lies.is of.lies in
+    let asked : AreAsked g.S.Sink.view a.sink.now a.walker.now.stack c.in-Lies.to c.in-Lies.sector a.leg.now.len =
+    record { some = of.some; inside = subst (λ (b : Beneath). AreInside a.walker.now.stack a.leg.now.len b) c.in-Lies.is of.lies; sink = c.requires.sink } in
     search rules
 
 pub map_leg-returns-in-Lies : goal.map_leg-returns-in-Lies
@@ -233,10 +221,11 @@ map_leg-returns-in-Snapshot g t c =
 
 pub map_leg-map_origin-requires : goal.map_leg-map_origin-requires
 map_leg-map_origin-requires g t c κs within =
-    let a = c.args in let of = c.requires.leg in
-    let kind = beneath_as a.line.now.target a.distance a.leg.now.len _ _ c.in-Origin.is of.is in
-    let some = of.some in
-    let inside = in_origin a.walker.now.stack a.device a.line.now.start a.line.now.len a.distance a.leg.now.len a.line.now.target c.in-Origin.origin.now kind of.of.target of.inside in
+    let a = c.args in let of = c.requires.leg in let line = a.line.now in let origin = c.in-Origin.origin.now in
+    let kind = beneath_as line.target a.distance a.leg.now.len _ _ c.in-Origin.is of.is in
+    let sound : IsOriginSound a.walker.now.stack a.device line.start line.len origin = subst (λ (t : FoundTarget). IsTargetSound a.walker.now.stack a.device line.start line.len t) kind of.of.target in
+    let asked : AreAskedOfOrigin g.S.Sink.view a.sink.now a.walker.now.stack origin a.distance a.leg.now.len =
+    record { over = sound.over; asked = record { some = of.some; inside = omega (arith, sound.same, of.inside); sink = c.requires.sink } } in
     search rules
 
 pub map_leg-returns-in-Origin : goal.map_leg-returns-in-Origin
@@ -252,10 +241,11 @@ map_leg-returns-in-Origin g t c =
 pub map_snapshot-map_chunk-requires : goal.map_snapshot-map_chunk-requires
 map_snapshot-map_chunk-requires g t c κs within =
     let a = c.args in let l = c.loop-left in let part = c.part_of_chunk-part.ensures in let walked = l.invariant.mapped.walked in
-    let some : 1 ≤ c.part_of_chunk-part.result = omega (arith, part, c.loop-left-test.true, c.requires.inside.sound.chunk_some) in
-    let chunk = in_one_chunk a.walker.now.stack l.walker.stack a.device a.sector a.len l.from l.left c.part_of_chunk-part.result a.snapshot.now c.requires.inside walked.stack l.invariant.position part in
-    let stack : (g.S.Sink.view l.sink).stack ≡ l.walker.stack = walked.kept ∙ c.requires.sink.stack ∙ sym walked.stack in
-    let room : c.part_of_chunk-part.result ≤ (g.S.Sink.view l.sink).room = omega (arith, part, c.requires.sink.room, walked.room, l.invariant.within) in
+    let asked : AreAskedOfChunk g.S.Sink.view l.sink l.walker.stack a.device a.snapshot.now l.from c.part_of_chunk-part.result = record {
+      some = omega (arith, part, c.loop-left-test.true, c.requires.inside.sound.chunk_some);
+      chunk = in_one_chunk a.walker.now.stack l.walker.stack a.device a.sector a.len l.from l.left c.part_of_chunk-part.result a.snapshot.now c.requires.inside walked.stack l.invariant.position part;
+      sink = record { stack = walked.kept ∙ c.requires.sink.stack ∙ sym walked.stack; room = omega (arith, part, c.requires.sink.room, walked.room, l.invariant.within) };
+    } in
     search rules
 
 pub map_snapshot-returns-in_err-map_chunk : goal.map_snapshot-returns-in_err-map_chunk
@@ -320,14 +310,14 @@ map_origin-returns-in-Write g t c =
 -- A write of it, part by part
 
 pub write_origin-loop-left-init : goal.write_origin-loop-left-init
-write_origin-loop-left-init g t c = record { so_far = mapped_none (g.met.S.Sink.took_nothing c.args.sink.now) refl; some = c.requires.some }
+write_origin-loop-left-init g t c = record { so_far = mapped_none (g.met.S.Sink.took_nothing c.args.sink.now) refl; some = c.requires.asked.some }
 
 pub write_origin-serve-requires : goal.write_origin-serve-requires
 write_origin-serve-requires g t c =
     let a = c.args in let l = c.loop-left in let so_far = l.invariant.so_far in let walked = so_far.mapped.walked in
     record {
-      over = line_overs a.walker.now.stack l.walker.stack a.origin.now c.as_slice-over.result.now a.sector a.len (l.from + 1) c.is_sound.ensures walked.stack c.as_slice-over.ensures c.requires.inside (omega (arith, so_far.position, c.loop-left-test.true));
-      sink = record { stack = walked.kept ∙ c.requires.sink.stack ∙ sym walked.stack; room = omega arith };
+      over = line_overs a.walker.now.stack l.walker.stack a.origin.now c.as_slice-over.result.now a.sector a.len (l.from + 1) c.is_sound.ensures walked.stack c.as_slice-over.ensures c.requires.over c.requires.asked.inside (omega (arith, so_far.position, c.loop-left-test.true));
+      sink = record { stack = walked.kept ∙ c.requires.asked.sink.stack ∙ sym walked.stack; room = omega arith };
     }
 
 pub write_origin-returns-in_err-serve : goal.write_origin-returns-in_err-serve
@@ -341,18 +331,22 @@ write_origin-settled_part-part-requires g t c =
     let a = c.args in let w = a.walker.now in let l = c.loop-left in let most = c.min.result in
     let small = lower_small w.stack a.origin.now.to c.is_sound.ensures in
     record {
-      over = line_overs w.stack c.serve.new.walker.stack a.origin.now c.as_slice-over.result.now a.sector a.len (l.from + most) c.is_sound.ensures (c.in_ok-serve.ensures.walked.stack ∙ l.invariant.so_far.mapped.walked.stack) c.as_slice-over.ensures c.requires.inside (omega (arith, l.invariant.so_far.position, c.min.ensures));
+      over = line_overs w.stack c.serve.new.walker.stack a.origin.now c.as_slice-over.result.now a.sector a.len (l.from + most) c.is_sound.ensures (c.in_ok-serve.ensures.walked.stack ∙ l.invariant.so_far.mapped.walked.stack) c.as_slice-over.ensures c.requires.over c.requires.asked.inside (omega (arith, l.invariant.so_far.position, c.min.ensures));
       some = omega (arith, c.min.ensures, c.loop-left-test.true, l.invariant.some);
-      small = omega (arith, small, c.requires.inside.inside, l.invariant.so_far.position, c.min.ensures);
+      small = omega (arith, small, c.requires.asked.inside, l.invariant.so_far.position, c.min.ensures);
       here = c.in_ok-serve.ensures.settled;
     }
 
 pub write_origin-map_range-requires : goal.write_origin-map_range-requires
 write_origin-map_range-requires g t c κs within =
-    let a = c.args in let w = a.walker.now in let l = c.loop-left in let s = c.settled_part-part.ensures in
-    let some = s.some in
-    let stack : c.serve.new.walker.stack ≡ w.stack = c.in_ok-serve.ensures.walked.stack ∙ l.invariant.so_far.mapped.walked.stack in
-    let there : l.from + c.settled_part-part.result ≤ lower_len c.serve.new.walker.stack a.origin.now.to = subst (λ (d : Description). l.from + c.settled_part-part.result ≤ lower_len d a.origin.now.to) (sym stack) (omega (arith, s.most, c.min.ensures, c.requires.inside.inside, l.invariant.so_far.position)) in
+    let a = c.args in let l = c.loop-left in let s = c.settled_part-part.ensures in let n = c.settled_part-part.result in let sink = c.requires.asked.sink in
+    let so_far = l.invariant.so_far in let walked = so_far.mapped.walked in let served = c.in_ok-serve.ensures.walked in
+    let stack : c.serve.new.walker.stack ≡ a.walker.now.stack = served.stack ∙ walked.stack in
+    let asked : AreAsked g.S.Sink.view c.serve.new.sink c.serve.new.walker.stack a.origin.now.to l.from n = record {
+      some = s.some;
+      inside = subst (λ (d : Description). l.from + n ≤ lower_len d a.origin.now.to) (sym stack) (omega (arith, s.most, c.min.ensures, c.requires.asked.inside, so_far.position));
+      sink = record { stack = served.kept ∙ walked.kept ∙ sink.stack ∙ sym stack; room = omega (arith, s.most, c.min.ensures, sink.room, walked.room, served.room, so_far.within) };
+    } in
     search rules
 
 pub write_origin-returns-in_err-map_range : goal.write_origin-returns-in_err-map_range
@@ -364,12 +358,12 @@ write_origin-returns-in_err-map_range g t c =
 pub write_origin-overflow_add-from : goal.write_origin-overflow_add-from
 write_origin-overflow_add-from g t c =
     let small = lower_small c.args.walker.now.stack c.args.origin.now.to c.is_sound.ensures in
-    omega (arith, small, c.requires.inside.inside, c.loop-left.invariant.so_far.position, c.settled_part-part.ensures.most, c.min.ensures)
+    omega (arith, small, c.requires.asked.inside, c.loop-left.invariant.so_far.position, c.settled_part-part.ensures.most, c.min.ensures)
 
 pub write_origin-overflow_mul-most : goal.write_origin-overflow_mul-most
 write_origin-overflow_mul-most g t c =
     let small = lower_small c.args.walker.now.stack c.args.origin.now.to c.is_sound.ensures in
-    omega (arith, small, c.requires.inside.inside, c.loop-left.invariant.so_far.within, c.settled_part-part.ensures.most, c.min.ensures)
+    omega (arith, small, c.requires.asked.inside, c.loop-left.invariant.so_far.within, c.settled_part-part.ensures.most, c.min.ensures)
 
 pub write_origin-loop-left-preserved : goal.write_origin-loop-left-preserved
 write_origin-loop-left-preserved g t c =
