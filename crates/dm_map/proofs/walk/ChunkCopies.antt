@@ -1,24 +1,27 @@
 -- The sectors of a chunk in a store, their copies and their writes.
-use Rattle.std.proofs.Common.{◌≡◌, ℕ, ◌+◌, ◌-◌, ◌%◌, ◌<◌, ◌≤◌, sym, ap, ◌∙◌, arith}
+use Rattle.std.proofs.Common.{◌≡◌, ℕ, ◌+◌, ◌-◌, ◌%◌, ◌<◌, ◌≤◌, Bool, false, not, refl, sym, ap, subst, ◌∙◌, arith}
+use Rattle.std.specs.Prelude.{◌||◌}
 use Rattle.dm_table.specs.declared.requests.request.Op.TheVariants.{Read}
 use Rattle.dm_stack.specs.declared.found_line.FoundSnapshot.{FoundSnapshot}
 use Rattle.dm_stack.specs.declared.graph.TheConstants.{MOST_DEPTH}
 use Rattle.dm_stack.specs.declared.id.Lower.{Lower}
-use Rattle.dm_stack.specs.Description.{Description}
 use Rattle.dm_map.specs.declared.walk.take_chunk.HomeStretch.{HomeStretch}
 use Rattle.dm_map.specs.declared.walk.stretch.Ground.{Ground}
+use Rattle.dm_map.specs.declared.walk.stretch.Ground.TheVariants as grounds
+use Rattle.dm_map.specs.declared.walk.stretch.Stretch.{Stretch}
 use Rattle.dm_map.specs.state.Counts.{AreAdded}
 use Rattle.dm_map.specs.walk.Homes.{GoOn, IsFirstHomes, home}
 use Rattle.dm_map.specs.state.Snapshots.{store_sector}
-use Rattle.dm_map.specs.walk.SnapshotWrites.{copy_to, home_in_store, read, row, write_to}
+use Rattle.dm_map.specs.walk.SnapshotWrites.{any_error, copy_to, home_in_store, is_error, read, reads_all, row, write_to}
 use Rattle.dm_map.specs.walk.Steps.{keep}
-use Rattle.dm_map.specs.walk.Stretch.{ground_unit}
+use Rattle.dm_map.specs.walk.Stretch.{ground_unit, IsFirst, IsGroundInStack}
 use Rattle.dm_map.specs.pieces.Sink.{SinkView}
-use Rattle.dm_map.specs.pieces.Units.{WriteOf, units_in}
+use Rattle.dm_map.specs.pieces.Units.{BlockUnit, WriteOf, units_in}
 use Rattle.dm_map.specs.state.Walker.{StackState, WalkerView, stack_state}
 use Rattle.dm_map.specs.walk.Range.{range_step}
 use Rattle.dm_map.proofs.walk.Chunks.{store_sector_on}
-use Rattle.dm_map.proofs.walk.UnitRows.{copy_row, first_reads, row_front, write_row}
+use Rattle.dm_map.proofs.walk.Rows.{none_added}
+use Rattle.dm_map.proofs.walk.UnitRows.{copy_row, errors_on, first_reads, row_front, write_row}
 
 -- between pieces, a sink and a walk are where they were, but for the units that the sink took and what was looked up
 pub record IsGoingOn {S : Type 0} (view : S → SinkView) (old new : S) (before after : WalkerView) : Type 0 where
@@ -28,28 +31,55 @@ pub record IsGoingOn {S : Type 0} (view : S → SinkView) (old new : S) (before 
   pub room : (view old).room ≤ (view new).room
   pub faults : (view new).faults ≡ (view old).faults
 
--- a first stretch of what is left of a range is the next part of the row of its reads
-pub next_reads : (before now : WalkerView) (lower : Lower) (sector done at n : ℕ) (ground : Ground) → stack_state now ≡ stack_state before → at ≡ sector + done → range_step now.stack Read MOST_DEPTH lower now.state at n ≡ keep (units_in (ground_unit ground) n) now.state
-    → row (read before.stack before.state lower) (sector + done) n ≡ units_in (ground_unit ground) n
-next_reads before now lower sector done at n ground same at_is reads =
-    ap (λ (s : ℕ). row (read before.stack before.state lower) s n) (sym at_is) ∙ ap (λ (w : StackState). row (read w.stack w.state lower) at n) (sym same)
-    ∙ first_reads now.stack now.state lower at n (ground_unit ground) reads
+-- a first stretch is one for any walker of the same stack in the same state
+pub first_seen : (walk before after : WalkerView) (lower : Lower) (sector len : ℕ) (stretch : Stretch) → stack_state before ≡ stack_state walk → IsFirst before after (range_step before.stack Read MOST_DEPTH lower before.state sector) len stretch
+    → IsFirst walk walk (range_step walk.stack Read MOST_DEPTH lower walk.state sector) len stretch
+first_seen walk before after lower sector len stretch same first = record {
+  some = first.some;
+  most = first.most;
+  read = subst (λ (v : StackState). range_step v.stack Read MOST_DEPTH lower v.state sector stretch.len ≡ keep (units_in (ground_unit stretch.ground) stretch.len) v.state) same first.read;
+  lies = subst (λ (v : StackState). IsGroundInStack v.stack stretch.ground stretch.len) same first.lies;
+  same = refl;
+  looked = none_added walk.looked;
+}
 
--- a copy is as long as both sides go on
-pub copy_part : (before now : WalkerView) (snapshot : FoundSnapshot) (number sector done from to m : ℕ) (ground : Ground) (first : HomeStretch) → 0 < snapshot.chunk → sector % snapshot.chunk + (done + first.len) ≤ snapshot.chunk
-    → stack_state now ≡ stack_state before → from ≡ sector + done → to ≡ store_sector snapshot number sector + done → range_step now.stack Read MOST_DEPTH snapshot.origin now.state from m ≡ keep (units_in (ground_unit ground) m) now.state → first.len ≤ m
-    → GoOn (home before.stack snapshot.store) to first.disk first.start first.len
-    → row (λ s. copy_to (read before.stack before.state snapshot.origin s) (home_in_store before.stack snapshot number s)) (sector + done) first.len ≡ units_in (copy_to (ground_unit ground) (record { disk = first.disk; sector = first.start })) first.len
-copy_part before now snapshot number sector done from to m ground first some part same from_is to_is reads few homes =
-    let origin = read before.stack before.state snapshot.origin in
-    let read_part : row origin (sector + done) first.len ≡ units_in (ground_unit ground) first.len =
-    row_front origin (sector + done) m first.len (ground_unit ground) (next_reads before now snapshot.origin sector done from m ground same from_is reads) few in
-    let home_part : GoOn (home_in_store before.stack snapshot number) (sector + done) first.disk first.start first.len = λ i within.
-    ap (λ (s : ℕ). home before.stack snapshot.store s)
-    (ap (store_sector snapshot number) (let e : sector + done + i ≡ sector + (done + i) = omega arith in e) ∙ store_sector_on snapshot number sector (done + i) some (omega (arith, part, within))
-    ∙ (let e : store_sector snapshot number sector + (done + i) ≡ to + i = omega (arith, to_is) in e))
-    ∙ homes i within in
-    copy_row origin (home_in_store before.stack snapshot number) (sector + done) first.len (ground_unit ground) first.disk first.start read_part home_part
+-- a range whose first stretch fails doesn't read without an error
+pub fails_on : (walk : WalkerView) (lower : Lower) (sector len : ℕ) (stretch : Stretch) → IsFirst walk walk (range_step walk.stack Read MOST_DEPTH lower walk.state sector) len stretch → stretch.ground ≡ grounds.Fails → reads_all walk.stack walk.state lower sector len ≡ false
+fails_on walk lower sector len stretch first fails =
+    let rest = any_error (row (read walk.stack walk.state lower) (sector + stretch.len) (len - stretch.len)) in
+    ap not (errors_on (read walk.stack walk.state lower) sector stretch.len len (ground_unit stretch.ground) first.some first.most (first_reads walk.stack walk.state lower sector stretch.len (ground_unit stretch.ground) first.read)
+    ∙ ap (λ (ground : Ground). is_error (ground_unit ground) || rest) fails)
+
+-- any other does where what comes after sectors of that stretch does
+pub reads_on : (walk : WalkerView) (lower : Lower) (sector n len : ℕ) (stretch : Stretch) → IsFirst walk walk (range_step walk.stack Read MOST_DEPTH lower walk.state sector) len stretch → (stretch.ground ≡ grounds.Fails → ⊥) → 1 ≤ n → n ≤ stretch.len
+    → reads_all walk.stack walk.state lower sector len ≡ reads_all walk.stack walk.state lower (sector + n) (len - n)
+reads_on walk lower sector n len stretch first good some few =
+    let reads = read walk.stack walk.state lower in let unit = ground_unit stretch.ground in
+    ap not (errors_on reads sector n len unit some (omega (arith, few, first.most)) (row_front reads sector stretch.len n unit (first_reads walk.stack walk.state lower sector stretch.len unit first.read) few)
+    ∙ ap (λ (error : Bool). error || any_error (row reads (sector + n) (len - n))) (good_ground stretch.ground good))
+  where
+    good_ground : (ground : Ground) → (ground ≡ grounds.Fails → ⊥) → is_error (ground_unit ground) ≡ false
+    good_ground grounds.Fails other = absurd (other refl)
+    good_ground ground other = refl
+
+-- the copy of a sector
+abbrev pub copy_of : WalkerView → FoundSnapshot → (number : ℕ) → ℕ → BlockUnit
+copy_of walk snapshot number u = copy_to (read walk.stack walk.state snapshot.origin u) (home_in_store walk.stack snapshot number u)
+
+-- what a piece copies, as long as both sides go on, is the next part of the row
+pub copy_next : (walk now : WalkerView) (snapshot : FoundSnapshot) (number sector len left from to : ℕ) (source : Stretch) (first : HomeStretch) → 0 < snapshot.chunk → sector % snapshot.chunk + len ≤ snapshot.chunk → left ≤ len → from + left ≡ sector + len
+    → to + left ≡ store_sector snapshot number sector + len → IsFirst walk walk (range_step walk.stack Read MOST_DEPTH snapshot.origin walk.state from) left source → stack_state now ≡ stack_state walk → IsFirstHomes now.stack snapshot.store to source.len first
+    → row (copy_of walk snapshot number) (sector + (len - left)) first.len ≡ units_in (copy_to (ground_unit source.ground) (record { disk = first.disk; sector = first.start })) first.len
+copy_next walk now snapshot number sector len left from to source first some part within from_is to_is stretch same homes =
+    let done = len - left in let reads = read walk.stack walk.state snapshot.origin in let unit = ground_unit source.ground in
+    let position : from ≡ sector + done = omega (arith, from_is, within) in
+    let whole = subst (λ (s : ℕ). row reads s source.len ≡ units_in unit source.len) position (first_reads walk.stack walk.state snapshot.origin from source.len unit stretch.read) in
+    let home_part : GoOn (home_in_store walk.stack snapshot number) (sector + done) first.disk first.start first.len = λ i more.
+    ap (λ (s : ℕ). home walk.stack snapshot.store s)
+    (ap (store_sector snapshot number) (let e : sector + done + i ≡ sector + (done + i) = omega arith in e) ∙ store_sector_on snapshot number sector (done + i) some (omega (arith, part, within, more, homes.most, stretch.most))
+    ∙ (let e : store_sector snapshot number sector + (done + i) ≡ to + i = omega (arith, to_is, within) in e))
+    ∙ ap (λ (v : StackState). home v.stack snapshot.store (to + i)) (sym same) ∙ homes.homes i more in
+    copy_row reads (home_in_store walk.stack snapshot number) (sector + done) first.len unit first.disk first.start (row_front reads (sector + done) source.len first.len unit whole homes.most) home_part
 
 -- and so is a write
 pub next_writes : (before now : WalkerView) (store : Lower) (sector len at left : ℕ) (first : HomeStretch) → stack_state now ≡ stack_state before → left ≤ len → at + left ≡ sector + len → IsFirstHomes now.stack store at left first

@@ -1,7 +1,6 @@
 -- Units in a row, and the stretches on which they go on.
 use Rattle.std.proofs.Common.{◌≡◌, ℕ, zero, suc, ◌+◌, ◌-◌, ◌<◌, ◌≤◌, Bool, true, false, List, [], ◌∷◌, ◌++◌, refl, sym, ap, subst, ◌∙◌, arith}
 use Rattle.std.specs.Prelude.{◌||◌}
-use Rattle.std.proofs.lemmas.Bool.{or_from, or_left, or_right}
 use Rattle.dm_table.specs.declared.requests.request.Op.TheVariants as ops
 use Rattle.dm_stack.specs.declared.graph.TheConstants.{MOST_DEPTH}
 use Rattle.dm_stack.specs.declared.id.Lower.{Lower}
@@ -76,7 +75,7 @@ left_row took left both a b c f sector m n len units within is first second =
 
 -- Errors
 
-pub any_error-append : (us vs : List BlockUnit) → any_error (us ++ vs) ≡ (any_error us || any_error vs)
+any_error-append : (us vs : List BlockUnit) → any_error (us ++ vs) ≡ (any_error us || any_error vs)
 any_error-append [] vs = refl
 any_error-append (u ∷ us) vs = rw (any_error-append us vs) (or_assoc (is_error u) (any_error us) (any_error vs))
   where
@@ -85,31 +84,18 @@ any_error-append (u ∷ us) vs = rw (any_error-append us vs) (or_assoc (is_error
     or_assoc false b c = refl
 
 -- units that go on are errors where the first is one
-pub errors_go_on : (unit : BlockUnit) (n : ℕ) → is_error unit ≡ false → any_error (units_in unit n) ≡ false
-errors_go_on unit zero good = refl
-errors_go_on unit (suc n) good = or_from (is_error unit) _ good (errors_go_on (next_unit unit) n (next_good unit good))
-  where
-    next_good : (unit : BlockUnit) → is_error unit ≡ false → is_error (next_unit unit) ≡ false
-    next_good Fails good = good
-    next_good unit good = refl
+units_errors : (unit : BlockUnit) (n : ℕ) → any_error (units_in unit (suc n)) ≡ is_error unit
+units_errors Fails n = refl
+units_errors unit zero = refl
+units_errors unit (suc n) = units_errors (next_unit unit) n
 
--- a row without an error goes on without one
-pub good_on : (f : ℕ → BlockUnit) (sector m n : ℕ) (unit : BlockUnit) → any_error (row f sector m) ≡ false → row f (sector + m) n ≡ units_in unit n → is_error unit ≡ false → any_error (row f sector (m + n)) ≡ false
-good_on f sector m n unit first is good =
-    ap any_error (row-append f sector m n) ∙ any_error-append (row f sector m) (row f (sector + m) n)
-    ∙ or_from (any_error (row f sector m)) (any_error (row f (sector + m) n)) first (ap any_error is ∙ errors_go_on unit n good)
-
--- or it has one
-pub bad_on : (f : ℕ → BlockUnit) (sector m n len : ℕ) (unit : BlockUnit) → m + n ≤ len → 1 ≤ n → row f (sector + m) n ≡ units_in unit n → is_error unit ≡ true → any_error (row f sector len) ≡ true
-bad_on f sector m zero len unit within some is bad = absurd (omega (arith, some))
-bad_on f sector m (suc n) len unit within some is bad =
-    let rest = len - (m + suc n) in
-    let at : len ≡ m + (suc n + rest) = omega (arith, within) in
-    let part : any_error (row f (sector + m) (suc n)) ≡ true = ap any_error is ∙ or_left (is_error unit) (any_error (units_in (next_unit unit) n)) bad in
-    ap (λ (k : ℕ). any_error (row f sector k)) at ∙ ap any_error (row-append f sector m (suc n + rest)) ∙ any_error-append (row f sector m) (row f (sector + m) (suc n + rest))
-    ∙ or_right (any_error (row f sector m)) (any_error (row f (sector + m) (suc n + rest)))
-    (ap any_error (row-append f (sector + m) (suc n) rest) ∙ any_error-append (row f (sector + m) (suc n)) (row f (sector + m + suc n) rest)
-    ∙ or_left (any_error (row f (sector + m) (suc n))) (any_error (row f (sector + m + suc n) rest)) part)
+-- a row that begins with units that go on has an error where the first is one, or where the rest has one
+pub errors_on : (f : ℕ → BlockUnit) (sector n len : ℕ) (unit : BlockUnit) → 1 ≤ n → n ≤ len → row f sector n ≡ units_in unit n → any_error (row f sector len) ≡ (is_error unit || any_error (row f (sector + n) (len - n)))
+errors_on f sector zero len unit some within is = absurd (omega (arith, some))
+errors_on f sector (suc n) len unit some within is =
+    let whole : len ≡ suc n + (len - suc n) = omega (arith, within) in let rest = row f (sector + suc n) (len - suc n) in
+    ap (λ (k : ℕ). any_error (row f sector k)) whole ∙ ap any_error (row-append f sector (suc n) (len - suc n)) ∙ any_error-append (row f sector (suc n)) rest
+    ∙ ap (λ (first : Bool). first || any_error rest) (ap any_error is ∙ units_errors unit n)
 
 -- Copies and writes, by where their units go on
 

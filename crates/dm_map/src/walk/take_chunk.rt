@@ -2,14 +2,18 @@
 //!
 //! A chunk that is not taken is tested once, copied from the origin to its place in the store, and
 //! then taken. The copies are handed over before that, so that all of them read what was there
-//! before. A test and a copy go by stretches, and a copy ends where either side no longer goes on; no
-//! work is done for each sector. What is read and where a store's sectors lie do not depend on
-//! the depth at which the snapshot was reached, so each is looked up through all levels.
+//! before. A test and a copy go by stretches, the first of which is looked up once for both, and a copy
+//! ends where either side no longer goes on; no work is done for each sector. What is read and where a
+//! store's sectors lie do not depend on the depth at which the snapshot was reached, so each is looked
+//! up through all levels.
 
-ghost use Rattle.std.specs.Prelude.{◌≡◌, ◌≢◌, ◌+◌, ◌*◌, ◌%◌, ◌<◌, ◌≤◌, Some, length, true};
+ghost use Rattle.std.specs.Prelude.{◌≡◌, ◌≢◌, ◌+◌, ◌*◌, ◌%◌, ◌<◌, ◌≤◌};
+ghost use Rattle.std.specs.Prelude.{Some, IfSome, is_some, length, true};
+ghost use Rattle.dm_table.specs.declared.requests.request.Op.TheVariants.{Read};
 ghost use Rattle.dm_stack.specs.Below.{IsSnapshotSound};
 ghost use Rattle.dm_stack.specs.Description.{Description, device_len, lower_len};
 ghost use Rattle.dm_stack.specs.Store.{IsStore};
+ghost use Rattle.dm_stack.specs.declared.graph.TheConstants.{MOST_DEPTH};
 ghost use Rattle.dm_stack.specs.declared.limits.TheConstants.{MOST_SNAPSHOT_CHUNK};
 ghost use Rattle.dm_map.specs.state.Counts.{AreAdded};
 ghost use Rattle.dm_map.specs.walk.Homes.{IsFirstHomes};
@@ -19,11 +23,11 @@ ghost use Rattle.dm_map.specs.state.Snapshots.{has_place};
 ghost use Rattle.dm_map.specs.state.State.{taken_at};
 ghost use Rattle.dm_map.specs.walk.Steps.{keep};
 ghost use Rattle.dm_map.specs.declared.walk.stretch.Ground.TheVariants.{Fails};
-ghost use Rattle.dm_map.specs.walk.Stretch.{ground_unit, IsGroundInStack};
+ghost use Rattle.dm_map.specs.walk.Stretch.{ground_unit, IsFirst, IsGroundInStack};
 ghost use Rattle.dm_map.specs.state.Tables.{snapshot_at};
 ghost use Rattle.dm_map.specs.pieces.Units.{diskless_len, piece_len, units_in, units_of, IsOnDisk, IsOnDisks};
 ghost use Rattle.dm_map.specs.state.Walker.{stack_state};
-ghost use Rattle.dm_map.specs.walk.Range.{HasRoomFor, IsWalked};
+ghost use Rattle.dm_map.specs.walk.Range.{range_step, HasRoomFor, IsWalked};
 
 use crate::pieces::piece::Piece;
 use crate::pieces::sink::Sink;
@@ -71,12 +75,12 @@ pub(crate) fn take_chunk<S: Sink, T: Taken>(
     let chunk_size = snapshot.chunk as u64;
     let first = chunk * chunk_size;
     let count = chunk_size.min(end - first);
-    if !can_take(walker, device, snapshot, first, count) {
+    let Some(source) = first_source(walker, device, snapshot, first, count) else {
         walker.invalidate(device);
         return Ok(());
-    }
+    };
     let number = walker.count(device);
-    copy_chunk(walker, snapshot, number, first, count, sink)?;
+    copy_chunk(walker, snapshot, number, first, count, source, sink)?;
     walker.take(device, chunk);
     Ok(())
 }
@@ -106,54 +110,57 @@ pub(crate) fn is_refused<T: Taken>(
         && !is_settled(walker, device, chunk)
 }
 
-/// Whether a chunk can be taken: the store has a place for one more, and the origin reads all of its
-/// sectors, `len` of them from `sector` on.
-fn can_take<T: Taken>(
+/// Where the first sectors of a chunk are read, if it can be taken: the store has a place for one more,
+/// and the origin reads all of its sectors, `len` of them from `sector` on.
+fn first_source<T: Taken>(
     walker: &mut Walker<'_, T>,
     device: DeviceId,
     snapshot: &FoundSnapshot,
     sector: u64,
     len: u64,
-) -> bool
+) -> Option<Stretch>
     requires device { device < length walker.old.stack.devices }
     requires is { snapshot_at walker.old.stack device ≡ Some snapshot.now }
+    requires some { 1 ≤ len }
     requires inside { sector + len ≤ lower_len walker.old.stack snapshot.now.origin }
-    ensures is { result ≡ can_take walker.old.stack walker.old.state snapshot.now device sector len }
-    ensures same { stack_state walker.new ≡ stack_state walker.old }
-    ensures looked { AreAdded walker.old.looked walker.new.looked }
-{
-    !walker.is_full(device) && reads_all(walker, &snapshot.origin, sector, len)
-}
-
-/// Whether sectors of a device or a disk all read without an error.
-fn reads_all<T: Taken>(walker: &mut Walker<'_, T>, lower: &Lower, sector: u64, len: u64) -> bool
-    requires { sector + len ≤ lower_len walker.old.stack lower.now }
-    ensures is { result ≡ reads_all walker.old.stack walker.old.state lower.now sector len }
+    ensures can_take { is_some result
+        ≡ can_take walker.old.stack walker.old.state snapshot.now device sector len }
+    ensures first { IfSome result (λ source. IsFirst walker.new walker.new
+        (range_step walker.new.stack Read MOST_DEPTH snapshot.now.origin walker.new.state sector) len
+        source) }
     ensures same { stack_state walker.new ≡ stack_state walker.old }
     ensures looked { AreAdded walker.old.looked walker.new.looked }
 {
     walker.is_sound();
+    if walker.is_full(device) {
+        return None;
+    }
+    let first = first_stretch(walker, MOST_DEPTH, snapshot.origin, sector, len);
+    let mut source = first;
     let mut at = sector;
     let mut left = len;
-    while left > 0 {
-        let stretch = first_stretch(walker, MOST_DEPTH, *lower, at, left);
-        if let Ground::Fails = stretch.ground {
-            return false;
+    'sources: loop {
+        if let Ground::Fails = source.ground {
+            return None;
         }
-        at += stretch.len;
-        left -= stretch.len;
+        if source.len == left {
+            return Some(first);
+        }
+        at += source.len;
+        left -= source.len;
+        source = first_stretch(walker, MOST_DEPTH, snapshot.origin, at, left);
     }
-    true
 }
 
 /// Copies sectors of a chunk, which all read without an error, from the origin to the place that the
-/// store has for this number.
+/// store has for this number. The first stretch of the origin was found before.
 fn copy_chunk<S: Sink, T: Taken>(
     walker: &mut Walker<'_, T>,
     snapshot: &FoundSnapshot,
     number: usize,
     sector: u64,
     len: u64,
+    first: Stretch,
     sink: &mut S,
 ) -> Result<(), S::Fault>
     requires origin { sector + len ≤ lower_len walker.old.stack snapshot.now.origin }
@@ -163,6 +170,9 @@ fn copy_chunk<S: Sink, T: Taken>(
     requires place { has_place walker.old.stack snapshot.now number ≡ true }
     requires part { sector % snapshot.now.chunk + len ≤ snapshot.now.chunk }
     requires reads { reads_all walker.old.stack walker.old.state snapshot.now.origin sector len ≡ true }
+    requires first { IsFirst walker.old walker.old
+        (range_step walker.old.stack Read MOST_DEPTH snapshot.now.origin walker.old.state sector) len
+        first }
     requires sink { HasRoomFor S.view sink.old walker.old.stack 0 }
     ensures { IsWalked S.took S.left S.view
         result sink.old sink.new walker.old walker.new
@@ -170,18 +180,21 @@ fn copy_chunk<S: Sink, T: Taken>(
         walker.old.state) 0 }
 {
     walker.is_sound();
+    let mut source = first;
     let mut from = sector;
     let mut to = store_sector(snapshot, number, sector);
     let mut left = len;
-    while left > 0 {
-        let source = first_stretch(walker, MOST_DEPTH, snapshot.origin, from, left);
+    'copies: loop {
         let target = first_homes(walker, snapshot.store, to, source.len);
         sink.piece(copy_piece(&source, &target))?;
+        left -= target.len;
+        if left == 0 {
+            return Ok(());
+        }
         from += target.len;
         to += target.len;
-        left -= target.len;
+        source = first_stretch(walker, MOST_DEPTH, snapshot.origin, from, left);
     }
-    Ok(())
 }
 
 /// The copy of as many sectors as the target has, from a stretch that can be read.

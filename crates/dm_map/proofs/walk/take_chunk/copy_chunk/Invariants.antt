@@ -1,17 +1,23 @@
-use Rattle.std.proofs.Common.{◌≡◌, ◌+◌, ◌-◌, ◌≤◌}
+use Rattle.std.proofs.Common.{◌≡◌, ◌+◌, ◌-◌, ◌≤◌, true}
+use Rattle.dm_table.specs.declared.requests.request.Op.TheVariants.{Read}
+use Rattle.dm_stack.specs.declared.graph.TheConstants.{MOST_DEPTH}
 use Rattle.dm_map.specs.state.Snapshots.{store_sector}
-use Rattle.dm_map.specs.walk.SnapshotWrites.{copies}
+use Rattle.dm_map.specs.walk.SnapshotWrites.{copies, reads_all}
+use Rattle.dm_map.specs.walk.Stretch.{IsFirst}
+use Rattle.dm_map.specs.walk.Range.{range_step}
 use Rattle.dm_map.proofs.walk.ChunkCopies.{IsGoingOn}
 use Rattle.dm_map.proofs.walk.take_chunk.copy_chunk.Given as goal
 
-abbrev pub invariant-loop-left : goal.invariant-loop-left
-invariant-loop-left g l = record {
+abbrev pub invariant-copies : goal.invariant-copies
+invariant-copies g l = record {
   taken : g.S.Sink.took l.fn.sink (copies l.fn.walker.stack l.fn.walker.state l.snapshot l.number l.sector (l.len - l.left)) l.sink;
   within : l.left ≤ l.len;
   from : l.from + l.left ≡ l.sector + l.len;
   to : l.to + l.left ≡ store_sector l.snapshot l.number l.sector + l.len;
+  reads : reads_all l.fn.walker.stack l.fn.walker.state l.snapshot.origin l.from l.left ≡ true;
+  source : IsFirst l.fn.walker l.fn.walker (range_step l.fn.walker.stack Read MOST_DEPTH l.snapshot.origin l.fn.walker.state l.from) l.left l.source;
   going_on : IsGoingOn g.S.Sink.view l.fn.sink l.sink l.fn.walker l.walker;
 }
 
-abbrev pub decreases-loop-left : goal.decreases-loop-left
-decreases-loop-left g l = l.left
+abbrev pub decreases-copies : goal.decreases-copies
+decreases-copies g l = l.left

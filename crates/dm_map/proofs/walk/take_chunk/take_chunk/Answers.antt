@@ -11,16 +11,16 @@ len-end-requires g c = device_there c.args.walker.now.stack c.args.device _ c.re
 pub overflow_mul-first : goal.overflow_mul-first
 overflow_mul-first g c = omega (arith, c.requires.inside, c.len-end.ensures.len, c.len-end.ensures.small)
 
-pub can_take-requires-clause-device : goal.can_take-requires-clause-device
-can_take-requires-clause-device g c = device_there c.args.walker.now.stack c.args.device _ c.requires.inside
+pub first_source-requires-clause-device : goal.first_source-requires-clause-device
+first_source-requires-clause-device g c = device_there c.args.walker.now.stack c.args.device _ c.requires.inside
 
 pub invalidate-requires : goal.invalidate-requires
 invalidate-requires g c =
-    record { device = subst (λ (w : StackState). c.args.device < length w.stack.devices) (sym c.can_take.ensures.same) (device_there c.args.walker.now.stack c.args.device _ c.requires.inside) }
+    record { device = subst (λ (w : StackState). c.args.device < length w.stack.devices) (sym c.first_source.ensures.same) (device_there c.args.walker.now.stack c.args.device _ c.requires.inside) }
 
 pub count-number-requires : goal.count-number-requires
 count-number-requires g c =
-    subst (λ (w : StackState). c.args.device < length w.stack.devices) (sym c.can_take.ensures.same) (device_there c.args.walker.now.stack c.args.device _ c.requires.inside)
+    subst (λ (w : StackState). c.args.device < length w.stack.devices) (sym c.first_source.ensures.same) (device_there c.args.walker.now.stack c.args.device _ c.requires.inside)
 
 pub copy_chunk-requires-clause-part : goal.copy_chunk-requires-clause-part
 copy_chunk-requires-clause-part g c =
@@ -32,4 +32,4 @@ copy_chunk-requires-clause-part g c =
 
 pub take-requires-clause-device : goal.take-requires-clause-device
 take-requires-clause-device g c =
-    subst (λ (s : Description). c.args.device < length s.devices) (sym (c.in_ok-copy_chunk.ensures.stack ∙ ap (λ (w : StackState). w.stack) c.can_take.ensures.same)) (device_there c.args.walker.now.stack c.args.device _ c.requires.inside)
+    subst (λ (s : Description). c.args.device < length s.devices) (sym (c.in_ok-copy_chunk.ensures.stack ∙ ap (λ (w : StackState). w.stack) c.first_source.ensures.same)) (device_there c.args.walker.now.stack c.args.device _ c.requires.inside)
