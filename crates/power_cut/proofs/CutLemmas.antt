@@ -1,11 +1,16 @@
--- What was asked of a replay up to the cut.
-use Rattle.std.proofs.Common.{◌≡◌, ℕ, ◌+◌, ◌-◌, ◌<◌, List, [], ◌∷◌, ◌++◌, get_or, length, map, take, sym, ap, ◌∙◌, arith}
+-- What was asked of a replay up to the cut, and what there is to write then.
+use Rattle.std.proofs.Common.{◌≡◌, ℕ, ◌+◌, ◌-◌, ◌<◌, List, [], ◌∷◌, ◌++◌, Some, get_or, length, map, take, refl, sym, ap, subst, ◌∙◌, arith}
 use Rattle.std.proofs.lemmas.List.{drop_at, length_push, map_more, take_at}
+use Rattle.dm_stack.specs.Claims.{IsTidy}
 use Rattle.dm_stack.specs.Description.{Description}
-use Rattle.dm_stream.specs.Requests.{NumberedRequest}
+use Rattle.dm_stream.specs.declared.ending.Ending.TheVariants.{Done}
+use Rattle.dm_stream.specs.Requests.{NumberedRequest, Requests}
 use Rattle.dm_replay.specs.Histories.{Asked}
-use Rattle.power_cut.specs.Cut.{asked_until}
-use Rattle.power_cut.specs.OwnedRequest.{asked_of, cut_of}
+use Rattle.dm_replay.specs.Replay.{Replaying, new_replay}
+use Rattle.power_cut.specs.declared.read_back.ReadBack.{ReadBack}
+use Rattle.power_cut.specs.Cut.{IsAnswer, asked_until}
+use Rattle.power_cut.specs.OwnedRequest.{AreOfTops, asked_of, cut_of, writes_of}
+use Rattle.power_cut.specs.ReadBack.{AreReadBack, backs_text}
 
 -- the last request stands after the others
 pub until_last : (stack : Description) (units : ℕ) (requests first : List NumberedRequest) (last : NumberedRequest) → requests ≡ first ++ last ∷ []
@@ -24,3 +29,20 @@ played_more stack requests i request now later within at were more =
     ∙ ap (λ (all : List Asked). all ++ asked_of stack request ∷ []) were
     ∙ ap (λ (it : NumberedRequest). map (asked_of stack) (take i requests) ++ asked_of stack it ∷ []) at
     ∙ sym (map_more (asked_of stack) requests i request within)
+
+-- what was read back after that is to be written
+pub is_answer : (stack : Description) (units : ℕ) (requests : Requests) (all : List NumberedRequest) (replay later : Replaying) (backs : List ReadBack) → IsTidy stack → requests.ending ≡ Some Done → replay ≡ new_replay stack → all ≡ requests.all
+    → AreOfTops replay.stack all → later.stack ≡ replay.stack → later.asked ≡ asked_until replay.stack units all → AreReadBack later.stack later.asked (writes_of all) backs → IsAnswer stack units requests (backs_text stack backs)
+is_answer stack units requests all replay later backs tidy whole new are tops same asked read =
+    let of_stack : later.stack ≡ stack = same ∙ ap (λ (it : Replaying). it.stack) new in
+    let until : later.asked ≡ asked_until stack units requests.all =
+    asked ∙ ap (λ (it : Replaying). asked_until it.stack units all) new ∙ ap (asked_until stack units) are in
+    record {
+      tidy = tidy;
+      whole = whole;
+      tops = subst (AreOfTops stack) are (subst (λ (it : Replaying). AreOfTops it.stack all) new tops);
+      backs = backs;
+      read = subst (λ (it : List NumberedRequest). AreReadBack stack (asked_until stack units requests.all) (writes_of it) backs) are
+          (subst (λ (it : List Asked). AreReadBack stack it (writes_of all) backs) until (subst (λ (it : Description). AreReadBack it later.asked (writes_of all) backs) of_stack read));
+      is = refl;
+    }

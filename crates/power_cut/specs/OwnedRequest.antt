@@ -1,10 +1,12 @@
 -- What is asked of a replay for a request, and how the sectors of a write are read.
 use Rattle.std.specs.Prelude.{ℕ, Bool, true, false, List, Option, None, Some, filter}
+use Rattle.std.specs.List.{All}
 use Rattle.dm_table.specs.declared.requests.request.Op.{Op}
 use Rattle.dm_table.specs.declared.requests.request.Op.TheVariants.{Read, Write}
 use Rattle.dm_stack.specs.Description.{Description, device_id}
 use Rattle.dm_stream.specs.Requests.{NumberedRequest}
 use Rattle.dm_replay.specs.Histories.{Asked}
+use Rattle.dm_replay.specs.Replay.{HasTop}
 
 -- a request of a stack, played to its end or cut after this many units
 abbrev pub asked_as : Option ℕ → Description → NumberedRequest → Asked
@@ -22,6 +24,13 @@ asked_of = asked_as None
 
 abbrev pub cut_of : Description → (units : ℕ) → NumberedRequest → Asked
 cut_of stack units = asked_as (Some units) stack
+
+-- a request of a top device
+abbrev pub IsOfTop : Description → NumberedRequest → Type 0
+IsOfTop stack request = HasTop stack request.values.device
+
+abbrev pub AreOfTops : Description → List NumberedRequest → Type 0
+AreOfTops stack requests = All (IsOfTop stack) requests
 
 abbrev pub writes : Op → Bool
 writes Read = false

@@ -1,15 +1,14 @@
 //! Requests that are played up to a cut, and what is written then.
 
-ghost use Rattle.std.specs.Prelude.{◌≡◌, ◌≢◌, ◌++◌, ◌∷◌, [], IfErr, IfOk, OnOk};
-ghost use Rattle.dm_table.specs.io.DeviceIo.{delivery, written_since};
-ghost use Rattle.dm_table.specs.io.Progress.{IsFlushed};
+ghost use Rattle.std.specs.Prelude.{◌≡◌, ◌++◌, ◌∷◌, [], IfErr, IfOk, OnOk};
+ghost use Rattle.dm_table.specs.io.DeviceIo.{delivery};
+ghost use Rattle.dm_table.specs.io.Progress.{IsReadOn};
 ghost use Rattle.dm_stack.specs.Claims.{IsTidy};
-ghost use Rattle.dm_stream.specs.Requests.{requests_of};
+ghost use Rattle.dm_stream.specs.Requests.{Requests, requests_of};
 ghost use Rattle.dm_replay.specs.Replay.{new_replay};
-ghost use Rattle.dm_stream.specs.declared.ending.Ending.TheVariants.{WriteFault};
-ghost use Rattle.power_cut.specs.declared.fault.Fault.TheVariants.{Ended};
-ghost use Rattle.power_cut.specs.Cut.{IsWritten, asked_until};
-ghost use Rattle.power_cut.specs.OwnedRequest.{asked_of};
+ghost use Rattle.power_cut.specs.Cut.{HasEnded, asked_until};
+ghost use Rattle.power_cut.specs.Fault.{AreRefused, IsUnplayed, StopsAt};
+ghost use Rattle.power_cut.specs.OwnedRequest.{AreOfTops, IsOfTop, asked_of};
 
 use crate::fault::{Fault, unplayed};
 use crate::owned_request::OwnedRequest;
@@ -27,7 +26,7 @@ use std::alloc::Global;
 ///
 /// # Errors
 ///
-/// Why it stopped. Nothing is written, unless that is a write or a flush that failed.
+/// Why the requests are refused, and nothing is written; or a write or the flush failed.
 pub(crate) fn answer_after_cut<Q: Input, W: Output>(
     alloc: Global,
     stack: &Stack,
@@ -35,13 +34,10 @@ pub(crate) fn answer_after_cut<Q: Input, W: Output>(
     requests: &mut Q,
     output: &mut W,
 ) -> Result<(), Fault>
-    ensures written { OnOk result (IsWritten stack.now units
+    ensures ended { HasEnded result stack.now units
         (requests_of (delivery (Q.past requests.old) (Q.past requests.new)))
-        (written_since (W.past output.old) (W.past output.new))) }
-    ensures flushed { OnOk result (IsFlushed (W.past output.old) (W.past output.new)) }
-    ensures tidy { OnOk result (IsTidy stack.now) }
-    ensures unwritten { IfErr result
-        (λ fault. fault ≢ Ended WriteFault → W.past output.new ≡ W.past output.old) }
+        (W.past output.old) (W.past output.new) }
+    ensures moved { IsReadOn (Q.past requests.old) (Q.past requests.new) }
 {
     let replay = begin(alloc, stack)?;
     let requests = read_requests(alloc, requests)?;
@@ -58,6 +54,7 @@ pub(crate) fn answer_after_cut<Q: Input, W: Output>(
 fn begin(alloc: Global, stack: &Stack) -> Result<Replay<'_, TrieTaken>, Fault>
     ensures new { IfOk result (λ replay. replay ≡ new_replay stack.now) }
     ensures tidy { OnOk result (IsTidy stack.now) }
+    ensures refused { IfErr result (λ fault. (requests : Requests) → AreRefused fault stack.now requests) }
 {
     match Replay::new(alloc, stack) {
         Ok(replay) => Ok(replay),
@@ -77,6 +74,8 @@ fn play<'s>(
     ensures stack { IfOk result (λ later. later.stack ≡ replay.entry.stack) }
     ensures asked { IfOk result
         (λ later. later.asked ≡ asked_until replay.entry.stack units requests.now) }
+    ensures tops { OnOk result (AreOfTops replay.entry.stack requests.now) }
+    ensures stops { IfErr result (λ fault. StopsAt fault replay.entry.stack requests.now) }
 {
     let Some((last, first)) = requests.split_last() else {
         return Ok(replay);
@@ -100,6 +99,8 @@ fn play_whole(
     ensures stack { replay.new.stack ≡ replay.old.stack }
     ensures asked { OnOk result
         (replay.new.asked ≡ replay.old.asked ++ asked_of replay.old.stack request.now ∷ []) }
+    ensures top { OnOk result (IsOfTop replay.old.stack request.now) }
+    ensures unplayed { IfErr result (λ fault. IsUnplayed fault replay.old.stack request.now) }
 {
     let request = request.as_request();
     match replay.request(alloc, &request) {

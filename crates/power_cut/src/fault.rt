@@ -2,7 +2,8 @@
 
 ghost use Rattle.std.specs.Prelude.{◌≡◌};
 ghost use Rattle.dm_stream.specs.Messages.{HasTold};
-ghost use Rattle.power_cut.specs.Fault.{load_status, fault_message, fault_status};
+ghost use Rattle.power_cut.specs.declared.fault.Fault.TheVariants.{Memory};
+ghost use Rattle.power_cut.specs.Fault.{fault_message, fault_status, load_status, unplayed};
 
 use dm_replay::ReplayFault;
 use dm_stream::{Ending, message_of, refused_request, tell};
@@ -16,7 +17,7 @@ pub(crate) enum Fault {
     Words,
     /// The tables or the list of disks were refused.
     Unloaded(LoadFault),
-    /// Two lines use the same sectors.
+    /// Two claims of the stack meet.
     Untidy,
     /// A request was bad, or the input or the output failed.
     Ended(Ending),
@@ -71,7 +72,9 @@ fn load_status(kind: LoadKind) -> u8
 }
 
 /// Why a request of this number wasn't played.
-pub(crate) fn unplayed(number: u64, fault: ReplayFault) -> Fault {
+pub(crate) fn unplayed(number: u64, fault: ReplayFault) -> Fault
+    ensures { result ≡ unplayed number fault }
+{
     match fault {
         ReplayFault::NotTop => Fault::NotTop(number),
         _ => Fault::Memory,
@@ -85,12 +88,16 @@ impl From<LoadFault> for Fault {
 }
 
 impl From<AllocError> for Fault {
+    ghost from_gives = { λ _ fault. fault ≡ Memory };
+
     fn from(_error: AllocError) -> Fault {
         Fault::Memory
     }
 }
 
 impl<T: Drop> From<AllocFailed<T>> for Fault {
+    ghost from_gives = { λ _ fault. fault ≡ Memory };
+
     fn from(_failed: AllocFailed<T>) -> Fault {
         Fault::Memory
     }

@@ -1,9 +1,10 @@
 //! What reads of sectors that were written give, and the lines that say so.
 
-ghost use Rattle.std.specs.Prelude.{◌≡◌, ◌++◌, ◌∷◌, [], IfOk, OnOk, length};
+ghost use Rattle.std.specs.Prelude.{◌≡◌, ◌++◌, ◌∷◌, [], IfOk, IsOkUnless, OnOk, length};
 ghost use Rattle.std.specs.List.{AllByRecursion};
 ghost use Rattle.dm_table.specs.io.Progress.{Wrote};
-ghost use Rattle.power_cut.specs.OwnedRequest.{asked_of, read_of, writes_of};
+ghost use Rattle.power_cut.specs.declared.fault.Fault.TheVariants.{Memory};
+ghost use Rattle.power_cut.specs.OwnedRequest.{AreOfTops, IsOfTop, asked_of, read_of, writes_of};
 ghost use Rattle.power_cut.specs.ReadBack.{AreReadBack, IsOnDisks, IsReadBack, back_text, backs_text};
 
 use crate::fault::{Fault, unplayed};
@@ -29,10 +30,12 @@ impl ReadBack {
         replay: &mut Replay<'_, TrieTaken>,
         write: &OwnedRequest,
     ) -> Result<ReadBack, Fault>
+        requires { IsOfTop replay.old.stack write.now }
         ensures stack { replay.new.stack ≡ replay.old.stack }
         ensures asked { OnOk result
             (replay.new.asked ≡ replay.old.asked ++ asked_of replay.old.stack (read_of write.now) ∷ []) }
         ensures back { IfOk result (IsReadBack replay.old.stack replay.old.asked write.now) }
+        ensures memory { IsOkUnless result Memory }
     {
         let read = write.read();
         let line = format!(in alloc; "R {} {} {}\n", read.device, read.start, read.len)?;
@@ -53,8 +56,10 @@ pub(crate) fn read_back(
     replay: &mut Replay<'_, TrieTaken>,
     requests: &[OwnedRequest],
 ) -> Result<Vec<ReadBack>, Fault>
-    ensures { IfOk result
+    requires { AreOfTops replay.old.stack requests.now }
+    ensures backs { IfOk result
         (λ backs. AreReadBack replay.old.stack replay.old.asked (writes_of requests.now) backs.items) }
+    ensures memory { IsOkUnless result Memory }
 {
     let mut backs = Vec::new(alloc);
     for request in requests {

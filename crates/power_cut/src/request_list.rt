@@ -1,11 +1,15 @@
 //! All requests of an input, in a list: only at the end is it known which one is the last.
 
-ghost use Rattle.std.specs.Prelude.{◌≡◌, ◌++◌, IfOk, OnOk, Some};
+ghost use Rattle.std.specs.Prelude.{◌≡◌, ◌++◌, IfErr, IfOk, OnOk, Some};
 ghost use Rattle.std.proofs.Common.{ap, append_assoc, sym, ◌∙◌};
 ghost use Rattle.std.proofs.lemmas.List.{append-nil};
 ghost use Rattle.dm_table.specs.io.DeviceIo.{delivery};
+ghost use Rattle.dm_table.specs.io.Progress.{IsReadOn};
+ghost use Rattle.dm_stack.specs.Claims.{IsTidy};
+ghost use Rattle.dm_stack.specs.Description.{Description};
 ghost use Rattle.dm_stream.specs.declared.ending.Ending.TheVariants.{Done};
 ghost use Rattle.dm_stream.specs.Requests.{requests_of};
+ghost use Rattle.power_cut.specs.Fault.{AreRefused};
 
 use crate::fault::Fault;
 use crate::owned_request::OwnedRequest;
@@ -59,6 +63,9 @@ pub(crate) fn read_requests<Q: Input>(
         ≡ (requests_of (delivery (Q.past requests.old) (Q.past requests.new))).all) }
     ensures ends { OnOk result
         ((requests_of (delivery (Q.past requests.old) (Q.past requests.new))).ending ≡ Some Done) }
+    ensures refused { IfErr result (λ fault. (stack : Description) → IsTidy stack
+        → AreRefused fault stack (requests_of (delivery (Q.past requests.old) (Q.past requests.new)))) }
+    ensures moved { IsReadOn (Q.past requests.old) (Q.past requests.new) }
 {
     let mut list = Vec::new(alloc);
     match handle_requests(requests, &mut RequestKeeper { alloc }, &mut list) {

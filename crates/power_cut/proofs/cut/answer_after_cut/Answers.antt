@@ -1,8 +1,12 @@
-use Rattle.std.proofs.Common.{length, ap, subst, ◌∙◌}
+use Rattle.std.proofs.Common.{length, ap, refl, subst, ◌∙◌}
 use Rattle.std.specs.List.{AllByRecursion}
+use Rattle.std.proofs.lemmas.Result.{err_from_is_err_and}
+use Rattle.dm_table.specs.laws.Progress.{closed_as}
 use Rattle.dm_stack.specs.Description.{Description}
 use Rattle.dm_replay.specs.Replay.{Replaying}
-use Rattle.power_cut.specs.ReadBack.{IsOnDisks}
+use Rattle.power_cut.specs.ReadBack.{IsOnDisks, backs_text}
+use Rattle.power_cut.proofs.CutLemmas.{is_answer}
+use Rattle.power_cut.proofs.FaultLemmas.{refused_unwritten}
 use Rattle.power_cut.proofs.ReadBackLemmas.{all_on_disks}
 use Rattle.power_cut.proofs.cut.answer_after_cut.Goals as goal
 
@@ -11,4 +15,32 @@ write_backs-written-requires g c =
     let backs = c.in_ok-backs.backs.items in
     rw c.deref-3.ensures.value
     (subst (λ (of : Description). AllByRecursion (IsOnDisks (length of.disks)) backs) (c.in_ok-replay-2.ensures.stack ∙ ap (λ (replay : Replaying). replay.stack) c.in_ok-replay.ensures.new)
-    (all_on_disks _ _ _ backs c.in_ok-backs.ensures))
+    (all_on_disks _ _ _ backs c.in_ok-backs.ensures.backs))
+
+pub returns-in_err-replay-clause-ended : goal.returns-in_err-replay-clause-ended
+returns-in_err-replay-clause-ended g c =
+    let p = err_from_is_err_and c.from_residual.result c.from_residual.ensures.1 in
+    rw (p.1, p.2) (refused_unwritten c.in_err-replay.field-0.0 c.args.stack.now c.args.units _ _ _ (c.in_err-replay.ensures.refused _) refl)
+
+pub returns-in_err-requests-clause-ended : goal.returns-in_err-requests-clause-ended
+returns-in_err-requests-clause-ended g c =
+    let p = err_from_is_err_and c.from_residual-in_err-requests.result c.from_residual-in_err-requests.ensures.1 in
+    rw (p.1, p.2) (refused_unwritten c.in_err-requests.field-0.0 c.args.stack.now c.args.units _ _ _ (c.in_err-requests.ensures.refused _ c.in_ok-replay.ensures.tidy) refl)
+
+pub returns-in-Ok-clause-ended : goal.returns-in-Ok-clause-ended
+returns-in-Ok-clause-ended g c =
+    let stack = c.args.stack.now in let requests = c.in_ok-requests in let backs = c.in_ok-backs.backs.items in (
+      backs_text stack backs,
+      is_answer stack c.args.units _ requests.requests.items _ c.in_ok-replay-2.replay backs c.in_ok-replay.ensures.tidy requests.ensures.ends c.in_ok-replay.ensures.new requests.ensures.all
+          (rw c.deref.ensures.value at c.in_ok-replay-2.ensures.tops) c.in_ok-replay-2.ensures.stack (rw c.deref.ensures.value at c.in_ok-replay-2.ensures.asked) (rw c.deref-2.ensures.value at c.in_ok-backs.ensures.backs),
+      closed_as _ ⊥ (λ failed. cc) (λ failed. absurd failed) (c.in-Ok.ensures.closed _ _ (rw c.deref-3.ensures.value at c.write_backs-written.ensures)),
+    )
+
+pub returns-clause-ended : goal.returns-clause-ended
+returns-clause-ended g c =
+    let stack = c.args.stack.now in let requests = c.in_ok-requests in let backs = c.in_ok-backs.backs.items in (
+      backs_text stack backs,
+      is_answer stack c.args.units _ requests.requests.items _ c.in_ok-replay-2.replay backs c.in_ok-replay.ensures.tidy requests.ensures.ends c.in_ok-replay.ensures.new requests.ensures.all
+          (rw c.deref.ensures.value at c.in_ok-replay-2.ensures.tops) c.in_ok-replay-2.ensures.stack (rw c.deref.ensures.value at c.in_ok-replay-2.ensures.asked) (rw c.deref-2.ensures.value at c.in_ok-backs.ensures.backs),
+      closed_as _ (Unit {0}) (λ failed. tt) (λ failed. refl) (c.in-Err.ensures.closed _ _ (rw c.deref-3.ensures.value at c.write_backs-written.ensures)),
+    )
