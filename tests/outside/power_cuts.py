@@ -51,6 +51,10 @@ REFUSED = [
     (*SNAPSHOT, "W s 0 1\nW s" + 4096 * " " + "\n", "request 2: long", 3),
     (*SNAPSHOT, "W base 0 1\nW s 0 1\n", "request 1: not top", 3),
     (*SNAPSHOT, "W s 0 1\nW base 0 1\n", "request 2: not top", 3),
+    ("a: 0 8 zero\n", "", "W b 0 1\n", "request 1: not top", 3),
+    ("o: 0 8 zero\ns: 0 8 snapshot /dev/mapper/o cow P 8\n", "cow 64\n", "W o 0 1\n", "request 1: not top", 3),
+    # All requests have to be good before the first is played.
+    (*SNAPSHOT, "W base 0 1\nW s 0\n", "request 2: form", 3),
 ]
 
 
@@ -132,9 +136,11 @@ def check_refused(tally, program):
 
 def check_streams(tally, program):
     words = words_of(program, *SNAPSHOT, 1)
-    here = failing_input("W s 0 1\n")
-    tally.same("requests that can't be read", program.run(words, stdin=here), 4, "", "dmremap: requests: read\n")
-    os.close(here)
+    for given in ("W s 0 1\n", "W base 0 1\n"):
+        here = failing_input(given)
+        got = program.run(words, stdin=here)
+        tally.same("requests that can't be read after %r" % given, got, 4, "", "dmremap: requests: read\n")
+        os.close(here)
     with open("/dev/full", "wb") as full:
         got = program.run(words, given="W s 0 1\n", stdout=full)
     tally.same("a full output of power_cut", got, 5, "", "dmremap: output: write\n")

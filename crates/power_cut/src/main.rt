@@ -1,9 +1,10 @@
 //! power_cut tells what reads give after the power was cut in the midst of a request.
 //!
 //! Its words are FILE, DISKS and UNITS: the tables of devices, a line each; the list of their disks; and after how
-//! many of its units the last request is cut. Requests are read from the standard input, and all but the last are
-//! played to their end. Then, for each write of them in order, it prints the line of a read of its sectors, and a
-//! line for each run of what that gives. Its messages and its exit statuses are those of `dmremap replay`.
+//! many of its units the last request is cut. All requests are read from the standard input, and have to be good,
+//! before the first is played. All but the last are played to their end. Then, for each write of them in order, it
+//! prints the line of a read of its sectors, and a line for each run of what that gives. Each message and each exit
+//! status is one that `dmremap replay` has, but for the line of usage.
 //!
 //! It is short, to show how the libraries are used. `run` opens files and streams, `stack_of` loads what the files
 //! say, and `answer_after_cut` reads the requests, plays them and writes what is read back.
