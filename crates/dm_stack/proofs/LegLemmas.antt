@@ -9,7 +9,7 @@ use Rattle.dm_stack.specs.declared.leg.Beneath.{Beneath}
 use Rattle.dm_stack.specs.declared.leg.Beneath.TheVariants as beneath
 use Rattle.dm_stack.specs.declared.leg.Leg.{Leg}
 use Rattle.dm_stack.specs.declared.stripe_position.StripePosition.{StripePosition}
-use Rattle.dm_stack.specs.Below.{Below, Lies, below_column, below_plain, column_of, in_column, has_state, AreStripes, IsTargetSound}
+use Rattle.dm_stack.specs.Below.{Below, Lies, below_column, below_plain, chunk_at, column_of, in_column, has_state, AreStripes, IsTargetSound}
 use Rattle.dm_stack.specs.Description.{Description, lower_len}
 use Rattle.dm_stack.specs.Leg.{AreInside, AreLeft, GoesOn, HasSectors, IsBeneath, IsLeg}
 use Rattle.dm_stack.specs.StripePosition.{IsStripePosition}
@@ -23,6 +23,23 @@ later_sectors target distance m n few has = record { stack = has.stack; sound = 
 
 pub shorter : (target : FoundTarget) (distance m n : ℕ) (row : ℕ → Below) → m ≤ n → GoesOn target distance n row → GoesOn target distance m row
 shorter target distance m n row few on = record { plain = on.plain; below = λ i within. on.below i (omega (arith, few, within)); chunk = λ i within. on.chunk i (omega (arith, few, within)) }
+
+-- One row of sectors
+
+-- a target that lies in one row, and has no chunks, has one leg for all the sectors
+pub row_leg : (target : FoundTarget) (to : Lower) (offset distance most : ℕ) → 1 ≤ most → has_state target ≡ false → ((d : ℕ) → below_plain target d ≡ Lies to (offset + d)) → ((d : ℕ) → chunk_at target d ≡ None)
+    → IsLeg target distance most (record { below = beneath.Lies to (offset + distance); len = most })
+row_leg target to offset distance most some plain below chunk = record {
+  some = some;
+  within = omega arith;
+  is = record {
+    plain = plain;
+    below = λ i within. below (distance + i) ∙ ap (Lies to) (omega arith);
+    chunk = λ i within. chunk (distance + i) ∙ sym (chunk distance);
+  };
+  striped = λ less. absurd (omega (arith, less));
+  next = λ less. absurd (omega (arith, less));
+}
 
 -- Stripes
 
