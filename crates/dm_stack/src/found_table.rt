@@ -10,8 +10,9 @@
 ghost use Rattle.std.specs.Prelude.{◌≡◌, ◌+◌, ◌^◌, ◌<◌, ◌≤◌, IfOk, length};
 ghost use Rattle.dm_stack.specs.LineSearch.{AreFirsts, StartsAfter, StartsBy};
 
-use crate::found_line::FoundLine;
+use crate::found_line::{FoundLine, FoundTarget};
 use crate::limits::MOST_LINES;
+use crate::prefetched::Prefetched;
 use dm_table::Listed;
 use std::alloc::{AllocError, Global};
 use std::marker::Model;
@@ -91,6 +92,49 @@ impl FoundTable {
             let first = firsts[last] as usize;
             (first, count - first)
         }
+    }
+
+    /// Whether the lines are in buckets, and not so few that they are compared one by one.
+    pub(crate) fn has_buckets(&self) -> bool {
+        !self.firsts.is_empty()
+    }
+
+    /// Reads the lines with which a search for a sector begins, if the lines are in buckets; else finds the
+    /// sector's chunk in a snapshot's only line.
+    #[inline(always)]
+    pub(crate) fn prefetch(&self, sector: u64) -> Prefetched {
+        let lines = self.lines.as_slice();
+        if let Some(first) = self
+            .firsts
+            .as_slice()
+            .get(sector.wrapping_shr(self.shift) as usize)
+        {
+            return Prefetched::Lines(starts_from(lines, *first as usize));
+        }
+        match lines.first() {
+            Some(line) => chunk_in(line, sector),
+            None => Prefetched::Nothing,
+        }
+    }
+}
+
+/// Something of three starts of lines, from one on: about as many as a search in a bucket may ask for.
+#[inline(always)]
+fn starts_from(lines: &[FoundLine], first: usize) -> u64 {
+    match lines.get(first..) {
+        Some([line, next, after_next, ..]) => line.start ^ next.start ^ after_next.start,
+        _ => 0,
+    }
+}
+
+/// The chunk of a sector, where this is the line of a snapshot.
+fn chunk_in(line: &FoundLine, sector: u64) -> Prefetched {
+    match &line.target {
+        FoundTarget::Snapshot(snapshot) => match sector.checked_div(snapshot.chunk as u64) {
+            Some(chunk) => Prefetched::Chunk(chunk),
+            None => Prefetched::Nothing,
+        },
+        _ => Prefetched::Nothing,
     }
 }
 

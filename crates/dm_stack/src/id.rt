@@ -7,8 +7,8 @@ ghost use Rattle.std.specs.Prelude.{◌≡◌};
 
 use std::marker::Model;
 
-/// The id of a device of a stack.
-#[derive(Clone, Copy, Debug, PartialEq, Eq, Drop)]
+/// The id of a device of a stack. The default is that of the first one.
+#[derive(Clone, Copy, Debug, Default, PartialEq, Eq, Drop)]
 pub struct DeviceId {
     index: usize,
 }

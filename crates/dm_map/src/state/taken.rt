@@ -37,6 +37,12 @@ pub trait Taken: Drop + Sized {
     fn find(&self, chunk: u64) -> Option<usize>
         ensures { result ≡ number_in chunk (chunks self.now) };
 
+    /// Reads what `find` reads first for a chunk, so that it is in the cache by then. What it read is returned,
+    /// since a read of which nothing comes is left out; it says nothing of the chunk.
+    fn prefetch(&self, _chunk: u64) -> u64 {
+        0
+    }
+
     /// How many chunks were taken.
     fn count(&self) -> usize
         ensures { result ≡ length (chunks self.now) };

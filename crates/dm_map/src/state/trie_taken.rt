@@ -153,6 +153,15 @@ impl Taken for TrieTaken {
         self.find_counted(chunk, &mut comparisons, &mut bits)
     }
 
+    /// The link at which the way of a chunk begins, and the taken chunk or the links that this leads to.
+    fn prefetch(&self, chunk: u64) -> u64 {
+        match self.links[(chunk & self.mask) as usize].node() {
+            Node::Empty => 0,
+            Node::Number(number) => self.chunks.get(number as usize).copied().unwrap_or(0),
+            Node::Fork(_, pair) => self.links.get(pair as usize).map_or(0, Link::code),
+        }
+    }
+
     fn count(&self) -> usize {
         self.chunks.len()
     }

@@ -172,6 +172,15 @@ impl<'s, T: Taken> Walker<'s, T> {
         table.find(chunk)
     }
 
+    /// Reads ahead what is looked up first for a chunk of a snapshot.
+    #[inline(always)]
+    pub(crate) fn prefetch(&self, device: DeviceId, chunk: u64) -> u64 {
+        match self.tables.get(device.index()) {
+            Some(table) => table.prefetch(chunk),
+            None => 0,
+        }
+    }
+
     /// How many chunks a snapshot took; its store has a place for each.
     pub(crate) fn count(&self, device: DeviceId) -> usize
         requires { device < length self.now.stack.devices }

@@ -68,6 +68,11 @@ impl Link {
         }
     }
 
+    /// Its 32 bits.
+    pub(super) fn code(&self) -> u64 {
+        self.code as u64
+    }
+
     /// The node that it leads to.
     #[inline(always)]
     pub(super) fn node(&self) -> Node
