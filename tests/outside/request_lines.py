@@ -61,6 +61,19 @@ BAD = [
     (b"\xff\xfe\n", "form"),
 ]
 
+# A device of many lines, whose requests are read up to 16 at a time before the first of them is answered.
+LINES = 9
+MANY = "".join("a: %d 8 linear sda %d\n" % (8 * at, 16 * at) for at in range(LINES))
+
+# What stands in a row of requests, and the word of the message.
+BAD_IN_A_ROW = [
+    ("r a 0 1\n", "form"),
+    ("R a 01 1\n", "number"),
+    ("R a 0 0\n", "length"),
+    ("R b 0 1\n", "unknown"),
+    ("R" * 4097 + "\n", "long"),
+]
+
 GOOD = [
     ("", ""),
     ("R a 99 2\nR a 99 1\n", "1 error 2\n2 R sda 149 1\n"),
@@ -85,6 +98,7 @@ def check(tally, program):
         tally.same("the requests %r" % requests, program.map(TABLE, DISKS, requests), 0, output)
     check_digits(tally, program)
     check_beginnings(tally, program)
+    check_rows(tally, program)
 
 
 def check_digits(tally, program):
@@ -107,3 +121,36 @@ def check_beginnings(tally, program):
         message = "dmremap: request %d: unended\n" % (2 if newline else 1) if rest else ""
         tally.same("%d bytes of requests" % count, program.map(TABLE, DISKS, both[:count]),
                    3 if rest else 0, ANSWER if newline else "", message)
+
+
+def check_rows(tally, program):
+    """Requests in a row over many lines: a bad one at each place, more than a buffer holds, and an end at each byte."""
+    row = [asked(at) for at in range(60)]
+    for before in range(36):
+        for bad, word in BAD_IN_A_ROW:
+            given = requests_of(row[:before]) + bad + requests_of(row[before:])
+            tally.same("the request %r after %d in a row" % (bad[:40], before), program.map(MANY, DISKS, given), 3,
+                       answers_of(row[:before]), "dmremap: request %d: %s\n" % (before + 1, word))
+    many = [asked(at) for at in range(20000)]
+    tally.same("20,000 requests in a row", program.map(MANY, DISKS, requests_of(many)), 0, answers_of(many))
+    given = requests_of(row)
+    for count in range(len(given) - 40, len(given)):
+        whole = given[:count].count("\n")
+        is_cut = not given[:count].endswith("\n")
+        message = "dmremap: request %d: unended\n" % (whole + 1) if is_cut else ""
+        tally.same("%d bytes of requests in a row" % count, program.map(MANY, DISKS, given[:count]),
+                   3 if is_cut else 0, answers_of(row[:whole]), message)
+
+
+def asked(at):
+    """A request of a sector of MANY, and its answer."""
+    letter, sector = "RW"[at % 2], at * 37 % (8 * LINES)
+    return "%s a %d 1\n" % (letter, sector), "%d %s sda %d 1\n" % (at + 1, letter, sector + sector // 8 * 8)
+
+
+def requests_of(row):
+    return "".join(request for request, _ in row)
+
+
+def answers_of(row):
+    return "".join(answer for _, answer in row)

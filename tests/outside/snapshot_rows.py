@@ -17,6 +17,11 @@ ROWS = [
      "base 32\ncow 64\n", "W s 0 1\nW s 8 1\nW s 24 1\nR s 0 32\nW s 4 8\n",
      "1 copy base 0 8 cow 16\n1 W cow 16 1\n2 copy base 8 8 cow 24\n2 W cow 24 1\n3 copy base 24 8 cow 32\n"
      "3 W cow 32 1\n4 R cow 16 16\n4 R base 16 8\n4 R cow 32 8\n5 W cow 20 8\n"),
+    ("chunks that are read in the row of requests in which they are taken", "s: 0 64 snapshot base cow P 8\n",
+     "base 64\ncow 96\n", "".join("W s %d 1\nR s %d 8\n" % (56 - 8 * at, 56 - 8 * at) for at in range(8)),
+     "".join("%d copy base %d 8 cow %d\n%d W cow %d 1\n%d R cow %d 8\n"
+             % (2 * at + 1, 56 - 8 * at, 16 + 8 * at, 2 * at + 1, 16 + 8 * at, 2 * at + 2, 16 + 8 * at)
+             for at in range(8))),
     ("chunks taken against the order of the sectors", "s: 0 16 snapshot base cow P 8\n", "base 16\ncow 32\n",
      "W s 8 1\nW s 0 1\nR s 0 16\n",
      "1 copy base 8 8 cow 16\n1 W cow 16 1\n2 copy base 0 8 cow 24\n2 W cow 24 1\n3 R cow 24 8\n3 R cow 16 8\n"),

@@ -12,6 +12,8 @@ import time
 from harness import Outcome, failing_input
 
 TABLE = "a: 0 4096 striped 2 1 sda 0 sdb 0\n"
+# The same in four lines, whose requests are read several at a time before the first of them is answered.
+FOUR = "".join("a: %d 1024 striped 2 1 sda %d sdb %d\n" % (1024 * at, 512 * at, 512 * at) for at in range(4))
 DISKS = "sda 2048\nsdb 2048\n"
 SHORT = "R a 0 2\n"
 SHORT_ANSWER = "1 R sda 0 1\n1 R sdb 0 1\n"
@@ -180,12 +182,14 @@ def await_pause(process):
 def check_beginnings(tally, program):
     """A file that may grow to `most` bytes and no more, as on a disk that runs full."""
     whole = program.map(TABLE, DISKS, LONG).out
-    for most in (1, 10, 4096, 70000):
-        with tempfile.TemporaryFile() as file:
-            got = program.map(TABLE, DISKS, LONG, stdout=file, before=lambda: limit_files(most))
-            file.seek(0)
-            got.out = file.read()
-        tally.same("an output that fails after %d bytes" % most, got, 5, whole[:most], UNWRITTEN)
+    tally.same("the same device in four lines", program.map(FOUR, DISKS, LONG), 0, whole)
+    for most in (1, 10, 4096, 70000, 400000):
+        for name, table in (("", TABLE), (", through four lines", FOUR)):
+            with tempfile.TemporaryFile() as file:
+                got = program.map(table, DISKS, LONG, stdout=file, before=lambda: limit_files(most))
+                file.seek(0)
+                got.out = file.read()
+            tally.same("an output that fails after %d bytes%s" % (most, name), got, 5, whole[:most], UNWRITTEN)
 
 
 def check_each_beginning(tally, program):
@@ -292,17 +296,18 @@ def check_messages(tally, program):
 
 def check_pauses(tally, program):
     """A request is answered before the next one is written, though its pipe stays open."""
-    files = [program.file("table", TABLE), program.file("disks", DISKS)]
+    disks = program.file("disks", DISKS)
     rows = [
         ("map", "a request", "R a 0 2\n", "1 R sda 0 1\n1 R sdb 0 1\n"),
         ("map", "a request and a part of the next", "R a 2 1\nW a", "2 R sda 1 1\n"),
         ("map", "the other part and one more", " 3 1\nR a 0 1\n", "3 W sdb 1 1\n4 R sda 0 1\n"),
+        ("map", "twenty in a row", "R a 2 1\n" * 20, "".join("%d R sda 1 1\n" % at for at in range(5, 25))),
         ("replay", "a request", "R a 0 2\n", "1 old sda 0 1\n1 old sdb 0 1\n"),
         ("replay", "a request and a part of the next", "W a 2 1\nR a", "2 wrote 2 2 1\n"),
         ("replay", "the other part and one more", " 2 2\nW a 0 2\n", "3 wrote 2 2 1\n3 old sdb 1 1\n4 wrote 4 0 2\n"),
     ]
-    for command in ("map", "replay"):
-        words = [program.path, command, "table", *files]
+    for command, table in (("map", TABLE), ("map", FOUR), ("replay", TABLE)):
+        words = [program.path, command, "table", program.file("table", table), disks]
         ran = subprocess.Popen(words, stdin=subprocess.PIPE, stdout=subprocess.PIPE, stderr=subprocess.PIPE, bufsize=0)
         for name, given, answer in [row[1:] for row in rows if row[0] == command]:
             ran.stdin.write(given.encode())

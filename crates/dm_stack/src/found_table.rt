@@ -118,7 +118,7 @@ impl FoundTable {
     }
 }
 
-/// Something of three starts of lines, from one on: about as many as a search in a bucket may ask for.
+/// A number made of the starts of three lines in a row, which a search in a bucket mostly does with.
 #[inline(always)]
 fn starts_from(lines: &[FoundLine], first: usize) -> u64 {
     match lines.get(first..) {

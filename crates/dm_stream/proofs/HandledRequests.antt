@@ -82,7 +82,7 @@ pub told_none : (handed held : List ℕ) → held ≡ [] → Told (since handed 
 told_none handed held none = λ stand more. ap (λ (xs : List ℕ). requests_from stand 1 (line_parts (xs ++ more))) (since-same handed ∙ sym none)
 
 -- the requests from a line on that is held
-line_first : (stand : Stand) (held line more : List ℕ) (n : ℕ) → IsNextLine (line_parts held) line → requests_from stand n (line_parts (held ++ more)) ≡ line_requests n line (requests_from stand (n + 1) (line_parts (drop (length line + 1) held ++ more)))
+pub line_first : (stand : Stand) (held line more : List ℕ) (n : ℕ) → IsNextLine (line_parts held) line → requests_from stand n (line_parts (held ++ more)) ≡ line_requests n line (requests_from stand (n + 1) (line_parts (drop (length line + 1) held ++ more)))
 line_first stand held line more n h =
     let rest = drop (suc (length line)) held ++ more in
     ap (requests_from stand n) (part_stays held line h.second h.others more h.is)

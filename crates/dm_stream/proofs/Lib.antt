@@ -1,3 +1,4 @@
+pub mod Batches
 pub mod FewestLemmas
 pub mod FitsLemmas
 pub mod Fronts

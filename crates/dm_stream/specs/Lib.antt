@@ -1,3 +1,4 @@
+pub mod Batch
 pub mod Join
 pub mod RangeText
 pub mod LineEnds

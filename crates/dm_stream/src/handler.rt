@@ -76,6 +76,19 @@ pub trait Handler {
         self.handle(source, request)
     }
 
+    /// Whether requests are read in batches: then `prefetch` is called for each of a batch before the first of them
+    /// is answered, which is worth its time where answers wait for memory. Asked once a run.
+    fn gathers(&self) -> bool {
+        false
+    }
+
+    /// A request of this device from this sector on was read, and will be answered soon: what its answer reads
+    /// first can be read now, so that the waits for memory of several requests overlap. Nothing is answered.
+    fn prefetch(&mut self, source: &Self::Source, device: DeviceId, start: u64)
+        ensures answered { answered self.old source.now [] self.new source.now }
+        ensures ready { ready self.old source.now → ready self.new source.now }
+    {}
+
     /// No request is at hand, and reading one may have to wait: the answers gathered so far can be passed on.
     /// Nothing is answered.
     fn before_read(&mut self)
@@ -94,4 +107,8 @@ pub trait Handler {
     ghost answered_then_stopped: { (a b c : Self) (s t u : Self.Source) (us vs : List NumberedRequest)
         (fault : Self.Fault)
         → answered a s us b t → stopped b t vs fault c u → stopped a s (us ++ vs) fault c u };
+
+    /// What is known of devices stays known.
+    ghost known_still: { (a b : Self) (s t : Self.Source) (us : List NumberedRequest) (device : ℕ) (name : List ℕ)
+        → answered a s us b t → knows a device name → knows b device name };
 }

@@ -5,9 +5,11 @@
 //! the mapper's crate; here they become text.
 #![tactic(auto)]
 
+mod batch;
 mod closing;
 mod disk_range;
 mod ending;
+mod front;
 mod handler;
 mod held_piece;
 mod join;

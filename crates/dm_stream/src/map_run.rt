@@ -84,6 +84,7 @@ fn map_requests<'s, T: Taken, R: Input, W: Output>(
     let mut handler = RequestMapper {
         stack,
         join: Join::new(stack, output),
+        prefetched: 0,
         taken: PhantomData,
     };
     let ending = map_lines(requests, mapper, &mut handler);

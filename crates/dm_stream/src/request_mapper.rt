@@ -11,13 +11,13 @@ ghost use Rattle.dm_stream.specs.Outcome.{device_of, request_answer, step_of};
 ghost use Rattle.dm_table.specs.io.Progress.{HasWrittenTo, IsSameReference, Wrote};
 ghost use Rattle.dm_table.specs.laws.Progress.{written_to_none, written_to_more};
 ghost use Rattle.dm_stream.specs.Requests.{numbered};
-ghost use Rattle.std.proofs.Common.{refl, subst, ◌∙◌};
+ghost use Rattle.std.proofs.Common.{refl, subst, sym, ◌∙◌};
 
 use crate::ending::NotMapped;
 use crate::handler::Handler;
 use crate::join::Join;
 use dm_map::{MapFault, Mapper, Taken};
-use dm_stack::{DeviceId, Stack};
+use dm_stack::{DeviceId, Prefetched, Stack};
 use dm_table::{OutFault, Output, Request};
 use std::marker::PhantomData;
 
@@ -57,6 +57,8 @@ fn map_request<T: Taken, W: Output>(
 pub(crate) struct RequestMapper<'m, 's, T, W> {
     pub(crate) stack: &'s Stack,
     pub(crate) join: Join<'m, W>,
+    /// What was read ahead of requests, added up: nobody asks for it, but without it nothing would be read.
+    pub(crate) prefetched: u64,
     /// How the mapper keeps taken chunks.
     pub(crate) taken: PhantomData<T>,
 }
@@ -111,6 +113,9 @@ impl<'s, T: Taken, W: Output> Handler for RequestMapper<'_, 's, T, W> {
       second.4,
     ) };
 
+    ghost known_still = { λ a b s t us device name answered known.
+        subst (λ stack. device_of stack.now name ≡ Some device) (sym answered.2) known };
+
     #[inline(always)]
     fn front(&self, text: &[u8]) -> Option<(DeviceId, usize)> {
         self.stack.front(text)
@@ -138,6 +143,20 @@ impl<'s, T: Taken, W: Output> Handler for RequestMapper<'_, 's, T, W> {
             Ok(()) => Ok(()),
             Err(OutFault) => Err(NotMapped::Output),
         }
+    }
+
+    fn gathers(&self) -> bool {
+        self.stack.gains_by_prefetch()
+    }
+
+    #[inline(always)]
+    fn prefetch(&mut self, mapper: &Mapper<'s, T>, device: DeviceId, start: u64) {
+        let read = match self.stack.prefetch(device, start) {
+            Prefetched::Lines(starts) => starts,
+            Prefetched::Chunk(chunk) => mapper.prefetch(device, chunk),
+            Prefetched::Nothing => 0,
+        };
+        self.prefetched = self.prefetched.wrapping_add(read);
     }
 
     fn before_read(&mut self) {

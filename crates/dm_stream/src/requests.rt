@@ -5,22 +5,18 @@
 
 ghost use Rattle.std.specs.Prelude.{◌≡◌, ◌≢◌, ◌+◌, ◌<◌, ◌≤◌, ◌∷◌, [], length, take, drop, Ok, Some, IfOk, IfErr, IfSome, OnErr, OnOk};
 ghost use Rattle.dm_table.specs.io.DeviceIo.{delivery};
-ghost use Rattle.dm_stream.specs.Lines.{line_parts};
-ghost use Rattle.dm_stream.specs.declared.lines.TheConstants.{MOST_LINE_BYTES};
 ghost use Rattle.dm_table.specs.io.Progress.{IsReadOn, MetNothing};
 ghost use Rattle.dm_stream.specs.Requests.{HasMet, IsAmong, Requests, after_requests, is_bad, line_requests, numbered, requests_of, word_for};
 
+use crate::batch::{Answered, answer_gathered};
 use crate::ending::{Ending, RequestWord};
+use crate::front::{Front, front_of};
 use crate::handler::Handler;
 use crate::lines::{Lines, Next};
-use dm_stack::DeviceId;
-use dm_table::{Input, Request, RequestFault, first_op, front_request, parse_request};
+use dm_table::{Input, Request, RequestFault, parse_request};
 
 /// The most requests of a run.
 pub const MOST_REQUESTS: u64 = 1_000_000_000_000;
-
-/// How many bytes are held at least where a request is read quickly.
-const FRONT_ROOM: usize = 64;
 
 /// The word for a line that is no request.
 fn word_of(fault: RequestFault) -> RequestWord
@@ -49,40 +45,6 @@ fn request_of(line: &[u8], number: u64) -> Result<Request<'_>, RequestWord>
         Ok(request) => Ok(request),
         Err(fault) => Err(word_of(fault)),
     }
-}
-
-/// A request at the front of a text, its device, and the bytes of its line without the newline.
-#[derive(Drop)]
-struct Front<'a> {
-    request: Request<'a>,
-    device: DeviceId,
-    len: usize,
-}
-
-/// The request of line `number`, where the held bytes begin with it and it is quickly read.
-#[inline(always)]
-fn front_of<'a, H: Handler>(handler: &H, held: &'a [u8], number: u64) -> Option<Front<'a>>
-    ensures good { IfSome result
-        (λ front. (rest : Requests) → line_requests number (take front.len held.now) rest
-        ≡ after_requests (numbered front.request ∷ []) rest) }
-    ensures line { IfSome result
-        (λ front. line_parts held.now ≡ take front.len held.now ∷ line_parts (drop (front.len + 1) held.now)) }
-    ensures within { IfSome result (λ front. front.len < length held.now) }
-    ensures short { IfSome result (λ front. front.len ≤ MOST_LINE_BYTES) }
-    ensures few { IfSome result (λ front. number ≤ MOST_REQUESTS) }
-    ensures known { IfSome result (λ front. H.knows handler.now front.device front.request.device.now) }
-{
-    if number > MOST_REQUESTS || held.len() < FRONT_ROOM {
-        return None;
-    }
-    let (op, rest) = first_op(held)?;
-    let (device, name) = handler.front(rest)?;
-    let (request, len) = front_request(held, op, &rest[..name], &rest[name + 1..], number)?;
-    Some(Front {
-        request,
-        device,
-        len,
-    })
 }
 
 /// Lets the handler know of a read that may wait: one comes where no newline is held.
@@ -128,9 +90,20 @@ pub fn handle_requests<R: Input, H: Handler>(
         (requests_of (delivery (R.past requests.old) (R.past requests.new))).all) }
     ensures unread { OnErr result (MetNothing (R.past requests.old) (R.past requests.new)) }
 {
+    let gathers = handler.gathers();
     let mut lines = Lines::new();
     let mut number = 0;
     'lines: loop {
+        let batch = match answer_gathered(gathers, handler, &mut *source, lines.held(), number) {
+            Ok(batch) => batch,
+            Err(fault) => return Err(fault),
+        };
+        let Answered { count, len } = batch;
+        lines.skip(len);
+        number += count;
+        if count > 0 {
+            continue;
+        }
         number += 1;
         if let Some(front) = front_of(handler, lines.held(), number) {
             let Front {

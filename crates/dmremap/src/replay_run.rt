@@ -72,6 +72,8 @@ impl<'s, W: Output> Handler for RequestPlayer<'_, 's, W> {
       written_to_more W.past a.output b.output c.output (failed_writes exit) first.1 second.1,
     ) };
 
+    ghost known_still = { λ a b s t us device name answered known. tt };
+
     fn front(&self, text: &[u8]) -> Option<(DeviceId, usize)> {
         self.stack.front(text)
     }

@@ -41,6 +41,8 @@ impl Handler for RequestKeeper {
 
     ghost answered_then_stopped = { λ a b c s t u us vs fault first second. tt };
 
+    ghost known_still = { λ a b s t us device name answered known. tt };
+
     fn handle(
         &mut self,
         list: &mut Vec<OwnedRequest>,

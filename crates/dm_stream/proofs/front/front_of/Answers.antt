@@ -2,7 +2,7 @@ use Rattle.std.proofs.Common.{ℕ, [], ◌∷◌, take, sym, ap, ◌∙◌, arit
 use Rattle.dm_table.specs.requests.RequestLine.{values_of}
 use Rattle.dm_stream.specs.Requests.{after_requests}
 use Rattle.dm_stream.proofs.Fronts.{said_first}
-use Rattle.dm_stream.proofs.requests.front_of.Goals as goal
+use Rattle.dm_stream.proofs.front.front_of.Goals as goal
 
 pub returns-clause-good : goal.returns-clause-good
 returns-clause-good g c = λ rest.
