@@ -98,7 +98,7 @@ impl<'s, T: Taken> Mapper<'s, T> {
     {
         let tables = empty_tables(alloc, &mut looker)?;
         let walker = Walker::new(looker, tables);
-        walker.is_within_places();
+        walker.recall_places();
         Ok(Mapper {
             searches_before: walker.searches(),
             comparisons_before: walker.comparisons(),
@@ -156,7 +156,7 @@ impl<'s, T: Taken> Mapper<'s, T> {
         ensures within { IsWithinPlaces self.new.stack self.new.state }
     {
         if self.failed {
-            self.walker.is_within_places();
+            self.walker.recall_places();
             return Err(MapFault::Stopped);
         }
         self.searches_before = self.walker.searches();
@@ -169,7 +169,7 @@ impl<'s, T: Taken> Mapper<'s, T> {
             request.len,
             sink,
         );
-        self.walker.is_within_places();
+        self.walker.recall_places();
         match mapped {
             Ok(()) => Ok(()),
             Err(fault) => {
@@ -202,7 +202,7 @@ impl<'s, T: Taken> Mapper<'s, T> {
         ensures one { self.new.looked.searches ≤ self.old.looked.searches + 1 }
         ensures within { IsWithinPlaces self.old.stack self.old.state }
     {
-        self.walker.is_within_places();
+        self.walker.recall_places();
         let searches = self.walker.searches();
         let comparisons = self.walker.comparisons();
         let usage = usage_of(&mut self.walker, device);
@@ -249,7 +249,7 @@ fn map_request<S: Sink, T: Taken>(
     ensures bounded { op ≡ Read → walker.new.looked.searches ≤ walker.old.looked.searches
         + stack_depth walker.old.stack * read_stretches walker.old.stack walker.old.state device start len }
 {
-    walker.is_sound();
+    walker.recall_soundness();
     let end = walker.len(device);
     if passes_end(start, len, end) {
         return fail(len, sink);

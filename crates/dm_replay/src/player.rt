@@ -76,11 +76,11 @@ impl<'s> Player<'s> {
     {
         match piece {
             Piece::Read { disk, start, len } => {
-                is_small(self.stack, disk, start, len);
+                recall_length(self.stack, disk, start, len);
                 self.playing.read(disk, start, len)
             }
             Piece::Write { disk, start, len } => {
-                is_small(self.stack, disk, start, len);
+                recall_length(self.stack, disk, start, len);
                 self.playing.write(disk, start, len)
             }
             Piece::Zero { len } => {
@@ -102,20 +102,20 @@ impl<'s> Player<'s> {
                 to: target,
                 to_start: target_start,
             } => {
-                is_small(self.stack, disk, start, len);
-                is_small(self.stack, target, target_start, len);
+                recall_length(self.stack, disk, start, len);
+                recall_length(self.stack, target, target_start, len);
                 self.playing.copy(disk, start, len, target, target_start)
             }
             Piece::Fill { len, disk, start } => {
-                is_small(self.stack, disk, start, len);
+                recall_length(self.stack, disk, start, len);
                 self.playing.fill(disk, start, len)
             }
         }
     }
 }
 
-/// No disk is longer than 2^50 sectors.
-fn is_small(stack: &Stack, disk: DiskId, start: u64, len: u64)
+/// Recalls that no disk is longer than 2^50 sectors. It does nothing: its contract is what is asked of it.
+fn recall_length(stack: &Stack, disk: DiskId, start: u64, len: u64)
     requires { IsOnDisk stack.now disk start len }
     ensures { start + len ≤ 2 ^ 50 }
 {

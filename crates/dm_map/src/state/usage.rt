@@ -42,7 +42,7 @@ pub(crate) fn usage_of<T: Taken>(walker: &mut Walker<'_, T>, device: DeviceId) -
     ensures looked { AreAdded walker.old.looked walker.new.looked }
     ensures one { walker.new.looked.searches ≤ walker.old.looked.searches + 1 }
 {
-    walker.is_sound();
+    walker.recall_soundness();
     let line = walker.look(device, 0);
     let FoundTarget::Snapshot(snapshot) = &line.target else {
         unreachable!()

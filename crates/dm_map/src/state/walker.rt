@@ -126,27 +126,27 @@ impl<'s, T: Taken> Walker<'s, T> {
         self.looker.is_ro(device)
     }
 
-    /// A walker's state has a table for each device of its stack. It does nothing: its contract is what
-    /// is asked of it.
+    /// Recalls that a walker's state has a table for each device of its stack. It does nothing: its contract
+    /// is what is asked of it.
     #[inline(always)]
-    pub(crate) fn has_tables(&self)
+    pub(crate) fn recall_tables(&self)
         ensures { length self.now.state ≡ length self.now.stack.devices }
     {
         self.looker.depth();
     }
 
-    /// A walker's stack is sound. It does nothing: its contract is what is asked of it.
+    /// Recalls that a walker's stack is sound. It does nothing: its contract is what is asked of it.
     #[inline(always)]
-    pub(crate) fn is_sound(&self)
+    pub(crate) fn recall_soundness(&self)
         ensures { IsSound self.now.stack }
     {
         self.looker.depth();
     }
 
-    /// No snapshot took more chunks than its store has places. It does nothing: its contract is what is
-    /// asked of it.
+    /// Recalls that no snapshot took more chunks than its store has places. It does nothing: its contract is
+    /// what is asked of it.
     #[inline(always)]
-    pub(crate) fn is_within_places(&self)
+    pub(crate) fn recall_places(&self)
         ensures { IsWithinPlaces self.now.stack self.now.state }
     {
         self.looker.depth();

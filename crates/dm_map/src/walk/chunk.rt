@@ -59,7 +59,7 @@ pub(crate) fn read_at<T: Taken>(
     if !walker.is_valid(device) {
         return None;
     }
-    walker.is_sound();
+    walker.recall_soundness();
     match walker.find(device, sector / snapshot.chunk as u64) {
         Some(number) => Some(ReadAt {
             to: snapshot.store,

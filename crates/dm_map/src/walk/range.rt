@@ -193,7 +193,7 @@ fn map_line<S: Sink, T: Taken>(
     ensures { IsMapped S.took S.left S.view result sink.old sink.new walker.old walker.new
         (found_mapping op levels device) sector len }
 {
-    walker.is_sound();
+    walker.recall_soundness();
     let distance = sector - line.start;
     let leg = line.target.leg(distance, len);
     if leg.len == len {
@@ -226,7 +226,7 @@ fn map_legs<S: Sink, T: Taken>(
     ensures { IsMapped S.took S.left S.view result sink.old sink.new walker.old walker.new
         (target_mapping op levels device line.now.start line.now.target) distance len }
 {
-    walker.is_sound();
+    walker.recall_soundness();
     let mut legs = line.target.legs(distance, len);
     let mut at = distance;
     'legs: while let Some(leg) = legs.next_leg() {
@@ -396,7 +396,7 @@ fn write_origin<S: Sink, T: Taken>(
     ensures { IsMapped S.took S.left S.view result sink.old sink.new walker.old walker.new
         (origin_mapping Write levels origin.now) sector len }
 {
-    walker.is_sound();
+    walker.recall_soundness();
     let over = origin.over.as_slice();
     let mut from = sector;
     let mut left = len;

@@ -33,8 +33,8 @@ pub(crate) fn serve<S: Sink, T: Taken>(
         (serve walker.old.stack over.now sector walker.old.state) 0 }
     ensures settled { OnOk result (AreSettled walker.new.state over.now sector) }
 {
-    walker.is_sound();
-    walker.has_tables();
+    walker.recall_soundness();
+    walker.recall_tables();
     for one in over {
         let chunk = sector / one.snapshot.chunk as u64;
         take_chunk(walker, one.device, &one.snapshot, chunk, sink)?;
@@ -86,7 +86,7 @@ fn settled_in<T: Taken>(walker: &Walker<'_, T>, one: &FoundOver, sector: u64, mo
         → is_settled (taken_at walker.now.state one.now.device)
         ((sector + result) / one.now.snapshot.chunk) ≡ false }
 {
-    walker.is_sound();
+    walker.recall_soundness();
     if !walker.is_valid(one.device) {
         return most;
     }

@@ -93,7 +93,7 @@ fn line_stretch<T: Taken>(
         (line_step walker.old.stack Read levels device line.now.target walker.old.state distance) len
         result }
 {
-    walker.is_sound();
+    walker.recall_soundness();
     let Leg { below, len: most } = line.target.leg(distance, len);
     match below {
         Beneath::Lies { to, sector } => first_stretch(walker, levels, to, sector, most),

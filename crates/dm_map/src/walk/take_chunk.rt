@@ -131,7 +131,7 @@ fn first_source<T: Taken>(
     ensures same { stack_state walker.new ≡ stack_state walker.old }
     ensures looked { AreAdded walker.old.looked walker.new.looked }
 {
-    walker.is_sound();
+    walker.recall_soundness();
     if walker.is_full(device) {
         return None;
     }
@@ -179,7 +179,7 @@ fn copy_chunk<S: Sink, T: Taken>(
         (keep (copies walker.old.stack walker.old.state snapshot.now number sector len)
         walker.old.state) 0 }
 {
-    walker.is_sound();
+    walker.recall_soundness();
     let mut source = first;
     let mut from = sector;
     let mut to = store_sector(snapshot, number, sector);
@@ -240,7 +240,7 @@ pub(crate) fn write_store<S: Sink, T: Taken>(
         result sink.old sink.new walker.old walker.new
         (keep (store_writes walker.old.stack store.now sector len) walker.old.state) 0 }
 {
-    walker.is_sound();
+    walker.recall_soundness();
     let mut at = sector;
     let mut left = len;
     while left > 0 {
@@ -270,7 +270,7 @@ fn first_homes<T: Taken>(
     ensures same { stack_state walker.new ≡ stack_state walker.old }
     ensures looked { AreAdded walker.old.looked walker.new.looked }
 {
-    walker.is_sound();
+    walker.recall_soundness();
     let stretch = first_stretch(walker, MOST_DEPTH, store, sector, len);
     let Ground::Disk { disk, start } = &stretch.ground else {
         unreachable!()

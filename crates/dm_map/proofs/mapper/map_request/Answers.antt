@@ -22,4 +22,4 @@ pub returns-clause-bounded : goal.returns-clause-bounded
 returns-clause-bounded g c =
     let a = c.args in
     let inside : nat_lt (device_len a.walker.now.stack a.device) (a.start + a.len) ≡ false = ap (λ end. nat_lt end (a.start + a.len)) (sym c.len-end.ensures.len) ∙ sym c.passes_end.ensures ∙ c.if-passes_end.false in
-    request_bound a.op a.device a.start a.len c.is_sound.ensures c.requires.device inside c.map_top.ensures
+    request_bound a.op a.device a.start a.len c.recall_soundness.ensures c.requires.device inside c.map_top.ensures

@@ -8,7 +8,7 @@ pub store_sector-requires-clause-small : goal.store_sector-requires-clause-small
 store_sector-requires-clause-small g c =
     let w = c.args.walker.now in let snapshot = c.args.snapshot.now in
     let fits = room_place w.stack c.args.device c.in-Some.number snapshot c.requires.chunk.whole.is c.in-Some.ensures.room in
-    let small = lower_small w.stack snapshot.store c.is_sound.ensures in
+    let small = lower_small w.stack snapshot.store c.recall_soundness.ensures in
     omega (arith, fits, small)
 
 pub returns-in-Some-clause-source : goal.returns-in-Some-clause-source

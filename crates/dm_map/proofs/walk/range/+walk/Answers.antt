@@ -113,7 +113,7 @@ map_lines-lines-preserved g t c =
 
 pub map_line-leg-leg-requires-clause-there : goal.map_line-leg-leg-requires-clause-there
 map_line-leg-leg-requires-clause-there g t c =
-    let a = c.args in line_sectors a.walker.now.stack a.device (a.sector - a.line.now.start) a.len a.line.now c.is_sound.ensures c.requires.at.of.is (omega (arith, c.requires.inside, c.requires.at.of.from))
+    let a = c.args in line_sectors a.walker.now.stack a.device (a.sector - a.line.now.start) a.len a.line.now c.recall_soundness.ensures c.requires.at.of.is (omega (arith, c.requires.inside, c.requires.at.of.from))
 
 pub map_line-map_leg-requires : goal.map_line-map_leg-requires
 map_line-map_leg-requires g t c κs within =
@@ -135,7 +135,7 @@ map_line-returns g t c =
 
 pub map_legs-legs-legs-requires-clause-there : goal.map_legs-legs-legs-requires-clause-there
 map_legs-legs-legs-requires-clause-there g t c =
-    let a = c.args in line_sectors a.walker.now.stack a.device a.distance a.len a.line.now c.is_sound.ensures c.requires.line c.requires.inside
+    let a = c.args in line_sectors a.walker.now.stack a.device a.distance a.len a.line.now c.recall_soundness.ensures c.requires.line c.requires.inside
 
 pub map_legs-legs-init : goal.map_legs-legs-init
 map_legs-legs-init g t c =
@@ -316,7 +316,7 @@ pub write_origin-serve-requires : goal.write_origin-serve-requires
 write_origin-serve-requires g t c =
     let a = c.args in let l = c.loop-left in let so_far = l.invariant.so_far in let walked = so_far.mapped.walked in
     record {
-      over = line_overs a.walker.now.stack l.walker.stack a.origin.now c.as_slice-over.result.now a.sector a.len (l.from + 1) c.is_sound.ensures walked.stack c.as_slice-over.ensures c.requires.over c.requires.asked.inside (omega (arith, so_far.position, c.loop-left-test.true));
+      over = line_overs a.walker.now.stack l.walker.stack a.origin.now c.as_slice-over.result.now a.sector a.len (l.from + 1) c.recall_soundness.ensures walked.stack c.as_slice-over.ensures c.requires.over c.requires.asked.inside (omega (arith, so_far.position, c.loop-left-test.true));
       sink = record { stack = walked.kept ∙ c.requires.asked.sink.stack ∙ sym walked.stack; room = omega arith };
     }
 
@@ -329,9 +329,9 @@ write_origin-returns-in_err-serve g t c =
 pub write_origin-settled_part-part-requires : goal.write_origin-settled_part-part-requires
 write_origin-settled_part-part-requires g t c =
     let a = c.args in let w = a.walker.now in let l = c.loop-left in let most = c.min.result in
-    let small = lower_small w.stack a.origin.now.to c.is_sound.ensures in
+    let small = lower_small w.stack a.origin.now.to c.recall_soundness.ensures in
     record {
-      over = line_overs w.stack c.serve.new.walker.stack a.origin.now c.as_slice-over.result.now a.sector a.len (l.from + most) c.is_sound.ensures (c.in_ok-serve.ensures.walked.stack ∙ l.invariant.so_far.mapped.walked.stack) c.as_slice-over.ensures c.requires.over c.requires.asked.inside (omega (arith, l.invariant.so_far.position, c.min.ensures));
+      over = line_overs w.stack c.serve.new.walker.stack a.origin.now c.as_slice-over.result.now a.sector a.len (l.from + most) c.recall_soundness.ensures (c.in_ok-serve.ensures.walked.stack ∙ l.invariant.so_far.mapped.walked.stack) c.as_slice-over.ensures c.requires.over c.requires.asked.inside (omega (arith, l.invariant.so_far.position, c.min.ensures));
       some = omega (arith, c.min.ensures, c.loop-left-test.true, l.invariant.some);
       small = omega (arith, small, c.requires.asked.inside, l.invariant.so_far.position, c.min.ensures);
       here = c.in_ok-serve.ensures.settled;
@@ -357,12 +357,12 @@ write_origin-returns-in_err-map_range g t c =
 
 pub write_origin-overflow_add-from : goal.write_origin-overflow_add-from
 write_origin-overflow_add-from g t c =
-    let small = lower_small c.args.walker.now.stack c.args.origin.now.to c.is_sound.ensures in
+    let small = lower_small c.args.walker.now.stack c.args.origin.now.to c.recall_soundness.ensures in
     omega (arith, small, c.requires.asked.inside, c.loop-left.invariant.so_far.position, c.settled_part-part.ensures.most, c.min.ensures)
 
 pub write_origin-overflow_mul-most : goal.write_origin-overflow_mul-most
 write_origin-overflow_mul-most g t c =
-    let small = lower_small c.args.walker.now.stack c.args.origin.now.to c.is_sound.ensures in
+    let small = lower_small c.args.walker.now.stack c.args.origin.now.to c.recall_soundness.ensures in
     omega (arith, small, c.requires.asked.inside, c.loop-left.invariant.so_far.within, c.settled_part-part.ensures.most, c.min.ensures)
 
 pub write_origin-loop-left-preserved : goal.write_origin-loop-left-preserved

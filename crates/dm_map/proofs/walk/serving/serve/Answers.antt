@@ -17,13 +17,13 @@ loop-one-init g c = walked_none g.S.Sink.took g.S.Sink.left g.S.Sink.view c.args
 pub nonzero_div-chunk : goal.nonzero_div-chunk
 nonzero_div-chunk g c =
     let a = c.args in let w = a.walker.now in let l = c.loop-one in
-    (over_sound w.stack (a.sector + 1) c.one-item.result c.is_sound.ensures (over_at w.stack (a.sector + 1) a.over.now l.one-index c.one-item.result c.requires.over c.loop-one-test.true c.one-item.is)).chunk_some
+    (over_sound w.stack (a.sector + 1) c.one-item.result c.recall_soundness.ensures (over_at w.stack (a.sector + 1) a.over.now l.one-index c.one-item.result c.requires.over c.loop-one-test.true c.one-item.is)).chunk_some
 
 pub take_chunk-requires-clause-sound : goal.take_chunk-requires-clause-sound
 take_chunk-requires-clause-sound g c =
     let a = c.args in let w = a.walker.now in let l = c.loop-one in let one = c.one-item.result in
     let it = over_at w.stack (a.sector + 1) a.over.now l.one-index one c.requires.over c.loop-one-test.true c.one-item.is in
-    subst (λ (s : Description). IsSnapshotSound s one.device 0 (device_len s one.device) one.snapshot) (sym l.invariant.stack) (over_sound w.stack (a.sector + 1) one c.is_sound.ensures it)
+    subst (λ (s : Description). IsSnapshotSound s one.device 0 (device_len s one.device) one.snapshot) (sym l.invariant.stack) (over_sound w.stack (a.sector + 1) one c.recall_soundness.ensures it)
 
 pub returns-in_err-take_chunk-clause-walked : goal.returns-in_err-take_chunk-clause-walked
 returns-in_err-take_chunk-clause-walked g c =
@@ -41,6 +41,6 @@ pub returns-clause-settled : goal.returns-clause-settled
 returns-clause-settled g c =
     let a = c.args in let w = a.walker.now in let l = c.loop-one in let over = a.over.now in
     let all : take l.one-index over ≡ over = take_all l.one-index over (omega (arith, c.loop-one-test.false)) in
-    let there = over_there w.stack w.state (a.sector + 1) over c.has_tables.ensures (omega arith) (recursion_from_All (IsOver w.stack (a.sector + 1)) over c.requires.over) in
+    let there = over_there w.stack w.state (a.sector + 1) over c.recall_tables.ensures (omega arith) (recursion_from_All (IsOver w.stack (a.sector + 1)) over c.requires.over) in
     let settled = serve_settled w.stack over a.sector w.state there in
     subst (λ (s : State). AreSettled s over a.sector) (sym (l.invariant.state ∙ ap (λ (xs : List FoundOver). (serve w.stack xs a.sector w.state).state) all)) settled

@@ -6,12 +6,12 @@ use Rattle.dm_map.proofs.walk.serving.settled_in.Goals as goal
 
 pub part_of_chunk-part-requires : goal.part_of_chunk-part-requires
 part_of_chunk-part-requires g c =
-    (over_sound c.args.walker.now.stack (c.args.sector + c.args.most) c.args.one.now c.is_sound.ensures c.requires.over).chunk_some
+    (over_sound c.args.walker.now.stack (c.args.sector + c.args.most) c.args.one.now c.recall_soundness.ensures c.requires.over).chunk_some
 
 pub loop-part-init : goal.loop-part-init
 loop-part-init g c =
     let a = c.args in let one = a.one.now in
-    let some = (over_sound a.walker.now.stack (a.sector + a.most) one c.is_sound.ensures c.requires.over).chunk_some in
+    let some = (over_sound a.walker.now.stack (a.sector + a.most) one c.recall_soundness.ensures c.requires.over).chunk_some in
     let part_is = c.part_of_chunk-part.ensures in
     record {
       some = omega (arith, part_is, some, c.requires.some);
@@ -21,25 +21,25 @@ loop-part-init g c =
 
 pub nonzero_div-sector : goal.nonzero_div-sector
 nonzero_div-sector g c =
-    (over_sound c.args.walker.now.stack (c.args.sector + c.args.most) c.args.one.now c.is_sound.ensures c.requires.over).chunk_some
+    (over_sound c.args.walker.now.stack (c.args.sector + c.args.most) c.args.one.now c.recall_soundness.ensures c.requires.over).chunk_some
 
 pub is_settled-requires : goal.is_settled-requires
 is_settled-requires g c = device_there c.args.walker.now.stack c.args.one.now.device 0 (let long = c.requires.over.long in omega (arith, long, c.requires.some))
 
 pub part_of_chunk-part-requires-in-loop-part : goal.part_of_chunk-part-requires-in-loop-part
 part_of_chunk-part-requires-in-loop-part g c =
-    (over_sound c.args.walker.now.stack (c.args.sector + c.args.most) c.args.one.now c.is_sound.ensures c.requires.over).chunk_some
+    (over_sound c.args.walker.now.stack (c.args.sector + c.args.most) c.args.one.now c.recall_soundness.ensures c.requires.over).chunk_some
 
 pub loop-part-smaller : goal.loop-part-smaller
 loop-part-smaller g c =
     let a = c.args in
-    let some = (over_sound a.walker.now.stack (a.sector + a.most) a.one.now c.is_sound.ensures c.requires.over).chunk_some in
+    let some = (over_sound a.walker.now.stack (a.sector + a.most) a.one.now c.recall_soundness.ensures c.requires.over).chunk_some in
     omega (arith, c.part_of_chunk-part-in-loop-part.ensures, some, c.loop-part-test.true)
 
 pub loop-part-preserved : goal.loop-part-preserved
 loop-part-preserved g c =
     let a = c.args in let one = a.one.now in let l = c.loop-part in let n = c.part_of_chunk-part-in-loop-part.result in
-    let some = (over_sound a.walker.now.stack (a.sector + a.most) one c.is_sound.ensures c.requires.over).chunk_some in
+    let some = (over_sound a.walker.now.stack (a.sector + a.most) one c.recall_soundness.ensures c.requires.over).chunk_some in
     let n_is = c.part_of_chunk-part-in-loop-part.ensures in
     record {
       some = omega (arith, l.invariant.some);

@@ -74,7 +74,7 @@ first_stretch-returns-else-levels-eq0 g t c =
 
 pub line_stretch-leg-below-requires-clause-there : goal.line_stretch-leg-below-requires-clause-there
 line_stretch-leg-below-requires-clause-there g t c =
-    let a = c.args in line_sectors a.walker.now.stack a.device a.distance a.len a.line.now c.is_sound.ensures c.requires.line c.requires.inside
+    let a = c.args in line_sectors a.walker.now.stack a.device a.distance a.len a.line.now c.recall_soundness.ensures c.requires.line c.requires.inside
 
 pub line_stretch-first_stretch-requires : goal.line_stretch-first_stretch-requires
 line_stretch-first_stretch-requires g t c κs within =

@@ -21,7 +21,7 @@ use Rattle.dm_map.proofs.walk.take_chunk.copy_chunk.Goals as goal
 pub store_sector-to-requires-clause-small : goal.store_sector-to-requires-clause-small
 store_sector-to-requires-clause-small g c =
     let a = c.args in
-    let small = lower_small a.walker.now.stack a.snapshot.now.store c.is_sound.ensures in let fits = leb-true _ _ c.requires.place in
+    let small = lower_small a.walker.now.stack a.snapshot.now.store c.recall_soundness.ensures in let fits = leb-true _ _ c.requires.place in
     omega (arith, small, fits)
 
 next_place : (place chunk : ℕ) → (place + 1) * chunk ≡ place * chunk + chunk
@@ -87,13 +87,13 @@ returns-then-left-eq0 g c =
 pub overflow_add-from : goal.overflow_add-from
 overflow_add-from g c =
     let a = c.args in let l = c.copies in
-    let small = lower_small a.walker.now.stack a.snapshot.now.origin c.is_sound.ensures in
+    let small = lower_small a.walker.now.stack a.snapshot.now.origin c.recall_soundness.ensures in
     omega (arith, small, c.requires.origin, l.invariant.from, l.invariant.source.most, c.first_homes-target.ensures.is.most)
 
 pub overflow_add-to : goal.overflow_add-to
 overflow_add-to g c =
     let a = c.args in let l = c.copies in
-    let small = lower_small a.walker.now.stack a.snapshot.now.store c.is_sound.ensures in let fits = leb-true _ _ c.requires.place in
+    let small = lower_small a.walker.now.stack a.snapshot.now.store c.recall_soundness.ensures in let fits = leb-true _ _ c.requires.place in
     let sum = next_place (place a.snapshot.now.kind a.snapshot.now.chunk a.number) a.snapshot.now.chunk in
     omega (arith, small, fits, sum, c.requires.part, l.invariant.to, l.invariant.source.most, c.first_homes-target.ensures.is.most)
 

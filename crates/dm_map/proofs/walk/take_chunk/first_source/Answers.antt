@@ -40,7 +40,7 @@ returns-then-source-left-clause-first g c =
 
 pub overflow_add-at : goal.overflow_add-at
 overflow_add-at g c =
-    let small = lower_small c.args.walker.now.stack c.args.snapshot.now.origin c.is_sound.ensures in
+    let small = lower_small c.args.walker.now.stack c.args.snapshot.now.origin c.recall_soundness.ensures in
     omega (arith, small, c.requires.inside, c.sources.invariant.position, c.sources.invariant.source.most)
 
 pub sources-preserved : goal.sources-preserved

@@ -26,7 +26,7 @@ returns-in_err-piece g c =
 
 pub overflow_add-at : goal.overflow_add-at
 overflow_add-at g c =
-    let small = lower_small c.args.walker.now.stack c.args.store.now c.is_sound.ensures in
+    let small = lower_small c.args.walker.now.stack c.args.store.now c.recall_soundness.ensures in
     omega (arith, small, c.requires.inside, c.loop-left.invariant.position, c.first_homes-home.ensures.is.most)
 
 pub loop-left-preserved : goal.loop-left-preserved

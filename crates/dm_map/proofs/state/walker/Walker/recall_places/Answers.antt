@@ -2,7 +2,7 @@ use Rattle.std.proofs.Common.{subst}
 use Rattle.dm_map.specs.state.Fitting.{IsWithinPlaces}
 use Rattle.dm_map.specs.state.Walker.{WalkerView}
 use Rattle.dm_map.proofs.state.WithinPlaces.{within_places}
-use Rattle.dm_map.proofs.state.walker.Walker.is_within_places.Goals as goal
+use Rattle.dm_map.proofs.state.walker.Walker.recall_places.Goals as goal
 
 pub returns : goal.returns
 returns g c =

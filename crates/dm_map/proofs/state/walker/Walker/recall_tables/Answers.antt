@@ -1,7 +1,7 @@
 use Rattle.std.proofs.Common.{◌≡◌, length, subst, ◌∙◌}
 use Rattle.std.proofs.lemmas.List.{length-map}
 use Rattle.dm_map.specs.state.Walker.{WalkerView}
-use Rattle.dm_map.proofs.state.walker.Walker.has_tables.Goals as goal
+use Rattle.dm_map.proofs.state.walker.Walker.recall_tables.Goals as goal
 
 pub returns : goal.returns
 returns g c =
