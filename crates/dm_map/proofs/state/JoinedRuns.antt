@@ -1,5 +1,5 @@
 -- Runs by a row of first chunks and a row of what they have beside these.
-use Rattle.std.proofs.Common.{◌≡◌, ℕ, zero, suc, ◌-◌, ◌<◌, List, [], ◌∷◌, ◌++◌, Some, None, length, get_or, set, refl, ap, arith}
+use Rattle.std.proofs.Common.{◌≡◌, ℕ, zero, suc, ◌-◌, ◌<◌, List, [], ◌∷◌, ◌++◌, Some, None, length, get_or, set, refl, sym, ap, ◌∙◌, arith}
 use Rattle.std.specs.Prelude.{slice_get}
 use Rattle.dm_map.specs.declared.state.run_taken.run.Rest.{Rest}
 use Rattle.dm_map.specs.declared.state.run_taken.run.Run.{Run}
@@ -22,6 +22,13 @@ joined_at [] (rest ∷ rests) id same = absurd (omega (arith, same))
 joined_at (first ∷ firsts) [] id same = absurd (omega (arith, same))
 joined_at (first ∷ firsts) (rest ∷ rests) zero same = refl
 joined_at (first ∷ firsts) (rest ∷ rests) (suc id) same = joined_at firsts rests id (omega (arith, same))
+
+-- the same of runs that a row of each makes
+pub length-runs : (firsts : List ℕ) (rests : List Rest) (runs : List Run) → length rests ≡ length firsts → joined firsts rests ≡ runs → length firsts ≡ length runs
+length-runs firsts rests runs same made = sym (length-joined firsts rests same) ∙ ap length made
+
+pub runs_at : (firsts : List ℕ) (rests : List Rest) (runs : List Run) (id : ℕ) → length rests ≡ length firsts → joined firsts rests ≡ runs → with_first (get_or firsts id 0) (get_or rests id no_rest) ≡ run_at runs id
+runs_at firsts rests runs id same made = sym (joined_at firsts rests id same) ∙ ap (λ runs. run_at runs id) made
 
 pub joined_push : (firsts : List ℕ) (rests : List Rest) (first : ℕ) (rest : Rest) → length rests ≡ length firsts → joined (firsts ++ first ∷ []) (rests ++ rest ∷ []) ≡ joined firsts rests ++ with_first first rest ∷ []
 joined_push [] [] first rest same = refl

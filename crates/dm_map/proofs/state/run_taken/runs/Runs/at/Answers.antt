@@ -1,30 +1,24 @@
-use Rattle.std.proofs.Common.{◌<◌, ap, length, ◌∙◌, sym, arith}
+use Rattle.std.proofs.Common.{◌≡◌, ◌<◌, ap, length, ◌∙◌, arith}
 use Rattle.std.proofs.lemmas.List.{get_or_read}
-use Rattle.dm_map.specs.state.Runs.{run_at}
-use Rattle.dm_map.proofs.state.JoinedRuns.{joined_at, length-joined, no_rest, with_first}
+use Rattle.dm_map.proofs.state.JoinedRuns.{length-runs, no_rest, runs_at, with_first}
+use Rattle.dm_map.proofs.state.run_taken.runs.Runs.at.Goals.{After-self}
 use Rattle.dm_map.proofs.state.run_taken.runs.Runs.at.Goals as goal
 
+-- there are as many first chunks as runs
+count_is : (c : After-self) → length c.self.inside.firsts.items ≡ length c.args.self.now.items
+count_is c = length-runs c.self.inside.firsts.items c.self.inside.rests.items c.args.self.now.items c.self.invariant (ap (λ row. row.items) c.self.view_is)
+
 pub index-rest-requires : goal.index-rest-requires
-index-rest-requires c =
-    let long = length-joined c.self.inside.firsts.items c.self.inside.rests.items c.self.invariant in
-    let items = ap (λ row. length row.items) c.self.view_is in
-    omega (arith, c.requires, c.self.inside.rests.ok, c.self.invariant, long, items)
+index-rest-requires c = omega (arith, c.requires, c.self.inside.rests.ok, c.self.invariant, count_is c)
 
 pub index-requires : goal.index-requires
-index-requires c =
-    let long = length-joined c.self.inside.firsts.items c.self.inside.rests.items c.self.invariant in
-    let items = ap (λ row. length row.items) c.self.view_is in
-    omega (arith, c.requires, c.self.inside.firsts.ok, long, items)
+index-requires c = omega (arith, c.requires, c.self.inside.firsts.ok, count_is (goal.at.index-requires c).After-self)
 
 pub returns : goal.returns
 returns c =
-    let firsts = c.self.inside.firsts in
-    let rests = c.self.inside.rests in
-    let long = length-joined firsts.items rests.items c.self.invariant in
-    let items = ap (λ row. length row.items) c.self.view_is in
-    let there : c.args.id < length firsts.items = omega (arith, c.requires, long, items) in
-    let first = get_or_read firsts.items c.args.id c.index.result.now there c.index.ensures 0 in
-    let rest = get_or_read rests.items c.args.id c.index-rest.result.now (omega (arith, there, c.self.invariant)) c.index-rest.ensures no_rest in
-    let at = joined_at firsts.items rests.items c.args.id c.self.invariant in
-    let run = ap (λ row. run_at row.items c.args.id) c.self.view_is in
-    ap (λ first. with_first first c.index-rest.result.now) first ∙ ap (with_first _) rest ∙ sym at ∙ run
+    let firsts = c.self.inside.firsts.items in
+    let rests = c.self.inside.rests.items in
+    let there : c.args.id < length firsts = omega (arith, c.requires, count_is (goal.at.returns c).After-self) in
+    let first = get_or_read firsts c.args.id c.index.result.now there c.index.ensures 0 in
+    let rest = get_or_read rests c.args.id c.index-rest.result.now (omega (arith, there, c.self.invariant)) c.index-rest.ensures no_rest in
+    ap (λ first. with_first first c.index-rest.result.now) first ∙ ap (with_first _) rest ∙ runs_at firsts rests c.args.self.now.items c.args.id c.self.invariant (ap (λ row. row.items) c.self.view_is)
