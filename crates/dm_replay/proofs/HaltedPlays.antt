@@ -5,7 +5,7 @@ use Rattle.dm_stack.specs.Description.{Description}
 use Rattle.dm_map.specs.declared.pieces.piece.Piece.{Piece}
 use Rattle.dm_map.specs.declared.pieces.piece.Piece.TheVariants as pieces
 use Rattle.dm_map.specs.pieces.Sink.{OfBeginning}
-use Rattle.dm_map.specs.pieces.Units.{BlockUnit, ReadOf, WriteOf, Zeros, Drops, Fails, CopyOf, FillOf, IsOnDisk, IsOnDisks, first_unit, next_unit, piece_len, units_in, units_of}
+use Rattle.dm_map.specs.pieces.Units.{BlockUnit, ReadOf, WriteOf, CopyOf, FillOf, IsOnDisk, IsOnDisks, first_unit, next_unit, piece_len, units_in, units_of}
 use Rattle.dm_replay.specs.declared.halting.Halting.{Halting}
 use Rattle.dm_replay.specs.declared.player.Player.{Player}
 use Rattle.dm_replay.specs.Halting.{HasHalted, HasTaken}
@@ -41,27 +41,15 @@ fewer_on stack (ReadOf disk sector) n len few on = shorter stack disk sector n l
 fewer_on stack (WriteOf disk sector) n len few on = shorter stack disk sector n len few on
 fewer_on stack (CopyOf disk sector to to_sector) n len few on = (shorter stack disk sector n len few on.0, shorter stack to to_sector n len few on.1)
 fewer_on stack (FillOf disk sector) n len few on = shorter stack disk sector n len few on
-fewer_on stack Zeros n len few on = tt
-fewer_on stack Drops n len few on = tt
-fewer_on stack Fails n len few on = tt
+fewer_on stack unit n len few on = tt
 
 of_piece : (stack : Description) (piece : Piece) → IsOnDisks stack piece → AreOn stack (first_unit piece) (piece_len piece)
-of_piece stack (pieces.Read disk start len) lies = lies
-of_piece stack (pieces.Write disk start len) lies = lies
 of_piece stack (pieces.Zero len) lies = tt
-of_piece stack (pieces.Drop len) lies = tt
-of_piece stack (pieces.Error len) lies = tt
-of_piece stack (pieces.Copy disk start len to to_start) lies = lies
-of_piece stack (pieces.Fill len disk start) lies = lies
+of_piece stack piece lies = lies
 
 piece_on : (stack : Description) (piece : Piece) → AreOn stack (first_unit piece) (piece_len piece) → IsOnDisks stack piece
-piece_on stack (pieces.Read disk start len) on = on
-piece_on stack (pieces.Write disk start len) on = on
 piece_on stack (pieces.Zero len) on = tt
-piece_on stack (pieces.Drop len) on = tt
-piece_on stack (pieces.Error len) on = tt
-piece_on stack (pieces.Copy disk start len to to_start) on = on
-piece_on stack (pieces.Fill len disk start) on = on
+piece_on stack piece on = on
 
 -- a piece that begins as another one, and isn't longer
 pub cut_lies : (stack : Description) (piece cut : Piece) → first_unit cut ≡ first_unit piece → piece_len cut ≤ piece_len piece → IsOnDisks stack piece → IsOnDisks stack cut
