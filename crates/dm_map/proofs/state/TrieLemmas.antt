@@ -15,6 +15,7 @@ use Rattle.std.proofs.lemmas.Nat.{and_le_r, xor_lt}
 use Rattle.std.proofs.lemmas.Nat.Bits.{bit_at-lt, bit_at-trailing_zeros, bit_at-zero, bit_at_xor, same_from_bits}
 use Rattle.dm_map.specs.declared.state.trie_taken.link.Node.{Node}
 use Rattle.dm_map.specs.declared.state.trie_taken.link.Node.TheVariants.{Empty, Number, Fork}
+use Rattle.dm_map.specs.declared.state.trie_taken.TrieTaken.{TrieTaken}
 use Rattle.dm_map.specs.state.Trie.{Agree, Fits, HasMarks, IsFork, IsNumber, IsSide, IsTrie, Marks, chunk_at, end_of, is_fork, next_at, node_at, way}
 
 -- Steps
@@ -502,26 +503,34 @@ is_parted nodes here bit chunk other mine theirs within apart =
           ∙ get_or_append_left nodes (Number theirs ∷ []) Empty at below;
     }
 
--- The same of what merely is a trie
+-- The same of a table of taken chunks
 
-pub end_within : (chunks : List ℕ) (nodes : List Node) (mask chunk : ℕ) → ∥ IsTrie chunks nodes mask ∥₁ → mask < length nodes → end_of nodes mask chunk < length nodes
-end_within chunks nodes mask chunk leads slots = ∥∥₁_elim leads (hlevel props) (λ trie. (on_way chunks nodes mask trie.marked slots chunk 64).within)
+-- the node where the way of a chunk ends
+abbrev pub last_node : TrieTaken → (chunk : ℕ) → Node
+last_node taken chunk = node_at taken.links.items (end_of taken.links.items taken.mask chunk)
 
-pub end_stops : (chunks : List ℕ) (nodes : List Node) (mask chunk bit pair : ℕ) → ∥ IsTrie chunks nodes mask ∥₁ → mask < length nodes → node_at nodes (end_of nodes mask chunk) ≡ Fork bit pair → ⊥
-end_stops chunks nodes mask chunk bit pair leads slots is = ∥∥₁_elim leads (hlevel props) (λ trie. let more = ahead chunks nodes mask chunk 64 bit pair trie.marked slots is in absurd (omega (arith, more.few)))
+pub end_within : (taken : TrieTaken) (chunk : ℕ) → end_of taken.links.items taken.mask chunk < length taken.links.items
+end_within taken chunk = ∥∥₁_elim taken.leads (hlevel props) (λ trie. (on_way taken.chunks.items taken.links.items taken.mask trie.marked taken.slots chunk 64).within)
 
-pub bit_ahead : (chunks : List ℕ) (nodes : List Node) (mask chunk steps bit pair : ℕ) → ∥ IsTrie chunks nodes mask ∥₁ → mask < length nodes → node_at nodes (way nodes chunk (bit_and chunk mask) steps) ≡ Fork bit pair → (steps < 64) × (bit < 64) × (pair + 1 < length nodes)
-bit_ahead chunks nodes mask chunk steps bit pair leads slots is =
-    ∥∥₁_elim leads (hlevel props) (λ trie. let more = ahead chunks nodes mask chunk steps bit pair trie.marked slots is in (more.few, more.small, more.within))
+pub bit_ahead : (taken : TrieTaken) (chunk steps bit pair : ℕ) → node_at taken.links.items (way taken.links.items chunk (bit_and chunk taken.mask) steps) ≡ Fork bit pair → (steps < 64) × (bit < 64) × (pair + 1 < length taken.links.items)
+bit_ahead taken chunk steps bit pair is =
+    ∥∥₁_elim taken.leads (hlevel props) (λ trie. let more = ahead taken.chunks.items taken.links.items taken.mask chunk steps bit pair trie.marked taken.slots is in (more.few, more.small, more.within))
 
-pub number_within : (chunks : List ℕ) (nodes : List Node) (mask chunk number : ℕ) → ∥ IsTrie chunks nodes mask ∥₁ → mask < length nodes → node_at nodes (end_of nodes mask chunk) ≡ Number number → number < length chunks
-number_within chunks nodes mask chunk number leads slots is = ∥∥₁_elim leads (hlevel props) (λ trie. (number_on chunks nodes mask trie.marked slots chunk number is).within)
+pub end_stops : (taken : TrieTaken) (chunk bit pair : ℕ) → last_node taken chunk ≡ Fork bit pair → ⊥
+end_stops taken chunk bit pair is = let more = bit_ahead taken chunk 64 bit pair is in absurd (omega (arith, more.0))
+
+pub number_within : (taken : TrieTaken) (chunk number : ℕ) → last_node taken chunk ≡ Number number → number < length taken.chunks.items
+number_within taken chunk number is = ∥∥₁_elim taken.leads (hlevel props) (λ trie. (number_on taken.chunks.items taken.links.items taken.mask trie.marked taken.slots chunk number is).within)
 
 -- a chunk that isn't where its way ends was not taken
-pub not_taken : (chunks : List ℕ) (nodes : List Node) (mask chunk : ℕ) → ∥ IsTrie chunks nodes mask ∥₁ → ((number : ℕ) → chunk_at chunks number ≡ chunk → node_at nodes (end_of nodes mask chunk) ≡ Number number → ⊥) → number_in chunk chunks ≡ None
-not_taken chunks nodes mask chunk leads none =
-    number_absent chunk chunks (λ number within is. ∥∥₁_elim leads (hlevel props) (λ trie. none number is (ap (λ x. node_at nodes (end_of nodes mask x)) (sym is) ∙ trie.ends number within)))
+pub not_taken : (taken : TrieTaken) (chunk : ℕ) → ((number : ℕ) → chunk_at taken.chunks.items number ≡ chunk → last_node taken chunk ≡ Number number → ⊥) → number_in chunk taken.chunks.items ≡ None
+not_taken taken chunk none =
+    number_absent chunk taken.chunks.items (λ number within is. ∥∥₁_elim taken.leads (hlevel props) (λ trie. none number is (ap (last_node taken) (sym is) ∙ trie.ends number within)))
 
 -- the node that was read
 pub node_read : (nodes : List Node) (at : ℕ) (seen node : Node) → at < length nodes → seen ≡ get_or nodes at seen → node ≡ seen → node_at nodes at ≡ node
 node_read nodes at seen node within read is = sym (get_or_read nodes at seen within read Empty) ∙ sym is
+
+pub last_read : (taken : TrieTaken) (chunk at : ℕ) (seen node : Node) → at ≡ end_of taken.links.items taken.mask chunk → seen ≡ get_or taken.links.items at seen → node ≡ seen → last_node taken chunk ≡ node
+last_read taken chunk at seen node ends read is =
+    subst (λ at. node_at taken.links.items at ≡ node) ends (node_read taken.links.items at seen node (omega (arith, ends, end_within taken chunk)) read is)

@@ -1,9 +1,10 @@
-use Rattle.std.proofs.Common.{◌≡◌, ◌∙◌, ◌+◌, false, ap, bit_and, sym, arith, add-one}
+use Rattle.std.proofs.Common.{◌≡◌, ◌∙◌, ◌+◌, ◌<◌, false, ap, length, bit_and, sym, arith, add-one}
 use Rattle.std.proofs.lemmas.Nat.{and_le_r}
 use Rattle.std.proofs.lemmas.Nat.Bits.{bit_at-lt}
 use Rattle.dm_map.specs.declared.state.trie_taken.link.Node.TheVariants.{Fork}
 use Rattle.dm_map.specs.state.Trie.{is_fork, next_at, node_at, way}
 use Rattle.dm_map.proofs.state.TrieLemmas.{bit_ahead, no_fork, node_read, stays, way-suc, way-zero}
+use Rattle.dm_map.proofs.state.trie_taken.TrieTaken.end_of.Goals.{In-Fork}
 use Rattle.dm_map.proofs.state.trie_taken.TrieTaken.end_of.Goals as goal
 
 pub loop-bit-init : goal.loop-bit-init
@@ -15,34 +16,33 @@ loop-bit-init c =
       few = omega arith;
     }
 
+-- the fork that was read on the way
+fork_is : (c : In-Fork) → node_at c.args.self.now.links.items c.loop-bit.at ≡ Fork c.in-Fork.bit c.in-Fork.pair
+fork_is c =
+    node_read c.args.self.now.links.items c.loop-bit.at c.index.result.now c.node.result c.loop-bit.invariant.within c.index.ensures c.node.ensures ∙ c.in-Fork.is
+
+fork_ahead : (c : In-Fork) → (c.loop-bit.tested < 64) × (c.in-Fork.bit < 64) × (c.in-Fork.pair + 1 < length c.args.self.now.links.items)
+fork_ahead c =
+    let here = ap (node_at c.args.self.now.links.items) (sym c.loop-bit.invariant.there) ∙ fork_is c in
+    bit_ahead c.args.self.now c.args.chunk c.loop-bit.tested c.in-Fork.bit c.in-Fork.pair here
+
 pub bit_of-requires : goal.bit_of-requires
-bit_of-requires c =
-    let taken = c.args.self.now in
-    let nodes = taken.links.items in
-    let l = c.loop-bit in
-    let is : node_at nodes l.at ≡ Fork c.in-Fork.bit c.in-Fork.pair = node_read nodes l.at c.index.result.now c.node.result l.invariant.within c.index.ensures c.node.ensures ∙ c.in-Fork.is in
-    (bit_ahead taken.chunks.items nodes taken.mask c.args.chunk l.tested c.in-Fork.bit c.in-Fork.pair taken.leads taken.slots (ap (node_at nodes) (sym l.invariant.there) ∙ is)).1
+bit_of-requires c = (fork_ahead (goal.at.bit_of-requires c).In-Fork).1
 
 pub loop-bit-smaller : goal.loop-bit-smaller
-loop-bit-smaller c =
-    let taken = c.args.self.now in
-    let nodes = taken.links.items in
-    let l = c.loop-bit in
-    let is : node_at nodes l.at ≡ Fork c.in-Fork.bit c.in-Fork.pair = node_read nodes l.at c.index.result.now c.node.result l.invariant.within c.index.ensures c.node.ensures ∙ c.in-Fork.is in
-    let more = bit_ahead taken.chunks.items nodes taken.mask c.args.chunk l.tested c.in-Fork.bit c.in-Fork.pair taken.leads taken.slots (ap (node_at nodes) (sym l.invariant.there) ∙ is) in
-    omega (arith, more.0)
+loop-bit-smaller c = omega (arith, (fork_ahead (goal.at.loop-bit-smaller c).In-Fork).0)
 
 pub loop-bit-preserved : goal.loop-bit-preserved
 loop-bit-preserved c =
     let taken = c.args.self.now in
     let nodes = taken.links.items in
     let l = c.loop-bit in
-    let is : node_at nodes l.at ≡ Fork c.in-Fork.bit c.in-Fork.pair = node_read nodes l.at c.index.result.now c.node.result l.invariant.within c.index.ensures c.node.ensures ∙ c.in-Fork.is in
-    let more = bit_ahead taken.chunks.items nodes taken.mask c.args.chunk l.tested c.in-Fork.bit c.in-Fork.pair taken.leads taken.slots (ap (node_at nodes) (sym l.invariant.there) ∙ is) in
+    let fork = (goal.at.loop-bit-preserved c).In-Fork in
+    let more = fork_ahead fork in
     let next : way nodes c.args.chunk (bit_and c.args.chunk taken.mask) (l.tested + 1) ≡ next_at c.args.chunk l.at (node_at nodes l.at) =
     ap (way nodes c.args.chunk (bit_and c.args.chunk taken.mask)) (add-one l.tested) ∙ way-suc nodes c.args.chunk (bit_and c.args.chunk taken.mask) l.tested ∙ ap (λ at. next_at c.args.chunk at (node_at nodes at)) (sym l.invariant.there) in
     record {
-      there = ap (λ bit. c.in-Fork.pair + bit) c.bit_of.ensures ∙ sym (next ∙ ap (next_at c.args.chunk l.at) is);
+      there = ap (λ bit. c.in-Fork.pair + bit) c.bit_of.ensures ∙ sym (next ∙ ap (next_at c.args.chunk l.at) (fork_is fork));
       within = omega (arith, more.2, c.bit_of.ensures, bit_at-lt c.args.chunk c.in-Fork.bit);
       few = omega (arith, more.0);
     }

@@ -1,4 +1,4 @@
-use Rattle.std.proofs.Common.{◌≡◌, ◌∙◌, ◌+◌, ◌<◌, ℕ, List, [], ◌∷◌, ◌++◌, ap, length, set, subst, sym, arith, w64}
+use Rattle.std.proofs.Common.{◌≡◌, ◌∙◌, ◌+◌, ◌^◌, ◌<◌, ℕ, List, [], ◌∷◌, ◌++◌, ap, get_or, length, set, subst, sym, arith, w64}
 use Rattle.std.specs.Int.{bit_at, trailing_zeros}
 use Rattle.std.specs.Int.Bits.{bit_xor}
 use Rattle.std.proofs.Math.Logic.{∥∥₁_map}
@@ -7,28 +7,34 @@ use Rattle.dm_map.specs.declared.state.trie_taken.link.Node.{Node}
 use Rattle.dm_map.specs.declared.state.trie_taken.link.Node.TheVariants.{Fork, Number}
 use Rattle.dm_map.specs.state.Trie.{end_of, node_at}
 use Rattle.dm_map.proofs.state.Numbers.{distinct_more}
-use Rattle.dm_map.proofs.state.TrieLemmas.{end_within, fresh_apart, is_parted, lowest_apart, number_within, part_trie}
+use Rattle.dm_map.proofs.state.TrieLemmas.{end_within, fresh_apart, is_parted, last_node, lowest_apart, number_within, part_trie}
+use Rattle.dm_map.proofs.state.trie_taken.TrieTaken.part.Goals.{After-index-there}
 use Rattle.dm_map.proofs.state.trie_taken.TrieTaken.part.Goals as goal
 
-pub bit_of-requires : goal.bit_of-requires
-bit_of-requires c =
+-- the way of the chunk ends at the number of the other one, which was read
+ends_at_other : (c : After-index-there) → last_node c.args.self.now c.args.chunk ≡ Number c.args.other
+ends_at_other c = subst (λ at. node_at c.args.self.now.links.items at ≡ Number c.args.other) c.requires.at c.requires.other
+
+other_there : (c : After-index-there) → c.args.other < length c.args.self.now.chunks.items
+other_there c = number_within c.args.self.now c.args.chunk c.args.other (ends_at_other c)
+
+other_read : (c : After-index-there) → c.index-there.result.now ≡ get_or c.args.self.now.chunks.items c.args.other 0
+other_read c = get_or_read c.args.self.now.chunks.items c.args.other c.index-there.result.now (other_there c) c.index-there.ensures 0
+
+-- the lowest bit in which the two differ
+abbrev lowest : After-index-there → ℕ
+lowest c = trailing_zeros w64 (bit_xor c.index-there.result.now c.args.chunk)
+
+differ : (c : After-index-there) → c.index-there.result.now < 2 ^ 64 → (lowest c < 64) × (bit_at c.args.chunk (lowest c) ≡ bit_at c.index-there.result.now (lowest c) → ⊥)
+differ c fits =
     let taken = c.args.self.now in
-    let chunks = taken.chunks.items in
-    let nodes = taken.links.items in
-    let is : node_at nodes (end_of nodes taken.mask c.args.chunk) ≡ Number c.args.other = subst (λ at. node_at nodes at ≡ Number c.args.other) c.requires.at c.requires.other in
-    let there : c.args.other < length chunks = number_within chunks nodes taken.mask c.args.chunk c.args.other taken.leads taken.slots is in
-    let seen = get_or_read chunks c.args.other c.index-there.result.now there c.index-there.ensures 0 in
-    (lowest_apart c.args.chunk c.index-there.result.now c.ranges.chunk.fits c.type_inv.there.fits (λ e. fresh_apart chunks c.args.other c.args.chunk taken.once there c.requires.fresh (sym seen ∙ e))).0
+    lowest_apart c.args.chunk c.index-there.result.now c.ranges.chunk.fits fits (λ e. fresh_apart taken.chunks.items c.args.other c.args.chunk taken.once (other_there c) c.requires.fresh (sym (other_read c) ∙ e))
+
+pub bit_of-requires : goal.bit_of-requires
+bit_of-requires c = (differ (goal.at.bit_of-requires c).After-index-there c.type_inv.there.fits).0
 
 pub fork-requires-clause-bit : goal.fork-requires-clause-bit
-fork-requires-clause-bit c =
-    let taken = c.args.self.now in
-    let chunks = taken.chunks.items in
-    let nodes = taken.links.items in
-    let is : node_at nodes (end_of nodes taken.mask c.args.chunk) ≡ Number c.args.other = subst (λ at. node_at nodes at ≡ Number c.args.other) c.requires.at c.requires.other in
-    let there : c.args.other < length chunks = number_within chunks nodes taken.mask c.args.chunk c.args.other taken.leads taken.slots is in
-    let seen = get_or_read chunks c.args.other c.index-there.result.now there c.index-there.ensures 0 in
-    (lowest_apart c.args.chunk c.index-there.result.now c.ranges.chunk.fits c.type_inv.there.fits (λ e. fresh_apart chunks c.args.other c.args.chunk taken.once there c.requires.fresh (sym seen ∙ e))).0
+fork-requires-clause-bit c = (differ (goal.at.fork-requires-clause-bit c).After-index-there c.type_inv.there.fits).0
 
 same_sets : (xs ys : List Node) (i j at here : ℕ) (a b f g : Node) → xs ≡ ys → i ≡ j → a ≡ b → at ≡ here → f ≡ g → set (set xs i a) at f ≡ set (set ys j b) here g
 same_sets xs ys i j at here a b f g p q r s t = cc
@@ -40,13 +46,11 @@ invariant_of-self c =
     let nodes = taken.links.items in
     let here = end_of nodes taken.mask c.args.chunk in
     let number = Number c.args.other in
-    let is : node_at nodes here ≡ Number c.args.other = subst (λ at. node_at nodes at ≡ Number c.args.other) c.requires.at c.requires.other in
-    let there : c.args.other < length chunks = number_within chunks nodes taken.mask c.args.chunk c.args.other taken.leads taken.slots is in
-    let seen = get_or_read chunks c.args.other c.index-there.result.now there c.index-there.ensures 0 in
-    let lowest = lowest_apart c.args.chunk c.index-there.result.now c.ranges.chunk.fits c.type_inv.there.fits (λ e. fresh_apart chunks c.args.other c.args.chunk taken.once there c.requires.fresh (sym seen ∙ e)) in
-    let bit = trailing_zeros w64 (bit_xor c.index-there.result.now c.args.chunk) in
-    let parted = is_parted nodes here bit c.args.chunk c.index-there.result.now (length chunks) c.args.other (end_within chunks nodes taken.mask c.args.chunk taken.leads taken.slots) lowest.1 in
-    let made = ∥∥₁_map taken.leads (λ trie. part_trie chunks nodes _ taken.mask bit c.args.chunk c.index-there.result.now c.args.other trie taken.slots lowest.0 lowest.1 is (sym seen) parted) in
+    let at_other = (goal.at.invariant_of-self c).After-index-there in
+    let apart = differ at_other c.type_inv.there.fits in
+    let bit = lowest at_other in
+    let parted = is_parted nodes here bit c.args.chunk c.index-there.result.now (length chunks) c.args.other (end_within taken c.args.chunk) apart.1 in
+    let made = ∥∥₁_map taken.leads (λ trie. part_trie chunks nodes _ taken.mask bit c.args.chunk c.index-there.result.now c.args.other trie taken.slots apart.0 apart.1 (ends_at_other at_other) (sym (other_read at_other)) parted) in
     let items = c.push_reserved-3.ensures.items in
     let more = ap length items ∙ length_push chunks c.args.chunk in
     let first : c.push_reserved.new.self.items ≡ nodes ++ number ∷ [] = c.push_reserved.ensures.items ∙ ap (λ node. nodes ++ node ∷ []) c.number.ensures in

@@ -8,10 +8,7 @@ use Rattle.dm_map.proofs.state.TrieLemmas.{end_within, put_trie}
 use Rattle.dm_map.proofs.state.trie_taken.TrieTaken.put.Goals as goal
 
 pub index_mut-requires : goal.index_mut-requires
-index_mut-requires c =
-    let taken = c.args.self.now in
-    let within = end_within taken.chunks.items taken.links.items taken.mask c.args.chunk taken.leads taken.slots in
-    omega (arith, within, c.requires.at, taken.links.ok)
+index_mut-requires c = omega (arith, end_within c.args.self.now c.args.chunk, c.requires.at, c.args.self.now.links.ok)
 
 pub invariant_of-self : goal.invariant_of-self
 invariant_of-self c =
