@@ -327,18 +327,16 @@ module _ (old between new : BTreeMap ℕ RangeValues) (start sector : ℕ) (rang
   pub joined_apart : AreApart new
   joined_apart = record {
     ordered = p.ordered;
-    some = λ a r is. some_at a r is (cases_eq a start);
-    small = λ a r is. small_at a r is (cases_eq a start);
+    some = λ a r is. elim (cases_eq a start) [
+      | inl same ↦ omega (arith, joined_len a r is same, p.len, start_less)
+      | inr other ↦ p.are.some a r (other_is a r is other)
+    ];
+    small = λ a r is. elim (cases_eq a start) [
+      | inl same ↦ omega (arith, same, joined_len a r is same, p.len, p.are.small sector after p.is_after)
+      | inr other ↦ p.are.small a r (other_is a r is other)
+    ];
     apart = λ a b r q is_r is_q less. apart_at a b r q is_r is_q less (cases_eq a start) (cases_eq b start);
   } where
-    some_at : (a : ℕ) (r : RangeValues) → get nat_cmp new a ≡ Some r → (a ≡ start) ⊎ (a ≡ start → ⊥) → 0 < r.len
-    some_at a r is (inl same) = omega (arith, joined_len a r is same, p.len, start_less)
-    some_at a r is (inr other) = p.are.some a r (other_is a r is other)
-
-    small_at : (a : ℕ) (r : RangeValues) → get nat_cmp new a ≡ Some r → (a ≡ start) ⊎ (a ≡ start → ⊥) → a + r.len < 2 ^ 64
-    small_at a r is (inl same) = omega (arith, same, joined_len a r is same, p.len, p.are.small sector after p.is_after)
-    small_at a r is (inr other) = p.are.small a r (other_is a r is other)
-
     apart_at : (a b : ℕ) (r q : RangeValues) → get nat_cmp new a ≡ Some r → get nat_cmp new b ≡ Some q → a < b → (a ≡ start) ⊎ (a ≡ start → ⊥) → (b ≡ start) ⊎ (b ≡ start → ⊥) → a + r.len ≤ b
     apart_at a b r q is_r is_q less (inl one) (inl two) = absurd (omega (arith, one, two, less))
     apart_at a b r q is_r is_q less (inl one) (inr two) = omega (arith, one, joined_len a r is_r one, p.len, other_after b q is_q two (omega (arith, one, less)))
@@ -412,18 +410,16 @@ module _ (old cleared new : BTreeMap ℕ RangeValues) (start : ℕ) (range : Ran
   pub put_apart : AreApart new
   put_apart = record {
     ordered = p.ordered;
-    some = λ a r is. some_at a r is (cases_eq a start);
-    small = λ a r is. small_at a r is (cases_eq a start);
+    some = λ a r is. elim (cases_eq a start) [
+      | inl same ↦ omega (arith, range_len a r is same, p.some)
+      | inr other ↦ p.are.some a r (kept_is a r is other)
+    ];
+    small = λ a r is. elim (cases_eq a start) [
+      | inl same ↦ omega (arith, same, range_len a r is same, p.small)
+      | inr other ↦ p.are.small a r (kept_is a r is other)
+    ];
     apart = λ a b r q is_r is_q less. apart_at a b r q is_r is_q less (cases_eq a start) (cases_eq b start);
   } where
-    some_at : (a : ℕ) (r : RangeValues) → get nat_cmp new a ≡ Some r → (a ≡ start) ⊎ (a ≡ start → ⊥) → 0 < r.len
-    some_at a r is (inl same) = omega (arith, range_len a r is same, p.some)
-    some_at a r is (inr other) = p.are.some a r (kept_is a r is other)
-
-    small_at : (a : ℕ) (r : RangeValues) → get nat_cmp new a ≡ Some r → (a ≡ start) ⊎ (a ≡ start → ⊥) → a + r.len < 2 ^ 64
-    small_at a r is (inl same) = omega (arith, same, range_len a r is same, p.small)
-    small_at a r is (inr other) = p.are.small a r (kept_is a r is other)
-
     apart_at : (a b : ℕ) (r q : RangeValues) → get nat_cmp new a ≡ Some r → get nat_cmp new b ≡ Some q → a < b → (a ≡ start) ⊎ (a ≡ start → ⊥) → (b ≡ start) ⊎ (b ≡ start → ⊥) → a + r.len ≤ b
     apart_at a b r q is_r is_q less (inl one) (inl two) = absurd (omega (arith, one, two, less))
     apart_at a b r q is_r is_q less (inl one) (inr two) = omega (arith, one, range_len a r is_r one, kept_after b q (kept_is b q is_q two) (omega (arith, one, less)))
