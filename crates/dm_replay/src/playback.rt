@@ -44,10 +44,12 @@ pub(crate) fn play_request<T: Taken>(
     ensures values { OnOk result
         ((disk sector : ℕ) → values_of player.new.playing.values.disks.items disk sector
         ≡ played request.now.number request.now.start
-        (step_for mapper.old.stack request.now device mapper.old.state).units (values_of player.old.playing.values.disks.items) disk sector) }
+        (step_for mapper.old.stack request.now device mapper.old.state).units
+        (values_of player.old.playing.values.disks.items) disk sector) }
     ensures answers { IfOk result (λ runs. flat runs.items
         ≡ played_answers request.now.number request.now.start
-        (step_for mapper.old.stack request.now device mapper.old.state).units (values_of player.old.playing.values.disks.items)) }
+        (step_for mapper.old.stack request.now device mapper.old.state).units
+        (values_of player.old.playing.values.disks.items)) }
     ensures maximal { IfOk result (λ runs. AreMaximal runs.items) }
     ensures disks { OnOk result
         (AreValuesOf (length mapper.old.stack.disks) (values_of player.new.playing.values.disks.items)) }
