@@ -2,7 +2,7 @@
 //!
 //! What comes out goes by the words and by the bytes that were delivered, and by nothing else, unless
 //! memory runs out. A command does its work in `answer`, which says how it would exit; then the output
-//! is closed, and the message told. A new command is an arm of `print` or `answer` here and of `JobDoes`
+//! is closed, and the message told. A new command is an arm of `answer` here and of `JobDoes`
 //! in `specs/OtherWhole.antt`.
 
 ghost use Rattle.std.specs.Prelude.{◌≡◌, List, ℕ, false, true};
