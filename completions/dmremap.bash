@@ -4,20 +4,25 @@
 _dmremap() {
     local commands="map table concise check replay name splitname help" formats="lvm concise table"
     local word=${COMP_WORDS[COMP_CWORD]} offered="" files=false it
-    # The words before this one that are no options, and whether options may still follow.
-    local given=() options=true redirected=false
+    # The words before this one that are no options, whether options may still follow, and whether the next word
+    # is the value of one.
+    local given=() options=true redirected=false valued=false
     for it in "${COMP_WORDS[@]:1:COMP_CWORD-1}"; do
         if $redirected; then
             redirected=false
+        elif $valued; then
+            # The shell takes the sign as a word of its own.
+            [[ $it == = ]] || valued=false
         elif [[ $it == [\<\>]* ]]; then
             # Neither the file after it is one of the command's words, nor a number in front of it.
             redirected=true
             [[ ${#given[@]} -eq 0 || ${given[${#given[@]} - 1]} != [0-9] ]] || unset "given[${#given[@]} - 1]"
         elif [[ $it == -- ]]; then
             options=false
-        elif [[ $it == --status ]] && $options; then
-            # Of all commands it goes with this one.
+        elif [[ $it == --status || $it == --before ]] && $options; then
+            # Of all commands they go with this one.
             commands=map
+            [[ $it == --status ]] || valued=true
         elif [[ $it != -* ]] || ! $options; then
             given+=("$it")
         fi
@@ -26,12 +31,15 @@ _dmremap() {
         redirected=true
         word=${word##*[\<\>\&\|]}
     fi
-    if $redirected; then
+    if $valued && [[ $word == = ]]; then
+        word=""
+    fi
+    if $redirected || $valued; then
         files=true
     elif $options && [[ $word == -* ]]; then
         case ${given[0]-} in
-            "") offered="--status --version --help" ;;
-            map) offered="--status --help" ;;
+            "") offered="--status --before --version --help" ;;
+            map) offered="--status --before --help" ;;
             help) ;;
             *) offered="--help" ;;
         esac

@@ -20,6 +20,7 @@ sys.dont_write_bytecode = True
 
 import answers
 import backups
+import before
 import completions
 import documents
 import field_lengths
@@ -68,7 +69,7 @@ def main():
         # As root the cases of unreadable files run as nobody, who has to come to the program.
         os.chmod(room, 0o755)
         program = Program(shutil.copy(built, os.path.join(room, "dmremap")), room)
-        for part in (words, files, loads, backups, groups, records, printing, reports, request_lines, field_lengths,
+        for part in (words, before, files, loads, backups, groups, records, printing, reports, request_lines, field_lengths,
                      answers, ranges, snapshot_rows, snapshots, origins, kinds, replays, streams, limits, hostile,
                      growths):
             part.check(tally, program)

@@ -13,7 +13,7 @@ def formats(program):
 
 def options(program, words):
     """The long options in the help that these words ask for."""
-    return set(re.findall(r"^ +(?:-\w, )?(--\w+)  ", part(program, words, "Options:"), re.M))
+    return set(re.findall(r"^ +(?:-\w, )?(--\w+)(?: <\w+>)?  ", part(program, words, "Options:"), re.M))
 
 
 def statuses(program):

@@ -50,6 +50,7 @@ PLACES = {
     ("dm_table/load/reading", "read_lines", "read_each::<T>"): OURS,
     ("dm_table/load/text_checks", "check_text", "cut"): OURS,
     ("dmremap/main", "begin", "!has_stack_room"): "the limit of the stack is lower than what the program may take",
+    ("dmremap/map_after", "map_after", "Mapper::<TrieTaken>::new"): OURS,
     ("dmremap/map_whole", "map_whole", "Mapper::<TrieTaken>::new"): OURS,
     ("dmremap/printing", "print_parts", "spaced_parts"): OURS,
     ("dmremap/printing", "print_report", "check_report"): OURS,

@@ -1,4 +1,5 @@
 pub mod Batch
+pub mod Earlier
 pub mod Join
 pub mod RangeText
 pub mod LineEnds

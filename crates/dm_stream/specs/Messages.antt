@@ -3,6 +3,8 @@ use Rattle.std.specs.Prelude.{◌≡◌, ◌≤◌, ℕ, ◌+◌, List, [], ◌+
 use Rattle.dm_table.specs.io.DeviceIo.{OutputPast, written_since}
 use Rattle.dm_table.specs.io.WriteAll.{IsBeginning}
 use Rattle.dm_table.specs.io.Progress.{HasGrown}
+use Rattle.dm_stream.specs.declared.earlier.EarlierFault.{EarlierFault}
+use Rattle.dm_stream.specs.declared.earlier.EarlierFault.TheVariants as earlier
 use Rattle.dm_stream.specs.declared.ending.Ending.{Ending}
 use Rattle.dm_stream.specs.declared.ending.Ending.TheVariants as endings
 use Rattle.dm_stream.specs.declared.ending.RequestWord.{RequestWord}
@@ -21,6 +23,11 @@ request_word words.Unknown = codes "unknown"
 -- the message of a request that is refused, with a word that says why
 abbrev pub refused_request : ℕ → List ℕ → List ℕ
 refused_request number word = codes "dmremap: request " ++ decimal number ++ codes ": " ++ word ++ codes "\n"
+
+-- the message of earlier requests that are refused
+abbrev pub earlier_message : EarlierFault → List ℕ
+earlier_message (earlier.BadRequest number word) = codes "dmremap: before: " ++ request_word word ++ codes " at " ++ decimal number ++ codes "\n"
+earlier_message earlier.Read = codes "dmremap: before: read\n"
 
 abbrev pub read_message : List ℕ
 read_message = codes "dmremap: requests: read\n"

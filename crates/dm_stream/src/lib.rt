@@ -8,6 +8,7 @@
 mod batch;
 mod closing;
 mod disk_range;
+mod earlier;
 mod ending;
 mod front;
 mod handler;
@@ -28,10 +29,11 @@ mod requests;
 mod status_lines;
 
 pub use closing::close_and_tell;
+pub use earlier::{EarlierFault, play_earlier};
 pub use ending::{Ending, RequestWord};
 pub use handler::Handler;
 pub use join::Join;
 pub use lines::{Lines, MOST_LINE_BYTES, Next};
 pub use map_run::run;
-pub use message::{Message, message_of, refused_request, tell};
+pub use message::{Message, earlier_message, message_of, refused_request, tell};
 pub use requests::{MOST_REQUESTS, handle_requests};

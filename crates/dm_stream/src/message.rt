@@ -4,8 +4,9 @@
 //! here and there.
 
 ghost use Rattle.std.specs.Prelude.{◌≡◌, ◌≤◌, length};
-ghost use Rattle.dm_stream.specs.Messages.{HasTold, ending_message, refused_request, request_word};
+ghost use Rattle.dm_stream.specs.Messages.{HasTold, earlier_message, ending_message, refused_request, request_word};
 
+use crate::earlier::EarlierFault;
 use crate::ending::{Ending, RequestWord};
 use arrayvec::ArrayVec;
 use dm_table::{Output, append, append_number, write_all};
@@ -46,6 +47,24 @@ pub fn refused_request(number: u64, word: &[u8]) -> Message
     append(&mut text, b": ");
     append(&mut text, word);
     append(&mut text, b"\n");
+    text
+}
+
+/// The message of earlier requests that are refused: a line. Takes no memory.
+pub fn earlier_message(fault: EarlierFault) -> Message
+    ensures { result.items ≡ earlier_message fault }
+{
+    let mut text = ArrayVec::new();
+    match fault {
+        EarlierFault::BadRequest(number, word) => {
+            append(&mut text, b"dmremap: before: ");
+            append(&mut text, word_text(word));
+            append(&mut text, b" at ");
+            append_number(&mut text, number);
+            append(&mut text, b"\n");
+        }
+        EarlierFault::Read => append(&mut text, b"dmremap: before: read\n"),
+    }
     text
 }
 

@@ -36,6 +36,7 @@ of_name fault = inl refl
 pub of_refusal : (refusal : Refusal) → IsOfTwo (refusal_status refusal)
 of_refusal (refusals.Load fault) = of_kind fault.kind
 of_refusal (refusals.Name fault) = of_name fault
+of_refusal (refusals.Earlier fault) = inl refl
 of_refusal refusals.Split = inl refl
 of_refusal refusals.Untidy = inl refl
 

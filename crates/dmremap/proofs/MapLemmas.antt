@@ -6,11 +6,14 @@ use Rattle.dm_table.specs.io.DeviceIo.{Delivery, OutputPast, written_since}
 use Rattle.dm_table.specs.io.Progress.{FailedOutput}
 use Rattle.dm_table.specs.laws.Progress.{finished_as}
 use Rattle.dm_stack.specs.Description.{Description}
-use Rattle.dm_map.specs.state.State.{State, start_state}
+use Rattle.dm_map.specs.state.State.{State}
 use Rattle.dm_stream.specs.declared.ending.Ending.{Ending}
 use Rattle.dm_stream.specs.declared.ending.Ending.TheVariants as endings
 use Rattle.dm_stream.specs.Messages.{ending_message}
+use Rattle.dm_stream.specs.Earlier.{refused_ending}
 use Rattle.dm_stream.specs.Outcome.{Outcome, run_outcome}
+use Rattle.dm_stream.specs.declared.earlier.EarlierFault.{EarlierFault}
+use Rattle.dm_stream.specs.declared.earlier.EarlierFault.TheVariants as earlier
 use Rattle.dm_stream.specs.Run.{HasRun}
 use Rattle.dmremap.specs.declared.exit.Exit.{Exit}
 use Rattle.dmremap.specs.declared.exit.Exit.TheVariants as exits
@@ -20,17 +23,37 @@ use Rattle.dmremap.specs.declared.status.TheConstants.{STATUS_MEMORY, STATUS_WRI
 use Rattle.dmremap.specs.Exit.{ending_status, exit_message, exit_status, load_status}
 use Rattle.dmremap.specs.Load.{RefusedBy, SoundAs, PartsGive}
 use Rattle.dmremap.specs.Streams.{OutputWritten}
-use Rattle.dmremap.specs.Whole.{Whole, GiveWhole, ended_if, outcome_of, whole_at}
+use Rattle.dmremap.specs.Whole.{Whole, GiveAfter, begun_after, earlier_outcome, ended_if, outcome_after, whole_after, whole_at}
 use Rattle.dmremap.proofs.ExitLemmas.{never_one, write_fault_is}
 
+-- a run that was refused, by its exit
+at_exit : (output : List ℕ) (exit refused : Exit) (status : ℕ) → exit ≡ refused → output ≡ [] → status ≡ exit_status exit
+    → Some (whole_at [] refused) ≡ Some (record { output = output; message = exit_message exit; status = status })
+at_exit output exit refused status same none is = ap (λ (e : Exit). Some (whole_at [] e)) (sym same) ∙ ap (λ (out : List ℕ). Some (whole_at out exit)) (sym none)
+    ∙ ap (λ (n : ℕ). Some (record { output = output; message = exit_message exit; status = n })) (sym is)
+
 -- a refused load is a whole run
-pub refused_whole : (format : Format) (flag : Bool) (source disks requests : Delivery) (output : List ℕ) (fault : LoadFault) (exit : Exit) (status : ℕ) → exit ≡ exits.Refused (refusals.Load fault) → (fault.kind ≢ kinds.Memory → PartsGive format source disks (RefusedBy fault))
-    → output ≡ [] → status ≡ exit_status exit → status ≢ STATUS_MEMORY → GiveWhole format flag source disks requests (record { output = output; message = exit_message exit; status = status })
-refused_whole format flag source disks requests output fault exit status same gives none is other = record {
+pub refused_whole : (format : Format) (flag : Bool) (source disks : Delivery) (before : Option Delivery) (requests : Delivery) (output : List ℕ) (fault : LoadFault) (exit : Exit) (status : ℕ) → exit ≡ exits.Refused (refusals.Load fault) → (fault.kind ≢ kinds.Memory → PartsGive format source disks (RefusedBy fault))
+    → output ≡ [] → status ≡ exit_status exit → status ≢ STATUS_MEMORY → GiveAfter format flag source disks before requests (record { output = output; message = exit_message exit; status = status })
+refused_whole format flag source disks before requests output fault exit status same gives none is other = record {
   load = RefusedBy fault;
   loaded = gives (λ memory. other (is ∙ ap exit_status same ∙ ap load_status memory));
-  is = ap (λ (e : Exit). Some (whole_at [] e)) (sym same) ∙ ap (λ (out : List ℕ). Some (whole_at out exit)) (sym none)
-      ∙ ap (λ (n : ℕ). Some (record { output = output; message = exit_message exit; status = n })) (sym is);
+  is = at_exit output exit (exits.Refused (refusals.Load fault)) status same none is;
+}
+
+-- earlier requests that are refused are a whole run
+refused_is : (fault : EarlierFault) (outcome : Outcome) → begun_after (Some (refused_ending fault)) outcome ≡ Some (whole_at [] (exits.Refused (refusals.Earlier fault)))
+refused_is (earlier.BadRequest number word) outcome = refl
+refused_is earlier.Read outcome = refl
+
+pub refused_after : (format : Format) (flag : Bool) (source disks : Delivery) (before : Option Delivery) (requests : Delivery) (output : List ℕ) (description : Description) (fault : EarlierFault) (exit : Exit) (status : ℕ) → PartsGive format source disks (SoundAs description)
+    → (earlier_outcome description before).ending ≡ Some (refused_ending fault) → exit ≡ exits.Refused (refusals.Earlier fault) → output ≡ [] → status ≡ exit_status exit
+    → GiveAfter format flag source disks before requests (record { output = output; message = exit_message exit; status = status })
+refused_after format flag source disks before requests output description fault exit status gives ends same none is = record {
+  load = SoundAs description;
+  loaded = gives;
+  is = ap (λ (e : Option Ending). begun_after e (outcome_after description flag before requests)) ends
+      ∙ refused_is fault (outcome_after description flag before requests) ∙ at_exit output exit (exits.Refused (refusals.Earlier fault)) status same none is;
 }
 
 -- the status of a failed output has one ending
@@ -38,23 +61,29 @@ five_is : (ending : Ending) → ending_status ending ≡ STATUS_WRITE_FAULT → 
 five_is ending five = let same = write_fault_is (exits.Ended ending) five in cc
 
 -- a run is whole, unless the output failed
-pub ran_whole : (old new : OutputPast) (format : Format) (flag : Bool) (source disks requests : Delivery) (description : Description) (start left : State) (ending : Ending) (status : ℕ)
-    → PartsGive format source disks (SoundAs description) → start ≡ start_state description → HasRun old new (run_outcome description flag start requests) left ending → status ≡ ending_status ending → status ≢ STATUS_WRITE_FAULT
-    → GiveWhole format flag source disks requests (record { output = written_since old new; message = ending_message ending; status = status })
-ran_whole old new format flag source disks requests description start left ending status gives starts ran is other =
-    let outcome = outcome_of description flag requests in
+pub ran_whole : (old new : OutputPast) (format : Format) (flag : Bool) (source disks : Delivery) (before : Option Delivery) (requests : Delivery) (description : Description) (start left : State) (ending : Ending) (status : ℕ)
+    → PartsGive format source disks (SoundAs description) → (earlier_outcome description before).ending ≡ Some endings.Done → start ≡ (earlier_outcome description before).state
+    → HasRun old new (run_outcome description flag start requests) left ending → status ≡ ending_status ending → status ≢ STATUS_WRITE_FAULT
+    → GiveAfter format flag source disks before requests (record { output = written_since old new; message = ending_message ending; status = status })
+ran_whole old new format flag source disks before requests description start left ending status gives played starts ran is other =
+    let outcome = outcome_after description flag before requests in
     let output = written_since old new in
     let no_fault : ending ≢ endings.WriteFault = λ failed. other (is ∙ ap ending_status failed) in
     let same_output = subst (λ (state : State). (run_outcome description flag state requests).output ≡ output) starts (ran.output.whole no_fault).0 in
     let same_ending = subst (λ (state : State). (run_outcome description flag state requests).ending ≡ Some ending) starts (ran.ends no_fault).0 in
     let whole : ℕ → Option Whole = λ n. Some (record { output = output; message = ending_message ending; status = n }) in
-    record { load = SoundAs description; loaded = gives; is = ap (ended_if outcome.output) same_ending ∙ ap (λ (out : List ℕ). ended_if out (Some ending)) same_output ∙ ap whole (sym is) }
+    record {
+      load = SoundAs description;
+      loaded = gives;
+      is = ap (λ (e : Option Ending). begun_after e outcome) played ∙ ap (ended_if outcome.output) same_ending ∙ ap (λ (out : List ℕ). ended_if out (Some ending)) same_output
+          ∙ ap whole (sym is);
+    }
 
 -- where the output failed, it took a beginning of what there was to write
-pub ran_failed : (old new : OutputPast) (flag : Bool) (requests : Delivery) (description : Description) (start left : State) (ending : Ending) (status : ℕ) → start ≡ start_state description
+pub ran_failed : (old new : OutputPast) (flag : Bool) (before : Option Delivery) (requests : Delivery) (description : Description) (start left : State) (ending : Ending) (status : ℕ) → start ≡ (earlier_outcome description before).state
     → HasRun old new (run_outcome description flag start requests) left ending → status ≡ ending_status ending → status ≡ STATUS_WRITE_FAULT
-    → FailedOutput (outcome_of description flag requests).output old new
-ran_failed old new flag requests description start left ending status starts ran is five =
+    → FailedOutput (outcome_after description flag before requests).output old new
+ran_failed old new flag before requests description start left ending status starts ran is five =
     subst (λ (state : State). FailedOutput (run_outcome description flag state requests).output old new) starts (ran.output.failed (five_is ending (sym is ∙ five)))
 
 -- what it wrote and flushed

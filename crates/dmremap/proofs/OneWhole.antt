@@ -1,5 +1,5 @@
 -- What is delivered gives one run: the texts describe one description at the most, and none where a check of the texts finds a fault.
-use Rattle.std.proofs.Common.{◌≡◌, inl, inr, Bool, ℕ, List, [], ◌∷◌, ◌++◌, Some, None, sym, ap, subst, ◌∙◌}
+use Rattle.std.proofs.Common.{◌≡◌, inl, inr, Bool, ℕ, List, [], ◌∷◌, ◌++◌, Option, Some, None, sym, ap, subst, ◌∙◌}
 use Rattle.dm_table.specs.declared.tables.table.DeviceSpec.{DeviceSpec}
 use Rattle.dm_table.specs.declared.tables.disk.Disk.{Disk}
 use Rattle.dm_table.specs.declared.load.place.Part.TheVariants.{Source, Disks}
@@ -21,7 +21,7 @@ use Rattle.dm_stack.specs.Soundness.{IsSound, IsRefusedBy}
 use Rattle.dm_stack.proofs.OneFault.{never_both, one_fault as one_refusal}
 use Rattle.lvm_volume.proofs.OneGroup.{never_refused, one_group, one_refusal as one_text_refusal}
 use Rattle.dmremap.specs.Load.{Load, RefusedBy, SoundAs, Describes, DescribesDevices, DescribesGroupAs, device_checks, GivesFault, MetadataGives, MetadataPartGives, TextsGive, TextPartsGive, PartsGive}
-use Rattle.dmremap.specs.Whole.{Whole, whole_of, GiveWhole}
+use Rattle.dmremap.specs.Whole.{Whole, whole_after, GiveAfter}
 
 -- What two texts describe
 
@@ -120,8 +120,9 @@ one_load Lvm source disks a b is_a is_b = one_of_part (part_read Source source) 
 
 -- What the run gives
 
-pub one_whole : (format : Format) (flag : Bool) (source disks requests : Delivery) (a b : Whole) → GiveWhole format flag source disks requests a → GiveWhole format flag source disks requests b → a ≡ b
-one_whole format flag source disks requests a b is_a is_b =
+pub one_after : (format : Format) (flag : Bool) (source disks : Delivery) (before : Option Delivery) (requests : Delivery) (a b : Whole) → GiveAfter format flag source disks before requests a
+    → GiveAfter format flag source disks before requests b → a ≡ b
+one_after format flag source disks before requests a b is_a is_b =
     let same = one_load format source disks is_a.load is_b.load is_a.loaded is_b.loaded in
-    let some : Some a ≡ Some b = sym is_a.is ∙ ap (λ (load : Load). whole_of load flag requests) same ∙ is_b.is in
+    let some : Some a ≡ Some b = sym is_a.is ∙ ap (λ (load : Load). whole_after load flag before requests) same ∙ is_b.is in
     cc

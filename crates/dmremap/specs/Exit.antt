@@ -5,7 +5,7 @@ use Rattle.dm_table.specs.declared.load.load_fault.LoadKind.TheVariants as kinds
 use Rattle.dm_table.specs.load.LoadMessage.{load_message, memory_message}
 use Rattle.dm_stream.specs.declared.ending.Ending.{Ending}
 use Rattle.dm_stream.specs.declared.ending.Ending.TheVariants as endings
-use Rattle.dm_stream.specs.Messages.{ending_message, refused_request}
+use Rattle.dm_stream.specs.Messages.{earlier_message, ending_message, refused_request}
 use Rattle.dm_stream.specs.Run.{write_faults}
 use Rattle.lvm_volume.specs.declared.fault.NameFault.{NameFault}
 use Rattle.lvm_volume.specs.declared.fault.NameFault.TheVariants as names
@@ -29,6 +29,7 @@ name_status fault = STATUS_REFUSED
 abbrev pub refusal_status : Refusal → ℕ
 refusal_status (refusals.Load fault) = load_status fault.kind
 refusal_status (refusals.Name fault) = name_status fault
+refusal_status (refusals.Earlier fault) = STATUS_REFUSED
 refusal_status refusals.Split = STATUS_REFUSED
 refusal_status refusals.Untidy = STATUS_REFUSED
 
@@ -61,6 +62,7 @@ not_top_message number = refused_request number (codes "not top")
 abbrev pub refusal_message : Refusal → List ℕ
 refusal_message (refusals.Load fault) = load_message fault
 refusal_message (refusals.Name fault) = name_message fault
+refusal_message (refusals.Earlier fault) = earlier_message fault
 refusal_message refusals.Split = split_message
 refusal_message refusals.Untidy = untidy_message
 

@@ -1,12 +1,16 @@
 -- The whole run: what it writes, its message and its exit status, by what was delivered.
+-- It may come after earlier requests, which are played and not answered.
 use Rattle.std.specs.Prelude.{◌≡◌, ℕ, Bool, List, [], Option, None, Some}
 use Rattle.dm_table.specs.io.DeviceIo.{Delivery, OutputPast, written_since}
 use Rattle.dm_table.specs.io.Progress.{FailedOutput}
+use Rattle.dm_stream.specs.declared.earlier.EarlierFault.{EarlierFault}
+use Rattle.dm_stream.specs.declared.earlier.EarlierFault.TheVariants as earlier
 use Rattle.dm_stream.specs.declared.ending.Ending.{Ending}
-use Rattle.dm_map.specs.state.State.{start_state}
+use Rattle.dm_stream.specs.declared.ending.Ending.TheVariants as endings
+use Rattle.dm_map.specs.state.State.{State, start_state}
 use Rattle.dm_stack.specs.Description.{Description}
 use Rattle.dm_stream.specs.Messages.{IsTold}
-use Rattle.dm_stream.specs.Outcome.{Outcome, run_outcome}
+use Rattle.dm_stream.specs.Outcome.{Outcome, requests_outcome, run_outcome}
 use Rattle.dmremap.specs.declared.exit.Exit.{Exit}
 use Rattle.dmremap.specs.declared.exit.Exit.TheVariants.{Ended, Refused}
 use Rattle.dmremap.specs.declared.exit.Refusal.TheVariants as refusals
@@ -14,9 +18,14 @@ use Rattle.dmremap.specs.declared.job.Format.{Format}
 use Rattle.dmremap.specs.Exit.{exit_message, exit_status}
 use Rattle.dmremap.specs.Load.{Load, RefusedBy, SoundAs, PartsGive}
 
--- the outcome of what the requests delivered, over a stack in its state at the start; the flag asks for status lines
-abbrev pub outcome_of : Description → (flag : Bool) → Delivery → Outcome
-outcome_of description flag requests = run_outcome description flag (start_state description) requests
+-- the outcome of what earlier requests delivered, over a stack in its state at the start; where there are none, nothing happened yet
+abbrev pub earlier_outcome : Description → (before : Option Delivery) → Outcome
+earlier_outcome description None = record { output = []; state = start_state description; ending = Some endings.Done }
+earlier_outcome description (Some before) = requests_outcome description (start_state description) before
+
+-- the outcome of what the requests delivered, from the state that earlier ones left; the flag asks for status lines
+abbrev pub outcome_after : Description → (flag : Bool) → (before : Option Delivery) → Delivery → Outcome
+outcome_after description flag before requests = run_outcome description flag (earlier_outcome description before).state requests
 
 -- what a run gives
 pub record Whole : Type 0 where
@@ -33,29 +42,52 @@ abbrev pub ended_if : List ℕ → Option Ending → Option Whole
 ended_if output (Some ending) = Some (whole_at output (Ended ending))
 ended_if output None = None
 
--- a refused load writes nothing; a sound one goes by what the requests deliver
-abbrev pub whole_of : Load → (flag : Bool) → Delivery → Option Whole
-whole_of (RefusedBy fault) flag requests = Some (whole_at [] (Refused (refusals.Load fault)))
-whole_of (SoundAs description) flag requests =
-    let outcome = outcome_of description flag requests in ended_if outcome.output outcome.ending
+-- a run with this outcome begins only after earlier requests that came to a clean end; others are refused, and nothing is written
+abbrev pub earlier_refused : EarlierFault → Option Whole
+earlier_refused fault = Some (whole_at [] (Refused (refusals.Earlier fault)))
 
--- the format, the flag and the deliveries of the source, of the disk list and of the requests give this run
-pub record GiveWhole (format : Format) (flag : Bool) (source disks requests : Delivery) (whole : Whole) : Type 0 where
+abbrev pub begun_after : Option Ending → Outcome → Option Whole
+begun_after (Some endings.Done) outcome = ended_if outcome.output outcome.ending
+begun_after (Some (endings.BadRequest number word)) outcome = earlier_refused (earlier.BadRequest number word)
+begun_after (Some endings.ReadFault) outcome = earlier_refused earlier.Read
+begun_after (Some endings.WriteFault) outcome = None
+begun_after None outcome = None
+
+-- a refused load writes nothing; a sound one goes by what the requests deliver, those of before first
+abbrev pub whole_after : Load → (flag : Bool) → (before : Option Delivery) → Delivery → Option Whole
+whole_after (RefusedBy fault) flag before requests = Some (whole_at [] (Refused (refusals.Load fault)))
+whole_after (SoundAs description) flag before requests =
+    begun_after (earlier_outcome description before).ending (outcome_after description flag before requests)
+
+-- the format, the flag and the deliveries of the source, of the disk list, of earlier requests and of the requests give this run
+pub record GiveAfter (format : Format) (flag : Bool) (source disks : Delivery) (before : Option Delivery) (requests : Delivery) (whole : Whole) : Type 0 where
   pub load : Load
   pub loaded : PartsGive format source disks load
-  pub is : whole_of load flag requests ≡ Some whole
+  pub is : whole_after load flag before requests ≡ Some whole
+
+-- the same without earlier requests
+abbrev pub GiveWhole : (format : Format) (flag : Bool) (source disks requests : Delivery) → Whole → Type 0
+GiveWhole format flag source disks requests whole = GiveAfter format flag source disks None requests whole
 
 -- ---- by what became of the streams
 
 -- the deliveries gave this run: it wrote its output, told its message, and exits with this status
-pub record IsWholeRun (format : Format) (flag : Bool) (source disks requests : Delivery) (status : ℕ) (output_old output_new messages_old messages_new : OutputPast) : Type 0 where
+pub record IsRunAfter (format : Format) (flag : Bool) (source disks : Delivery) (before : Option Delivery) (requests : Delivery) (status : ℕ) (output_old output_new messages_old messages_new : OutputPast) : Type 0 where
   pub message : List ℕ
-  pub gives : GiveWhole format flag source disks requests (record { output = written_since output_old output_new; message = message; status = status })
+  pub gives : GiveAfter format flag source disks before requests (record { output = written_since output_old output_new; message = message; status = status })
   pub told : IsTold message messages_old messages_new
 
--- the output failed: a beginning was written of what the requests give that were delivered. Something was left to write where no flush was asked for,
--- and nothing where the flush failed.
-pub record IsFailedRun (format : Format) (flag : Bool) (source disks requests : Delivery) (old new : OutputPast) : Type 0 where
+abbrev pub IsWholeRun : (format : Format) (flag : Bool) (source disks requests : Delivery) (status : ℕ) (output_old output_new messages_old messages_new : OutputPast) → Type 0
+IsWholeRun format flag source disks requests status output_old output_new messages_old messages_new =
+    IsRunAfter format flag source disks None requests status output_old output_new messages_old messages_new
+
+-- the output failed: all earlier requests were played, and a beginning was written of what the requests give that were delivered. Something was left to
+-- write where no flush was asked for, and nothing where the flush failed.
+pub record IsFailedAfter (format : Format) (flag : Bool) (source disks : Delivery) (before : Option Delivery) (requests : Delivery) (old new : OutputPast) : Type 0 where
   pub description : Description
   pub loaded : PartsGive format source disks (SoundAs description)
-  pub output : FailedOutput (outcome_of description flag requests).output old new
+  pub played : (earlier_outcome description before).ending ≡ Some endings.Done
+  pub output : FailedOutput (outcome_after description flag before requests).output old new
+
+abbrev pub IsFailedRun : (format : Format) (flag : Bool) (source disks requests : Delivery) (old new : OutputPast) → Type 0
+IsFailedRun format flag source disks requests old new = IsFailedAfter format flag source disks None requests old new

@@ -1,6 +1,6 @@
 -- The command line of the program, and the job or the refusal that words have by it.
 use Rattle.std.specs.Prelude.{◌≡◌, ◌≢◌, ◌⊎◌, ◌∷◌, [], ℕ, Bool, true, false, List, Option, Some, Result, Ok, Err, IfOk, ⊤}
-use Rattle.std.specs.Prelude.{◌&&◌, ◌||◌, None, codes, drop, map, not, option_map}
+use Rattle.std.specs.Prelude.{◌&&◌, ◌||◌, None, codes, drop, is_some, map, not, option_map}
 use Rattle.std.specs.Prelude.{if◌then◌else◌}
 use Rattle.std.specs.Borrow.{Bor}
 use Rattle.std.specs.List.{before_first, list_any}
@@ -26,6 +26,9 @@ use Rattle.dmremap.specs.declared.job.Source.{Source}
 use Rattle.dmremap.specs.declared.job.TableForm.TheVariants.{Concise, Table}
 use Rattle.dmremap.specs.declared.status.TheConstants.{STATUS_DONE, STATUS_MEMORY, STATUS_WORDS}
 use Rattle.dmremap.specs.declared.words.Given.{Given}
+use Rattle.dmremap.specs.declared.words.Options.{Options}
+use Rattle.dmremap.specs.declared.words.MapOption.{MapOption}
+use Rattle.dmremap.specs.declared.words.MapOption.TheVariants as option
 use Rattle.dmremap.specs.declared.words.Lack.{Lack}
 use Rattle.dmremap.specs.declared.words.Lack.TheVariants as lack
 use Rattle.dmremap.specs.declared.words.WordsFault.{WordsFault}
@@ -69,6 +72,10 @@ flag_rule id action = record (new_rule id) { long = Some id; action = Some actio
 abbrev pub status_rule : Rule
 status_rule = flag_rule (codes "status") SetTrue
 
+-- the option that names a file of earlier requests, `--before REQUESTS`, which may stand once
+abbrev pub before_rule : Rule
+before_rule = record (optional_rule (codes "before")) { long = Some (codes "before") }
+
 -- the flag that asks for the version
 abbrev pub version_rule : Rule
 version_rule = flag_rule (codes "version") Version
@@ -81,9 +88,13 @@ three_app name first second third = with_rule (with_rule (with_rule (new_app nam
 abbrev pub loading_app : Text → ValueParser → App
 loading_app name parser = three_app name (format_rule parser) (required_rule (codes "file")) (optional_rule (codes "disks"))
 
--- `map FORMAT FILE [DISKS] [--status]`
+-- a command with the options of `map`
+abbrev pub with_options : App → App
+with_options command = with_rule (with_rule command status_rule) before_rule
+
+-- `map FORMAT FILE [DISKS] [--status] [--before REQUESTS]`
 abbrev pub map_app : ValueParser → App
-map_app parser = with_rule (loading_app (codes "map") parser) status_rule
+map_app parser = with_options (loading_app (codes "map") parser)
 
 -- `name VG LV [LAYER]`
 abbrev pub name_app : App
@@ -104,7 +115,7 @@ bare_app = on_top (λ s. record s {
 
 -- the program with what may stand before the command
 abbrev pub program_app : App
-program_app = with_rule (with_rule bare_app status_rule) version_rule
+program_app = with_rule (with_options bare_app) version_rule
 
 -- the program with these commands
 abbrev pub with_commands : App → List App → App
@@ -127,11 +138,16 @@ HasApp app result = IfOk result (λ command. app_of command ≡ app)
 abbrev pub has_flag : Text → List Row → Bool
 has_flag id rows = option_map_or (λ text. bytes_eq text (codes "true")) (first_of id rows) false
 
--- what clap found in words: whether `--status` stands before the command or among its words, and the other texts
-pub record GivenWords : Type 0 where
-  pub early : Bool
-  pub command : Text
+-- the options of `map` in one of the places where they may stand: whether `--status` is there, and the file of `--before`
+pub record OptionWords : Type 0 where
   pub status : Bool
+  pub before : Option Text
+
+-- what clap found in words: the options before the command and those among its words, and the other texts
+pub record GivenWords : Type 0 where
+  pub early : OptionWords
+  pub command : Text
+  pub options : OptionWords
   pub format : Option Text
   pub file : Option Text
   pub disks : Option Text
@@ -144,11 +160,14 @@ abbrev text_if : Option (Bor Text) → Option Text
 text_if word = option_map (λ w. w.now) word
 
 -- the texts of what was found
+abbrev pub option_words : Options → OptionWords
+option_words options = record { status = options.status; before = text_if options.before }
+
 abbrev pub given_words : Given → GivenWords
 given_words given = record {
-  early = given.early;
+  early = option_words given.early;
   command = given.command.now;
-  status = given.status;
+  options = option_words given.options;
   format = text_if given.format;
   file = text_if given.file;
   disks = text_if given.disks;
@@ -158,12 +177,16 @@ given_words given = record {
   name = text_if given.name;
 }
 
+-- the options that matches give
+abbrev pub options_in : List Row → OptionWords
+options_in rows = record { status = has_flag (codes "status") rows; before = first_of (codes "before") rows }
+
 -- what the matches of a command give
-abbrev pub given_in : (early : Bool) → Text → List Row → GivenWords
+abbrev pub given_in : (early : OptionWords) → Text → List Row → GivenWords
 given_in early command rows = record {
   early = early;
   command = command;
-  status = has_flag (codes "status") rows;
+  options = options_in rows;
   format = first_of (codes "format") rows;
   file = first_of (codes "file") rows;
   disks = first_of (codes "disks") rows;
@@ -182,37 +205,37 @@ source_at (Tables form) file (Some disks) = Ok (table_words form file disks)
 
 -- so is one whose format is named
 abbrev pub source_named : Option Format → Text → Option Text → Result SourceWords Lack
-source_named None file disks = Err lack.Place
+source_named None file disks = Err (lack.Place option.Status)
 source_named (Some format) file disks = source_at format file disks
 
 -- the source that these words say, of which the first two have to be there
 abbrev pub source_if : Option Text → Option Text → Option Text → Result SourceWords Lack
-source_if None file disks = Err lack.Place
-source_if (Some word) None disks = Err lack.Place
+source_if None file disks = Err (lack.Place option.Status)
+source_if (Some word) None disks = Err (lack.Place option.Status)
 source_if (Some word) (Some file) disks = source_named (format_named word) file disks
 
 -- the source that was given
 abbrev pub source_from : GivenWords → Result SourceWords Lack
 source_from given = source_if given.format given.file given.disks
 
--- the job of a command that loads a source; `map` alone is asked for status lines
-abbrev pub loading_job : Text → (status : Bool) → SourceWords → Result JobWords Lack
-loading_job command status from =
-    if bytes_eq command (codes "map") then Ok (map_words from status)
+-- the job of a command that loads a source; `map` alone has options
+abbrev pub loading_job : Text → OptionWords → SourceWords → Result JobWords Lack
+loading_job command options from =
+    if bytes_eq command (codes "map") then Ok (map_words from options.before options.status)
     else (if bytes_eq command (codes "table") then Ok (print_words Table from)
     else (if bytes_eq command (codes "concise") then Ok (print_words Concise from)
     else (if bytes_eq command (codes "check") then Ok (check_words from)
-    else (if bytes_eq command (codes "replay") then Ok (replay_words from) else Err lack.Place))))
+    else (if bytes_eq command (codes "replay") then Ok (replay_words from) else Err (lack.Place option.Status)))))
 
 -- the same where there may be no source
-abbrev pub loading_if : Text → (status : Bool) → Result SourceWords Lack → Result JobWords Lack
-loading_if command status (Ok from) = loading_job command status from
-loading_if command status (Err why) = Err why
+abbrev pub loading_if : Text → OptionWords → Result SourceWords Lack → Result JobWords Lack
+loading_if command options (Ok from) = loading_job command options from
+loading_if command options (Err why) = Err why
 
 -- the job of `name` with these words, of which the first two have to be there
 abbrev pub name_if : Option Text → Option Text → Option Text → Result JobWords Lack
-name_if None lv layer = Err lack.Place
-name_if (Some vg) None layer = Err lack.Place
+name_if None lv layer = Err (lack.Place option.Status)
+name_if (Some vg) None layer = Err (lack.Place option.Status)
 name_if (Some vg) (Some lv) layer = Ok (name_words (record { vg = vg; lv = lv; layer = layer }))
 
 abbrev pub name_from : GivenWords → Result JobWords Lack
@@ -220,27 +243,42 @@ name_from given = name_if given.vg given.lv given.layer
 
 -- the job of `splitname` with this word, which has to be there
 abbrev pub split_if : Option Text → Result JobWords Lack
-split_if None = Err lack.Place
+split_if None = Err (lack.Place option.Status)
 split_if (Some name) = Ok (split_words name)
 
 abbrev pub split_from : GivenWords → Result JobWords Lack
 split_from given = split_if given.name
 
--- `--status` stands before a command that is not `map`, or has it among its words too
-abbrev pub is_misplaced : GivenWords → Bool
-is_misplaced given = given.early && (given.status || not (bytes_eq given.command (codes "map")))
+-- an option stands before the command, which is not `map` or has it among its words too
+abbrev pub is_misplaced : (early own is_map : Bool) → Bool
+is_misplaced early own is_map = early && (own || not is_map)
+
+-- the options of both places together
+abbrev pub option_or : Option Text → Option Text → Option Text
+option_or (Some early) own = Some early
+option_or None own = own
+
+abbrev pub both_options : OptionWords → OptionWords → OptionWords
+both_options early own = record { status = early.status || own.status; before = option_or early.before own.before }
+
+-- the job that was given, whose options stand where they may
+abbrev pub placed_job : GivenWords → Result JobWords Lack
+placed_job given =
+    if bytes_eq given.command (codes "name") then name_from given
+    else (if bytes_eq given.command (codes "splitname") then split_from given
+    else loading_if given.command (both_options given.early given.options) (source_from given))
 
 -- the job that was given
 abbrev pub job_from : GivenWords → Result JobWords Lack
-job_from given = if is_misplaced given then Err lack.Place
-    else (if bytes_eq given.command (codes "name") then name_from given
-    else (if bytes_eq given.command (codes "splitname") then split_from given
-    else loading_if given.command (given.early || given.status) (source_from given)))
+job_from given = let is_map = bytes_eq given.command (codes "map") in
+    if is_misplaced given.early.status given.options.status is_map then Err (lack.Place option.Status)
+    else (if is_misplaced (is_some given.early.before) (is_some given.options.before) is_map then Err (lack.Place option.Before)
+    else placed_job given)
 
 -- what matches say, and those of their command, if there is one
 abbrev pub said_by : List Row → Option (Text × List Row) → Result JobWords Lack
-said_by rows None = Err lack.Place
-said_by rows (Some met) = job_from (given_in (has_flag (codes "status") rows) met.0 met.1)
+said_by rows None = Err (lack.Place option.Status)
+said_by rows (Some met) = job_from (given_in (options_in rows) met.0 met.1)
 
 -- what clap's matches of the words say
 abbrev pub said_in : App → List Text → Result JobWords Lack
@@ -292,9 +330,13 @@ IsUntaken words (Words error) = IsRefused words error
 IsUntaken words Disks = ⊥
 IsUntaken words Memory = ⊤
 
--- the program itself refuses the words, as an unknown argument: a lone hyphen, whatever else the words are, or words that clap takes, with `--status` where it may not stand
+-- clap takes the words, and an option of `map` stands where it may not
+abbrev pub IsMisplacedIn : List Text → Type 0
+IsMisplacedIn words = (wrong : MapOption) × IsTaken words (Err (lack.Place wrong))
+
+-- the program itself refuses the words, as an unknown argument: a lone hyphen, whatever else the words are, or an option where it may not stand
 abbrev pub RefusesItself : List Text → Error → Type 0
-RefusesItself words error = (kind_of error ≡ kind.UnknownArgument) × ((has_lone_hyphen words ≡ true) ⊎ IsTaken words (Err lack.Place))
+RefusesItself words error = (kind_of error ≡ kind.UnknownArgument) × ((has_lone_hyphen words ≡ true) ⊎ IsMisplacedIn words)
 
 -- the words ask for this job
 pub record IsJobOf (words : List Text) (job : Job) : Type 0 where

@@ -16,7 +16,9 @@ use crate::status::{
     STATUS_BAD_REQUEST, STATUS_DONE, STATUS_MEMORY, STATUS_READ_FAULT, STATUS_REFUSED,
     STATUS_WRITE_FAULT,
 };
-use dm_stream::{Ending, close_and_tell, message_of, refused_request, tell};
+use dm_stream::{
+    EarlierFault, Ending, close_and_tell, earlier_message, message_of, refused_request, tell,
+};
 use dm_table::{LoadFault, LoadKind, LoadMessage, OutFault, Output, append, memory_message};
 use lvm_volume::NameFault;
 
@@ -25,6 +27,8 @@ use lvm_volume::NameFault;
 pub(crate) enum Refusal {
     /// The load was refused.
     Load(LoadFault),
+    /// The requests before those of a run were refused.
+    Earlier(EarlierFault),
     /// The name was not built.
     Name(NameFault),
     /// No parts build the name.
@@ -54,7 +58,7 @@ impl Refusal {
         match self {
             Refusal::Load(fault) => load_status(fault.kind),
             Refusal::Name(fault) => name_status(fault),
-            Refusal::Split | Refusal::Untidy => STATUS_REFUSED,
+            Refusal::Earlier(_) | Refusal::Split | Refusal::Untidy => STATUS_REFUSED,
         }
     }
 }
@@ -118,6 +122,9 @@ impl Exit {
         let mut text = LoadMessage::new();
         match self {
             Exit::Refused(Refusal::Load(fault)) => return fault.message(),
+            Exit::Refused(Refusal::Earlier(fault)) => {
+                append(&mut text, earlier_message(fault).as_slice());
+            }
             Exit::Refused(Refusal::Name(fault)) => append(&mut text, fault.message()),
             Exit::Refused(Refusal::Split) => append(&mut text, b"dmremap: name: split\n"),
             Exit::Refused(Refusal::Untidy) => append(&mut text, b"dmremap: replay: untidy\n"),

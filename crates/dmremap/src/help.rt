@@ -11,7 +11,7 @@ pub(crate) const NOTES: &str = "\
 
 Exit status
   0  done, or help or the version was asked for
-  1  FILE, DISKS or a name was refused
+  1  FILE, DISKS, a name or the requests of --before were refused
   2  the words were refused
   3  a request was bad
   4  the requests could not be read
@@ -53,12 +53,14 @@ Lines
   --status  NAME: 0 LEN snapshot ALLOCATED/TOTAL METADATA
                                   what is used of a store, at the end of the requests
             NAME: 0 LEN snapshot Invalid
+  --before  requests, as those of the standard input: what they leave of snapshots is where the
+            requests of the standard input start from
 DEV, ORIGIN and STORE are a disk, or /dev/mapper/NAME for a device of FILE. KIND is P, N or K.
 A request has 1 to 1048576 sectors.
 
 Exit status
   0  all requests were answered
-  1  FILE or DISKS was refused
+  1  FILE, DISKS or the requests of --before were refused
   2  the words were refused
   3  a request was bad
   4  the requests could not be read
@@ -185,7 +187,10 @@ pub(crate) const DISKS_HELP: &str =
 pub(crate) const STATUS_HELP: &str =
     "After all pieces, print how much of each snapshot's store is used";
 
-pub(crate) const BEFORE_HELP: &str = "For `map`, whose help says what it prints";
+pub(crate) const BEFORE_HELP: &str =
+    "First play the requests of this file, and print nothing of them";
+
+pub(crate) const EARLY_HELP: &str = "For `map`, whose help says what it does";
 
 pub(crate) const VERSION_HELP: &str = "Print the version";
 

@@ -1,7 +1,7 @@
 //! dmremap maps block requests through device-mapper tables to the disks below.
 //!
-//! This file is the table of contents: `words` reads the command line, `map_whole` and `other_whole` do the
-//! work, and `main` joins them to the real files and streams and does nothing else.
+//! This file is the table of contents: `words` reads the command line, `map_whole`, `map_after` and
+//! `other_whole` do the work, and `main` joins them to the real files and streams and does nothing else.
 #![tactic(auto)]
 
 ghost use Rattle.std.specs.Prelude.{◌≡◌, true};
@@ -12,6 +12,7 @@ mod exit;
 mod help;
 mod job;
 mod load;
+mod map_after;
 mod map_whole;
 mod other_whole;
 mod part_file;
@@ -25,6 +26,7 @@ use dm_stream::Ending;
 use dm_table::{Counted, Gathered};
 use exit::Exit;
 use job::{Job, Source};
+use map_after::map_after;
 use map_whole::map_whole;
 use other_whole::other_whole;
 use part_file::PartFile;
@@ -61,7 +63,11 @@ fn answer(rt: &HostRuntime) -> Result<u8, WordsFault> {
         .map(|argument| argument.as_str())
         .collect(rt.alloc())?;
     match read_words(rt.alloc(), words.as_slice())? {
-        Job::Map { source, status } => Ok(map_files(rt, source, status)),
+        Job::Map {
+            source,
+            earlier,
+            status,
+        } => Ok(map_files(rt, source, earlier, status)),
         job => Ok(do_other(rt, &job)),
     }
 }
@@ -75,18 +81,41 @@ fn arguments_of(rt: &HostRuntime) -> Result<Vec<String>, WordsFault> {
     }
 }
 
-/// Maps the requests of the standard input through the tables of a source.
-fn map_files(rt: &HostRuntime, source: Source<'_>, status: bool) -> u8 {
-    map_whole(
-        rt.alloc(),
-        source.format(),
-        status,
-        &mut file_at(rt, source.file()),
-        &mut disks_at(rt, source),
-        &mut Counted::new(rt.stdin()),
-        &mut Gathered::new(Counted::new(rt.stdout())),
-        &mut Counted::new(rt.stderr()),
-    )
+/// Maps the requests of the standard input through the tables of a source, after those of a file, if there is one.
+fn map_files(
+    rt: &HostRuntime,
+    source: Source<'_>,
+    earlier: Option<&str>,
+    status: bool,
+) -> u8 {
+    let mut file = file_at(rt, source.file());
+    let mut disks = disks_at(rt, source);
+    let mut requests = Counted::new(rt.stdin());
+    let mut output = Gathered::new(Counted::new(rt.stdout()));
+    let mut messages = Counted::new(rt.stderr());
+    match earlier {
+        Some(path) => map_after(
+            rt.alloc(),
+            source.format(),
+            status,
+            &mut file,
+            &mut disks,
+            &mut file_at(rt, path),
+            &mut requests,
+            &mut output,
+            &mut messages,
+        ),
+        None => map_whole(
+            rt.alloc(),
+            source.format(),
+            status,
+            &mut file,
+            &mut disks,
+            &mut requests,
+            &mut output,
+            &mut messages,
+        ),
+    }
 }
 
 /// Does a job of another command.

@@ -10,8 +10,8 @@ ghost use Rattle.clap.specs.Walk.{texts};
 ghost use Rattle.clap.specs.Words.{App, Rule, app_of, found_of, kind_of, new_app, rows_of, rule_of, subcommand_rows_of, with_rule, with_subcommand};
 ghost use Rattle.clap.specs.declared.error.kind.ErrorKind.TheVariants as kind;
 ghost use Rattle.dmremap.specs.Job.{source_words};
-ghost use Rattle.dmremap.specs.Words.{HasApp, TakesFormats, bare_app, command_line, flag_rule, format_named, format_rule, loading_app, map_app, name_app, optional_rule, program_app, required_rule, split_app, status_rule, version_rule};
-ghost use Rattle.dmremap.specs.Words.{given_in, given_words, has_flag, has_lone_hyphen, job_from, job_said, loading_job, name_from, said_by, source_at, source_from, source_said, split_from};
+ghost use Rattle.dmremap.specs.Words.{HasApp, TakesFormats, bare_app, before_rule, command_line, flag_rule, format_named, format_rule, loading_app, map_app, name_app, optional_rule, program_app, required_rule, split_app, status_rule, version_rule, with_options};
+ghost use Rattle.dmremap.specs.Words.{both_options, given_in, given_words, has_flag, has_lone_hyphen, is_misplaced, job_from, job_said, loading_job, name_from, option_words, options_in, placed_job, said_by, source_at, source_from, source_said, split_from};
 ghost use Rattle.dmremap.specs.Words.{IsFaultOf, IsJobOf, IsOfKind, IsTaken, IsUntaken, fault_from, status_of};
 ghost use Rattle.dmremap.specs.declared.words.WordsFault.TheVariants as fault;
 
@@ -45,20 +45,36 @@ pub enum WordsFault {
 /// Why words that clap takes give no job.
 #[derive(Clone, Copy)]
 enum Lack {
-    /// `--status` stands where it may not. There is no other reason: clap asks for the words of a command.
-    Place,
+    /// An option stands where it may not. There is no other reason: clap asks for the words of a command.
+    Place(MapOption),
     /// DISKS is missing, or there is no place for it.
     Disks,
+}
+
+/// The options of `map`, which no other command has.
+#[derive(Clone, Copy)]
+enum MapOption {
+    /// `--status`.
+    Status,
+    /// `--before REQUESTS`.
+    Before,
+}
+
+/// What clap found of them in one of the places where they may stand.
+#[derive(Clone, Copy)]
+struct Options<'a> {
+    status: bool,
+    before: Option<&'a str>,
 }
 
 /// What clap found in words.
 #[derive(Clone, Copy)]
 struct Given<'a> {
-    /// Whether `--status` stands before the command.
-    early: bool,
+    /// The options before the command.
+    early: Options<'a>,
     command: &'a str,
-    /// Whether `--status` stands among the words of the command.
-    status: bool,
+    /// The options among the words of the command.
+    options: Options<'a>,
     format: Option<&'a str>,
     file: Option<&'a str>,
     disks: Option<&'a str>,
@@ -74,18 +90,31 @@ const LONE_HYPHEN: &str = "unexpected argument '-' found";
 
 const WRONG_STATUS: &str = "unexpected argument '--status' found: `map` alone takes it, once";
 
+const WRONG_BEFORE: &str = "unexpected argument '--before' found: `map` alone takes it, once";
+
 const FORMATS: &[&str] = &["lvm", "concise", "table"];
 
 // ---- what clap found
 
+/// The options of `map` that clap found.
+fn options_in<'a>(found: &ArgMatches<'a>) -> Options<'a>
+    ensures { option_words result ≡ options_in (rows_of (found_of found.now)) }
+{
+    Options {
+        status: has_flag(found, "status"),
+        before: found.get_str("before"),
+    }
+}
+
 /// What clap found in the words of a command.
-fn given_in<'a>(early: bool, command: &'a str, found: &ArgMatches<'a>) -> Given<'a>
-    ensures { given_words result ≡ given_in early command.entry.now (rows_of (found_of found.now)) }
+fn given_in<'a>(early: Options<'a>, command: &'a str, found: &ArgMatches<'a>) -> Given<'a>
+    ensures { given_words result
+        ≡ given_in (option_words early.entry) command.entry.now (rows_of (found_of found.now)) }
 {
     Given {
         early,
         command,
-        status: has_flag(found, "status"),
+        options: options_in(found),
         format: found.get_str("format"),
         file: found.get_str("file"),
         disks: found.get_str("disks"),
@@ -144,19 +173,27 @@ fn source_from<'a>(given: Given<'a>) -> Result<Source<'a>, Lack>
     match (given.format, given.file) {
         (Some(word), Some(file)) => match format_named(word) {
             Some(format) => source_at(format, file, given.disks),
-            None => Err(Lack::Place),
+            None => Err(Lack::Place(MapOption::Status)),
         },
-        _ => Err(Lack::Place),
+        _ => Err(Lack::Place(MapOption::Status)),
     }
 }
 
 /// The job of a command that loads this source.
-fn loading_job<'a>(command: &str, source: Source<'a>, status: bool) -> Result<Job<'a>, Lack>
+fn loading_job<'a>(
+    command: &str,
+    source: Source<'a>,
+    options: Options<'a>,
+) -> Result<Job<'a>, Lack>
     ensures { job_said result
-        ≡ loading_job command.now status (source_words source.entry) }
+        ≡ loading_job command.now (option_words options.entry) (source_words source.entry) }
 {
     match command {
-        "map" => Ok(Job::Map { source, status }),
+        "map" => Ok(Job::Map {
+            source,
+            earlier: options.before,
+            status: options.status,
+        }),
         "table" => Ok(Job::Print {
             form: TableForm::Table,
             source,
@@ -167,7 +204,7 @@ fn loading_job<'a>(command: &str, source: Source<'a>, status: bool) -> Result<Jo
         }),
         "check" => Ok(Job::Check(source)),
         "replay" => Ok(Job::Replay(source)),
-        _ => Err(Lack::Place),
+        _ => Err(Lack::Place(MapOption::Status)),
     }
 }
 
@@ -181,7 +218,7 @@ fn name_from<'a>(given: Given<'a>) -> Result<Job<'a>, Lack>
             lv,
             layer: given.layer,
         }),
-        _ => Err(Lack::Place),
+        _ => Err(Lack::Place(MapOption::Status)),
     }
 }
 
@@ -191,7 +228,43 @@ fn split_from<'a>(given: Given<'a>) -> Result<Job<'a>, Lack>
 {
     match given.name {
         Some(name) => Ok(Job::SplitName(name)),
-        None => Err(Lack::Place),
+        None => Err(Lack::Place(MapOption::Status)),
+    }
+}
+
+/// Whether an option that may stand before the command `map` or among its words stands elsewhere, or in both.
+fn is_misplaced(early: bool, own: bool, is_map: bool) -> bool
+    ensures { result ≡ is_misplaced early own is_map }
+{
+    early && (own || !is_map)
+}
+
+/// The options of both places together.
+fn both_options<'a>(early: Options<'a>, own: Options<'a>) -> Options<'a>
+    ensures { option_words result ≡ both_options (option_words early.entry) (option_words own.entry) }
+{
+    Options {
+        status: early.status || own.status,
+        before: match early.before {
+            Some(path) => Some(path),
+            None => own.before,
+        },
+    }
+}
+
+/// The job that words give in which clap found this, with no option where it may not stand.
+fn placed_job<'a>(given: Given<'a>) -> Result<Job<'a>, Lack>
+    ensures { job_said result ≡ placed_job (given_words given.entry) }
+{
+    match given.command {
+        "name" => name_from(given),
+        "splitname" => split_from(given),
+        command => match source_from(given) {
+            Ok(source) => {
+                loading_job(command, source, both_options(given.early, given.options))
+            }
+            Err(lack) => Err(lack),
+        },
     }
 }
 
@@ -199,17 +272,15 @@ fn split_from<'a>(given: Given<'a>) -> Result<Job<'a>, Lack>
 fn job_from<'a>(given: Given<'a>) -> Result<Job<'a>, Lack>
     ensures { job_said result ≡ job_from (given_words given.entry) }
 {
-    if given.early && (given.status || given.command != "map") {
-        return Err(Lack::Place);
+    let (early, own) = (given.early, given.options);
+    let is_map = given.command == "map";
+    if is_misplaced(early.status, own.status, is_map) {
+        return Err(Lack::Place(MapOption::Status));
     }
-    match given.command {
-        "name" => name_from(given),
-        "splitname" => split_from(given),
-        command => match source_from(given) {
-            Ok(source) => loading_job(command, source, given.early || given.status),
-            Err(lack) => Err(lack),
-        },
+    if is_misplaced(early.before.is_some(), own.before.is_some(), is_map) {
+        return Err(Lack::Place(MapOption::Before));
     }
+    placed_job(given)
 }
 
 /// The job that the words give in which clap found these matches.
@@ -219,9 +290,9 @@ fn said_by<'a>(matches: &ArgMatches<'a>) -> Result<Job<'a>, Lack>
 {
     match matches.subcommand() {
         Some((command, found)) => {
-            job_from(given_in(has_flag(matches, "status"), command, found))
+            job_from(given_in(options_in(matches), command, found))
         }
-        None => Err(Lack::Place),
+        None => Err(Lack::Place(MapOption::Status)),
     }
 }
 
@@ -334,6 +405,14 @@ fn status_flag<'a>(alloc: Global, help: &'a str) -> Arg<'a>
     flag(alloc, "status", ArgAction::SetTrue, help)
 }
 
+/// The option that names a file of earlier requests.
+fn before_option<'a>(alloc: Global, help: &'a str) -> Arg<'a>
+    ensures rule { rule_of result ≡ before_rule }
+    ensures local { result.global ≡ false }
+{
+    optional(alloc, "before", "REQUESTS", help).long("before")
+}
+
 /// A command with what its help says, and without words.
 fn titled<'a>(alloc: Global, name: &'a str, about: &'a str, notes: &'a str) -> Command<'a>
     ensures { app_of result ≡ new_app name.entry.now }
@@ -380,12 +459,25 @@ fn loading_command<'a>(
     with_word(command, optional(alloc, "disks", "DISKS", help::DISKS_HELP))
 }
 
-/// `map FORMAT FILE [DISKS] [--status]`.
+/// A command with the options of `map`, if there was memory for them.
+fn with_options<'a>(
+    alloc: Global,
+    command: Result<Command<'a>, AllocError>,
+    status_help: &'a str,
+    before_help: &'a str,
+) -> Result<Command<'a>, AllocError>
+    ensures { (app : App) → HasApp app command.entry → HasApp (with_options app) result }
+{
+    let command = with_word(command, status_flag(alloc, status_help));
+    with_word(command, before_option(alloc, before_help))
+}
+
+/// `map FORMAT FILE [DISKS] [--status] [--before REQUESTS]`.
 fn map_command<'a>(alloc: Global, parser: ValueParser<'a>) -> Result<Command<'a>, AllocError>
     ensures { HasApp (map_app parser.entry) result }
 {
     let command = loading_command(alloc, parser, "map", help::MAP_ABOUT, help::MAP_NOTES);
-    with_word(command, status_flag(alloc, help::STATUS_HELP))
+    with_options(alloc, command, help::STATUS_HELP, help::BEFORE_HELP)
 }
 
 /// `name VG LV [LAYER]`.
@@ -421,9 +513,11 @@ fn bare_program<'a>(alloc: Global) -> Command<'a>
 fn program_alone<'a>(alloc: Global) -> Result<Command<'a>, AllocError>
     ensures { HasApp program_app result }
 {
-    let line = with_word(
+    let line = with_options(
+        alloc,
         Ok(bare_program(alloc)),
-        status_flag(alloc, help::BEFORE_HELP),
+        help::EARLY_HELP,
+        help::EARLY_HELP,
     );
     with_word(line, version_flag(alloc))
 }
@@ -492,6 +586,14 @@ fn refusal_error(alloc: Global, kind: ErrorKind, text: &str) -> Result<clap::Err
     program(alloc)?.error(kind, text)
 }
 
+/// What is told of an option that stands where it may not.
+fn misplaced_text(option: MapOption) -> &'static str {
+    match option {
+        MapOption::Status => WRONG_STATUS,
+        MapOption::Before => WRONG_BEFORE,
+    }
+}
+
 /// Whether a word after the program's name is a hyphen alone, before the first `--`.
 fn has_lone_hyphen(words: &[&str]) -> bool
     ensures { result ≡ has_lone_hyphen (texts words.now) }
@@ -535,7 +637,11 @@ pub fn read_words<'a>(alloc: Global, words: &'a [&'a str]) -> Result<Job<'a>, Wo
     }
     match read_taken(alloc, words)? {
         Ok(job) => Ok(job),
-        Err(Lack::Place) => Err(refusal(alloc, ErrorKind::UnknownArgument, WRONG_STATUS)),
+        Err(Lack::Place(option)) => Err(refusal(
+            alloc,
+            ErrorKind::UnknownArgument,
+            misplaced_text(option),
+        )),
         Err(Lack::Disks) => Err(WordsFault::Disks),
     }
 }

@@ -17,7 +17,7 @@ fn words_of<'a>(rt: &impl Abort, alloc: Global, line: &'a str) -> Vec<&'a str> {
 }
 
 /// Words, and the job that they ask for, in the words of `shown`.
-static JOBS: [(&str, &str); 17] = [
+static JOBS: [(&str, &str); 21] = [
     ("map table a.table a.disks", "map a.table a.disks"),
     ("map table -- a.table a.disks", "map a.table a.disks"),
     ("map lvm vg0.backup", "map lvm vg0.backup"),
@@ -47,6 +47,22 @@ static JOBS: [(&str, &str); 17] = [
         "--status map table a.table a.disks",
         "status of a.table a.disks",
     ),
+    (
+        "map table a.table a.disks --before a.requests",
+        "map a.table a.disks after a.requests",
+    ),
+    (
+        "map --before=a.requests lvm vg0.backup",
+        "map lvm vg0.backup after a.requests",
+    ),
+    (
+        "--before a.requests map table a.table a.disks --status",
+        "status of a.table a.disks after a.requests",
+    ),
+    (
+        "--before= map lvm vg0.backup",
+        "map lvm vg0.backup after ",
+    ),
 ];
 
 /// The form of tables, a table being that of most rows.
@@ -57,12 +73,22 @@ fn shown_form(form: TableForm) -> &'static str {
     }
 }
 
-/// A command and its source, as a text.
-fn shown_source(rt: &impl Abort, alloc: Global, command: &str, source: Source<'_>) -> String {
+/// A command and its source, as a text, and the file of earlier requests.
+fn shown_source(
+    rt: &impl Abort,
+    alloc: Global,
+    command: &str,
+    source: Source<'_>,
+    earlier: Option<&str>,
+) -> String {
+    let (after, path) = match earlier {
+        Some(path) => (" after ", path),
+        None => ("", ""),
+    };
     let text = match source {
-        Source::Lvm { file } => format!(in alloc; "{command} lvm {file}"),
+        Source::Lvm { file } => format!(in alloc; "{command} lvm {file}{after}{path}"),
         Source::Tables { form, file, disks } => {
-            format!(in alloc; "{command} {}{file} {disks}", shown_form(form))
+            format!(in alloc; "{command} {}{file} {disks}{after}{path}", shown_form(form))
         }
     };
     text.expect(rt, "a text")
@@ -70,14 +96,18 @@ fn shown_source(rt: &impl Abort, alloc: Global, command: &str, source: Source<'_
 
 /// A job as a text.
 fn shown(rt: &impl Abort, alloc: Global, job: Job<'_>) -> String {
-    let (command, source) = match job {
-        Job::Map { source, status } => (if status { "status of" } else { "map" }, source),
+    let (command, source, earlier) = match job {
+        Job::Map {
+            source,
+            earlier,
+            status,
+        } => (if status { "status of" } else { "map" }, source, earlier),
         Job::Print { form, source } => match form {
-            TableForm::Table => ("table", source),
-            TableForm::Concise => ("concise", source),
+            TableForm::Table => ("table", source, None),
+            TableForm::Concise => ("concise", source, None),
         },
-        Job::Check(source) => ("check", source),
-        Job::Replay(source) => ("replay", source),
+        Job::Check(source) => ("check", source, None),
+        Job::Replay(source) => ("replay", source, None),
         Job::Name { vg, lv, layer } => {
             let text = match layer {
                 Some(layer) => format!(in alloc; "name {vg} {lv} {layer}"),
@@ -87,7 +117,7 @@ fn shown(rt: &impl Abort, alloc: Global, job: Job<'_>) -> String {
         }
         Job::SplitName(name) => return format!(in alloc; "splitname {name}").expect(rt, "a text"),
     };
-    shown_source(rt, alloc, command, source)
+    shown_source(rt, alloc, command, source, earlier)
 }
 
 #[test]

@@ -1,4 +1,4 @@
-use Rattle.std.proofs.Common.{ap, refl, sym, ◌≡◌, ◌∙◌}
+use Rattle.std.proofs.Common.{None, ap, refl, sym, ◌≡◌, ◌∙◌}
 use Rattle.dm_table.specs.io.DeviceIo.{delivery}
 use Rattle.dm_map.specs.state.State.{start_state}
 use Rattle.dm_map.proofs.LevelLemmas.{homes_free, reads_free, writes_free}
@@ -10,7 +10,7 @@ use Rattle.dmremap.specs.declared.exit.Refusal.TheVariants as refusals
 use Rattle.dmremap.specs.Exit.{exit_message, exit_status}
 use Rattle.dmremap.proofs.ExitLemmas.{exits_told, never_memory, ran_requests, read_on_none, refused_output, unasked_requests}
 use Rattle.dmremap.proofs.MapLemmas.{ran_failed, ran_output, ran_whole, refused_whole}
-use Rattle.dmremap.proofs.OneWhole.{one_whole}
+use Rattle.dmremap.proofs.OneWhole.{one_after}
 use Rattle.dmremap.proofs.map_whole.map_whole.Goals as goal
 
 -- ---- the load was refused
@@ -18,7 +18,7 @@ use Rattle.dmremap.proofs.map_whole.map_whole.Goals as goal
 pub returns-in-Err-clause-whole : goal.returns-in-Err-clause-whole
 returns-in-Err-clause-whole g c = λ five six. record {
   message = exit_message c.unloaded.result;
-  gives = refused_whole _ _ _ _ _ _ c.in-Err.fault c.unloaded.result _ c.unloaded.ensures c.in-Err.ensures.gives.refused (since-same (g.W.Output.past c.args.output.now).written) c.tell.ensures.is six;
+  gives = refused_whole _ _ _ _ None _ _ c.in-Err.fault c.unloaded.result _ c.unloaded.ensures c.in-Err.ensures.gives.refused (since-same (g.W.Output.past c.args.output.now).written) c.tell.ensures.is six;
   told = c.tell.ensures.told.told;
 }
 
@@ -29,7 +29,7 @@ returns-in-Ok-new-clause-whole g c = λ five six.
     let starts : c.in-Ok-new.mapper.state ≡ start_state c.in-Ok.stack = c.in-Ok-new.ensures.state ∙ ap start_state c.looker.ensures.stack in
     record {
       message = ending_message c.run.result;
-      gives = ran_whole _ _ _ _ _ _ _ c.in-Ok.stack c.in-Ok-new.mapper.state _ c.run.result _ c.in-Ok.ensures.gives.sound starts c.run.ensures.ran c.status.ensures five;
+      gives = ran_whole _ _ _ _ _ _ None _ c.in-Ok.stack c.in-Ok-new.mapper.state _ c.run.result _ c.in-Ok.ensures.gives.sound refl starts c.run.ensures.ran c.status.ensures five;
       told = c.run.ensures.told.told;
     }
 
@@ -40,7 +40,8 @@ returns-in-Ok-new-clause-beginning g c = λ five.
     record {
       description = c.in-Ok.stack;
       loaded = c.in-Ok.ensures.gives.sound;
-      output = ran_failed _ _ c.args.status requests c.in-Ok.stack c.in-Ok-new.mapper.state _ c.run.result _ starts c.run.ensures.ran c.status.ensures five;
+      played = refl;
+      output = ran_failed _ _ c.args.status None requests c.in-Ok.stack c.in-Ok-new.mapper.state _ c.run.result _ starts c.run.ensures.ran c.status.ensures five;
     }
 
 pub returns-in-Ok-new-clause-requests : goal.returns-in-Ok-new-clause-requests
@@ -69,13 +70,13 @@ returns-clause-output g c =
 -- ---- the clauses that speak of no run are laws of the definitions
 
 pub returns-in-Err-clause-one : goal.returns-in-Err-clause-one
-returns-in-Err-clause-one g c = one_whole
+returns-in-Err-clause-one g c = λ f flag s d q a b. one_after f flag s d None q a b
 
 pub returns-in-Ok-new-clause-one : goal.returns-in-Ok-new-clause-one
-returns-in-Ok-new-clause-one g c = one_whole
+returns-in-Ok-new-clause-one g c = λ f flag s d q a b. one_after f flag s d None q a b
 
 pub returns-clause-one : goal.returns-clause-one
-returns-clause-one g c = one_whole
+returns-clause-one g c = λ f flag s d q a b. one_after f flag s d None q a b
 
 pub returns-in-Err-clause-fewest : goal.returns-in-Err-clause-fewest
 returns-in-Err-clause-fewest g c = fewest_is
