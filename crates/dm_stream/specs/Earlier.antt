@@ -1,5 +1,5 @@
 -- What playing earlier requests leaves: requests that were carried out before a run, and that nobody waits for an answer of.
-use Rattle.std.specs.Prelude.{◌≡◌, Some, Result, IfErr, OnOk, Unit}
+use Rattle.std.specs.Prelude.{◌≡◌, Some, Result, IfErr, OnOk}
 use Rattle.dm_map.specs.state.State.{State}
 use Rattle.dm_stream.specs.Outcome.{Outcome}
 use Rattle.dm_stream.specs.declared.earlier.EarlierFault.{EarlierFault}
