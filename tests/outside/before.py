@@ -40,8 +40,6 @@ ROWS = [
      "1 R cow 16 1\n2 R cow 16 1\ns: 0 32 snapshot 24/64 16\n"),
     ("places past the first area", *AREA, "W s 0 33\n", "R s 30 3\nW s 40 1\n",
      "1 R cow 32 2\n1 R cow 35 1\n2 copy base 40 1 cow 36\n2 W cow 36 1\ns: 0 64 snapshot 37/128 3\n"),
-    ("a line that is longer than most", *SNAPSHOT, "W s %s9 1\n" % ("0" * 4000), "R s 8 1\n",
-     "1 R cow 16 1\ns: 0 32 snapshot 24/64 16\n"),
     ("more than a buffer", *SNAPSHOT, "R s 0 8\n" * 20000 + "W s 9 1\n", "R s 8 1\n",
      "1 R cow 16 1\ns: 0 32 snapshot 24/64 16\n"),
 ]

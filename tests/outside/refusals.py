@@ -93,7 +93,7 @@ TIMES = {("lvm_volume/fields/walk", "check_group", "sections_at"): 2}
 MADE = re.compile(r"(?<!== )\b\w+::(?:Memory|OutOfMemory)\b|\bLoadFault::memory\(|\bmemory_fault\(|\bout_of_memory\(|(?<!: )(?<!= )(?<!<)\bAlloc(?:Error|Failed)\b(?![>;<])")
 FUNCTION = re.compile(r" *(?:pub(?:\(\w+\))? )?fn (\w+)")
 # What is asked before a place is come to.
-ASKED = re.compile(r" *(?:let \w+\(.*?\) = |match |if |while )(.+?)(?:\(|(?: else)? \{|$)")
+ASKED = re.compile(r" *(?:let \w+\(.*?\) = |(?:let (?:mut )?\w+ = )?match |if |while )(.+?)(?:\(|(?: else)? \{|$)")
 # Lines that are no code, and uses, which may name no refusal by another name.
 ASIDE = re.compile(r" *(?:ghost|requires|ensures|(?:pub )?use)\b")
 # A pattern for a refusal and for something else: what is done there isn't done for want of memory alone.

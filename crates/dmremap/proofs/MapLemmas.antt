@@ -1,17 +1,17 @@
 -- What the exit of `map` says of the run.
-use Rattle.std.proofs.Common.{◌≡◌, ◌≢◌, Bool, ℕ, List, [], Option, Some, sym, ap, subst, ◌∙◌}
+use Rattle.std.proofs.Common.{◌≡◌, ◌≢◌, Bool, ℕ, List, [], Option, Some, refl, sym, ap, subst, ◌∙◌}
 use Rattle.dm_table.specs.declared.load.load_fault.LoadFault.{LoadFault}
 use Rattle.dm_table.specs.declared.load.load_fault.LoadKind.TheVariants as kinds
 use Rattle.dm_table.specs.io.DeviceIo.{Delivery, OutputPast, written_since}
 use Rattle.dm_table.specs.io.Progress.{FailedOutput}
 use Rattle.dm_table.specs.laws.Progress.{finished_as}
 use Rattle.dm_stack.specs.Description.{Description}
-use Rattle.dm_map.specs.state.State.{State}
+use Rattle.dm_map.specs.state.State.{State, start_state}
 use Rattle.dm_stream.specs.declared.ending.Ending.{Ending}
 use Rattle.dm_stream.specs.declared.ending.Ending.TheVariants as endings
 use Rattle.dm_stream.specs.Messages.{ending_message}
 use Rattle.dm_stream.specs.Earlier.{refused_ending}
-use Rattle.dm_stream.specs.Outcome.{Outcome, run_outcome}
+use Rattle.dm_stream.specs.Outcome.{Outcome, requests_outcome, run_outcome}
 use Rattle.dm_stream.specs.declared.earlier.EarlierFault.{EarlierFault}
 use Rattle.dm_stream.specs.declared.earlier.EarlierFault.TheVariants as earlier
 use Rattle.dm_stream.specs.Run.{HasRun}
@@ -55,6 +55,15 @@ refused_after format flag source disks before requests output description fault 
   is = ap (λ (e : Option Ending). begun_after e (outcome_after description flag before requests)) ends
       ∙ refused_is fault (outcome_after description flag before requests) ∙ at_exit output exit (exits.Refused (refusals.Earlier fault)) status same none is;
 }
+
+-- earlier requests were played from the state at the start
+pub played_ending : (description : Description) (start : State) (before : Delivery) (ending : Ending) → start ≡ start_state description → (requests_outcome description start before).ending ≡ Some ending
+    → (earlier_outcome description (Some before)).ending ≡ Some ending
+played_ending description start before ending starts ends = subst (λ (state : State). (requests_outcome description state before).ending ≡ Some ending) starts ends
+
+pub played_state : (description : Description) (start left : State) (before : Delivery) → start ≡ start_state description → left ≡ (requests_outcome description start before).state
+    → left ≡ (earlier_outcome description (Some before)).state
+played_state description start left before starts leaves = leaves ∙ ap (λ (state : State). (requests_outcome description state before).state) starts
 
 -- the status of a failed output has one ending
 five_is : (ending : Ending) → ending_status ending ≡ STATUS_WRITE_FAULT → ending ≡ endings.WriteFault

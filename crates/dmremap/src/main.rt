@@ -82,12 +82,7 @@ fn arguments_of(rt: &HostRuntime) -> Result<Vec<String>, WordsFault> {
 }
 
 /// Maps the requests of the standard input through the tables of a source, after those of a file, if there is one.
-fn map_files(
-    rt: &HostRuntime,
-    source: Source<'_>,
-    earlier: Option<&str>,
-    status: bool,
-) -> u8 {
+fn map_files(rt: &HostRuntime, source: Source<'_>, earlier: Option<&str>, status: bool) -> u8 {
     let mut file = file_at(rt, source.file());
     let mut disks = disks_at(rt, source);
     let mut requests = Counted::new(rt.stdin());

@@ -180,11 +180,7 @@ fn source_from<'a>(given: Given<'a>) -> Result<Source<'a>, Lack>
 }
 
 /// The job of a command that loads this source.
-fn loading_job<'a>(
-    command: &str,
-    source: Source<'a>,
-    options: Options<'a>,
-) -> Result<Job<'a>, Lack>
+fn loading_job<'a>(command: &str, source: Source<'a>, options: Options<'a>) -> Result<Job<'a>, Lack>
     ensures { job_said result
         ≡ loading_job command.now (option_words options.entry) (source_words source.entry) }
 {
@@ -260,9 +256,7 @@ fn placed_job<'a>(given: Given<'a>) -> Result<Job<'a>, Lack>
         "name" => name_from(given),
         "splitname" => split_from(given),
         command => match source_from(given) {
-            Ok(source) => {
-                loading_job(command, source, both_options(given.early, given.options))
-            }
+            Ok(source) => { loading_job(command, source, both_options(given.early, given.options)) }
             Err(lack) => Err(lack),
         },
     }
@@ -289,9 +283,7 @@ fn said_by<'a>(matches: &ArgMatches<'a>) -> Result<Job<'a>, Lack>
         ≡ said_by (rows_of (found_of matches.now)) (subcommand_rows_of matches.now) }
 {
     match matches.subcommand() {
-        Some((command, found)) => {
-            job_from(given_in(options_in(matches), command, found))
-        }
+        Some((command, found)) => { job_from(given_in(options_in(matches), command, found)) }
         None => Err(Lack::Place(MapOption::Status)),
     }
 }

@@ -99,8 +99,16 @@ fn check(rt: &impl Abort, alloc: Global, case: &Case<'_>, step: usize)
         &mut written,
         &mut messages,
     );
-    assert!(rt; written.as_slice() == case.output, "the output of {}", case.name);
-    assert!(rt; messages.as_slice() == case.message, "the message of {}", case.name);
+    assert!(rt;
+        written.as_slice() == case.output,
+        "the output of {}",
+        case.name
+    );
+    assert!(rt;
+        messages.as_slice() == case.message,
+        "the message of {}",
+        case.name
+    );
     assert_eq!(rt; status, case.status, "the status of {}", case.name);
 }
 

@@ -59,10 +59,7 @@ static JOBS: [(&str, &str); 21] = [
         "--before a.requests map table a.table a.disks --status",
         "status of a.table a.disks after a.requests",
     ),
-    (
-        "--before= map lvm vg0.backup",
-        "map lvm vg0.backup after ",
-    ),
+    ("--before= map lvm vg0.backup", "map lvm vg0.backup after "),
 ];
 
 /// The form of tables, a table being that of most rows.

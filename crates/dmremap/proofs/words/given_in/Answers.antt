@@ -13,4 +13,4 @@ returns c =
     let lv = c.get_str-5.ensures ∙ first_value-rows found (codes "lv") in
     let layer = c.get_str-6.ensures ∙ first_value-rows found (codes "layer") in
     let name = c.get_str-7.ensures ∙ first_value-rows found (codes "name") in
-    rw (c.has_flag.ensures, format, file, disks, vg, lv, layer, name) refl
+    rw (c.options_in.ensures, format, file, disks, vg, lv, layer, name) refl
