@@ -1,9 +1,11 @@
 -- Requests at the front of held bytes that are answered together.
-use Rattle.std.specs.Prelude.{◌≡◌, ℕ, List, ◌++◌, map}
+use Rattle.std.specs.Prelude.{◌≡◌, ℕ, ◌+◌, ◌≤◌, List, ◌++◌, drop, length, map}
 use Rattle.dm_table.specs.io.DeviceIo.{Stand}
 use Rattle.dm_stream.specs.Lines.{line_parts}
 use Rattle.dm_stream.specs.Requests.{IsAmong, NumberedRequest, after_requests, numbered, requests_from}
+use Rattle.dm_stream.specs.declared.batch.Answered.{Answered}
 use Rattle.dm_stream.specs.declared.front.Front.{Front}
+use Rattle.dm_stream.specs.declared.requests.TheConstants.{MOST_REQUESTS}
 
 -- whatever comes after the bytes, their requests from line n on are these, and then those of a rest from line k on
 abbrev pub AreFirst : (n : ℕ) (bytes : List ℕ) → List NumberedRequest → (k : ℕ) (rest : List ℕ) → Type 0
@@ -17,6 +19,12 @@ front_requests fronts = map (λ front. numbered front.request) fronts
 -- the first requests of the bytes, from line n on, were answered, and those of the rest come next, from line k on
 abbrev pub AreFirstAnswered : {H S : Type 0} → (AreAnswered : H → S → List NumberedRequest → H → S → Type 0) → (n : ℕ) (bytes : List ℕ) (k : ℕ) (rest : List ℕ) → H → S → H → S → Type 0
 AreFirstAnswered AreAnswered n bytes k rest h0 s0 h1 s1 = (requests : List NumberedRequest) × AreFirst n bytes requests k rest × AreAnswered h0 s0 requests h1 s1
+
+-- so many requests at the front of the bytes, after others, were answered, and their lines have so many bytes
+pub record HasAnsweredFronts {H S : Type 0} (AreAnswered : H → S → List NumberedRequest → H → S → Type 0) (others : ℕ) (bytes : List ℕ) (fronts : Answered) (h0 : H) (s0 : S) (h1 : H) (s1 : S) : Type 0 where
+  pub answered : AreFirstAnswered AreAnswered (others + 1) bytes (others + fronts.count + 1) (drop fronts.len bytes) h0 s0 h1 s1
+  pub within : fronts.len ≤ length bytes
+  pub few : others + fronts.count ≤ MOST_REQUESTS
 
 -- a first part of the requests of the bytes, from line n on
 abbrev pub IsAmongFirst : (IsThis : List NumberedRequest → Type 0) → (n : ℕ) (bytes : List ℕ) → Type 0
