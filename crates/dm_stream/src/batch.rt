@@ -5,9 +5,9 @@
 //! held bytes are all read, the handler is told of each, and only then is the first one answered. No input is
 //! read in between, so no answer goes out later than it would one by one.
 
-ghost use Rattle.std.specs.Prelude.{◌≡◌, ◌+◌, ◌≤◌, [], length, drop, IfOk, IfErr, OnOk, Some};
+ghost use Rattle.std.specs.Prelude.{◌≡◌, ◌+◌, ◌≤◌, [], length, drop, IfErr, OnOk, Some};
 ghost use Rattle.std.specs.List.{All};
-ghost use Rattle.dm_stream.specs.Batch.{AreFirst, HasAnsweredFronts, IsAmongFirst, front_requests};
+ghost use Rattle.dm_stream.specs.Batch.{AnswersFronts, AreFirst, front_requests};
 ghost use Rattle.dm_stream.specs.Outcome.{device_of};
 ghost use Rattle.dm_stream.specs.Requests.{IsAmong};
 ghost use Rattle.dm_stream.specs.declared.requests.TheConstants.{MOST_REQUESTS};
@@ -40,11 +40,8 @@ pub(crate) fn answer_fronts<H: Handler>(
 ) -> Result<Answered, H::Fault>
     requires ready { H.ready stack.now handler.old source.old }
     requires few { done ≤ MOST_REQUESTS }
-    ensures answered { IfOk result (λ fronts. HasAnsweredFronts (H.answered stack.now) done held.now fronts
-        handler.old source.old handler.new source.new) }
-    ensures ready { OnOk result (H.ready stack.now handler.new source.new) }
-    ensures stopped { IfErr result (λ fault. IsAmongFirst
-        (λ first. H.stopped stack.now handler.old source.old first fault handler.new source.new) (done + 1) held.now) }
+    ensures { AnswersFronts (H.ready stack.now) (H.answered stack.now) (H.stopped stack.now) done held.now
+        handler.old source.old handler.new source.new result }
 {
     if gathers {
         answer_batch(stack, handler, source, held, done)
@@ -64,11 +61,8 @@ fn answer_front<H: Handler>(
 ) -> Result<Answered, H::Fault>
     requires ready { H.ready stack.now handler.old source.old }
     requires few { done ≤ MOST_REQUESTS }
-    ensures answered { IfOk result (λ fronts. HasAnsweredFronts (H.answered stack.now) done held.now fronts
-        handler.old source.old handler.new source.new) }
-    ensures ready { OnOk result (H.ready stack.now handler.new source.new) }
-    ensures stopped { IfErr result (λ fault. IsAmongFirst
-        (λ first. H.stopped stack.now handler.old source.old first fault handler.new source.new) (done + 1) held.now) }
+    ensures { AnswersFronts (H.ready stack.now) (H.answered stack.now) (H.stopped stack.now) done held.now
+        handler.old source.old handler.new source.new result }
 {
     let Some(front) = front_of(stack, held, done + 1) else {
         return Ok(Answered { count: 0, len: 0 });
@@ -93,11 +87,8 @@ fn answer_batch<H: Handler>(
 ) -> Result<Answered, H::Fault>
     requires ready { H.ready stack.now handler.old source.old }
     requires few { done ≤ MOST_REQUESTS }
-    ensures answered { IfOk result (λ fronts. HasAnsweredFronts (H.answered stack.now) done held.now fronts
-        handler.old source.old handler.new source.new) }
-    ensures ready { OnOk result (H.ready stack.now handler.new source.new) }
-    ensures stopped { IfErr result (λ fault. IsAmongFirst
-        (λ first. H.stopped stack.now handler.old source.old first fault handler.new source.new) (done + 1) held.now) }
+    ensures { AnswersFronts (H.ready stack.now) (H.answered stack.now) (H.stopped stack.now) done held.now
+        handler.old source.old handler.new source.new result }
 {
     let mut fronts = ArrayVec::new();
     let len = read_fronts(stack, held, done, &mut fronts);

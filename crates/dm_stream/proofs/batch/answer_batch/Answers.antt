@@ -5,8 +5,8 @@ use Rattle.dm_stream.specs.declared.requests.TheConstants.{MOST_REQUESTS}
 use Rattle.dm_stream.proofs.Batches.{among_those}
 use Rattle.dm_stream.proofs.batch.answer_batch.Goals as goal
 
-pub returns-in-Err-clause-stopped : goal.returns-in-Err-clause-stopped
-returns-in-Err-clause-stopped g c =
+pub returns-in-Err : goal.returns-in-Err
+returns-in-Err g c =
     let fronts = c.read_fronts-len.new.fronts.items in
     let len = c.read_fronts-len.result in
     let source = c.args.source.now in (
@@ -19,8 +19,8 @@ returns-in-Err-clause-stopped g c =
           c.in-Err.ensures.stopped,
     )
 
-pub returns-clause-answered : goal.returns-clause-answered
-returns-clause-answered g c =
+pub returns : goal.returns
+returns g c =
     let fronts = c.read_fronts-len.new.fronts.items in
     let len = c.read_fronts-len.result in
     let source = c.args.source.now in
@@ -34,4 +34,5 @@ returns-clause-answered g c =
       );
       within = c.read_fronts-len.ensures.within;
       few = subst (λ (k : ℕ). c.args.done + k ≤ MOST_REQUESTS) (sym c.len.ensures.value) c.read_fronts-len.ensures.few;
+      ready = c.in_default.ensures.ready;
     }

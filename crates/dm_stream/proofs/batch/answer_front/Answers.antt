@@ -3,8 +3,8 @@ use Rattle.dm_stream.specs.Requests.{numbered}
 use Rattle.dm_stream.proofs.Batches.{line_is_first}
 use Rattle.dm_stream.proofs.batch.answer_front.Goals as goal
 
-pub returns-clause-answered : goal.returns-clause-answered
-returns-clause-answered g c =
+pub returns : goal.returns
+returns g c =
     let front = c.in-Some.front in
     let is = c.in-Some.ensures in
     let requests = numbered front.request ∷ [] in
@@ -16,10 +16,11 @@ returns-clause-answered g c =
       );
       within = omega (arith, is.within);
       few = omega (arith, is.few);
+      ready = c.in_default-handle.ensures.ready;
     }
 
-pub returns-in-Err-clause-stopped : goal.returns-in-Err-clause-stopped
-returns-in-Err-clause-stopped g c =
+pub returns-in-Err : goal.returns-in-Err
+returns-in-Err g c =
     let front = c.in-Some.front in
     let is = c.in-Some.ensures in
     let requests = numbered front.request ∷ [] in (

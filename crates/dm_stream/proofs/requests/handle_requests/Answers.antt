@@ -30,21 +30,21 @@ lines-init g c = record {
 pub lines-preserved-then-count-gt0 : goal.lines-preserved-then-count-gt0
 lines-preserved-then-count-gt0 g c = record {
   ready = c.in-Ok.ensures.ready;
-  few = c.in-Ok.ensures.answered.few;
-  turned = after_batch _ c.in-Ok.fronts.len _ _ (g.met.H.Handler.answered_then_answered c.args.stack.now) c.lines.invariant.turned c.in-Ok.ensures.answered.answered c.held-held.ensures c.skip.ensures;
+  few = c.in-Ok.ensures.few;
+  turned = after_batch _ c.in-Ok.fronts.len _ _ (g.met.H.Handler.answered_then_answered c.args.stack.now) c.lines.invariant.turned c.in-Ok.ensures.answered c.held-held.ensures c.skip.ensures;
 }
 
 pub returns-in-Err-clause-stopped : goal.returns-in-Err-clause-stopped
 returns-in-Err-clause-stopped g c =
     let so_far = c.lines.invariant.turned in
-    among_batch (g.R.Input.past c.args.requests.now) (g.R.Input.past c.lines.requests) c.lines.lines c.held-held.result.now (c.lines.number + 1) so_far.done _ _ so_far.told c.held-held.ensures c.in-Err.ensures.stopped
+    among_batch (g.R.Input.past c.args.requests.now) (g.R.Input.past c.lines.requests) c.lines.lines c.held-held.result.now (c.lines.number + 1) so_far.done _ _ so_far.told c.held-held.ensures c.in-Err.ensures
     (λ first stopped. g.met.H.Handler.answered_then_stopped c.args.stack.now c.args.handler.now c.lines.handler c.answer_fronts.new.handler c.args.source.now c.lines.source c.answer_fronts.new.source so_far.done first _ so_far.answered stopped)
 
 -- The next line, before which the handler was told of a read
 
 pub lines-preserved : goal.lines-preserved
 lines-preserved g c =
-    let turned = after_batch _ c.in-Ok.fronts.len _ _ (g.met.H.Handler.answered_then_answered c.args.stack.now) c.lines.invariant.turned c.in-Ok.ensures.answered.answered c.held-held.ensures c.skip.ensures in
+    let turned = after_batch _ c.in-Ok.fronts.len _ _ (g.met.H.Handler.answered_then_answered c.args.stack.now) c.lines.invariant.turned c.in-Ok.ensures.answered c.held-held.ensures c.skip.ensures in
     let so_far = after_waiting (g.met.H.Handler.answered_then_answered c.args.stack.now) turned (c.before_read.ensures.answered c.args.stack.now c.answer_fronts.new.source) in
     let h0 = (g.R.Input.past c.args.requests.now).handed in
     let h1 = (g.R.Input.past c.lines.requests).handed in
@@ -68,38 +68,38 @@ lines-preserved g c =
 
 pub returns-in-Err-request_of-clause-answered : goal.returns-in-Err-request_of-clause-answered
 returns-in-Err-request_of-clause-answered g c =
-    let turned = after_batch _ c.in-Ok.fronts.len _ _ (g.met.H.Handler.answered_then_answered c.args.stack.now) c.lines.invariant.turned c.in-Ok.ensures.answered.answered c.held-held.ensures c.skip.ensures in
+    let turned = after_batch _ c.in-Ok.fronts.len _ _ (g.met.H.Handler.answered_then_answered c.args.stack.now) c.lines.invariant.turned c.in-Ok.ensures.answered c.held-held.ensures c.skip.ensures in
     ended (g.H.Handler.answered c.args.stack.now) (g.R.Input.past c.next.new.reader) (ALine c.in-Line.line.now) (ending.TheVariants.BadRequest (c.lines.number + c.in-Ok.fronts.count + 1) c.in-Err-request_of.word) (g.met.H.Handler.answered_then_answered c.args.stack.now) turned (c.before_read.ensures.answered c.args.stack.now c.answer_fronts.new.source) c.in-Line.ensures.reads.grows c.in-Line.ensures.answer c.in-Err-request_of.ensures.bad
 
 pub returns-in-Err-request_of-clause-met : goal.returns-in-Err-request_of-clause-met
 returns-in-Err-request_of-clause-met g c =
-    let turned = after_batch _ c.in-Ok.fronts.len _ _ (g.met.H.Handler.answered_then_answered c.args.stack.now) c.lines.invariant.turned c.in-Ok.ensures.answered.answered c.held-held.ensures c.skip.ensures in
+    let turned = after_batch _ c.in-Ok.fronts.len _ _ (g.met.H.Handler.answered_then_answered c.args.stack.now) c.lines.invariant.turned c.in-Ok.ensures.answered c.held-held.ensures c.skip.ensures in
     bad_met (g.R.Input.past c.args.requests.now) (g.R.Input.past c.next.new.reader) (c.lines.number + c.in-Ok.fronts.count + 1) c.in-Err-request_of.word
     (c.in-Line.ensures.quiet.0 ∙ turned.faults, c.in-Line.ensures.quiet.1 ∙ turned.ends)
 
 pub returns-in-End-clause-answered : goal.returns-in-End-clause-answered
 returns-in-End-clause-answered g c =
-    let turned = after_batch _ c.in-Ok.fronts.len _ _ (g.met.H.Handler.answered_then_answered c.args.stack.now) c.lines.invariant.turned c.in-Ok.ensures.answered.answered c.held-held.ensures c.skip.ensures in
+    let turned = after_batch _ c.in-Ok.fronts.len _ _ (g.met.H.Handler.answered_then_answered c.args.stack.now) c.lines.invariant.turned c.in-Ok.ensures.answered c.held-held.ensures c.skip.ensures in
     ended (g.H.Handler.answered c.args.stack.now) (g.R.Input.past c.next.new.reader) AnEnd ending.TheVariants.Done (g.met.H.Handler.answered_then_answered c.args.stack.now) turned (c.before_read.ensures.answered c.args.stack.now c.answer_fronts.new.source) c.in-End.ensures.reads.grows c.in-End.ensures.answer (λ rest. refl)
 
 pub returns-in-Unended-clause-answered : goal.returns-in-Unended-clause-answered
 returns-in-Unended-clause-answered g c =
-    let turned = after_batch _ c.in-Ok.fronts.len _ _ (g.met.H.Handler.answered_then_answered c.args.stack.now) c.lines.invariant.turned c.in-Ok.ensures.answered.answered c.held-held.ensures c.skip.ensures in
+    let turned = after_batch _ c.in-Ok.fronts.len _ _ (g.met.H.Handler.answered_then_answered c.args.stack.now) c.lines.invariant.turned c.in-Ok.ensures.answered c.held-held.ensures c.skip.ensures in
     ended (g.H.Handler.answered c.args.stack.now) (g.R.Input.past c.next.new.reader) AnUnended (ending.TheVariants.BadRequest (c.lines.number + c.in-Ok.fronts.count + 1) word.TheVariants.Unended) (g.met.H.Handler.answered_then_answered c.args.stack.now) turned (c.before_read.ensures.answered c.args.stack.now c.answer_fronts.new.source) c.in-Unended.ensures.reads.grows c.in-Unended.ensures.answer (λ rest. refl)
 
 pub returns-in-Long-clause-answered : goal.returns-in-Long-clause-answered
 returns-in-Long-clause-answered g c =
-    let turned = after_batch _ c.in-Ok.fronts.len _ _ (g.met.H.Handler.answered_then_answered c.args.stack.now) c.lines.invariant.turned c.in-Ok.ensures.answered.answered c.held-held.ensures c.skip.ensures in
+    let turned = after_batch _ c.in-Ok.fronts.len _ _ (g.met.H.Handler.answered_then_answered c.args.stack.now) c.lines.invariant.turned c.in-Ok.ensures.answered c.held-held.ensures c.skip.ensures in
     ended (g.H.Handler.answered c.args.stack.now) (g.R.Input.past c.next.new.reader) ALong (ending.TheVariants.BadRequest (c.lines.number + c.in-Ok.fronts.count + 1) word.TheVariants.Long) (g.met.H.Handler.answered_then_answered c.args.stack.now) turned (c.before_read.ensures.answered c.args.stack.now c.answer_fronts.new.source) c.in-Long.ensures.reads.grows c.in-Long.ensures.answer (λ rest. refl)
 
 pub returns-in-ReadFault-clause-answered : goal.returns-in-ReadFault-clause-answered
 returns-in-ReadFault-clause-answered g c =
-    let turned = after_batch _ c.in-Ok.fronts.len _ _ (g.met.H.Handler.answered_then_answered c.args.stack.now) c.lines.invariant.turned c.in-Ok.ensures.answered.answered c.held-held.ensures c.skip.ensures in
+    let turned = after_batch _ c.in-Ok.fronts.len _ _ (g.met.H.Handler.answered_then_answered c.args.stack.now) c.lines.invariant.turned c.in-Ok.ensures.answered c.held-held.ensures c.skip.ensures in
     ended (g.H.Handler.answered c.args.stack.now) (g.R.Input.past c.next.new.reader) AFault ending.TheVariants.ReadFault (g.met.H.Handler.answered_then_answered c.args.stack.now) turned (c.before_read.ensures.answered c.args.stack.now c.answer_fronts.new.source) c.in-ReadFault.ensures.reads.grows c.in-ReadFault.ensures.answer (λ rest. refl)
 
 pub returns-in-Err-handle-clause-stopped : goal.returns-in-Err-handle-clause-stopped
 returns-in-Err-handle-clause-stopped g c =
-    let turned = after_batch _ c.in-Ok.fronts.len _ _ (g.met.H.Handler.answered_then_answered c.args.stack.now) c.lines.invariant.turned c.in-Ok.ensures.answered.answered c.held-held.ensures c.skip.ensures in
+    let turned = after_batch _ c.in-Ok.fronts.len _ _ (g.met.H.Handler.answered_then_answered c.args.stack.now) c.lines.invariant.turned c.in-Ok.ensures.answered c.held-held.ensures c.skip.ensures in
     let so_far = after_waiting (g.met.H.Handler.answered_then_answered c.args.stack.now) turned (c.before_read.ensures.answered c.args.stack.now c.answer_fronts.new.source) in
     let first = g.R.Input.past c.args.requests.now in
     let mid = g.R.Input.past c.lines.requests in
