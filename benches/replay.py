@@ -7,6 +7,9 @@ PROGRAM is the built program, crates/dmremap/out/dmremap. Each line tells what i
 times (up to MOST, 1000000 if not said), the seconds of processor time, how much longer they are than
 those of a tenth, and the bytes of memory for each request, over those of a run without one. Time
 that is near-linear grows by a factor of 10 to 14.
+
+Then, for a tenth of MOST, what requests of a sector take over large stacks: the seconds over those of a run without
+a request, and how many times as long as over one line.
 """
 
 import os
@@ -24,6 +27,13 @@ COLUMNS = 128
 SCATTERED = ("a: 0 1048576 striped %d 1 %s\n" % (COLUMNS, " ".join("base %d" % (8192 * it) for it in range(COLUMNS))),
              "base 1048576\n")
 CHUNKS = ("s: 0 100000 snapshot base cow P 1\n", "base 100000\ncow 200000\n")
+
+SECTORS = 40000
+ONE_LINE = ("a: 0 %d linear base 0\n" % SECTORS, "base %d\n" % SECTORS)
+LINES = ("".join("a: %d 1 linear base %d\n" % (it, it) for it in range(SECTORS)), "base %d\n" % SECTORS)
+DEVICES = ("".join("d%d: 0 40 linear base %d\n" % (it, 40 * it) for it in range(1000)), "base %d\n" % SECTORS)
+STRIPES = ("".join("a: %d 128 striped 128 1 %s\n" % (128 * line, " ".join("base %d" % (128 * line + it) for it in range(128)))
+                   for line in range(320)), "base 40960\n")
 
 
 def rising(count):
@@ -57,6 +67,19 @@ def of_both(count):
         yield "W %s %d 1\nR %s %d 8\n" % ("as"[it % 2], dice.randrange(LENGTH), "sa"[it % 2], dice.randrange(LENGTH - 8))
 
 
+def of_a_sector(count):
+    """Writes and reads of a sector, in turn, of a device of at least so many sectors."""
+    dice = random.Random(3)
+    return ["%s a %d 1\n" % ("RW"[it % 2], dice.randrange(SECTORS)) for it in range(count)]
+
+
+def of_devices(count):
+    """The same requests, to the thousand devices that share the sectors."""
+    for line in of_a_sector(count):
+        op, _, sector, length = line.split()
+        yield "%s d%d %d %s\n" % (op, int(sector) // 40, int(sector) % 40, length)
+
+
 def one_write(device):
     return lambda count: ["W %s 0 %d\n" % (device, count)]
 
@@ -76,6 +99,19 @@ def main():
         show(name, stack, make, most)
     show("a write of scattered sectors, and a read of all", SCATTERED, write_and_read, 1048576)
     show("a write to a snapshot of chunk 1", CHUNKS, one_write("s"), 100000)
+    print("\n| requests of a sector over | how many | seconds more than with none | times one line |\n|---|---|---|---|")
+    one = 0
+    for name, stack, make in [("one line", ONE_LINE, of_a_sector), ("40,000 lines", LINES, of_a_sector),
+                              ("1,000 devices", DEVICES, of_devices), ("320 lines of 128 columns", STRIPES, of_a_sector)]:
+        more = least(stack, make(most // 10)) - least(stack, [])
+        one = one or more
+        print("| %s | %d | %.3f | %.2f |" % (name, most // 10, more, more / one), flush=True)
+
+
+def least(stack, requests):
+    """The least seconds of processor time of some replays."""
+    requests = list(requests)
+    return min(measure(stack, requests)[0] for _ in range(5))
 
 
 def show(name, stack, make, count):

@@ -11,6 +11,9 @@ from snapshots import Plain, concise
 
 ROUNDS = 100
 REQUESTS = 30
+# Over so many lines, so many requests took minutes when each looked at every line.
+LINES = 40000
+MANY = 300000
 SNAPSHOT = ("s,,,,0 8 snapshot base cow P 8", "base 8\ncow 32\n")
 
 # FILE, DISKS, requests, what is answered, why the replay ended early, if it did, and the status. The answers were
@@ -151,7 +154,22 @@ def check(tally, program):
         disks = "".join("%s %d\n" % it for it in stack.disks.items())
         tally.same("the replay of %s" % concise(stack), run(program, concise(stack), disks, given), 0, wanted)
     check_rows(tally, program)
+    check_large_stacks(tally, program)
     check_ends(tally, program)
+
+
+def check_large_stacks(tally, program):
+    """More requests than could be answered in time if each looked at all lines or columns of its stack."""
+    lines = "".join("a: %d 1 linear s %d\n" % (it, it) for it in range(LINES))
+    columns = "".join("a: %d 128 striped 128 1 %s\n" % (128 * line, " ".join("s %d" % (128 * line + it) for it in range(128)))
+                      for line in range(LINES // 128))
+    places = [it * 7919 % (LINES // 128 * 128) for it in range(MANY)]
+    asked = "".join("R a %d 1\n" % it for it in places)
+    wanted = "".join("%d old s %d 1\n" % (number, it) for number, it in enumerate(places, 1))
+    for name, table in (("40,000 lines", lines), ("312 lines of 128 columns", columns)):
+        files = [program.file("table", table), program.file("disks", "s %d\n" % LINES)]
+        got = program.run(["replay", "table", *files], given=asked)
+        tally.same("%d requests over %s" % (MANY, name), got, 0, wanted)
 
 
 def check_rows(tally, program):

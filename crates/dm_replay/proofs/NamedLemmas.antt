@@ -1,10 +1,15 @@
--- The device of a name.
-use Rattle.std.proofs.Common.{◌≡◌, ℕ, ◌<◌, List, [], ◌∷◌, Some, length, arith}
-use Rattle.std.specs.Prelude.{position}
+-- The device of a name, and what is said of it by its id.
+use Rattle.std.proofs.Common.{◌≡◌, ℕ, ◌<◌, Bool, true, false, List, [], ◌∷◌, None, Some, Result, Ok, Err, IfErr, get_or, length, sym, ap, subst, ◌∙◌, arith}
+use Rattle.std.specs.Prelude.{OnOk, position}
+use Rattle.std.proofs.lemmas.Bool.{true≢false}
 use Rattle.std.proofs.lemmas.Grind.{common_steps}
 use Rattle.std.proofs.lemmas.List.Quantifiers.{position-Some}
 use Rattle.dm_table.specs.declared.tables.table.DeviceSpec.{DeviceSpec}
+use Rattle.dm_stack.specs.Claims.{AreTops, IsTop}
 use Rattle.dm_stack.specs.Description.{Description, device_id, is_same}
+use Rattle.dm_replay.specs.declared.replay_fault.ReplayFault.{ReplayFault}
+use Rattle.dm_replay.specs.declared.replay_fault.ReplayFault.TheVariants as faults
+use Rattle.dm_replay.specs.Replay.{HasTop, IsUnanswered, Replaying}
 
 pub named_id : (stack : Description) (name : List ℕ) (id : ℕ) → position (λ device. is_same device.name name) stack.devices ≡ Some id → id ≡ device_id stack name
 named_id stack name id named = grind (arith, common_steps)
@@ -15,3 +20,46 @@ named_there stack name id named = in_list stack.devices named
     in_list : (devices : List DeviceSpec) → position (λ device. is_same device.name name) devices ≡ Some id → id < length devices
     in_list [] is = absurd cc
     in_list (first ∷ devices) is = (position-Some (λ device. is_same device.name name) (first ∷ devices) id first is).0
+
+-- what is noted of a device, where it is read
+
+pub noted_top : (stack : Description) (tops : List Bool) (device at : ℕ) (read : Bool) → AreTops stack tops → device < length stack.devices → at ≡ device → read ≡ get_or tops at false → read ≡ true → IsTop stack device
+noted_top stack tops device at read are within same is so = (are.each device within).0 (ap (λ (id : ℕ). get_or tops id false) (sym same) ∙ sym is ∙ so)
+
+pub noted_not_top : (stack : Description) (tops : List Bool) (device at : ℕ) (read : Bool) → AreTops stack tops → device < length stack.devices → at ≡ device → read ≡ get_or tops at false → read ≡ false → IsTop stack device → ⊥
+noted_not_top stack tops device at read are within same is so top = true≢false (sym ((are.each device within).1 top) ∙ ap (λ (id : ℕ). get_or tops id false) (sym same) ∙ sym is ∙ so)
+
+-- whether its device is top
+
+pub named_top : (stack : Description) (name : List ℕ) (id : ℕ) → position (λ device. is_same device.name name) stack.devices ≡ Some id → IsTop stack id → HasTop stack name
+named_top stack name id named top = record { id = id; named = named; top = top }
+
+pub top_named : (stack : Description) (name : List ℕ) (id : ℕ) → position (λ device. is_same device.name name) stack.devices ≡ Some id → HasTop stack name → IsTop stack id
+top_named stack name id named has =
+    let same : has.id ≡ id = some_is has.id id (sym has.named ∙ named) in
+    subst (IsTop stack) same has.top
+  where
+    some_is : (one other : ℕ) → Some one ≡ Some other → one ≡ other
+    some_is one other e = cc
+
+pub none_named : (stack : Description) (name : List ℕ) → position (λ device. is_same device.name name) stack.devices ≡ None → HasTop stack name → ⊥
+none_named stack name none has = differ has.id (sym none ∙ has.named)
+  where
+    differ : (id : ℕ) → None ≡ Some id → ⊥
+    differ id e = cc
+
+-- what is said of a result, said in another way
+
+pub answered_top : {X : Type 0} (result : Result X ReplayFault) (IsOfTop IsTheSame : Type 0) → (IsOfTop → IsTheSame) → OnOk result IsOfTop → OnOk result IsTheSame
+answered_top (Ok x) IsOfTop IsTheSame there is = there is
+answered_top (Err fault) IsOfTop IsTheSame there is = tt
+
+unanswered_by : (fault : ReplayFault) (IsOfTop IsTheSame : Type 0) (old new : Replaying) → (IsOfTop → IsTheSame) → (IsTheSame → IsOfTop) → IsUnanswered fault IsOfTop old new → IsUnanswered fault IsTheSame old new
+unanswered_by faults.Untidy IsOfTop IsTheSame old new there back is = is
+unanswered_by faults.Memory IsOfTop IsTheSame old new there back is = (is.0, there is.1, is.2)
+unanswered_by faults.NotTop IsOfTop IsTheSame old new there back is = (is.0, λ same. is.1 (back same), is.2)
+unanswered_by faults.Stopped IsOfTop IsTheSame old new there back is = is
+
+pub unanswered_result : {X : Type 0} (result : Result X ReplayFault) (IsOfTop IsTheSame : Type 0) (old new : Replaying) → (IsOfTop → IsTheSame) → (IsTheSame → IsOfTop) → IfErr result (λ fault. IsUnanswered fault IsOfTop old new) → IfErr result (λ fault. IsUnanswered fault IsTheSame old new)
+unanswered_result (Ok x) IsOfTop IsTheSame old new there back is = tt
+unanswered_result (Err fault) IsOfTop IsTheSame old new there back is = unanswered_by fault IsOfTop IsTheSame old new there back is

@@ -4,7 +4,7 @@ use Rattle.std.specs.List.{AllByRecursion}
 use Rattle.dm_table.specs.declared.requests.request.Request.{Request}
 use Rattle.dm_table.specs.declared.requests.request.TheConstants.{MOST_SECTORS}
 use Rattle.dm_stack.specs.declared.clash.Clash.{Clash}
-use Rattle.dm_stack.specs.Claims.{IsClash, IsTidy, IsTop, claims}
+use Rattle.dm_stack.specs.Claims.{AreTops, IsClash, IsTidy, IsTop, claims}
 use Rattle.dm_stack.specs.Description.{Description, device_id, is_same}
 use Rattle.dm_map.specs.Mapper.{MapperView}
 use Rattle.dm_map.specs.state.State.{start_state}
@@ -51,12 +51,16 @@ IsNotBegun faults.Memory of = Unit {0}
 IsNotBegun faults.NotTop of = ⊥
 IsNotBegun faults.Stopped of = ⊥
 
--- why a request for the device of a name was not answered, and what the replay is then
+-- why a request was not answered, where this says that it is of a top device, and what the replay is then
+abbrev pub IsUnanswered : ReplayFault → (IsOfTop : Type 0) → (old new : Replaying) → Type 0
+IsUnanswered faults.Untidy IsOfTop old new = ⊥
+IsUnanswered faults.Memory IsOfTop old new = (old.failed ≡ false) × IsOfTop × (new.failed ≡ true)
+IsUnanswered faults.NotTop IsOfTop old new = (old.failed ≡ false) × (IsOfTop → ⊥) × (new ≡ old)
+IsUnanswered faults.Stopped IsOfTop old new = (old.failed ≡ true) × (new ≡ old)
+
+-- the same for the device of a name
 abbrev pub IsNotAnswered : ReplayFault → List ℕ → (old new : Replaying) → Type 0
-IsNotAnswered faults.Untidy name old new = ⊥
-IsNotAnswered faults.Memory name old new = (old.failed ≡ false) × HasTop old.stack name × (new.failed ≡ true)
-IsNotAnswered faults.NotTop name old new = (old.failed ≡ false) × (HasTop old.stack name → ⊥) × (new ≡ old)
-IsNotAnswered faults.Stopped name old new = (old.failed ≡ true) × (new ≡ old)
+IsNotAnswered fault name old new = IsUnanswered fault (HasTop old.stack name) old new
 
 -- why a request for the device of a name was not halted: the replay is spent
 abbrev pub IsNotHalted : ReplayFault → List ℕ → Replaying → Type 0
@@ -87,7 +91,8 @@ pub record IsGoing (of : Description) (mapper : MapperView) (disks : Description
   pub kept_are : AllByRecursion (IsKept of) writes
   pub rerun_is : rerun_from of (start_state of) writes ≡ (world_after of all).state
 
--- unless it failed; no claims of its stack meet
-pub record IsReplay (of : Description) (mapper : MapperView) (disks : Description) (ranges : List (List (ℕ × RangeValues))) (all : List Asked) (writes : List KeptWrite) (ended : Bool) : Type 0 where
+-- unless it failed; no claims of its stack meet, and which devices are top is noted
+pub record IsReplay (of : Description) (tops : List Bool) (mapper : MapperView) (disks : Description) (ranges : List (List (ℕ × RangeValues))) (all : List Asked) (writes : List KeptWrite) (ended : Bool) : Type 0 where
   pub tidy : IsTidy of
+  pub tops_are : AreTops of tops
   pub going : ended ≡ false → IsGoing of mapper disks ranges all writes

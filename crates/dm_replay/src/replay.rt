@@ -6,12 +6,12 @@
 ghost use Rattle.std.specs.Prelude.{◌≡◌, ◌∷◌, ◌+◌, ◌++◌, ◌-◌, ◌<◌, ◌≤◌, [], IfErr, IfOk, IfSome, List, None, OnOk, Option, Some, false, if◌then◌else◌, length, nat_lt, position};
 ghost use Rattle.std.specs.List.{AllByRecursion};
 ghost use Rattle.dm_table.specs.declared.requests.request.Op.TheVariants.{Read};
-ghost use Rattle.dm_stack.specs.Claims.{IsTidy, IsTop};
+ghost use Rattle.dm_stack.specs.Claims.{AreTops, IsTidy, IsTop};
 ghost use Rattle.dm_stack.specs.Description.{device_id, device_len, is_same};
 ghost use Rattle.dm_replay.specs.declared.value_run.ValueRun.{ValueRun};
 ghost use Rattle.dm_replay.specs.Histories.{asked_answers, world_after};
 ghost use Rattle.dm_replay.specs.OfDisks.{IsRunOf};
-ghost use Rattle.dm_replay.specs.Replay.{HasTop, IsNotAnswered, IsNotBegun, IsNotHalted, asked_request, halted_request, new_replay};
+ghost use Rattle.dm_replay.specs.Replay.{HasTop, IsNotAnswered, IsNotBegun, IsNotHalted, IsUnanswered, asked_request, halted_request, new_replay, whole_request};
 ghost use Rattle.dm_replay.specs.Rows.{AreOfRow, rows_after};
 ghost use Rattle.dm_replay.specs.Runs.{AreMaximal, flat};
 
@@ -37,6 +37,8 @@ use std::marker::Model;
 #[derive(Drop)]
 pub struct Replay<'s, T: Taken> {
     stack: &'s Stack,
+    /// For each device, whether it is a top device.
+    tops: Vec<bool>,
     mapper: Mapper<'s, T>,
     player: Player<'s>,
     asked: GhostAsked,
@@ -52,7 +54,7 @@ impl<'s, T: Taken> Model for Replay<'s, T> {
     ghost view = { λ replay.
         record { stack = replay.stack.now; asked = replay.asked; failed = replay.failed } };
 
-    ghost invariant = { λ replay. IsReplay replay.stack.now replay.mapper replay.player.stack.now
+    ghost invariant = { λ replay. IsReplay replay.stack.now replay.tops.items replay.mapper replay.player.stack.now
         replay.player.playing.values.disks.items replay.asked replay.writes.items replay.failed };
 }
 
@@ -69,9 +71,13 @@ impl<'s, T: Taken> Replay<'s, T> {
         ensures fault { IfErr result (λ fault. IsNotBegun fault stack.now) }
     {
         refuse_clash(alloc, stack)?;
+        let Ok(tops) = stack.tops(alloc) else {
+            return Err(ReplayFault::Memory);
+        };
         match Mapper::new(alloc, stack.looker()) {
             Ok(mapper) => Ok(Replay {
                 stack,
+                tops,
                 mapper,
                 player: Player::new(alloc, stack),
                 asked: GhostAsked::new(),
@@ -119,12 +125,52 @@ impl<'s, T: Taken> Replay<'s, T> {
         ensures going { OnOk result ((self.old.failed ≡ false) × (self.new.failed ≡ false)) }
         ensures fault { IfErr result (λ fault. IsNotAnswered fault request.now.device.now self.old self.new) }
     {
+        match self.stack.device(request.device) {
+            Some(device) => self.request_of(alloc, request, device),
+            None if self.failed => Err(ReplayFault::Stopped),
+            None => Err(ReplayFault::NotTop),
+        }
+    }
+
+    /// Plays a request of the device of an id, which belongs to the stack; the name in the request isn't read.
+    /// For whoever knows the device, this is `request` without the look-up of its name.
+    ///
+    /// # Errors
+    ///
+    /// Those of `request`, in the same order: `NotTop` where the device is no top device.
+    pub fn request_of(
+        &mut self,
+        alloc: Global,
+        request: &Request<'_>,
+        device: DeviceId,
+    ) -> Result<Vec<ValueRun>, ReplayFault>
+        requires { device < length self.old.stack.devices }
+        ensures stack { self.new.stack ≡ self.old.stack }
+        ensures answers { IfOk result
+            (λ runs. flat runs.items
+            ≡ asked_answers self.old.stack (world_after self.old.stack self.old.asked)
+            (whole_request request.now device)) }
+        ensures own { IfOk result (λ runs. request.now.op ≡ Read
+            → AreOfRow (rows_after self.old.stack self.old.asked) device request.now.start
+            (flat runs.items)) }
+        ensures runs { IfOk result (λ runs. AreMaximal runs.items) }
+        ensures one { IfOk result (λ runs. (others : List ValueRun) → AreMaximal others
+            → flat others ≡ flat runs.items → others ≡ runs.items) }
+        ensures disks { IfOk result
+            (λ runs. AllByRecursion (IsRunOf (length self.old.stack.disks)) runs.items) }
+        ensures top { OnOk result (IsTop self.old.stack device) }
+        ensures asked { OnOk result
+            (self.new.asked ≡ self.old.asked ++ whole_request request.now device ∷ []) }
+        ensures going { OnOk result ((self.old.failed ≡ false) × (self.new.failed ≡ false)) }
+        ensures fault { IfErr result
+            (λ fault. IsUnanswered fault (IsTop self.old.stack device) self.old self.new) }
+    {
         if self.failed {
             return Err(ReplayFault::Stopped);
         }
-        let Some(device) = top_device(self.stack, request.device) else {
+        if !self.tops[device.index()] {
             return Err(ReplayFault::NotTop);
-        };
+        }
         // Called because its contract is the law that top devices are like disks of their own.
         requests_are_alone::<Value>(self.stack);
         // So it has failed wherever memory runs out on the way.
@@ -174,6 +220,7 @@ impl<'s, T: Taken> Replay<'s, T> {
     {
         let Replay {
             stack,
+            tops,
             mapper,
             player,
             mut asked,
@@ -183,7 +230,7 @@ impl<'s, T: Taken> Replay<'s, T> {
         if failed {
             return Err(ReplayFault::Stopped);
         }
-        let Some(device) = top_device(stack, request.device) else {
+        let Some(device) = top_device(stack, &tops, request.device) else {
             return Err(ReplayFault::NotTop);
         };
         requests_are_alone::<Value>(stack);
@@ -206,6 +253,7 @@ impl<'s, T: Taken> Replay<'s, T> {
         };
         Ok(Replay {
             stack,
+            tops,
             mapper,
             player,
             asked,
@@ -244,15 +292,16 @@ fn refuse_clash(alloc: Global, stack: &Stack) -> Result<(), ReplayFault>
     }
 }
 
-/// The top device of a name.
-fn top_device(stack: &Stack, name: &str) -> Option<DeviceId>
+/// The top device of a name, where it is noted which devices are top.
+fn top_device(stack: &Stack, tops: &[bool], name: &str) -> Option<DeviceId>
+    requires { AreTops stack.now tops.now }
     ensures some { IfSome result
         (λ device. (position (λ other. is_same other.name name.now) stack.now.devices ≡ Some device)
         × IsTop stack.now device) }
     ensures none { result ≡ None → HasTop stack.now name.now → ⊥ }
 {
     let device = stack.device(name)?;
-    if stack.is_top(device) {
+    if tops[device.index()] {
         Some(device)
     } else {
         None

@@ -18,7 +18,7 @@ use Rattle.dm_stack.specs.declared.claim.Claim.{Claim}
 use Rattle.dm_stack.specs.declared.clash.Clash.{Clash}
 use Rattle.dm_stack.specs.declared.id.Lower.{Lower}
 use Rattle.dm_stack.specs.declared.id.Lower.TheVariants.{Device, Disk}
-use Rattle.dm_stack.specs.Claims.{NeverMeet, IsClash, IsFirstClash, IsLower, IsThere, IsTidy, IsTop, MeetAt, claims, device_claims, line_claims, span_claim, span_end}
+use Rattle.dm_stack.specs.Claims.{AreTops, NeverMeet, IsClash, IsFirstClash, IsLower, IsThere, IsTidy, IsTop, MeetAt, claims, device_claims, line_claims, span_claim, span_end}
 use Rattle.dm_stack.specs.Description.{Description, end_of, is_same, len_or_none, lines_at, lines_or_none, lower_len, lower_of}
 use Rattle.dm_stack.specs.Naming.{is_device, is_named, line_names}
 use Rattle.dm_stack.specs.Report.{IsReport, report_text}
@@ -124,6 +124,21 @@ top_by stack device false is = (λ e. top_from stack device is, λ top. refl)
 
 pub top_is : (stack : Description) (device : ℕ) → IsTrue (not (is_named stack device)) ↔ IsTop stack device
 top_is stack device = top_by stack device (is_named stack device) refl
+
+-- the claims that were made are those of the stack
+pub are_claims : (stack described : Description) (slice items : List Claim) → slice ≡ items → items ≡ claims described → described ≡ stack → slice ≡ claims stack
+are_claims stack described slice items same made is = same ∙ made ∙ ap (λ (one : Description). claims one) is
+
+-- what is noted of the claims of a stack tells which devices are top
+pub noted_tops : {X : Type 0} (stack : Description) (all : List Claim) (count : ℕ) (items : X → List Bool) (result : Result X AllocError) → all ≡ claims stack → count ≡ length stack.devices → IfOk result (λ free. length (items free) ≡ count)
+    → IfOk result (λ free. (device : ℕ) → device < count → get_or (items free) device false ≡ not (list_any (λ claim. is_device device claim.to) all)) → IfOk result (λ free. AreTops stack (items free))
+noted_tops stack all count items (Err fault) made counted len each = tt
+noted_tops stack all count items (Ok free) made counted len each = record {
+  all = len ∙ counted;
+  each = λ device within.
+      let is = each device (omega (arith, within, counted)) ∙ ap (λ (list : List Claim). not (list_any (λ claim. is_device device claim.to) list)) made ∙ ap not (named_by_claims stack device) in
+      subst (λ (top : Bool). IsTrue top ↔ IsTop stack device) (sym is) (top_is stack device);
+}
 
 -- claims with a clash are not tidy
 clash_unties : (all : List Claim) (clash : Clash) → IsClash all clash → AllPairs NeverMeet all → ⊥

@@ -1,6 +1,6 @@
 -- Claims: which sectors below each line of a stack relies on, and where two lines get in each other's way.
-use Rattle.std.specs.Prelude.{◌≡◌, ℕ, ◌+◌, ◌≤◌, ◌<◌, Bool, true, false, List, ◌∷◌, ◌++◌, Option, Some, None, length, map}
-use Rattle.std.specs.List.{All, AllPairs, flat_map, range_with_len}
+use Rattle.std.specs.Prelude.{◌≡◌, ◌↔◌, ℕ, ◌+◌, ◌≤◌, ◌<◌, Bool, true, false, IsTrue, List, ◌∷◌, ◌++◌, Option, Some, None, length, map}
+use Rattle.std.specs.List.{All, AllPairs, flat_map, range_with_len, slice_index_or}
 use Rattle.dm_table.specs.declared.tables.table.Line.{Line}
 use Rattle.dm_table.specs.declared.tables.table.Use.{Use}
 use Rattle.dm_table.specs.declared.tables.table.Use.TheVariants.{Reading, Serving}
@@ -67,6 +67,11 @@ IsTidy stack = AllPairs NeverMeet (claims stack)
 -- a device is top if nothing claims any of it
 abbrev pub IsTop : Description → (device : ℕ) → Type 0
 IsTop stack device = All (λ claim. claim.to ≡ Device device → ⊥) (claims stack)
+
+-- for each device whether it is top
+pub record AreTops (stack : Description) (tops : List Bool) : Type 0 where
+  pub all : length tops ≡ length stack.devices
+  pub each : (device : ℕ) → device < length stack.devices → IsTrue (slice_index_or tops device false) ↔ IsTop stack device
 
 -- the clash of these claims: the first that meets an earlier one, with the earliest such, at their least sector
 pub record IsClash (all : List Claim) (clash : Clash) : Type 0 where

@@ -4,8 +4,8 @@
 //! to share what it names in another way is a variant of `Use` (`dm_table`), and arms in `may_share`
 //! here and in `reach`.
 
-ghost use Rattle.std.specs.Prelude.{◌≡◌, ◌∷◌, ◌++◌, [], IfOk, OnOk, false};
-ghost use Rattle.std.specs.List.{All, flat_map, list_any};
+ghost use Rattle.std.specs.Prelude.{◌≡◌, ◌<◌, ◌∷◌, ◌++◌, ◌&&◌, [], ℕ, IfOk, OnOk, false, length, not};
+ghost use Rattle.std.specs.List.{All, flat_map, list_any, slice_index_or};
 ghost use Rattle.dm_stack.specs.Claims.{claims, line_claims, may_share, span_claim};
 ghost use Rattle.dm_stack.specs.Description.{lower_of};
 ghost use Rattle.dm_stack.specs.Naming.{is_device, is_named, line_names};
@@ -115,6 +115,38 @@ fn add_claim(
     };
     claims.push(claim)?;
     Ok(())
+}
+
+/// For each device with an id below a count, whether no claim is on it.
+///
+/// Fails only when out of memory. Cost: linear in the claims and the count.
+pub(crate) fn unclaimed(
+    alloc: Global,
+    claims: &[Claim],
+    devices: usize,
+) -> Result<Vec<bool>, AllocError>
+    ensures count { IfOk result (λ free. length free.items ≡ devices) }
+    ensures each { IfOk result (λ free. (device : ℕ) → device < devices
+        → slice_index_or free.items device false
+        ≡ not (list_any (λ claim. is_device device claim.to) claims.now)) }
+{
+    let mut free = vec![in alloc; true; devices]?;
+    for claim in claims {
+        note_claim(&mut free, claim.to);
+    }
+    Ok(free)
+}
+
+/// Notes that a claim is on a device, if it is one of these.
+fn note_claim(free: &mut [bool], to: Lower)
+    ensures each { (device : ℕ) → slice_index_or free.new device false
+        ≡ (slice_index_or free.old device false && not (is_device device to)) }
+{
+    if let Lower::Device(id) = to
+        && id.index() < free.len()
+    {
+        free[id.index()] = false;
+    }
 }
 
 /// Whether a line of any device names the device of an id.

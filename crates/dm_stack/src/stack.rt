@@ -8,7 +8,7 @@ ghost use Rattle.std.specs.Prelude.{◌∷◌, ◌++◌, List, Option, Some, dro
 ghost use Rattle.dm_table.specs.words.Bytes.{space};
 ghost use Rattle.dm_table.specs.words.Name.{is_device_name, is_disk_name};
 ghost use Rattle.dm_stack.specs.Below.{found_lines, IsLineOf};
-ghost use Rattle.dm_stack.specs.Claims.{IsFirstClash, IsThere, IsTidy, IsTop, claims};
+ghost use Rattle.dm_stack.specs.Claims.{AreTops, IsFirstClash, IsThere, IsTidy, IsTop, claims};
 ghost use Rattle.dm_stack.specs.Description.{Description, described, device_len, disk_len, is_ro_at, is_same};
 ghost use Rattle.dm_stack.specs.Description.{name_at, disk_name_at, lines_at};
 ghost use Rattle.dm_stack.specs.Depth.{IsDeeperByOne};
@@ -31,7 +31,7 @@ ghost use Rattle.dm_table.specs.declared.load.load_fault.LoadFault.{LoadFault};
 ghost use Rattle.dm_table.specs.declared.load.load_fault.LoadKind.TheVariants.{Memory};
 ghost use Rattle.dm_table.specs.declared.load.place.Part.TheVariants.{Source};
 
-use crate::claim::{claims, is_named};
+use crate::claim::{claims, is_named, unclaimed};
 use crate::clash::Clash;
 use crate::disk_text::DiskText;
 use crate::found_line::Found;
@@ -293,6 +293,17 @@ impl Stack {
         ensures { IsTrue result ↔ IsTop self.now device }
     {
         !is_named(&self.indexed(), device)
+    }
+
+    /// For each device of the stack, whether no line names it: what `is_top` answers, for all of them at once.
+    ///
+    /// Fails only when out of memory. Cost: a look-up for each line of the stack and each of its columns, with
+    /// memory for the claims.
+    pub fn tops(&self, alloc: Global) -> Result<Vec<bool>, AllocError>
+        ensures { IfOk result (λ tops. AreTops self.now tops.items) }
+    {
+        let claims = claims(alloc, &self.indexed())?;
+        unclaimed(alloc, &claims, self.device_count())
     }
 
     /// The first claim that meets an earlier one, or nothing, which is where the stack is tidy.

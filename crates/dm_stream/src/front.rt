@@ -1,14 +1,14 @@
 //! Requests at the front of held bytes, which are read where they stand.
 
-ghost use Rattle.std.specs.Prelude.{◌≡◌, ◌+◌, ◌<◌, ◌≤◌, ◌∷◌, [], length, take, drop, IfSome};
+ghost use Rattle.std.specs.Prelude.{◌≡◌, ◌+◌, ◌<◌, ◌≤◌, ◌∷◌, [], length, take, drop, IfSome, Some};
 ghost use Rattle.dm_stream.specs.Lines.{line_parts};
 ghost use Rattle.dm_stream.specs.declared.lines.TheConstants.{MOST_LINE_BYTES};
 ghost use Rattle.dm_stream.specs.declared.requests.TheConstants.{MOST_REQUESTS};
+ghost use Rattle.dm_stream.specs.Outcome.{device_of};
 ghost use Rattle.dm_stream.specs.Requests.{Requests, after_requests, line_requests, numbered};
 
-use crate::handler::Handler;
 use crate::requests::MOST_REQUESTS;
-use dm_stack::DeviceId;
+use dm_stack::{DeviceId, Stack};
 use dm_table::{Op, Request, first_op, front_request};
 
 /// How many bytes are held at least where a request is read quickly.
@@ -41,11 +41,7 @@ impl Default for Front<'_> {
 
 /// The request of line `number`, where the held bytes begin with it and it is quickly read.
 #[inline(always)]
-pub(crate) fn front_of<'a, H: Handler>(
-    handler: &H,
-    held: &'a [u8],
-    number: u64,
-) -> Option<Front<'a>>
+pub(crate) fn front_of<'a>(stack: &Stack, held: &'a [u8], number: u64) -> Option<Front<'a>>
     ensures good { IfSome result
         (λ front. (rest : Requests) → line_requests number (take front.len held.now) rest
         ≡ after_requests (numbered front.request ∷ []) rest) }
@@ -54,13 +50,13 @@ pub(crate) fn front_of<'a, H: Handler>(
     ensures within { IfSome result (λ front. front.len < length held.now) }
     ensures short { IfSome result (λ front. front.len ≤ MOST_LINE_BYTES) }
     ensures few { IfSome result (λ front. number ≤ MOST_REQUESTS) }
-    ensures known { IfSome result (λ front. H.knows handler.now front.device front.request.device.now) }
+    ensures device { IfSome result (λ front. device_of stack.now front.request.device.now ≡ Some front.device) }
 {
     if number > MOST_REQUESTS || held.len() < FRONT_ROOM {
         return None;
     }
     let (op, rest) = first_op(held)?;
-    let (device, name) = handler.front(rest)?;
+    let (device, name) = stack.front(rest)?;
     let (request, len) = front_request(held, op, &rest[..name], &rest[name + 1..], number)?;
     Some(Front {
         request,

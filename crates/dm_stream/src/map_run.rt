@@ -42,24 +42,25 @@ fn ending_of(cause: NotMapped) -> Ending
 /// Answers the requests up to the first bad one, an end or a fault, through one mapper and one join.
 /// Nothing is flushed.
 fn map_lines<'s, T: Taken, R: Input, W: Output>(
+    stack: &Stack,
     requests: &mut R,
     mapper: &mut Mapper<'s, T>,
     handler: &mut RequestMapper<'_, 's, T, W>,
 ) -> Ending
-    requires { IsReady handler.old.stack.now mapper.old handler.old.join.held }
+    requires { IsReady stack.now mapper.old handler.old.join.held }
     ensures mapper { StaysMapper mapper.old mapper.new result }
     ensures nothing { handler.new.join.held.piece ≡ None }
     ensures reads { IsReadOn (R.past requests.old) (R.past requests.new) }
     ensures writes { HasWrittenTo W.past handler.old.join.writer handler.new.join.writer
         (write_faults result) }
     ensures mapped { IsMapped
-        (requests_outcome handler.old.stack.now mapper.old.state
+        (requests_outcome stack.now mapper.old.state
         (delivery (R.past requests.old) (R.past requests.new)))
         (written_since (W.past handler.old.join.writer.now) (W.past handler.new.join.writer.now))
         mapper.new.state result }
     ensures met { HasMet result (R.past requests.old) (R.past requests.new) }
 {
-    match handle_requests(requests, handler, mapper) {
+    match handle_requests(stack, requests, handler, mapper) {
         Ok(ending) => ending,
         Err(cause) => ending_of(cause),
     }
@@ -82,12 +83,11 @@ pub(crate) fn map_requests<'s, T: Taken, R: Input, W: Output>(
     ensures met { HasMet result (R.past requests.old) (R.past requests.new) }
 {
     let mut handler = RequestMapper {
-        stack,
         join: Join::new(stack, output),
         prefetched: 0,
-        taken: PhantomData,
+        mapper: PhantomData,
     };
-    let ending = map_lines(requests, mapper, &mut handler);
+    let ending = map_lines(stack, requests, mapper, &mut handler);
     let _writer = handler.join.end();
     ending
 }

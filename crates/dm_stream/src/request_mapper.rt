@@ -1,17 +1,16 @@
 //! Mapping requests to an output: the handler of a run.
 //!
-//! It finds a request's device, where that isn't known yet, and hands its units through a mapper to a
-//! join, which writes them. `specs/Outcome.antt` says what is written, and `specs/Mapped.antt` what one
+//! It hands the units of a request through a mapper to a join, which writes them. `specs/Outcome.antt` says what is written, and `specs/Mapped.antt` what one
 //! request adds to it.
 
-ghost use Rattle.std.specs.Prelude.{◌≡◌, ◌<◌, None, Some, false, length, OnOk};
+ghost use Rattle.std.specs.Prelude.{◌≡◌, ◌<◌, None, false, length, OnOk};
 ghost use Rattle.dm_stream.specs.Mapped.{IsReady, HasAnswered, HasStopped, failed_writes};
 ghost use Rattle.dm_stream.specs.laws.Mapped.{answered_none, answered_more, stopped_more};
-ghost use Rattle.dm_stream.specs.Outcome.{device_of, request_answer, step_of};
+ghost use Rattle.dm_stream.specs.Outcome.{request_answer, step_of};
 ghost use Rattle.dm_table.specs.io.Progress.{HasWrittenTo, IsSameReference, Wrote};
 ghost use Rattle.dm_table.specs.laws.Progress.{written_to_none, written_to_more};
 ghost use Rattle.dm_stream.specs.Requests.{numbered};
-ghost use Rattle.std.proofs.Common.{refl, subst, sym, ◌∙◌};
+ghost use Rattle.std.proofs.Common.{refl, ◌∙◌};
 
 use crate::ending::NotMapped;
 use crate::handler::Handler;
@@ -52,15 +51,14 @@ fn map_request<T: Taken, W: Output>(
     }
 }
 
-/// Finds the devices of requests, and writes the pieces that a mapper makes of them.
+/// Writes the pieces that a mapper makes of requests.
 #[derive(Drop)]
-pub(crate) struct RequestMapper<'m, 's, T, W> {
-    pub(crate) stack: &'s Stack,
+pub(crate) struct RequestMapper<'m, 's, T: Taken, W> {
     pub(crate) join: Join<'m, W>,
     /// What was read ahead of requests, added up: nobody asks for it, but without it nothing would be read.
     pub(crate) prefetched: u64,
-    /// How the mapper keeps taken chunks.
-    pub(crate) taken: PhantomData<T>,
+    /// The mapper that the answers come from.
+    pub(crate) mapper: PhantomData<(&'s Stack, T)>,
 }
 
 impl<'s, T: Taken, W: Output> Handler for RequestMapper<'_, 's, T, W> {
@@ -68,90 +66,66 @@ impl<'s, T: Taken, W: Output> Handler for RequestMapper<'_, 's, T, W> {
 
     type Fault = NotMapped;
 
-    ghost knows = { λ h device name. device_of h.stack.now name ≡ Some device };
+    ghost ready = { λ stack h mapper. IsReady stack mapper h.join.held };
 
-    ghost ready = { λ h mapper. IsReady h.stack.now mapper h.join.held };
-
-    ghost answered = { λ old before requests new after.
-        HasAnswered old.stack.now before.state after.state requests (W.past old.join.writer.now).written
+    ghost answered = { λ stack old before requests new after.
+        HasAnswered stack before.state after.state requests (W.past old.join.writer.now).written
         (W.past new.join.writer.now).written
         × HasWrittenTo W.past old.join.writer new.join.writer 0
-        × (new.stack ≡ old.stack) × (after.stack ≡ before.stack) };
+        × (after.stack ≡ before.stack) };
 
-    ghost stopped = { λ old before requests fault new after.
-        HasStopped old.stack.now fault before.state after requests (W.past old.join.writer.now).written
+    ghost stopped = { λ stack old before requests fault new after.
+        HasStopped stack fault before.state after requests (W.past old.join.writer.now).written
         (W.past new.join.writer.now).written
         × HasWrittenTo W.past old.join.writer new.join.writer (failed_writes fault)
-        × (new.stack ≡ old.stack) × (after.stack ≡ before.stack)
+        × (after.stack ≡ before.stack)
         × (new.join.held.piece ≡ None) };
 
-    ghost answered_none = { λ h mapper. (
-      answered_none h.stack.now mapper.state (W.past h.join.writer.now).written,
+    ghost answered_none = { λ stack h mapper. (
+      answered_none stack mapper.state (W.past h.join.writer.now).written,
       written_to_none W.past h.join.writer,
       refl,
-      refl,
     ) };
 
-    ghost answered_then_answered = { λ a b c s t u us vs first second. (
-      answered_more a.stack.now s.state t.state u.state us vs _ _ _ first.1.moved.appends second.1.moved.appends
-          first.0
-          (subst (λ stack. HasAnswered stack.now t.state u.state vs (W.past b.join.writer.now).written
-          (W.past c.join.writer.now).written) first.2 second.0),
+    ghost answered_then_answered = { λ stack a b c s t u us vs first second. (
+      answered_more stack s.state t.state u.state us vs _ _ _ first.1.moved.appends second.1.moved.appends first.0
+          second.0,
       written_to_more W.past a.join.writer b.join.writer c.join.writer 0 first.1 second.1,
       second.2 ∙ first.2,
-      second.3 ∙ first.3,
     ) };
 
-    ghost answered_then_stopped = { λ a b c s t u us vs fault first second. (
-      stopped_more a.stack.now fault s.state t.state u us vs _ _ _ first.1.moved.appends second.1.moved.appends
-          first.0
-          (subst (λ stack. HasStopped stack.now fault t.state u vs (W.past b.join.writer.now).written
-          (W.past c.join.writer.now).written) first.2 second.0),
+    ghost answered_then_stopped = { λ stack a b c s t u us vs fault first second. (
+      stopped_more stack fault s.state t.state u us vs _ _ _ first.1.moved.appends second.1.moved.appends first.0
+          second.0,
       written_to_more W.past a.join.writer b.join.writer c.join.writer (failed_writes fault) first.1 second.1,
       second.2 ∙ first.2,
-      second.3 ∙ first.3,
-      second.4,
+      second.3,
     ) };
 
-    ghost known_still = { λ a b s t us device name answered known.
-        subst (λ stack. device_of stack.now name ≡ Some device) (sym answered.2) known };
-
     #[inline(always)]
-    fn front(&self, text: &[u8]) -> Option<(DeviceId, usize)> {
-        self.stack.front(text)
-    }
-
     fn handle(
         &mut self,
+        _stack: &Stack,
         mapper: &mut Mapper<'s, T>,
         request: &Request<'_>,
+        device: Option<DeviceId>,
     ) -> Result<(), NotMapped> {
-        match self.stack.device(request.device) {
-            Some(device) => self.handle_known(mapper, request, device),
-            None => Err(NotMapped::Unknown(request.number)),
-        }
-    }
-
-    #[inline(always)]
-    fn handle_known(
-        &mut self,
-        mapper: &mut Mapper<'s, T>,
-        request: &Request<'_>,
-        device: DeviceId,
-    ) -> Result<(), NotMapped> {
+        let Some(device) = device else {
+            return Err(NotMapped::Unknown(request.number));
+        };
         match map_request(mapper, request, device, &mut self.join) {
             Ok(()) => Ok(()),
             Err(OutFault) => Err(NotMapped::Output),
         }
     }
 
-    fn gathers(&self) -> bool {
-        self.stack.gains_by_prefetch()
+    fn gathers(&self, stack: &Stack) -> bool {
+        stack.gains_by_prefetch()
     }
 
     #[inline(always)]
-    fn prefetch(&mut self, mapper: &Mapper<'s, T>, device: DeviceId, start: u64) {
-        let read = match self.stack.prefetch(device, start) {
+    fn prefetch(&mut self, stack: &Stack, mapper: &Mapper<'s, T>, device: DeviceId, start: u64) {
+        let read = match stack.prefetch(device, start) {
             Prefetched::Lines(starts) => starts,
             Prefetched::Chunk(chunk) => mapper.prefetch(device, chunk),
             Prefetched::Nothing => 0,

@@ -4,15 +4,16 @@
 //! new check of a line goes into `request_of`, in the order in which `specs/Requests.antt` has it.
 
 ghost use Rattle.std.specs.Prelude.{◌≡◌, ◌≢◌, ◌+◌, ◌<◌, ◌≤◌, ◌∷◌, [], length, take, drop, Ok, Some, IfOk, IfErr, IfSome, OnErr, OnOk};
+ghost use Rattle.dm_stack.specs.Description.{Description};
 ghost use Rattle.dm_table.specs.io.DeviceIo.{delivery};
 ghost use Rattle.dm_table.specs.io.Progress.{IsReadOn, MetNothing};
 ghost use Rattle.dm_stream.specs.Requests.{HasMet, IsAmong, Requests, after_requests, is_bad, line_requests, numbered, requests_of, word_for};
 
-use crate::batch::{Answered, answer_gathered};
+use crate::batch::{Answered, answer_fronts};
 use crate::ending::{Ending, RequestWord};
-use crate::front::{Front, front_of};
 use crate::handler::Handler;
 use crate::lines::{Lines, Next};
+use dm_stack::Stack;
 use dm_table::{Input, Request, RequestFault, parse_request};
 
 /// The most requests of a run.
@@ -49,15 +50,17 @@ fn request_of(line: &[u8], number: u64) -> Result<Request<'_>, RequestWord>
 
 /// Lets the handler know of a read that may wait: one comes where no newline is held.
 fn before_read<H: Handler>(handler: &mut H, lines: &Lines)
-    ensures answered { (source : H.Source) → H.answered handler.old source [] handler.new source }
-    ensures ready { (source : H.Source) → H.ready handler.old source → H.ready handler.new source }
+    ensures answered { (stack : Description) (source : H.Source)
+        → H.answered stack handler.old source [] handler.new source }
+    ensures ready { (stack : Description) (source : H.Source)
+        → H.ready stack handler.old source → H.ready stack handler.new source }
 {
     if !lines.has_newline() {
         handler.before_read();
     }
 }
 
-/// Hands requests on, one after the other, up to the first bad line, an end or a fault.
+/// Hands requests to the devices of a stack on, one after the other, up to the first bad line, an end or a fault.
 ///
 /// `Ok` says which of these it was; all requests before it were answered. Cost: time linear in the
 /// bytes read, plus what the handler takes for each request. No memory is taken.
@@ -67,61 +70,52 @@ fn before_read<H: Handler>(handler: &mut H, lines: &Lines)
 /// The fault with which the handler stopped at one of the requests. Nothing is read after that.
 #[inline(never)]
 pub fn handle_requests<R: Input, H: Handler>(
+    stack: &Stack,
     requests: &mut R,
     handler: &mut H,
     source: &mut H::Source,
 ) -> Result<Ending, H::Fault>
-    requires { H.ready handler.old source.old }
+    requires { H.ready stack.now handler.old source.old }
     ensures moved { IsReadOn (R.past requests.old) (R.past requests.new) }
     // Any read may fail or come to an end, so where neither was met none was asked for after the line.
     ensures met { IfOk result (λ ending. HasMet ending (R.past requests.old) (R.past requests.new)) }
     // All requests were answered, and they end by themselves.
     ensures answered { IfOk result
-        (λ ending. H.answered handler.old source.old
+        (λ ending. H.answered stack.now handler.old source.old
         (requests_of (delivery (R.past requests.old) (R.past requests.new))).all handler.new source.new) }
     ensures ending { IfOk result
         (λ ending. (requests_of (delivery (R.past requests.old) (R.past requests.new))).ending
         ≡ Some ending) }
     ensures no_write_fault { IfOk result (λ ending. ending ≢ Ending.WriteFault) }
-    ensures ready { OnOk result (H.ready handler.new source.new) }
+    ensures ready { OnOk result (H.ready stack.now handler.new source.new) }
     // The handler stopped at one of them.
     ensures stopped { IfErr result
-        (λ fault. IsAmong (λ first. H.stopped handler.old source.old first fault handler.new source.new)
+        (λ fault. IsAmong (λ first. H.stopped stack.now handler.old source.old first fault handler.new source.new)
         (requests_of (delivery (R.past requests.old) (R.past requests.new))).all) }
     ensures unread { OnErr result (MetNothing (R.past requests.old) (R.past requests.new)) }
 {
-    let gathers = handler.gathers();
+    let gathers = handler.gathers(stack);
     let mut lines = Lines::new();
     let mut number = 0;
     'lines: loop {
-        let batch = match answer_gathered(gathers, handler, &mut *source, lines.held(), number) {
-            Ok(batch) => batch,
+        let held = lines.held();
+        let fronts = match answer_fronts(gathers, stack, handler, &mut *source, held, number) {
+            Ok(fronts) => fronts,
             Err(fault) => return Err(fault),
         };
-        let Answered { count, len } = batch;
+        let Answered { count, len } = fronts;
         lines.skip(len);
         number += count;
         if count > 0 {
             continue;
         }
         number += 1;
-        if let Some(front) = front_of(handler, lines.held(), number) {
-            let Front {
-                request,
-                device,
-                len,
-            } = front;
-            if let Err(fault) = handler.handle_known(&mut *source, &request, device) {
-                return Err(fault);
-            }
-            lines.skip(len + 1);
-            continue;
-        }
         before_read(handler, &lines);
         match lines.next(requests) {
             Next::Line(line) => match request_of(line, number) {
                 Ok(request) => {
-                    if let Err(fault) = handler.handle(&mut *source, &request) {
+                    let device = stack.device(request.device);
+                    if let Err(fault) = handler.handle(stack, &mut *source, &request, device) {
                         return Err(fault);
                     }
                 }

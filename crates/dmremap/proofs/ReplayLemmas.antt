@@ -1,13 +1,14 @@
 -- What the requests that a player was handed say of a replay.
-use Rattle.std.proofs.Common.{◌≡◌, ℕ, List, [], ◌∷◌, ◌++◌, Result, Err, IfErr, refl, sym, ap, subst, ◌∙◌, append_assoc}
+use Rattle.std.proofs.Common.{◌≡◌, ℕ, List, [], ◌∷◌, ◌++◌, None, Some, Result, Err, IfErr, refl, sym, ap, subst, ◌∙◌, append_assoc}
 use Rattle.std.proofs.lemmas.List.{append-nil}
 use Rattle.dm_table.specs.io.DeviceIo.{Delivery, InputPast, since}
 use Rattle.dm_table.specs.io.Progress.{IsReadOn, MetNothing}
 use Rattle.dm_table.specs.io.WriteAll.{IsCutShort}
 use Rattle.dm_table.specs.laws.Progress.{since-same}
-use Rattle.dm_stack.specs.Claims.{IsTidy}
+use Rattle.dm_stack.specs.Claims.{IsTidy, IsTop}
 use Rattle.dm_stack.specs.Description.{Description}
 use Rattle.dm_stream.specs.declared.ending.Ending.TheVariants as endings
+use Rattle.dm_stream.specs.Outcome.{device_of}
 use Rattle.dm_stream.specs.Requests.{IsAmong, NumberedRequest, Requests, requests_of}
 use Rattle.dm_replay.specs.declared.replay_fault.ReplayFault.{ReplayFault}
 use Rattle.dm_replay.specs.declared.value_run.ValueRun.{ValueRun}
@@ -15,6 +16,7 @@ use Rattle.dm_replay.specs.Histories.{Asked, asked_answers, world_after}
 use Rattle.dm_replay.specs.Replay.{HasTop}
 use Rattle.dm_replay.specs.Runs.{AreMaximal, flat}
 use Rattle.dm_replay.specs.RunText.{runs_text}
+use Rattle.dm_replay.proofs.NamedLemmas.{named_id, named_top, top_named}
 use Rattle.dmremap.specs.declared.exit.Exit.{Exit}
 use Rattle.dmremap.specs.declared.exit.Exit.TheVariants as exits
 use Rattle.dmremap.specs.OtherWhole.{ReplaysStack}
@@ -31,7 +33,7 @@ at_fault r fault Says is h = subst (λ (x : Result _ ReplayFault). IfErr x Says)
 alone : (stack : Description) (old : List Asked) (request : NumberedRequest) (text : List ℕ) → IsAnswer stack old request text → AreAnswered stack old (request ∷ []) text
 alone stack old request text answer = (text, [], answer, refl, append-nil text)
 
-pub one_played : (stack : Description) (old new : List Asked) (request : NumberedRequest) (runs : List ValueRun) (w0 w1 : List ℕ) → HasTop stack request.values.device → AreMaximal runs
+one_played : (stack : Description) (old new : List Asked) (request : NumberedRequest) (runs : List ValueRun) (w0 w1 : List ℕ) → HasTop stack request.values.device → AreMaximal runs
     → flat runs ≡ asked_answers stack (world_after stack old) (asked_of stack request) → new ≡ old ++ asked_of stack request ∷ [] → since w0 w1 ≡ runs_text stack request.number runs → HasPlayed stack old new (request ∷ []) w0 w1
 one_played stack old new request runs w0 w1 named longest are more wrote = record {
   asked = more;
@@ -39,7 +41,7 @@ one_played stack old new request runs w0 w1 named longest are more wrote = recor
 }
 
 -- a write of its answer failed
-pub one_cut : (stack : Description) (old : List Asked) (request : NumberedRequest) (runs : List ValueRun) (text : List ℕ) → HasTop stack request.values.device → AreMaximal runs
+one_cut : (stack : Description) (old : List Asked) (request : NumberedRequest) (runs : List ValueRun) (text : List ℕ) → HasTop stack request.values.device → AreMaximal runs
     → flat runs ≡ asked_answers stack (world_after stack old) (asked_of stack request) → IsCutShort (runs_text stack request.number runs) text → IsCutReplay stack old (request ∷ []) text
 one_cut stack old request runs text named longest are short = record {
   first = request ∷ [];
@@ -50,8 +52,38 @@ one_cut stack old request runs text named longest are short = record {
   cut = short;
 }
 
+-- the same for a replay of this stack, by the id of the device
+
+abbrev pub asked_by : NumberedRequest → (device : ℕ) → Asked
+asked_by request device = record { number = request.number; op = request.values.op; device = device; start = request.values.start; len = request.values.len; halted_after = None }
+
+by_name : (stack : Description) (request : NumberedRequest) (device : ℕ) → device_of stack request.values.device ≡ Some device → asked_by request device ≡ asked_of stack request
+by_name stack request device named = ap (asked_by request) (named_id stack request.values.device device named)
+
+answers_by_name : (stack of : Description) (old : List Asked) (request : NumberedRequest) (device : ℕ) (runs : List ValueRun) → of ≡ stack → device_of stack request.values.device ≡ Some device
+    → flat runs ≡ asked_answers of (world_after of old) (asked_by request device) → flat runs ≡ asked_answers stack (world_after stack old) (asked_of stack request)
+answers_by_name stack of old request device runs same named are =
+    are ∙ ap (λ (s : Description). asked_answers s (world_after s old) (asked_by request device)) same ∙ ap (asked_answers stack (world_after stack old)) (by_name stack request device named)
+
+pub top_by_name : (stack of : Description) (request : NumberedRequest) (device : ℕ) → of ≡ stack → device_of stack request.values.device ≡ Some device → IsTop of device → HasTop stack request.values.device
+top_by_name stack of request device same named top = named_top stack request.values.device device named (subst (λ (s : Description). IsTop s device) same top)
+
+pub not_top_by_name : (stack of : Description) (request : NumberedRequest) (device : ℕ) → of ≡ stack → device_of stack request.values.device ≡ Some device → (IsTop of device → ⊥) → HasTop stack request.values.device → ⊥
+not_top_by_name stack of request device same named none has = none (subst (λ (s : Description). IsTop s device) (sym same) (top_named stack request.values.device device named has))
+
+pub played_by_name : (stack of : Description) (old new : List Asked) (request : NumberedRequest) (device : ℕ) (runs : List ValueRun) (w0 w1 : List ℕ) → of ≡ stack → device_of stack request.values.device ≡ Some device → IsTop of device → AreMaximal runs
+    → flat runs ≡ asked_answers of (world_after of old) (asked_by request device) → new ≡ old ++ asked_by request device ∷ [] → since w0 w1 ≡ runs_text stack request.number runs → HasPlayed stack old new (request ∷ []) w0 w1
+played_by_name stack of old new request device runs w0 w1 same named top longest are more wrote =
+    one_played stack old new request runs w0 w1 (top_by_name stack of request device same named top) longest (answers_by_name stack of old request device runs same named are)
+    (more ∙ ap (λ (asked : Asked). old ++ asked ∷ []) (by_name stack request device named)) wrote
+
+pub cut_by_name : (stack of : Description) (old : List Asked) (request : NumberedRequest) (device : ℕ) (runs : List ValueRun) (text : List ℕ) → of ≡ stack → device_of stack request.values.device ≡ Some device → IsTop of device → AreMaximal runs
+    → flat runs ≡ asked_answers of (world_after of old) (asked_by request device) → IsCutShort (runs_text stack request.number runs) text → IsCutReplay stack old (request ∷ []) text
+cut_by_name stack of old request device runs text same named top longest are short =
+    one_cut stack old request runs text (top_by_name stack of request device same named top) longest (answers_by_name stack of old request device runs same named are) short
+
 -- it is not answered
-one_stopped : (IsCause : NumberedRequest → Type 0) (stack : Description) (old : List Asked) (request : NumberedRequest) (w : List ℕ) → IsCause request → StopsAt IsCause stack old (request ∷ []) (since w w)
+pub one_stopped : (IsCause : NumberedRequest → Type 0) (stack : Description) (old : List Asked) (request : NumberedRequest) (w : List ℕ) → IsCause request → StopsAt IsCause stack old (request ∷ []) (since w w)
 one_stopped IsCause stack old request w why = record { first = []; last = request; later = []; split = refl; told = sym (since-same w); cause = why }
 
 -- the same by the fault of a request

@@ -13,7 +13,6 @@ ghost use Rattle.dmremap.specs.OtherWhole.{ReplaysStack};
 ghost use Rattle.dmremap.specs.laws.Played.{played_none, played_more, stopped_more};
 ghost use Rattle.dmremap.specs.ReplayOutcome.{HasPlayed, HasStopped, IsPlayed};
 ghost use Rattle.dmremap.specs.Streams.{AskedBy, HasMetBy};
-ghost use Rattle.std.proofs.Common.{refl, subst, ◌∙◌};
 
 use crate::exit::{Exit, Refusal};
 use dm_map::TrieTaken;
@@ -22,13 +21,15 @@ use dm_stack::{DeviceId, Stack};
 use dm_stream::{Ending, Handler, handle_requests};
 use dm_table::{Input, LoadFault, OutFault, Output, Part, Request};
 use std::alloc::Global;
+use std::marker::PhantomData;
 
 /// Plays requests, and writes what their sectors answer.
 #[derive(Drop)]
 struct RequestPlayer<'m, 's, W> {
     alloc: Global,
-    stack: &'s Stack,
     output: &'m mut W,
+    /// The replay that the answers come from.
+    replay: PhantomData<Replay<'s, TrieTaken>>,
 }
 
 impl<'s, W: Output> Handler for RequestPlayer<'_, 's, W> {
@@ -36,55 +37,47 @@ impl<'s, W: Output> Handler for RequestPlayer<'_, 's, W> {
 
     type Fault = Exit;
 
-    ghost ready = { λ h replay. (replay.stack ≡ h.stack.now) × (replay.failed ≡ false) };
+    ghost ready = { λ stack h replay. (replay.stack ≡ stack) × (replay.failed ≡ false) };
 
-    ghost answered = { λ old before requests new after.
-        HasPlayed before.stack before.asked after.asked requests (W.past old.output.now).written
+    ghost answered = { λ stack old before requests new after.
+        HasPlayed stack before.asked after.asked requests (W.past old.output.now).written
         (W.past new.output.now).written
-        × HasWrittenTo W.past old.output new.output 0
-        × (after.stack ≡ before.stack) };
+        × HasWrittenTo W.past old.output new.output 0 };
 
-    ghost stopped = { λ old before requests exit new after.
-        HasStopped before.stack exit before.asked requests
+    ghost stopped = { λ stack old before requests exit new after.
+        HasStopped stack exit before.asked requests
         (written_since (W.past old.output.now) (W.past new.output.now))
         × HasWrittenTo W.past old.output new.output (failed_writes exit) };
 
-    ghost answered_none = { λ h replay. (
-      played_none replay.stack replay.asked (W.past h.output.now).written,
+    ghost answered_none = { λ stack h replay. (
+      played_none stack replay.asked (W.past h.output.now).written,
       written_to_none W.past h.output,
-      refl,
     ) };
 
-    ghost answered_then_answered = { λ a b c s t u us vs first second. (
-      played_more s.stack s.asked t.asked u.asked us vs _ _ _ first.1.moved.appends second.1.moved.appends
-          first.0
-          (subst (λ stack. HasPlayed stack t.asked u.asked vs (W.past b.output.now).written
-          (W.past c.output.now).written) first.2 second.0),
+    ghost answered_then_answered = { λ stack a b c s t u us vs first second. (
+      played_more stack s.asked t.asked u.asked us vs _ _ _ first.1.moved.appends second.1.moved.appends first.0
+          second.0,
       written_to_more W.past a.output b.output c.output 0 first.1 second.1,
-      second.2 ∙ first.2,
     ) };
 
-    ghost answered_then_stopped = { λ a b c s t u us vs exit first second. (
-      stopped_more s.stack exit s.asked t.asked us vs _ _ _ first.1.moved.appends second.1.moved.appends
-          first.0
-          (subst (λ stack. HasStopped stack exit t.asked vs
-          (written_since (W.past b.output.now) (W.past c.output.now))) first.2 second.0),
+    ghost answered_then_stopped = { λ stack a b c s t u us vs exit first second. (
+      stopped_more stack exit s.asked t.asked us vs _ _ _ first.1.moved.appends second.1.moved.appends first.0
+          second.0,
       written_to_more W.past a.output b.output c.output (failed_writes exit) first.1 second.1,
     ) };
 
-    ghost known_still = { λ a b s t us device name answered known. tt };
-
-    fn front(&self, text: &[u8]) -> Option<(DeviceId, usize)> {
-        self.stack.front(text)
-    }
-
     fn handle(
         &mut self,
+        stack: &Stack,
         replay: &mut Replay<'s, TrieTaken>,
         request: &Request<'_>,
+        device: Option<DeviceId>,
     ) -> Result<(), Exit> {
-        match replay.request(self.alloc, request) {
-            Ok(runs) => match write_runs(self.stack, request.number, &runs, &mut *self.output) {
+        let Some(device) = device else {
+            return Err(Exit::NotTop(request.number));
+        };
+        match replay.request_of(self.alloc, request, device) {
+            Ok(runs) => match write_runs(stack, request.number, &runs, &mut *self.output) {
                 Ok(()) => Ok(()),
                 Err(OutFault) => Err(Exit::Ended(Ending::WriteFault)),
             },
@@ -101,19 +94,20 @@ impl<'s, W: Output> Handler for RequestPlayer<'_, 's, W> {
 
 /// Plays requests through a player, up to the first bad one, an end or a fault. Nothing is flushed.
 fn play_lines<'s, Q: Input, W: Output>(
+    stack: &Stack,
     requests: &mut Q,
     replay: &mut Replay<'s, TrieTaken>,
     player: &mut RequestPlayer<'_, 's, W>,
 ) -> Exit
-    requires new { replay.old ≡ new_replay player.old.stack.now }
+    requires new { replay.old ≡ new_replay stack.now }
     ensures reads { IsReadOn (Q.past requests.old) (Q.past requests.new) }
     ensures met { HasMetBy result (Q.past requests.old) (Q.past requests.new) }
     ensures writes { HasWrittenTo W.past player.old.output player.new.output (failed_writes result) }
-    ensures played { IsPlayed player.old.stack.now
+    ensures played { IsPlayed stack.now
         (requests_of (delivery (Q.past requests.old) (Q.past requests.new)))
         (written_since (W.past player.old.output.now) (W.past player.new.output.now)) result }
 {
-    match handle_requests(requests, player, replay) {
+    match handle_requests(stack, requests, player, replay) {
         Ok(ending) => Exit::Ended(ending),
         Err(exit) => exit,
     }
@@ -122,7 +116,7 @@ fn play_lines<'s, Q: Input, W: Output>(
 /// Plays requests to an output, up to the first bad one, an end or a fault. Nothing is flushed.
 fn play_requests<'s, Q: Input, W: Output>(
     alloc: Global,
-    stack: &'s Stack,
+    stack: &Stack,
     replay: &mut Replay<'s, TrieTaken>,
     requests: &mut Q,
     output: &mut W,
@@ -136,10 +130,10 @@ fn play_requests<'s, Q: Input, W: Output>(
 {
     let mut player = RequestPlayer {
         alloc,
-        stack,
         output,
+        replay: PhantomData,
     };
-    let exit = play_lines(requests, replay, &mut player);
+    let exit = play_lines(stack, requests, replay, &mut player);
     let RequestPlayer {
         output: _output,
         ..

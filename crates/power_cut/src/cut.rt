@@ -40,7 +40,7 @@ pub(crate) fn answer_after_cut<Q: Input, W: Output>(
     ensures moved { IsReadOn (Q.past requests.old) (Q.past requests.new) }
 {
     let replay = begin(alloc, stack)?;
-    let requests = read_requests(alloc, requests)?;
+    let requests = read_requests(alloc, stack, requests)?;
     let mut replay = play(alloc, replay, &requests, units)?;
     let backs = read_back(alloc, &mut replay, &requests)?;
     let written = write_backs(stack, &backs, &mut *output);

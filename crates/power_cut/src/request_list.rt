@@ -13,6 +13,7 @@ ghost use Rattle.power_cut.specs.Fault.{AreRefused};
 
 use crate::fault::Fault;
 use crate::owned_request::OwnedRequest;
+use dm_stack::{DeviceId, Stack};
 use dm_stream::{Ending, Handler, handle_requests};
 use dm_table::{Input, Request};
 use std::alloc::{AllocError, Global};
@@ -28,25 +29,25 @@ impl Handler for RequestKeeper {
 
     type Fault = AllocError;
 
-    ghost ready = { λ keeper list. Unit {0} };
+    ghost ready = { λ stack keeper list. Unit {0} };
 
-    ghost answered = { λ old before requests new after. after.items ≡ before.items ++ requests };
+    ghost answered = { λ stack old before requests new after. after.items ≡ before.items ++ requests };
 
-    ghost stopped = { λ old before requests fault new after. Unit {0} };
+    ghost stopped = { λ stack old before requests fault new after. Unit {0} };
 
-    ghost answered_none = { λ keeper list. sym (append-nil list.items) };
+    ghost answered_none = { λ stack keeper list. sym (append-nil list.items) };
 
-    ghost answered_then_answered = { λ a b c s t u us vs first second.
+    ghost answered_then_answered = { λ stack a b c s t u us vs first second.
         second ∙ ap (λ items. items ++ vs) first ∙ append_assoc s.items us vs };
 
-    ghost answered_then_stopped = { λ a b c s t u us vs fault first second. tt };
-
-    ghost known_still = { λ a b s t us device name answered known. tt };
+    ghost answered_then_stopped = { λ stack a b c s t u us vs fault first second. tt };
 
     fn handle(
         &mut self,
+        _stack: &Stack,
         list: &mut Vec<OwnedRequest>,
         request: &Request<'_>,
+        _device: Option<DeviceId>,
     ) -> Result<(), AllocError> {
         let request = OwnedRequest::new(self.alloc, request)?;
         list.push(request)?;
@@ -56,21 +57,22 @@ impl Handler for RequestKeeper {
     fn before_read(&mut self) {}
 }
 
-/// The requests of an input, of which all have to be good.
+/// The requests of an input to a stack, of which all have to be good.
 pub(crate) fn read_requests<Q: Input>(
     alloc: Global,
+    stack: &Stack,
     requests: &mut Q,
 ) -> Result<Vec<OwnedRequest>, Fault>
     ensures all { IfOk result (λ list. list.items
         ≡ (requests_of (delivery (Q.past requests.old) (Q.past requests.new))).all) }
     ensures ends { OnOk result
         ((requests_of (delivery (Q.past requests.old) (Q.past requests.new))).ending ≡ Some Done) }
-    ensures refused { IfErr result (λ fault. (stack : Description) → IsTidy stack
-        → AreRefused fault stack (requests_of (delivery (Q.past requests.old) (Q.past requests.new)))) }
+    ensures refused { IfErr result (λ fault. (of : Description) → IsTidy of
+        → AreRefused fault of (requests_of (delivery (Q.past requests.old) (Q.past requests.new)))) }
     ensures moved { IsReadOn (Q.past requests.old) (Q.past requests.new) }
 {
     let mut list = Vec::new(alloc);
-    match handle_requests(requests, &mut RequestKeeper { alloc }, &mut list) {
+    match handle_requests(stack, requests, &mut RequestKeeper { alloc }, &mut list) {
         Ok(Ending::Done) => Ok(list),
         Ok(ending) => Err(Fault::Ended(ending)),
         Err(AllocError) => Err(Fault::Memory),

@@ -1,11 +1,12 @@
-use Rattle.std.proofs.Common.{ℕ, ◌+◌, List, [], length, drop, ap, subst, sym}
+use Rattle.std.proofs.Common.{ℕ, ◌+◌, ◌≤◌, List, [], length, drop, ap, subst, sym}
 use Rattle.dm_stream.specs.Batch.{AreFirst, front_requests}
 use Rattle.dm_stream.specs.declared.front.Front.{Front}
+use Rattle.dm_stream.specs.declared.requests.TheConstants.{MOST_REQUESTS}
 use Rattle.dm_stream.proofs.Batches.{among_those}
 use Rattle.dm_stream.proofs.batch.answer_batch.Goals as goal
 
-pub returns-in-Err-clause-stopped : goal.returns-in-Err-clause-stopped
-returns-in-Err-clause-stopped g c =
+pub returns-in-Err : goal.returns-in-Err
+returns-in-Err g c =
     let fronts = c.read_fronts-len.new.fronts.items in
     let len = c.read_fronts-len.result in
     let source = c.args.source.now in (
@@ -14,18 +15,24 @@ returns-in-Err-clause-stopped g c =
       drop len c.args.held.now,
       c.read_fronts-len.ensures.first,
       among_those _ _ _ _ (ap front_requests c.deref-2.ensures.0)
-          (λ first stopped. g.met.H.Handler.answered_then_stopped c.args.handler.now c.prefetch_fronts.new.handler c.answer_fronts.new.handler source source c.answer_fronts.new.source [] first _ c.prefetch_fronts.ensures.answered stopped)
+          (λ first stopped. g.met.H.Handler.answered_then_stopped c.args.stack.now c.args.handler.now c.prefetch_fronts.new.handler c.answer_all.new.handler source source c.answer_all.new.source [] first _ c.prefetch_fronts.ensures.answered stopped)
           c.in-Err.ensures.stopped,
     )
 
-pub returns-clause-answered : goal.returns-clause-answered
-returns-clause-answered g c =
+pub returns : goal.returns
+returns g c =
     let fronts = c.read_fronts-len.new.fronts.items in
     let len = c.read_fronts-len.result in
     let source = c.args.source.now in
-    let requests = front_requests fronts in (
-      requests,
-      subst (λ (k : ℕ). AreFirst (c.args.done + 1) c.args.held.now requests (c.args.done + k + 1) (drop len c.args.held.now)) (sym c.len.ensures.value) c.read_fronts-len.ensures.first,
-      g.met.H.Handler.answered_then_answered c.args.handler.now c.prefetch_fronts.new.handler c.answer_fronts.new.handler source source c.answer_fronts.new.source [] requests c.prefetch_fronts.ensures.answered
-          (subst (λ (fs : List Front). g.H.Handler.answered c.prefetch_fronts.new.handler source (front_requests fs) c.answer_fronts.new.handler c.answer_fronts.new.source) c.deref-2.ensures.0 c.in_default.ensures.answered),
-    )
+    let requests = front_requests fronts in
+    record {
+      answered = (
+        requests,
+        subst (λ (k : ℕ). AreFirst (c.args.done + 1) c.args.held.now requests (c.args.done + k + 1) (drop len c.args.held.now)) (sym c.len.ensures.value) c.read_fronts-len.ensures.first,
+        g.met.H.Handler.answered_then_answered c.args.stack.now c.args.handler.now c.prefetch_fronts.new.handler c.answer_all.new.handler source source c.answer_all.new.source [] requests c.prefetch_fronts.ensures.answered
+            (subst (λ (fs : List Front). g.H.Handler.answered c.args.stack.now c.prefetch_fronts.new.handler source (front_requests fs) c.answer_all.new.handler c.answer_all.new.source) c.deref-2.ensures.0 c.in_default.ensures.answered),
+      );
+      within = c.read_fronts-len.ensures.within;
+      few = subst (λ (k : ℕ). c.args.done + k ≤ MOST_REQUESTS) (sym c.len.ensures.value) c.read_fronts-len.ensures.few;
+      ready = c.in_default.ensures.ready;
+    }

@@ -5,7 +5,7 @@ use Rattle.dm_stream.proofs.Fronts.{said_first}
 use Rattle.dm_stream.proofs.front.front_of.Goals as goal
 
 pub returns-clause-good : goal.returns-clause-good
-returns-clause-good g c = λ rest.
+returns-clause-good c = λ rest.
     let front = c.in_ok-request in
     said_first (take front.len c.args.held.now) c.args.number (values_of front.request) (omega arith) front.ensures.front.described rest
     ∙ ap (λ (n : ℕ). after_requests (record { number = n; values = values_of front.request } ∷ []) rest) (sym front.ensures.numbered)

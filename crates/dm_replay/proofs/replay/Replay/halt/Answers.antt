@@ -36,7 +36,7 @@ rerun-requires g c =
     c.self.invariant.tidy going.asked_are c.in-Some.ensures.some.1 going.mapper_stack going.state_is in
     let whole = are_whole inside.stack.now inside.mapper request device c.args.units c.in-Ok.player.playing.next size going.mapper_stack c.in-Ok.ensures.next few c.whole_sectors-whole.ensures in
     let one = is_kept inside.stack.now request device size (named_there inside.stack.now request.device.now device c.in-Some.ensures.some.0) c.in-Some.ensures.some.1 whole.few in
-    subst (λ (writes : List KeptWrite). AllByRecursion (IsKept inside.stack.now) writes) (sym (c.deref.ensures.value ∙ c.in-Ok-keep.ensures)) (kept_more inside.stack.now request.op (write_of request device size) inside.writes.items one going.kept_are)
+    subst (λ (writes : List KeptWrite). AllByRecursion (IsKept inside.stack.now) writes) (sym (c.deref-2.ensures.value ∙ c.in-Ok-keep.ensures)) (kept_more inside.stack.now request.op (write_of request device size) inside.writes.items one going.kept_are)
 
 pub invariant_of-result : goal.invariant_of-result
 invariant_of-result g c =
@@ -48,11 +48,12 @@ invariant_of-result g c =
     let one = is_kept inside.stack.now request device size (named_there inside.stack.now request.device.now device c.in-Some.ensures.some.0) c.in-Some.ensures.some.1 whole.few in
     record {
       tidy = c.self.invariant.tidy;
+      tops_are = c.self.invariant.tops_are;
       going = λ _. subst (λ (all : List Asked). IsGoing inside.stack.now c.in-Ok-rerun.mapper player.stack.now player.playing.values.disks.items all c.keep.new.writes.items) (sym c.add.ensures)
           (subst (λ (writes : List KeptWrite). IsGoing inside.stack.now c.in-Ok-rerun.mapper player.stack.now player.playing.values.disks.items (inside.asked ++ kept_request request device (Some c.args.units) ∷ []) writes) (sym c.in-Ok-keep.ensures)
           (going_halted inside.stack.now inside.player.stack.now player.stack.now inside.mapper c.in-Ok-rerun.mapper inside.player.playing.values.disks.items player.playing.values.disks.items inside.asked inside.writes.items request device c.args.units size
           one going again.going again.stack did.stack
-          (again.state ∙ ap (rerun_from inside.stack.now (start_state inside.stack.now)) (c.deref.ensures.value ∙ c.in-Ok-keep.ensures)) did.values did.disks whole));
+          (again.state ∙ ap (rerun_from inside.stack.now (start_state inside.stack.now)) (c.deref-2.ensures.value ∙ c.in-Ok-keep.ensures)) did.values did.disks whole));
     }
 
 pub returns-clause-asked : goal.returns-clause-asked

@@ -1,18 +1,13 @@
-use Rattle.std.proofs.Common.{◌≡◌, ◌∙◌, List, ap, subst, sym}
+use Rattle.std.proofs.Common.{List, subst, sym}
 use Rattle.std.specs.Prelude.{IfOk}
 use Rattle.dm_stack.specs.declared.claim.Claim.{Claim}
-use Rattle.dm_stack.specs.Claims.{IsFirstClash, claims}
-use Rattle.dm_stack.specs.Description.{Description}
+use Rattle.dm_stack.specs.Claims.{IsFirstClash}
 use Rattle.dm_stack.specs.Soundness.{IsSound}
-use Rattle.dm_stack.proofs.TopLemmas.{claims_within, none_passes, one_clash, result_there, tidiness}
+use Rattle.dm_stack.proofs.TopLemmas.{are_claims, claims_within, none_passes, one_clash, result_there, tidiness}
 use Rattle.dm_stack.proofs.stack.Stack.tidy.Goals as goal
 
 pub claims-requires : goal.claims-requires
 claims-requires c = none_passes c.indexed.result (subst IsSound (sym c.indexed.ensures.description) c.indexed.ensures.sound)
-
--- the claims that were made are those of the stack
-are_claims : (stack described : Description) (slice items : List Claim) → slice ≡ items → items ≡ claims described → described ≡ stack → slice ≡ claims stack
-are_claims stack described slice items same made is = same ∙ made ∙ ap (λ (one : Description). claims one) is
 
 pub first_clash-requires : goal.first_clash-requires
 first_clash-requires c =

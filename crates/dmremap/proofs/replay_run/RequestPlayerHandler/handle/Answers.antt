@@ -1,15 +1,25 @@
-use Rattle.std.proofs.Common.{◌≡◌, ◌∙◌, refl, sym, ap, subst, rules, Err}
-use Rattle.dm_stack.specs.Description.{Description}
+use Rattle.std.proofs.Common.{◌≡◌, ◌∙◌, refl, ap, subst, rules, Err}
+use Rattle.dm_stack.specs.Claims.{IsTop}
 use Rattle.dm_table.specs.laws.Progress.{written_to_none}
 use Rattle.dm_stream.specs.Requests.{numbered}
 use Rattle.dm_table.specs.io.DeviceIo.{written_since}
 use Rattle.dm_table.specs.io.WriteAll.{IsCutShort}
 use Rattle.dm_replay.specs.declared.replay_fault.ReplayFault.TheVariants as faults
-use Rattle.dm_replay.specs.Replay.{IsNotAnswered}
+use Rattle.dm_replay.specs.Replay.{IsUnanswered}
 use Rattle.dm_replay.specs.RunText.{runs_text}
+use Rattle.dm_replay.proofs.NamedLemmas.{none_named}
 use Rattle.dmremap.specs.ReplayOutcome.{IsOfNone, IsOfTop}
-use Rattle.dmremap.proofs.ReplayLemmas.{one_cut, one_played, stopped_by}
+use Rattle.dmremap.proofs.ReplayLemmas.{cut_by_name, not_top_by_name, one_stopped, played_by_name, stopped_by, top_by_name}
 use Rattle.dmremap.proofs.replay_run.RequestPlayerHandler.handle.Goals as goal
+
+pub returns-in_default-clause-stopped : goal.returns-in_default-clause-stopped
+returns-in_default-clause-stopped g c =
+    let request = numbered c.args.request.now in
+    let stack = c.args.stack.now in (
+      one_stopped (IsOfNone stack request.number) stack c.args.replay.now.asked request (g.W.Output.past c.args.self.now.output.now).written
+          (record { of_number = refl; none = none_named stack request.values.device ? }),
+      written_to_none g.W.Output.past c.args.self.now.output,
+    )
 
 pub returns-in-Ok-write_runs-clause-answered : goal.returns-in-Ok-write_runs-clause-answered
 returns-in-Ok-write_runs-clause-answered g c =
@@ -18,10 +28,10 @@ returns-in-Ok-write_runs-clause-answered g c =
     let did = c.in-Ok.ensures in
     let wrote = c.in-Ok-write_runs.ensures in
     let same : c.deref.result.now ≡ c.in-Ok.runs.items = search rules in (
-      one_played replay.stack replay.asked c.request.new.self.asked request c.in-Ok.runs.items (g.W.Output.past c.args.self.now.output.now).written (g.W.Output.past c.write_runs.new.writer).written did.top did.runs did.answers did.asked
-          (wrote.ok ∙ ap (λ (stack : Description). runs_text stack request.number c.deref.result.now) (sym c.requires.0) ∙ ap (runs_text replay.stack request.number) same),
+      played_by_name c.args.stack.now replay.stack replay.asked c.request_of.new.self.asked request c.in-Some.device c.in-Ok.runs.items (g.W.Output.past c.args.self.now.output.now).written (g.W.Output.past c.write_runs.new.writer).written
+          c.requires.ready.0 (c.requires.found ∙ c.in-Some.is) did.top did.runs did.answers did.asked
+          (wrote.ok ∙ ap (runs_text c.args.stack.now request.number) same),
       record { moved = wrote.moved; same_reference = refl },
-      did.stack,
     )
 
 pub returns-in-Ok-clause-stopped : goal.returns-in-Ok-clause-stopped
@@ -32,22 +42,29 @@ returns-in-Ok-clause-stopped g c =
     let wrote = c.in-Err.ensures in
     let text = written_since (g.W.Output.past c.args.self.now.output.now) (g.W.Output.past c.write_runs.new.writer) in
     let same : c.deref.result.now ≡ c.in-Ok.runs.items = search rules in (
-      one_cut replay.stack replay.asked request c.in-Ok.runs.items text did.top did.runs did.answers
-          (subst (λ items. IsCutShort (runs_text replay.stack request.number items) text) same
-          (subst (λ (stack : Description). IsCutShort (runs_text stack request.number c.deref.result.now) text) (sym c.requires.0) wrote.left)),
+      cut_by_name c.args.stack.now replay.stack replay.asked request c.in-Some.device c.in-Ok.runs.items text c.requires.ready.0 (c.requires.found ∙ c.in-Some.is) did.top did.runs did.answers
+          (subst (λ items. IsCutShort (runs_text c.args.stack.now request.number items) text) same wrote.left),
       record { moved = wrote.moved; same_reference = refl },
     )
 
 pub returns-in-Err-NotTop-clause-stopped : goal.returns-in-Err-NotTop-clause-stopped
-returns-in-Err-NotTop-clause-stopped g c = (
-  stopped_by (λ fault. IsNotAnswered fault (numbered c.args.request.now).values.device c.args.replay.now c.request.new.self) (IsOfNone c.args.replay.now.stack (numbered c.args.request.now).number) c.args.replay.now.stack c.args.replay.now.asked (numbered c.args.request.now)
-      (g.W.Output.past c.args.self.now.output.now).written c.request.result faults.NotTop (c.in-Err-NotTop.is ∙ ap Err c.in-Err-NotTop.field-0-is) c.request.ensures.fault (λ why. record { of_number = refl; none = why.1 }),
-  written_to_none g.W.Output.past c.args.self.now.output,
-)
+returns-in-Err-NotTop-clause-stopped g c =
+    let replay = c.args.replay.now in
+    let request = numbered c.args.request.now in
+    let stack = c.args.stack.now in (
+      stopped_by (λ fault. IsUnanswered fault (IsTop replay.stack c.in-Some.device) replay c.request_of.new.self) (IsOfNone stack request.number) stack replay.asked request
+          (g.W.Output.past c.args.self.now.output.now).written c.request_of.result faults.NotTop (c.in-Err-NotTop.is ∙ ap Err c.in-Err-NotTop.field-0-is) c.request_of.ensures.fault
+          (λ why. record { of_number = refl; none = not_top_by_name stack replay.stack request c.in-Some.device c.requires.ready.0 (c.requires.found ∙ c.in-Some.is) why.1 }),
+      written_to_none g.W.Output.past c.args.self.now.output,
+    )
 
 pub returns-in-Err-Memory-clause-stopped : goal.returns-in-Err-Memory-clause-stopped
-returns-in-Err-Memory-clause-stopped g c = (
-  stopped_by (λ fault. IsNotAnswered fault (numbered c.args.request.now).values.device c.args.replay.now c.request.new.self) (IsOfTop c.args.replay.now.stack) c.args.replay.now.stack c.args.replay.now.asked (numbered c.args.request.now)
-      (g.W.Output.past c.args.self.now.output.now).written c.request.result faults.Memory (c.in-Err-Memory.is ∙ ap Err c.in-Err-Memory.field-0-is) c.request.ensures.fault (λ why. why.1),
-  written_to_none g.W.Output.past c.args.self.now.output,
-)
+returns-in-Err-Memory-clause-stopped g c =
+    let replay = c.args.replay.now in
+    let request = numbered c.args.request.now in
+    let stack = c.args.stack.now in (
+      stopped_by (λ fault. IsUnanswered fault (IsTop replay.stack c.in-Some.device) replay c.request_of.new.self) (IsOfTop stack) stack replay.asked request
+          (g.W.Output.past c.args.self.now.output.now).written c.request_of.result faults.Memory (c.in-Err-Memory.is ∙ ap Err c.in-Err-Memory.field-0-is) c.request_of.ensures.fault
+          (λ why. top_by_name stack replay.stack request c.in-Some.device c.requires.ready.0 (c.requires.found ∙ c.in-Some.is) why.1),
+      written_to_none g.W.Output.past c.args.self.now.output,
+    )

@@ -1,11 +1,11 @@
-use Rattle.std.proofs.Common.{refl, subst}
+use Rattle.std.proofs.Common.{subst}
 use Rattle.dm_table.specs.io.DeviceIo.{since}
 use Rattle.dm_table.specs.io.WriteAll.{IsCutShort}
 use Rattle.dm_stack.specs.Description.{Description}
 use Rattle.dm_stream.specs.Outcome.{request_answer}
 use Rattle.dm_stream.specs.Requests.{numbered}
 use Rattle.dm_stream.proofs.RequestMapped.{request_cut}
-use Rattle.dm_stream.proofs.request_mapper.RequestMapperHandler.handle_known.Goals as goal
+use Rattle.dm_stream.proofs.request_mapper.RequestMapperHandler.handle.Goals as goal
 
 pub returns-in-Err-clause-stopped : goal.returns-in-Err-clause-stopped
 returns-in-Err-clause-stopped g c =
@@ -14,10 +14,9 @@ returns-in-Err-clause-stopped g c =
     let failed = c.in-Err.ensures in
     let w0 = (g.W.Output.past old.join.writer.now).written in
     let w1 = (g.W.Output.past c.map_request.new.join.writer.now).written in (
-      request_cut old.stack.now c.args.device request _ c.args.mapper.now.state c.map_request.new.mapper w0 w1 c.requires.known refl
-          (subst (λ (stack : Description). IsCutShort (request_answer stack c.args.device request c.args.mapper.now.state) (since w0 w1)) c.requires.ready.joined failed.wrote.left),
+      request_cut c.args._stack.now c.in-Some.device request _ c.args.mapper.now.state c.map_request.new.mapper w0 w1 c.requires.found c.in-Some.is
+          (subst (λ (stack : Description). IsCutShort (request_answer stack c.in-Some.device request c.args.mapper.now.state) (since w0 w1)) c.requires.ready.joined failed.wrote.left),
       record { moved = failed.wrote.moved; same_reference = failed.same_reference },
-      refl,
       failed.stack,
       failed.nothing,
     )

@@ -1,0 +1,13 @@
+use Rattle.std.proofs.Common.{Bool, Vec, subst, sym}
+use Rattle.std.specs.Global.{Global}
+use Rattle.dm_stack.specs.Soundness.{IsSound}
+use Rattle.dm_stack.proofs.TopLemmas.{are_claims, none_passes, noted_tops}
+use Rattle.dm_stack.proofs.stack.Stack.tops.Goals as goal
+
+pub claims-requires : goal.claims-requires
+claims-requires c = none_passes c.indexed.result (subst IsSound (sym c.indexed.ensures.description) c.indexed.ensures.sound)
+
+pub returns : goal.returns
+returns c =
+    let made = are_claims c.args.self.now c.indexed.result c.deref.result.now c.in_ok-claims.claims.items c.deref.ensures.value c.in_ok-claims.ensures c.indexed.ensures.description in
+    noted_tops c.args.self.now c.deref.result.now c.device_count.result (λ (free : Vec Bool Global). free.items) c.unclaimed.result made c.device_count.ensures c.unclaimed.ensures.count c.unclaimed.ensures.each
