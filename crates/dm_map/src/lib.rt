@@ -19,6 +19,7 @@ pub use mapper::{MapFault, Mapper};
 pub use own::play::play_goes_on;
 pub use own::requests::requests_are_alone;
 pub use own::tops::tops_are_alone;
+pub use pieces::discard::Discard;
 pub use pieces::piece::Piece;
 pub use pieces::piece_list::PieceList;
 pub use pieces::sink::Sink;

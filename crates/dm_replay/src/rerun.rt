@@ -10,43 +10,10 @@ ghost use Rattle.dm_replay.specs.Replay.{IsKept};
 ghost use Rattle.dm_replay.specs.Reruns.{rerun_from, rerun_step};
 
 use crate::kept_write::KeptWrite;
-use dm_map::{MapFault, Mapper, Piece, Sink, Taken};
+use dm_map::{Discard, MapFault, Mapper, Taken};
 use dm_stack::Stack;
 use dm_table::{Op, Request};
 use std::alloc::{AllocError, Global};
-
-/// A sink that takes every piece and does nothing with it.
-#[derive(Drop)]
-pub(crate) struct Discard<'s> {
-    pub stack: &'s Stack,
-}
-
-impl Sink for Discard<'_> {
-    ghost use Rattle.std.specs.Prelude.{◌^◌};
-
-    type Fault = ();
-
-    ghost view = { λ sink. record {
-      stack = sink.stack.now;
-      room = 2 ^ 64;
-      faults = 0;
-    } };
-
-    ghost took = { λ old units new. Unit {0} };
-
-    ghost left = { λ old units new. ⊥ };
-
-    /// Does nothing, and never fails.
-    fn piece(&mut self, _piece: Piece) -> Result<(), ()> {
-        Ok(())
-    }
-
-    ghost took_nothing = { λ s. tt };
-
-    ghost took_then_took = { λ a b c us vs first second. tt };
-
-    ghost took_then_left = { λ a b c us vs first second. second };
-}
 
 /// A mapper of a stack in the state that writes to its devices left.
 ///

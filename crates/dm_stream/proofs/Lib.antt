@@ -1,4 +1,5 @@
 pub mod Batches
+pub mod EarlierPlayed
 pub mod FewestLemmas
 pub mod FitsLemmas
 pub mod Fronts

@@ -1,14 +1,30 @@
 -- What playing earlier requests leaves: requests that were carried out before a run, and that nobody waits for an answer of.
-use Rattle.std.specs.Prelude.{◌≡◌, Some, Result, IfErr, OnOk}
+use Rattle.std.specs.Prelude.{◌≡◌, ℕ, List, ◌++◌, Option, Some, Result, IfErr, OnOk}
+use Rattle.dm_stack.specs.Description.{Description}
 use Rattle.dm_map.specs.state.State.{State}
-use Rattle.dm_stream.specs.Outcome.{Outcome}
+use Rattle.dm_stream.specs.Outcome.{Outcome, outcome_from}
+use Rattle.dm_stream.specs.Requests.{NumberedRequest}
 use Rattle.dm_stream.specs.declared.earlier.EarlierFault.{EarlierFault}
 use Rattle.dm_stream.specs.declared.earlier.EarlierFault.TheVariants as faults
 use Rattle.dm_stream.specs.declared.ending.Ending as ending
+use Rattle.dm_stream.specs.declared.ending.RequestWord as word
+
+-- two outcomes leave the same state, and end alike; what they write is another matter
+pub record LeaveTheSame (a b : Outcome) : Type 0 where
+  pub state : a.state ≡ b.state
+  pub ending : a.ending ≡ b.ending
+
+-- whatever requests come after these, they leave what the others leave from the new state on
+pub record HasMoved (stack : Description) (old new : State) (requests : List NumberedRequest) : Type 0 where
+  pub told : (rest : List NumberedRequest) (e : Option ending.Ending) → LeaveTheSame (outcome_from stack old (requests ++ rest) e) (outcome_from stack new rest e)
+
+-- no device has the name of the last of these requests, of this number, so they end there
+pub record HasStoppedAt (stack : Description) (old : State) (requests : List NumberedRequest) (number : ℕ) : Type 0 where
+  pub told : (rest : List NumberedRequest) (e : Option ending.Ending) → (outcome_from stack old (requests ++ rest) e).ending ≡ Some (ending.TheVariants.BadRequest number word.TheVariants.Unknown)
 
 -- how requests end that are refused so
 abbrev pub refused_ending : EarlierFault → ending.Ending
-refused_ending (faults.BadRequest number word) = ending.TheVariants.BadRequest number word
+refused_ending (faults.BadRequest number w) = ending.TheVariants.BadRequest number w
 refused_ending faults.Read = ending.TheVariants.ReadFault
 
 -- requests of this outcome were played: all of them, up to a clean end, and this is the state that they left; or they ended badly

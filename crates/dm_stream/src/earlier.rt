@@ -1,19 +1,24 @@
 //! Earlier requests: those that were carried out before a run, which leave the state that it starts from.
 //!
-//! They are played like the requests of a run, and what they would answer goes nowhere.
+//! They are read like the requests of a run, and played through the same mapper, to a sink that does nothing.
 
-ghost use Rattle.std.specs.Prelude.{◌≡◌, ◌<◌, ◌≤◌, false, length, IfErr, IfOk, OnOk};
-ghost use Rattle.dm_stream.specs.Earlier.{HasPlayed};
+ghost use Rattle.std.specs.Prelude.{◌≡◌, false};
+ghost use Rattle.std.proofs.Common.{refl, ◌∙◌};
+ghost use Rattle.dm_stream.specs.Earlier.{HasMoved, HasPlayed, HasStoppedAt};
+ghost use Rattle.dm_stream.specs.laws.Earlier.{moved_more, moved_none, stopped_more};
 ghost use Rattle.dm_stream.specs.Outcome.{requests_outcome};
 ghost use Rattle.dm_stream.specs.Run.{CanMap};
 ghost use Rattle.dm_table.specs.io.DeviceIo.{delivery};
 ghost use Rattle.dm_table.specs.io.Progress.{IsReadOn};
 
 use crate::ending::{Ending, RequestWord};
-use crate::map_run::map_requests;
-use dm_map::{Mapper, Taken};
-use dm_stack::Stack;
-use dm_table::{GhostList, Input, OutFault, Output, Tally};
+use crate::handler::Handler;
+use crate::request_mapper::read_ahead;
+use crate::requests::handle_requests;
+use dm_map::{Discard, MapFault, Mapper, Taken};
+use dm_stack::{DeviceId, Stack};
+use dm_table::{Input, Request};
+use std::marker::PhantomData;
 
 /// Why earlier requests were refused.
 #[derive(Clone, Copy, Debug, PartialEq, Eq)]
@@ -24,33 +29,70 @@ pub enum EarlierFault {
     Read,
 }
 
-/// An output that takes every byte, keeps none, and never fails.
+/// Plays requests on the state of a mapper, and answers none.
 #[derive(Drop)]
-struct Nowhere {
-    written: GhostList<u8>,
-    waiting: GhostList<u8>,
-    flushes: Tally,
+struct EarlierPlayer<'s, T> {
+    discard: Discard<'s>,
+    /// What was read ahead of requests, added up: see `RequestMapper`.
+    prefetched: u64,
+    taken: PhantomData<T>,
 }
 
-impl Output for Nowhere {
-    ghost past = { λ n. record {
-      written = n.written.items;
-      waiting = n.waiting.items;
-      faults = 0;
-      flushes = n.flushes;
-    } };
+impl<'s, T: Taken> Handler for EarlierPlayer<'s, T> {
+    type Source = Mapper<'s, T>;
 
-    fn write(&mut self, bytes: &[u8]) -> Result<usize, OutFault> {
-        self.written.note(bytes);
-        self.waiting.note(bytes);
-        Ok(bytes.len())
+    /// The number of a request that names no device.
+    type Fault = u64;
+
+    ghost ready = { λ stack h mapper. CanMap stack mapper × (h.discard.stack.now ≡ stack) };
+
+    ghost answered = { λ stack old before requests new after.
+        HasMoved stack before.state after.state requests × (after.stack ≡ before.stack) };
+
+    ghost stopped = { λ stack old before requests number new after.
+        HasStoppedAt stack before.state requests number × (after.stack ≡ before.stack)
+        × (after.failed ≡ false) };
+
+    ghost answered_none = { λ stack h mapper. (moved_none stack mapper.state, refl) };
+
+    ghost answered_then_answered = { λ stack a b c s t u us vs first second.
+        (moved_more stack s.state t.state u.state us vs first.0 second.0, second.1 ∙ first.1) };
+
+    ghost answered_then_stopped = { λ stack a b c s t u us vs number first second. (
+      stopped_more stack s.state t.state us vs number first.0 second.0,
+      second.1 ∙ first.1,
+      second.2,
+    ) };
+
+    #[inline(always)]
+    fn handle(
+        &mut self,
+        _stack: &Stack,
+        mapper: &mut Mapper<'s, T>,
+        request: &Request<'_>,
+        device: Option<DeviceId>,
+    ) -> Result<(), u64> {
+        let Some(device) = device else {
+            return Err(request.number);
+        };
+        match mapper.request(request, device, &mut self.discard) {
+            Ok(()) => Ok(()),
+            Err(MapFault::Sink(())) => unreachable!(),
+            Err(MapFault::Stopped) => unreachable!(),
+        }
     }
 
-    fn flush(&mut self) -> Result<(), OutFault> {
-        self.waiting = GhostList::new();
-        self.flushes.raise();
-        Ok(())
+    fn gathers(&self, stack: &Stack) -> bool {
+        stack.gains_by_prefetch()
     }
+
+    #[inline(always)]
+    fn prefetch(&mut self, stack: &Stack, mapper: &Mapper<'s, T>, device: DeviceId, start: u64) {
+        let read = read_ahead(stack, mapper, device, start);
+        self.prefetched = self.prefetched.wrapping_add(read);
+    }
+
+    fn before_read(&mut self) {}
 }
 
 /// Plays requests, line by line, and answers none: the mapper's state moves on as if they had been answered.
@@ -58,7 +100,7 @@ impl Output for Nowhere {
 /// The mapper is one of this stack and has not failed, and stays so. Nothing is read after a bad line, an end or
 /// a fault.
 ///
-/// Cost: that of `run` over these requests. No memory is taken.
+/// Cost: less than that of `run` over these requests, since nothing is joined or written. No memory is taken.
 ///
 /// # Errors
 ///
@@ -80,15 +122,16 @@ pub fn play_earlier<'s, T: Taken, R: Input>(
     // Requests are only read on, and nothing is read after an end or a fault.
     ensures reads { IsReadOn (R.past requests.old) (R.past requests.new) }
 {
-    let mut nowhere = Nowhere {
-        written: GhostList::new(),
-        waiting: GhostList::new(),
-        flushes: Tally::new(),
+    let mut player = EarlierPlayer {
+        discard: Discard { stack },
+        prefetched: 0,
+        taken: PhantomData,
     };
-    match map_requests(stack, mapper, requests, &mut nowhere) {
-        Ending::Done => Ok(()),
-        Ending::BadRequest(number, word) => Err(EarlierFault::BadRequest(number, word)),
-        Ending::ReadFault => Err(EarlierFault::Read),
-        Ending::WriteFault => unreachable!(),
+    match handle_requests(stack, requests, &mut player, mapper) {
+        Ok(Ending::Done) => Ok(()),
+        Ok(Ending::BadRequest(number, word)) => Err(EarlierFault::BadRequest(number, word)),
+        Ok(Ending::ReadFault) => Err(EarlierFault::Read),
+        Ok(Ending::WriteFault) => unreachable!(),
+        Err(number) => Err(EarlierFault::BadRequest(number, RequestWord::Unknown)),
     }
 }

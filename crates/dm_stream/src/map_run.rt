@@ -67,7 +67,7 @@ fn map_lines<'s, T: Taken, R: Input, W: Output>(
 }
 
 /// Answers them to an output, through a join that is made for it and gone at the return.
-pub(crate) fn map_requests<'s, T: Taken, R: Input, W: Output>(
+fn map_requests<'s, T: Taken, R: Input, W: Output>(
     stack: &'s Stack,
     mapper: &mut Mapper<'s, T>,
     requests: &mut R,

@@ -51,6 +51,22 @@ fn map_request<T: Taken, W: Output>(
     }
 }
 
+/// Reads what the answer to a request of this device from this sector on reads first, so that it is in the cache by
+/// then. What it read is returned, since a read of which nothing comes is left out.
+#[inline(always)]
+pub(crate) fn read_ahead<T: Taken>(
+    stack: &Stack,
+    mapper: &Mapper<'_, T>,
+    device: DeviceId,
+    start: u64,
+) -> u64 {
+    match stack.prefetch(device, start) {
+        Prefetched::Lines(starts) => starts,
+        Prefetched::Chunk(chunk) => mapper.prefetch(device, chunk),
+        Prefetched::Nothing => 0,
+    }
+}
+
 /// Writes the pieces that a mapper makes of requests.
 #[derive(Drop)]
 pub(crate) struct RequestMapper<'m, 's, T: Taken, W> {
@@ -125,11 +141,7 @@ impl<'s, T: Taken, W: Output> Handler for RequestMapper<'_, 's, T, W> {
 
     #[inline(always)]
     fn prefetch(&mut self, stack: &Stack, mapper: &Mapper<'s, T>, device: DeviceId, start: u64) {
-        let read = match stack.prefetch(device, start) {
-            Prefetched::Lines(starts) => starts,
-            Prefetched::Chunk(chunk) => mapper.prefetch(device, chunk),
-            Prefetched::Nothing => 0,
-        };
+        let read = read_ahead(stack, mapper, device, start);
         self.prefetched = self.prefetched.wrapping_add(read);
     }
 

@@ -1,0 +1,38 @@
+//! The sink that does nothing: for requests that are mapped for the state that they leave.
+
+use crate::pieces::piece::Piece;
+use crate::pieces::sink::Sink;
+use dm_stack::Stack;
+
+/// A sink that takes every piece and does nothing with it.
+#[derive(Drop)]
+pub struct Discard<'s> {
+    pub stack: &'s Stack,
+}
+
+impl Sink for Discard<'_> {
+    ghost use Rattle.std.specs.Prelude.{◌^◌};
+
+    type Fault = ();
+
+    ghost view = { λ sink. record {
+      stack = sink.stack.now;
+      room = 2 ^ 64;
+      faults = 0;
+    } };
+
+    ghost took = { λ old units new. Unit {0} };
+
+    ghost left = { λ old units new. ⊥ };
+
+    /// Does nothing, and never fails.
+    fn piece(&mut self, _piece: Piece) -> Result<(), ()> {
+        Ok(())
+    }
+
+    ghost took_nothing = { λ s. tt };
+
+    ghost took_then_took = { λ a b c us vs first second. tt };
+
+    ghost took_then_left = { λ a b c us vs first second. second };
+}

@@ -1,0 +1,28 @@
+-- The laws of a player of earlier requests as a handler: what it played, and then played or stopped at, is one.
+use Rattle.std.proofs.Common.{ℕ, List, [], ◌++◌, refl, ap, ◌∙◌, append_assoc}
+use Rattle.dm_stack.specs.Description.{Description}
+use Rattle.dm_map.specs.state.State.{State}
+use Rattle.dm_stream.specs.Earlier.{HasMoved, HasStoppedAt}
+use Rattle.dm_stream.specs.Outcome.{outcome_from}
+use Rattle.dm_stream.specs.Requests.{NumberedRequest}
+
+pub moved_none : (stack : Description) (state : State) → HasMoved stack state state []
+moved_none stack state = record { told = λ rest e. record { state = refl; ending = refl } }
+
+pub moved_more : (stack : Description) (a b c : State) (us vs : List NumberedRequest) → HasMoved stack a b us → HasMoved stack b c vs → HasMoved stack a c (us ++ vs)
+moved_more stack a b c us vs first second = record {
+  told = λ rest e.
+      let same = append_assoc us vs rest in
+      let one = first.told (vs ++ rest) e in
+      let two = second.told rest e in
+      record {
+        state = ap (λ (requests : List NumberedRequest). (outcome_from stack a requests e).state) same ∙ one.state ∙ two.state;
+        ending = ap (λ (requests : List NumberedRequest). (outcome_from stack a requests e).ending) same ∙ one.ending ∙ two.ending;
+      };
+}
+
+pub stopped_more : (stack : Description) (a b : State) (us vs : List NumberedRequest) (number : ℕ) → HasMoved stack a b us → HasStoppedAt stack b vs number → HasStoppedAt stack a (us ++ vs) number
+stopped_more stack a b us vs number first second = record {
+  told = λ rest e.
+      ap (λ (requests : List NumberedRequest). (outcome_from stack a requests e).ending) (append_assoc us vs rest) ∙ (first.told (vs ++ rest) e).ending ∙ second.told rest e;
+}
