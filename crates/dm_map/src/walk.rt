@@ -2,6 +2,7 @@
 //! that does it.
 
 pub(crate) mod chunk;
+pub(crate) mod homes;
 pub(crate) mod levels;
 pub(crate) mod range;
 pub(crate) mod serving;
@@ -10,3 +11,4 @@ pub(crate) mod stretch;
 pub(crate) mod take_chunk;
 #[cfg(test)]
 mod tests;
+pub(crate) mod write_chunk;

@@ -5,7 +5,7 @@ use Rattle.dm_table.specs.declared.requests.request.Op.TheVariants.{Read}
 use Rattle.dm_stack.specs.declared.found_line.FoundSnapshot.{FoundSnapshot}
 use Rattle.dm_stack.specs.declared.graph.TheConstants.{MOST_DEPTH}
 use Rattle.dm_stack.specs.declared.id.Lower.{Lower}
-use Rattle.dm_map.specs.declared.walk.take_chunk.HomeStretch.{HomeStretch}
+use Rattle.dm_map.specs.declared.walk.homes.HomeStretch.{HomeStretch}
 use Rattle.dm_map.specs.declared.walk.stretch.Ground.{Ground}
 use Rattle.dm_map.specs.declared.walk.stretch.Ground.TheVariants as grounds
 use Rattle.dm_map.specs.declared.walk.stretch.Stretch.{Stretch}
@@ -67,19 +67,19 @@ abbrev pub copy_of : WalkerView → FoundSnapshot → (number : ℕ) → ℕ →
 copy_of walk snapshot number u = copy_to (read walk.stack walk.state snapshot.origin u) (home_in_store walk.stack snapshot number u)
 
 -- what a piece copies, as long as both sides go on, is the next part of the row
-pub copy_next : (walk now : WalkerView) (snapshot : FoundSnapshot) (number sector len left from to : ℕ) (source : Stretch) (first : HomeStretch) → 0 < snapshot.chunk → sector % snapshot.chunk + len ≤ snapshot.chunk → left ≤ len → from + left ≡ sector + len
-    → to + left ≡ store_sector snapshot number sector + len → IsFirst walk walk (range_step walk.stack Read MOST_DEPTH snapshot.origin walk.state from) left source → stack_state now ≡ stack_state walk → IsFirstHomes now.stack snapshot.store to source.len first
-    → row (copy_of walk snapshot number) (sector + (len - left)) first.len ≡ units_in (copy_to (ground_unit source.ground) (record { disk = first.disk; sector = first.start })) first.len
-copy_next walk now snapshot number sector len left from to source first some part within from_is to_is stretch same homes =
+pub copy_next : (walk : WalkerView) (snapshot : FoundSnapshot) (number sector len left from to n : ℕ) (source : Stretch) (target : HomeStretch) → 0 < snapshot.chunk → sector % snapshot.chunk + len ≤ snapshot.chunk → left ≤ len → from + left ≡ sector + len
+    → to + left ≡ store_sector snapshot number sector + len → IsFirst walk walk (range_step walk.stack Read MOST_DEPTH snapshot.origin walk.state from) left source → IsFirstHomes walk.stack snapshot.store to left target → n ≤ source.len → n ≤ target.len
+    → row (copy_of walk snapshot number) (sector + (len - left)) n ≡ units_in (copy_to (ground_unit source.ground) (record { disk = target.disk; sector = target.start })) n
+copy_next walk snapshot number sector len left from to n source target some part within from_is to_is stretch homes few_read few_home =
     let done = len - left in let reads = read walk.stack walk.state snapshot.origin in let unit = ground_unit source.ground in
     let position : from ≡ sector + done = omega (arith, from_is, within) in
     let whole = subst (λ (s : ℕ). row reads s source.len ≡ units_in unit source.len) position (first_reads walk.stack walk.state snapshot.origin from source.len unit stretch.read) in
-    let home_part : GoOn (home_in_store walk.stack snapshot number) (sector + done) first.disk first.start first.len = λ i more.
+    let home_part : GoOn (home_in_store walk.stack snapshot number) (sector + done) target.disk target.start n = λ i more.
     ap (λ (s : ℕ). home walk.stack snapshot.store s)
-    (ap (store_sector snapshot number) (let e : sector + done + i ≡ sector + (done + i) = omega arith in e) ∙ store_sector_on snapshot number sector (done + i) some (omega (arith, part, within, more, homes.most, stretch.most))
+    (ap (store_sector snapshot number) (let e : sector + done + i ≡ sector + (done + i) = omega arith in e) ∙ store_sector_on snapshot number sector (done + i) some (omega (arith, part, within, more, few_home, homes.most))
     ∙ (let e : store_sector snapshot number sector + (done + i) ≡ to + i = omega (arith, to_is, within) in e))
-    ∙ ap (λ (v : StackState). home v.stack snapshot.store (to + i)) (sym same) ∙ homes.homes i more in
-    copy_row reads (home_in_store walk.stack snapshot number) (sector + done) first.len unit first.disk first.start (row_front reads (sector + done) source.len first.len unit whole homes.most) home_part
+    ∙ homes.homes i (omega (arith, more, few_home)) in
+    copy_row reads (home_in_store walk.stack snapshot number) (sector + done) n unit target.disk target.start (row_front reads (sector + done) source.len n unit whole few_read) home_part
 
 -- and so is a write
 pub next_writes : (before now : WalkerView) (store : Lower) (sector len at left : ℕ) (first : HomeStretch) → stack_state now ≡ stack_state before → left ≤ len → at + left ≡ sector + len → IsFirstHomes now.stack store at left first

@@ -43,6 +43,9 @@ chunk_outcome stack snapshot device chunk state =
     let number = length (taken_at state device).chunks in let first = first_of snapshot chunk in let count = count_of stack snapshot device chunk in
     chunk_outcome_by state device chunk (is_settled (taken_at state device) chunk) (can_take stack state snapshot device first count) (copies stack state snapshot number first count) refl
 
+pub not_settled : (taken : Taken) (chunk : ℕ) → taken.valid ≡ true → number_in chunk taken.chunks ≡ None → is_settled taken chunk ≡ false
+not_settled taken chunk valid fresh = rw (valid, fresh) refl
+
 pub take_chunk_again : (stack : Description) (snapshot : FoundSnapshot) (device chunk : ℕ) (state : State) → is_settled (taken_at state device) chunk ≡ true → take_chunk stack snapshot device chunk state ≡ keep [] state
 take_chunk_again stack snapshot device chunk state settled = rw settled refl
 
@@ -55,6 +58,16 @@ pub take_chunk_settles : (state : State) (device chunk : ℕ) (step : Step) → 
 take_chunk_settles state device chunk step there (Settled done is) = rw is done
 take_chunk_settles state device chunk step there (Took valid fresh units is) = rw (is, taken_same state device (with_chunk (taken_at state device) chunk) there) (new_settled (taken_at state device) chunk fresh)
 take_chunk_settles state device chunk step there (Lost is) = rw (is, taken_same state device (lost (taken_at state device)) there) refl
+
+-- a chunk that is taken has the next number
+pub numbered_next : (state after : State) (device chunk : ℕ) → device < length state → is_settled (taken_at state device) chunk ≡ false → after ≡ put state device (with_chunk (taken_at state device) chunk)
+    → ((taken_at after device).valid ≡ true) × (number_in chunk (taken_at after device).chunks ≡ Some (length (taken_at state device).chunks))
+numbered_next state after device chunk there fresh is =
+    let taken = taken_at state device in let parts = or_parts (not taken.valid) (is_some (number_in chunk taken.chunks)) fresh in
+    let now : taken_at after device ≡ with_chunk taken chunk = ap (λ (s : State). taken_at s device) is ∙ taken_same state device (with_chunk taken chunk) there in (
+      ap (λ (t : Taken). t.valid) now ∙ not-false taken.valid parts.0,
+      ap (λ (t : Taken). number_in chunk t.chunks) now ∙ number_new chunk taken.chunks (none_of _ parts.1),
+    )
 
 -- The write of a sector
 
@@ -76,9 +89,18 @@ passes false placed settled is = refl
 pub settled_passes : (stack : Description) (snapshot : FoundSnapshot) (taken : Taken) (chunk : ℕ) → is_settled taken chunk ≡ true → is_refused stack snapshot taken chunk ≡ false
 settled_passes stack snapshot taken chunk settled = passes (is_keeping snapshot.kind) (has_place stack snapshot (length taken.chunks)) (is_settled taken chunk) settled
 
+-- any other is where its store keeps what it has, and has no place for one more
+fresh_refused : (keeping placed settled : Bool) → settled ≡ false → (keeping && (not placed && not settled)) ≡ (keeping && not placed)
+fresh_refused true true settled is = refl
+fresh_refused true false settled is = rw is refl
+fresh_refused false placed settled is = refl
+
+pub refused_as : (stack : Description) (snapshot : FoundSnapshot) (taken : Taken) (chunk : ℕ) → is_settled taken chunk ≡ false → is_refused stack snapshot taken chunk ≡ (is_keeping snapshot.kind && not (has_place stack snapshot (length taken.chunks)))
+refused_as stack snapshot taken chunk fresh = fresh_refused (is_keeping snapshot.kind) (has_place stack snapshot (length taken.chunks)) (is_settled taken chunk) fresh
+
 -- The sectors of a chunk: it is taken once, or each of them fails
 
-settled_part : (stack : Description) (snapshot : FoundSnapshot) (device chunk sector n : ℕ) (state : State) → is_settled (taken_at state device) chunk ≡ true → ((i : ℕ) → i < n → (sector + i) / snapshot.chunk ≡ chunk)
+pub settled_part : (stack : Description) (snapshot : FoundSnapshot) (device chunk sector n : ℕ) (state : State) → is_settled (taken_at state device) chunk ≡ true → ((i : ℕ) → i < n → (sector + i) / snapshot.chunk ≡ chunk)
     → steps (write_snapshot stack snapshot device) state sector n ≡ keep (row (unit_in_store stack snapshot device state) sector n) state
 settled_part stack snapshot device chunk sector zero state settled each = refl
 settled_part stack snapshot device chunk sector (suc n) state settled each =

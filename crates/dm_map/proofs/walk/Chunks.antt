@@ -1,35 +1,35 @@
 -- The sectors of one chunk of a snapshot: where they are read, and that they are written there once the chunk is settled.
-use Rattle.std.proofs.Common.{◌≡◌, ℕ, zero, suc, ◌+◌, ◌-◌, ◌*◌, ◌/◌, ◌%◌, ◌<◌, ◌≤◌, Bool, true, false, cond, not, List, [], ◌∷◌, ◌++◌, Option, Some, None, length, append_assoc, refl, sym, ap, subst, ◌∙◌, arith}
-use Rattle.std.specs.Prelude.{◌||◌, is_some, min}
+use Rattle.std.proofs.Common.{◌≡◌, ℕ, zero, suc, ◌+◌, ◌-◌, ◌*◌, ◌/◌, ◌%◌, ◌<◌, ◌≤◌, true, false, List, [], ◌∷◌, ◌++◌, Option, Some, None, length, append_assoc, refl, sym, ap, subst, ◌∙◌, arith}
+use Rattle.std.specs.Prelude.{min}
 use Rattle.std.proofs.lemmas.List.{length-set}
-use Rattle.std.proofs.lemmas.Nat.{div-add-mod'}
+use Rattle.std.proofs.lemmas.Nat.{div-add-mod', mod-mul-add}
 use Rattle.dm_table.specs.declared.requests.request.Op.TheVariants as ops
-use Rattle.dm_stack.specs.declared.id.Lower.{Lower}
 use Rattle.dm_stack.specs.declared.found_line.FoundSnapshot.{FoundSnapshot}
 use Rattle.dm_stack.specs.declared.found_line.FoundLine.{FoundLine}
 use Rattle.dm_stack.specs.declared.found_line.FoundTarget.{FoundTarget}
 use Rattle.dm_stack.specs.declared.found_line.FoundTarget.TheVariants.{Snapshot}
-use Rattle.dm_stack.specs.Below.{Below, Lies, IsError, found_at, IsLine, IsSnapshotSound, IsTargetSound}
-use Rattle.dm_stack.specs.Description.{Description, device_len}
+use Rattle.dm_stack.specs.Below.{Below, Lies, found_at, IsLine, IsSnapshotSound, IsTargetSound}
+use Rattle.dm_stack.specs.Description.{Description, device_len, lower_len}
 use Rattle.dm_stack.specs.StoreLayout.{place}
 use Rattle.dm_map.specs.declared.walk.chunk.ReadAt.{ReadAt}
+use Rattle.dm_map.specs.declared.walk.homes.HomeStretch.{HomeStretch}
 use Rattle.dm_map.specs.walk.Homes.{home}
 use Rattle.dm_map.specs.walk.Reads.{by_below, read_unit}
 use Rattle.dm_map.specs.state.Snapshots.{number_in, store_sector, read_numbered, read_over}
-use Rattle.dm_map.specs.walk.SnapshotWrites.{is_refused, is_settled, take_chunk, row, store_writes, unit_in_store, write_numbered, write_snapshot, write_to}
+use Rattle.dm_map.specs.walk.SnapshotWrites.{home_in_store, is_refused, is_settled, take_chunk, row, store_writes, unit_in_store, write_snapshot, write_to}
 use Rattle.dm_map.specs.state.State.{State, Taken, taken_at}
 use Rattle.dm_map.specs.walk.Steps.{Step, keep, and_then, steps}
 use Rattle.dm_map.specs.state.Tables.{has_room}
-use Rattle.dm_map.specs.pieces.Units.{BlockUnit, Zeros, Fails, units_in}
+use Rattle.dm_map.specs.pieces.Units.{BlockUnit, WriteOf, Zeros, Fails, units_in}
 use Rattle.dm_map.specs.walk.Mapping.{sector_step}
 use Rattle.dm_map.specs.pieces.Sink.{OfBeginning}
 use Rattle.dm_map.specs.walk.Range.{line_step, range_step, target_step}
-use Rattle.dm_map.specs.walk.Chunk.{AreInChunk, AreInSnapshot, AreReadAt}
+use Rattle.dm_map.specs.walk.Chunk.{AreInChunk, AreInSnapshot, AreReadAt, IsTakenAs}
 use Rattle.dm_map.proofs.state.TableLemmas.{room_place}
-use Rattle.dm_map.proofs.walk.ChunkTaking.{ChunkOutcome, chunk_outcome, Settled, Took, Lost, chunk_part, refused_part, write_is}
+use Rattle.dm_map.proofs.walk.ChunkTaking.{ChunkOutcome, chunk_outcome, Settled, Took, Lost, chunk_part, refused_part, settled_part, write_is}
 use Rattle.dm_map.proofs.walk.Rows.{left_more, steps_read, steps_same, steps_still}
 use Rattle.dm_stack.proofs.StripeLemmas.{in_chunk}
-use Rattle.dm_map.proofs.walk.UnitRows.{row_same}
+use Rattle.dm_map.proofs.walk.UnitRows.{row_same, write_row}
 
 -- A line's sectors as those of a snapshot, and of one chunk
 
@@ -69,6 +69,16 @@ store_sector_on snapshot number sector i some within =
 pub same_chunk : (snapshot : FoundSnapshot) (sector i : ℕ) → 0 < snapshot.chunk → sector % snapshot.chunk + i < snapshot.chunk → (sector + i) / snapshot.chunk ≡ sector / snapshot.chunk
 same_chunk snapshot sector i some within = (in_chunk snapshot.chunk sector i some (omega (arith, within))).number
 
+-- a chunk begins where its number says
+pub chunk_begins : (chunk size : ℕ) → 0 < size → (chunk * size) % size ≡ 0
+chunk_begins chunk size some = ap (λ (n : ℕ). n % size) (let e : chunk * size ≡ chunk * size + 0 = omega arith in e) ∙ mod-mul-add chunk size 0 some
+
+-- its sectors are inside the store where their place is
+pub place_inside : (snapshot : FoundSnapshot) (number sector len most : ℕ) → (place snapshot.kind snapshot.chunk number + 1) * snapshot.chunk ≤ most → sector % snapshot.chunk + len ≤ snapshot.chunk → store_sector snapshot number sector + len ≤ most
+place_inside snapshot number sector len most fits part =
+    let split : (place snapshot.kind snapshot.chunk number + 1) * snapshot.chunk ≡ place snapshot.kind snapshot.chunk number * snapshot.chunk + snapshot.chunk = grind arith in
+    omega (arith, fits, split, part)
+
 -- Reads
 
 over_at : (taken : Taken) (snapshot : FoundSnapshot) (sector chunk : ℕ) (number : Option ℕ) → taken.valid ≡ true → sector / snapshot.chunk ≡ chunk → number_in chunk taken.chunks ≡ number → read_over taken snapshot sector ≡ read_numbered snapshot number sector
@@ -77,13 +87,12 @@ over_at taken snapshot sector chunk number valid same is = rw (valid, same, is) 
 pub read_store : (stack : Description) (state : State) (device sector len number : ℕ) (snapshot : FoundSnapshot) → AreInChunk stack device snapshot sector len → (taken_at state device).valid ≡ true → number_in (sector / snapshot.chunk) (taken_at state device).chunks ≡ Some number → has_room stack device number ≡ true
     → AreReadAt stack state device snapshot sector len (record { to = snapshot.store; sector = store_sector snapshot number sector })
 read_store stack state device sector len number snapshot chunk valid is room =
-    let some = chunk.whole.sound.chunk_some in let fits = room_place stack device number snapshot chunk.whole.is room in
-    let split : (place snapshot.kind snapshot.chunk number + 1) * snapshot.chunk ≡ place snapshot.kind snapshot.chunk number * snapshot.chunk + snapshot.chunk = grind arith in
+    let some = chunk.whole.sound.chunk_some in
     record {
       lies = λ i within.
           over_at (taken_at state device) snapshot (sector + i) (sector / snapshot.chunk) (Some number) valid (same_chunk snapshot sector i some (omega (arith, chunk.part, within))) is
           ∙ ap (Lies snapshot.store) (store_sector_on snapshot number sector i some (omega (arith, chunk.part, within)));
-      inside = omega (arith, fits, split, chunk.part);
+      inside = place_inside snapshot number sector len (lower_len stack snapshot.store) (room_place stack device number snapshot chunk.whole.is room) chunk.part;
     }
 
 pub read_origin : (stack : Description) (state : State) (device sector len : ℕ) (snapshot : FoundSnapshot) → AreInChunk stack device snapshot sector len → (taken_at state device).valid ≡ true → number_in (sector / snapshot.chunk) (taken_at state device).chunks ≡ None
@@ -108,30 +117,30 @@ lost_read stack levels device sector n snapshot state off =
 pub write_line_step : (stack : Description) (levels device sector n : ℕ) (snapshot : FoundSnapshot) (state : State) → steps (write_snapshot stack snapshot device) state sector n ≡ line_step stack ops.Write levels device (Snapshot snapshot) state sector n
 write_line_step stack levels device sector n snapshot state = steps_same (write_snapshot stack snapshot device) (target_step stack ops.Write levels device (Snapshot snapshot)) state sector sector n (λ after i within. refl)
 
--- once a chunk is settled, what reads a sector somewhere keeps it there
-pub record IsInStore (stack : Description) (snapshot : FoundSnapshot) (unit : BlockUnit) (to : Lower) (at : ℕ) : Type 0 where
-  pub store : to ≡ snapshot.store
-  pub written : unit ≡ write_to (home stack to at)
+-- the sectors of a chunk that a valid snapshot has taken under a number, in its place in the store
 
-in_store_by : (stack : Description) (snapshot : FoundSnapshot) (sector : ℕ) (valid : Bool) (number : Option ℕ) (to : Lower) (at : ℕ) → (not valid || is_some number) ≡ true → cond valid (read_numbered snapshot number sector) IsError ≡ Lies to at
-    → IsInStore stack snapshot (cond valid (write_numbered stack snapshot number sector) Fails) to at
-in_store_by stack snapshot sector false number to at settled lies = absurd cc
-in_store_by stack snapshot sector true None to at settled lies = absurd cc
-in_store_by stack snapshot sector true (Some number) to at settled lies =
-    let store : snapshot.store ≡ to = cc in let position : store_sector snapshot number sector ≡ at = cc in
-    record { store = sym store; written = rw (sym store, sym position) refl }
+unit_numbered : (stack : Description) (snapshot : FoundSnapshot) (device sector chunk number : ℕ) (state : State) → (taken_at state device).valid ≡ true → sector / snapshot.chunk ≡ chunk → number_in chunk (taken_at state device).chunks ≡ Some number
+    → unit_in_store stack snapshot device state sector ≡ write_to (home_in_store stack snapshot number sector)
+unit_numbered stack snapshot device sector chunk number state valid same is = rw (valid, same, is) refl
 
-pub in_store : (stack : Description) (snapshot : FoundSnapshot) (device sector : ℕ) (state : State) (to : Lower) (at : ℕ) → is_settled (taken_at state device) (sector / snapshot.chunk) ≡ true → read_over (taken_at state device) snapshot sector ≡ Lies to at → IsInStore stack snapshot (unit_in_store stack snapshot device state sector) to at
-in_store stack snapshot device sector state to at settled lies =
-    in_store_by stack snapshot sector (taken_at state device).valid (number_in (sector / snapshot.chunk) (taken_at state device).chunks) to at settled lies
+pub row_numbered : (stack : Description) (snapshot : FoundSnapshot) (device sector len number : ℕ) (state : State) → AreInChunk stack device snapshot sector len → (taken_at state device).valid ≡ true → number_in (sector / snapshot.chunk) (taken_at state device).chunks ≡ Some number
+    → row (unit_in_store stack snapshot device state) sector len ≡ store_writes stack snapshot.store (store_sector snapshot number sector) len
+row_numbered stack snapshot device sector len number state chunk valid is =
+    let some = chunk.whole.sound.chunk_some in
+    row_same (unit_in_store stack snapshot device state) (λ s. write_to (home stack snapshot.store s)) sector (store_sector snapshot number sector) len
+    (λ i within. unit_numbered stack snapshot device (sector + i) (sector / snapshot.chunk) number state valid (same_chunk snapshot sector i some (omega (arith, chunk.part, within))) is
+    ∙ ap (λ (s : ℕ). write_to (home stack snapshot.store s)) (store_sector_on snapshot number sector i some (omega (arith, chunk.part, within))))
 
--- all sectors of the chunk
-pub row_in_store : (stack : Description) (snapshot : FoundSnapshot) (device sector len : ℕ) (state : State) (source : ReadAt) → AreInChunk stack device snapshot sector len → is_settled (taken_at state device) (sector / snapshot.chunk) ≡ true → AreReadAt stack state device snapshot sector len source
-    → row (unit_in_store stack snapshot device state) sector len ≡ store_writes stack source.to source.sector len
-row_in_store stack snapshot device sector len state source chunk settled at =
-    row_same (unit_in_store stack snapshot device state) (λ s. write_to (home stack source.to s)) sector source.sector len
-    (λ i within. (in_store stack snapshot device (sector + i) state source.to (source.sector + i)
-    (subst (λ (c : ℕ). is_settled (taken_at state device) c ≡ true) (sym (same_chunk snapshot sector i chunk.whole.sound.chunk_some (omega (arith, chunk.part, within)))) settled) (at.lies i within)).written)
+-- where it was just taken, some of them lie in a row on a disk
+pub row_taken : (stack : Description) (snapshot : FoundSnapshot) (device sector len number : ℕ) (state : State) (first : HomeStretch) → AreInChunk stack device snapshot sector len → IsTakenAs stack state device snapshot (sector / snapshot.chunk) number first → sector % snapshot.chunk + len ≤ first.len
+    → row (unit_in_store stack snapshot device state) sector len ≡ units_in (WriteOf first.disk (first.start + sector % snapshot.chunk)) len
+row_taken stack snapshot device sector len number state first chunk taken within =
+    let distance = sector % snapshot.chunk in let at = sector / snapshot.chunk * snapshot.chunk in
+    let begins : at % snapshot.chunk ≡ 0 = chunk_begins (sector / snapshot.chunk) snapshot.chunk chunk.whole.sound.chunk_some in
+    row_numbered stack snapshot device sector len number state chunk taken.valid taken.is
+    ∙ write_row (home stack snapshot.store) (store_sector snapshot number sector) first.disk (first.start + distance) len
+    (λ i less. ap (home stack snapshot.store) (let e : store_sector snapshot number sector + i ≡ store_sector snapshot number at + (distance + i) = omega (arith, begins) in e)
+    ∙ taken.homes.homes (distance + i) (omega (arith, within, less)) ∙ ap (λ (s : ℕ). record { disk = first.disk; sector = s }) (let e : first.start + (distance + i) ≡ first.start + distance + i = omega arith in e))
 
 pub row_lost : (stack : Description) (snapshot : FoundSnapshot) (device sector len : ℕ) (state : State) → (taken_at state device).valid ≡ false → row (unit_in_store stack snapshot device state) sector len ≡ units_in Fails len
 row_lost stack snapshot device sector zero state off = refl
@@ -149,7 +158,13 @@ pub take_chunk_there : (stack : Description) (snapshot : FoundSnapshot) (device 
 take_chunk_there stack snapshot device chunk state there =
     let same = len_readied state device chunk (take_chunk stack snapshot device chunk state) (chunk_outcome stack snapshot device chunk state) in omega (arith, there, same)
 
--- the write of sectors of a chunk that is not refused: it is taken, and they are written
+-- the write of sectors of a chunk for which nothing is left to do
+pub settled_written : (stack : Description) (snapshot : FoundSnapshot) (device sector len : ℕ) (state : State) → AreInChunk stack device snapshot sector len → is_settled (taken_at state device) (sector / snapshot.chunk) ≡ true
+    → keep (row (unit_in_store stack snapshot device state) sector len) state ≡ steps (write_snapshot stack snapshot device) state sector len
+settled_written stack snapshot device sector len state chunk settled =
+    sym (settled_part stack snapshot device (sector / snapshot.chunk) sector len state settled (λ i within. same_chunk snapshot sector i chunk.whole.sound.chunk_some (omega (arith, chunk.part, within))))
+
+-- of one that is not refused: it is taken, and they are written
 pub chunk_written : (stack : Description) (snapshot : FoundSnapshot) (device sector len : ℕ) (state : State) → AreInChunk stack device snapshot sector len → 1 ≤ len → device < length state → is_refused stack snapshot (taken_at state device) (sector / snapshot.chunk) ≡ false
     → and_then (take_chunk stack snapshot device (sector / snapshot.chunk) state) (λ after. keep (row (unit_in_store stack snapshot device after) sector len) after) ≡ steps (write_snapshot stack snapshot device) state sector len
 chunk_written stack snapshot device sector zero state chunk some there passes = absurd (omega (arith, some))

@@ -44,9 +44,23 @@ on_ok_then (Ok x) P Q f p = f p
 on_ok_then (Err e) P Q f p = tt
 
 -- a walk whose step is said in another way
-pub walked_as : {S F : Type 0} {took left : S → List BlockUnit → S → Type 0} {view : S → SinkView} {result : Result (Unit {0}) F} {old new : S} {before after : WalkerView} {step other : Step} {len : ℕ} → step ≡ other
+pub walked_as : {S R F : Type 0} {took left : S → List BlockUnit → S → Type 0} {view : S → SinkView} {result : Result R F} {old new : S} {before after : WalkerView} {step other : Step} {len : ℕ} → step ≡ other
     → IsWalked took left view result old new before after step len → IsWalked took left view result old new before after other len
 walked_as {took} {left} {view} {result} {old} {new} {before} {after} {len} same walked = subst (λ (x : Step). IsWalked took left view result old new before after x len) same walked
+
+-- a walk of fewer sectors without a disk
+pub walked_within : {S R F : Type 0} {took left : S → List BlockUnit → S → Type 0} {view : S → SinkView} {result : Result R F} {old new : S} {before after : WalkerView} {step : Step} {few len : ℕ} → few ≤ len
+    → IsWalked took left view result old new before after step few → IsWalked took left view result old new before after step len
+walked_within {view} {result} {old} {new} {few} {len} within walked = record {
+  took = walked.took;
+  state = walked.state;
+  kept = walked.kept;
+  room = on_ok_then result ((view old).room ≤ (view new).room + few) ((view old).room ≤ (view new).room + len) (λ low. omega (arith, low, within)) walked.room;
+  left = walked.left;
+  faults = walked.faults;
+  stack = walked.stack;
+  looked = walked.looked;
+}
 
 -- one piece as a walk
 pub walked_piece : {S F : Type 0} {took left : S → List BlockUnit → S → Type 0} {view : S → SinkView} {result : Result (Unit {0}) F} {old new : S} {walk : WalkerView} {units : List BlockUnit} {step : Step} {diskless len : ℕ}
@@ -65,7 +79,7 @@ walked_piece {left} {view} {result} {old} {new} {walk} {units} {diskless} {len} 
     })
 
 -- a walk that the sink cut short
-pub walked_cut : {S F : Type 0} (took left : S → List BlockUnit → S → Type 0) (view : S → SinkView) (result : Result (Unit {0}) F) (old new : S) (before after : WalkerView) (step : Step) (len : ℕ)
+pub walked_cut : {S R F : Type 0} (took left : S → List BlockUnit → S → Type 0) (view : S → SinkView) (result : Result R F) (old new : S) (before after : WalkerView) (step : Step) (len : ℕ)
     → IsErr result → OfBeginning left old step.units new → (view new).faults ≡ (view old).faults + 1 → after.stack ≡ before.stack → AreAdded before.looked after.looked → IsWalked took left view result old new before after step len
 walked_cut took left view (Ok done) old new before after step len is_err cut one same looked = absurd cc
 walked_cut took left view (Err fault) old new before after step len is_err cut one same looked = record { took = tt; state = tt; kept = tt; room = tt; left = cut; faults = one; stack = same; looked = looked }

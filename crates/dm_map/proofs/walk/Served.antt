@@ -163,7 +163,7 @@ served_on took left view both cut result old middle new before between after ove
 
 -- or the sink failed at it
 pub served_cut : {S F : Type 0} (took left : S → List BlockUnit → S → Type 0) (view : S → SinkView) (fault : F) (result : Result (Unit {0}) F) (old new : S) (before after : WalkerView) (over : List FoundOver) (i sector : ℕ) → IsErr result
-    → IsWalked took left view (Err fault) old new before after (serve before.stack (take i over) sector before.state) 0 → IsWalked took left view result old new before after (serve before.stack over sector before.state) 0
+    → IsWalked {R = Unit {0}} took left view (Err fault) old new before after (serve before.stack (take i over) sector before.state) 0 → IsWalked took left view result old new before after (serve before.stack over sector before.state) 0
 served_cut took left view fault result old new before after over i sector is_err walk =
     let first = serve before.stack (take i over) sector before.state in
     walked_cut took left view result old new before after (serve before.stack over sector before.state) 0 is_err

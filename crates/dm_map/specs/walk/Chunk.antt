@@ -1,12 +1,15 @@
--- Sectors of one chunk of a snapshot, and where they are read.
-use Rattle.std.specs.Prelude.{ℕ, ◌≡◌, ◌+◌, ◌%◌, ◌<◌, ◌≤◌, Some}
+-- Sectors of one chunk of a snapshot, where they are read, and where they lie once it is taken.
+use Rattle.std.specs.Prelude.{ℕ, ◌≡◌, ◌+◌, ◌%◌, ◌<◌, ◌≤◌, true, Some}
 use Rattle.dm_stack.specs.declared.found_line.FoundSnapshot.{FoundSnapshot}
 use Rattle.dm_stack.specs.Description.{Description, device_len, lower_len}
 use Rattle.dm_stack.specs.Below.{Lies, IsSnapshotSound}
 use Rattle.dm_map.specs.declared.walk.chunk.ReadAt.{ReadAt}
-use Rattle.dm_map.specs.state.Snapshots.{read_over}
+use Rattle.dm_map.specs.declared.walk.homes.HomeStretch.{HomeStretch}
+use Rattle.dm_map.specs.state.Snapshots.{has_place, number_in, read_over, store_sector}
 use Rattle.dm_map.specs.state.State.{State, taken_at}
 use Rattle.dm_map.specs.state.Tables.{snapshot_at}
+use Rattle.dm_map.specs.walk.Homes.{IsFirstHomes}
+use Rattle.dm_map.specs.walk.SnapshotWrites.{count_of, first_of}
 
 -- a device is this snapshot, and has len sectors from this one on
 pub record AreInSnapshot (stack : Description) (device : ℕ) (snapshot : FoundSnapshot) (sector len : ℕ) : Type 0 where
@@ -23,3 +26,10 @@ pub record AreInChunk (stack : Description) (device : ℕ) (snapshot : FoundSnap
 pub record AreReadAt (stack : Description) (state : State) (device : ℕ) (snapshot : FoundSnapshot) (sector len : ℕ) (source : ReadAt) : Type 0 where
   pub lies : (i : ℕ) → i < len → read_over (taken_at state device) snapshot (sector + i) ≡ Lies source.to (source.sector + i)
   pub inside : source.sector + len ≤ lower_len stack source.to
+
+-- a valid snapshot has taken a chunk under this number, and the first of its sectors lie here
+pub record IsTakenAs (stack : Description) (state : State) (device : ℕ) (snapshot : FoundSnapshot) (chunk number : ℕ) (home : HomeStretch) : Type 0 where
+  pub valid : (taken_at state device).valid ≡ true
+  pub is : number_in chunk (taken_at state device).chunks ≡ Some number
+  pub place : has_place stack snapshot number ≡ true
+  pub homes : IsFirstHomes stack snapshot.store (store_sector snapshot number (first_of snapshot chunk)) (count_of stack snapshot device chunk) home

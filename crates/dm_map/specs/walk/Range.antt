@@ -102,7 +102,7 @@ pub record IsLegOf (stack : Description) (device : ℕ) (line : FoundLine) (dist
   pub lies : AreInside stack leg.len leg.below
 
 -- a sink took the units of a step of len sectors, and the walk is in the state after it; or the sink failed at a beginning of them
-pub record IsWalked {S F : Type 0} (takes leaves : S → List BlockUnit → S → Type 0) (view : S → SinkView) (result : Result (Unit {0}) F) (old new : S) (before after : WalkerView) (step : Step) (len : ℕ) : Type 0 where
+pub record IsWalked {S R F : Type 0} (takes leaves : S → List BlockUnit → S → Type 0) (view : S → SinkView) (result : Result R F) (old new : S) (before after : WalkerView) (step : Step) (len : ℕ) : Type 0 where
   pub took : OnOk result (takes old step.units new)
   pub state : OnOk result (after.state ≡ step.state)
   pub kept : OnOk result ((view new).stack ≡ (view old).stack)

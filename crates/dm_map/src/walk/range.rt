@@ -18,8 +18,6 @@ ghost use Rattle.dm_stack.specs.declared.graph.TheConstants.{MOST_DEPTH};
 ghost use Rattle.dm_stack.specs.declared.limits.TheConstants.{MOST_LENGTH};
 ghost use Rattle.dm_map.specs.walk.Bound.{found_mapping, origin_mapping, range_mapping, target_mapping};
 ghost use Rattle.dm_map.specs.walk.Bound.{IsMapped};
-ghost use Rattle.dm_map.specs.walk.SnapshotWrites.{write_snapshot};
-ghost use Rattle.dm_map.specs.walk.Steps.{steps};
 ghost use Rattle.dm_map.specs.pieces.Units.{diskless_len, piece_len, units_in, units_of};
 ghost use Rattle.dm_map.specs.pieces.Units.{Fails, IsOnDisk, IsOnDisks};
 ghost use Rattle.dm_map.specs.walk.Range.{disk_unit, zero_unit, refuses};
@@ -34,7 +32,7 @@ use crate::state::walker::Walker;
 use crate::walk::chunk::{part_of_chunk, read_at};
 use crate::walk::serving::{serve, settled_part};
 use crate::walk::step::part_in;
-use crate::walk::take_chunk::{is_refused, take_chunk, write_store};
+use crate::walk::write_chunk::write_chunk;
 use dm_stack::{
     Beneath, DeviceId, DiskId, FoundLine, FoundOrigin, FoundSnapshot, FoundTarget, Leg, Lower,
     MOST_DEPTH,
@@ -323,33 +321,6 @@ fn map_chunk<S: Sink, T: Taken>(
             Some(source) => map_range(walker, op, levels, source.to, source.sector, len, sink),
             None => sink.piece(Piece::Error { len }),
         },
-    }
-}
-
-/// Hands over the units of writes to sectors of one chunk of a snapshot: the chunk is taken, and
-/// then they are written where they are read from then on. Where it is refused, all of them fail, and
-/// nothing changes.
-fn write_chunk<S: Sink, T: Taken>(
-    walker: &mut Walker<'_, T>,
-    device: DeviceId,
-    snapshot: &FoundSnapshot,
-    sector: u64,
-    len: u64,
-    sink: &mut S,
-) -> Result<(), S::Fault>
-    requires { AreAskedOfChunk S.view sink.old walker.old.stack device snapshot.now sector len }
-    ensures { IsWalked S.took S.left S.view
-        result sink.old sink.new walker.old walker.new
-        (steps (write_snapshot walker.old.stack snapshot.now device) walker.old.state sector len) len }
-{
-    let chunk = sector / snapshot.chunk as u64;
-    if is_refused(walker, device, snapshot, chunk) {
-        return sink.piece(Piece::Error { len });
-    }
-    take_chunk(walker, device, snapshot, chunk, sink)?;
-    match read_at(walker, device, snapshot, sector, len) {
-        Some(source) => write_store(walker, &source.to, source.sector, len, sink),
-        None => sink.piece(Piece::Error { len }),
     }
 }
 

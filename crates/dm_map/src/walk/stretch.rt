@@ -8,6 +8,7 @@ ghost use Rattle.std.specs.Prelude.{◌+◌, ◌≤◌};
 ghost use Rattle.dm_table.specs.declared.requests.request.Op.TheVariants.{Read};
 ghost use Rattle.dm_stack.specs.Below.{IsLine};
 ghost use Rattle.dm_stack.specs.Description.{lower_len};
+ghost use Rattle.dm_stack.specs.declared.id.Lower.TheVariants.{Device};
 ghost use Rattle.dm_map.specs.walk.Stretch.{IsFirst};
 ghost use Rattle.dm_map.specs.walk.Range.{line_step, range_step};
 
@@ -39,7 +40,10 @@ pub(crate) struct Stretch {
 ///
 /// It has at least one sector and at most those of the range. It ends where a line or a chunk on its
 /// way down ends, of stripes or of a snapshot, at the latest.
+///
+/// It is inlined, so that sectors of a disk, as most stores and origins are, cost no call.
 #[cycle(stretch)]
+#[inline(always)]
 pub(crate) fn first_stretch<T: Taken>(
     walker: &mut Walker<'_, T>,
     levels: u32,
@@ -60,19 +64,35 @@ pub(crate) fn first_stretch<T: Taken>(
             },
             len,
         },
-        Lower::Device(device) => {
-            if levels == 0 {
-                return Stretch {
-                    ground: Ground::Fails,
-                    len,
-                };
-            }
-            let line = walker.look(device, sector);
-            let distance = sector - line.start;
-            let part = part_in(line, distance, len);
-            line_stretch(walker, levels - 1, device, line, distance, part)
-        }
+        Lower::Device(device) => device_stretch(walker, levels, device, sector, len),
     }
+}
+
+/// The first stretch of a range of a device, through at most this many levels of devices.
+#[cycle(stretch)]
+#[inline(never)]
+fn device_stretch<T: Taken>(
+    walker: &mut Walker<'_, T>,
+    levels: u32,
+    device: DeviceId,
+    sector: u64,
+    len: u64,
+) -> Stretch
+    requires some { 1 ≤ len }
+    requires inside { sector + len ≤ lower_len walker.old.stack (Device device) }
+    ensures { IsFirst walker.old walker.new
+        (range_step walker.old.stack Read levels (Device device) walker.old.state sector) len result }
+{
+    if levels == 0 {
+        return Stretch {
+            ground: Ground::Fails,
+            len,
+        };
+    }
+    let line = walker.look(device, sector);
+    let distance = sector - line.start;
+    let part = part_in(line, distance, len);
+    line_stretch(walker, levels - 1, device, line, distance, part)
 }
 
 /// The first stretch of sectors of a line of this device at a distance from its start, through at

@@ -8,7 +8,7 @@
 //! up through all levels.
 
 ghost use Rattle.std.specs.Prelude.{◌≡◌, ◌≢◌, ◌+◌, ◌*◌, ◌%◌, ◌<◌, ◌≤◌};
-ghost use Rattle.std.specs.Prelude.{Some, IfSome, is_some, length, true};
+ghost use Rattle.std.specs.Prelude.{Some, IfNone, IfOk, IfSome, is_some, length, false, true};
 ghost use Rattle.dm_table.specs.declared.requests.request.Op.TheVariants.{Read};
 ghost use Rattle.dm_stack.specs.Below.{IsSnapshotSound};
 ghost use Rattle.dm_stack.specs.Description.{Description, device_len, lower_len};
@@ -17,9 +17,10 @@ ghost use Rattle.dm_stack.specs.declared.graph.TheConstants.{MOST_DEPTH};
 ghost use Rattle.dm_stack.specs.declared.limits.TheConstants.{MOST_SNAPSHOT_CHUNK};
 ghost use Rattle.dm_map.specs.state.Counts.{AreAdded};
 ghost use Rattle.dm_map.specs.walk.Homes.{IsFirstHomes};
-ghost use Rattle.dm_map.specs.walk.SnapshotWrites.{can_take, copies, copy_to, first_of, is_refused};
-ghost use Rattle.dm_map.specs.walk.SnapshotWrites.{is_settled, reads_all, store_writes, take_chunk};
-ghost use Rattle.dm_map.specs.state.Snapshots.{has_place};
+ghost use Rattle.dm_map.specs.walk.Chunk.{IsTakenAs};
+ghost use Rattle.dm_map.specs.walk.SnapshotWrites.{can_take, copies, copy_to, first_of};
+ghost use Rattle.dm_map.specs.walk.SnapshotWrites.{is_settled, reads_all, take_chunk};
+ghost use Rattle.dm_map.specs.state.Snapshots.{has_place, store_sector};
 ghost use Rattle.dm_map.specs.state.State.{taken_at};
 ghost use Rattle.dm_map.specs.walk.Steps.{keep};
 ghost use Rattle.dm_map.specs.declared.walk.stretch.Ground.TheVariants.{Fails};
@@ -34,17 +35,9 @@ use crate::pieces::sink::Sink;
 use crate::state::taken::Taken;
 use crate::state::walker::Walker;
 use crate::walk::chunk::store_sector;
+use crate::walk::homes::{HomeStretch, first_homes};
 use crate::walk::stretch::{Ground, Stretch, first_stretch};
-use dm_stack::{DeviceId, DiskId, FoundSnapshot, Lower, MOST_DEPTH};
-use dm_table::StoreKind;
-
-/// Sectors of a store that lie in a row on a disk: `len` of them, from `start` on.
-#[derive(Clone, Copy, Drop)]
-pub(crate) struct HomeStretch {
-    disk: DiskId,
-    start: u64,
-    len: u64,
-}
+use dm_stack::{DeviceId, FoundSnapshot, MOST_DEPTH};
 
 /// Takes a chunk of a snapshot, before its sectors are written: copies it to the store, and notes that
 /// the store has it.
@@ -71,18 +64,47 @@ pub(crate) fn take_chunk<S: Sink, T: Taken>(
     if is_settled(walker, device, chunk) {
         return Ok(());
     }
+    let number = walker.count(device);
+    take_new_chunk(walker, device, snapshot, chunk, number, sink)?;
+    Ok(())
+}
+
+/// The same for a chunk that a valid snapshot has not taken, which is the `number`th, from 0, if it is taken.
+/// It returns where the first of the chunk's sectors lie then, and nothing where the snapshot is lost.
+pub(crate) fn take_new_chunk<S: Sink, T: Taken>(
+    walker: &mut Walker<'_, T>,
+    device: DeviceId,
+    snapshot: &FoundSnapshot,
+    chunk: u64,
+    number: usize,
+    sink: &mut S,
+) -> Result<Option<HomeStretch>, S::Fault>
+    requires is { snapshot_at walker.old.stack device ≡ Some snapshot.now }
+    requires sound { IsSnapshotSound walker.old.stack device 0 (device_len walker.old.stack device)
+        snapshot.now }
+    requires inside { first_of snapshot.now chunk < device_len walker.old.stack device }
+    requires fresh { is_settled (taken_at walker.old.state device) chunk ≡ false }
+    requires number { number ≡ length (taken_at walker.old.state device).chunks }
+    requires sink { HasRoomFor S.view sink.old walker.old.stack 0 }
+    ensures walked { IsWalked S.took S.left S.view
+        result sink.old sink.new walker.old walker.new
+        (take_chunk walker.old.stack snapshot.now device chunk walker.old.state) 0 }
+    ensures taken { IfOk result (λ made. IfSome made (λ home.
+        IsTakenAs walker.old.stack walker.new.state device snapshot.now chunk number home)) }
+    ensures lost { IfOk result (λ made. IfNone made ((taken_at walker.new.state device).valid ≡ false)) }
+{
+    walker.recall_tables();
     let end = walker.len(device);
     let chunk_size = snapshot.chunk as u64;
     let first = chunk * chunk_size;
     let count = chunk_size.min(end - first);
     let Some(source) = first_source(walker, device, snapshot, first, count) else {
         walker.invalidate(device);
-        return Ok(());
+        return Ok(None);
     };
-    let number = walker.count(device);
-    copy_chunk(walker, snapshot, number, first, count, source, sink)?;
+    let home = copy_chunk(walker, snapshot, number, first, count, source, sink)?;
     walker.take(device, chunk);
-    Ok(())
+    Ok(Some(home))
 }
 
 /// Whether there is nothing left to do for a chunk: it was taken, or the snapshot is lost.
@@ -91,23 +113,6 @@ pub(crate) fn is_settled<T: Taken>(walker: &Walker<'_, T>, device: DeviceId, chu
     ensures { result ≡ is_settled (taken_at walker.now.state device) chunk }
 {
     !walker.is_valid(device) || walker.find(device, chunk).is_some()
-}
-
-/// Whether a write of a chunk is refused: its store keeps what it has, and there is no place for a
-/// chunk that still has to be taken.
-pub(crate) fn is_refused<T: Taken>(
-    walker: &Walker<'_, T>,
-    device: DeviceId,
-    snapshot: &FoundSnapshot,
-    chunk: u64,
-) -> bool
-    requires device { device < length walker.now.stack.devices }
-    requires is { snapshot_at walker.now.stack device ≡ Some snapshot.now }
-    ensures { result ≡ is_refused walker.now.stack snapshot.now (taken_at walker.now.state device) chunk }
-{
-    matches!(snapshot.kind, StoreKind::Keeping)
-        && walker.is_full(device)
-        && !is_settled(walker, device, chunk)
 }
 
 /// Where the first sectors of a chunk are read, if it can be taken: the store has a place for one more,
@@ -153,7 +158,8 @@ fn first_source<T: Taken>(
 }
 
 /// Copies sectors of a chunk, which all read without an error, from the origin to the place that the
-/// store has for this number. The first stretch of the origin was found before.
+/// store has for this number. The first stretch of the origin was found before; that of the place is
+/// returned.
 fn copy_chunk<S: Sink, T: Taken>(
     walker: &mut Walker<'_, T>,
     snapshot: &FoundSnapshot,
@@ -162,7 +168,8 @@ fn copy_chunk<S: Sink, T: Taken>(
     len: u64,
     first: Stretch,
     sink: &mut S,
-) -> Result<(), S::Fault>
+) -> Result<HomeStretch, S::Fault>
+    requires some { 1 ≤ len }
     requires origin { sector + len ≤ lower_len walker.old.stack snapshot.now.origin }
     requires store { IsStore walker.old.stack snapshot.now.store }
     requires chunk { 0 < snapshot.now.chunk }
@@ -174,110 +181,58 @@ fn copy_chunk<S: Sink, T: Taken>(
         (range_step walker.old.stack Read MOST_DEPTH snapshot.now.origin walker.old.state sector) len
         first }
     requires sink { HasRoomFor S.view sink.old walker.old.stack 0 }
-    ensures { IsWalked S.took S.left S.view
+    ensures walked { IsWalked S.took S.left S.view
         result sink.old sink.new walker.old walker.new
         (keep (copies walker.old.stack walker.old.state snapshot.now number sector len)
         walker.old.state) 0 }
+    ensures home { IfOk result (λ home. IsFirstHomes walker.old.stack snapshot.now.store
+        (store_sector snapshot.now number sector) len home) }
 {
     walker.recall_soundness();
-    let mut source = first;
-    let mut from = sector;
     let mut to = store_sector(snapshot, number, sector);
+    let home = first_homes(walker, snapshot.store, to, len);
+    let mut source = first;
+    let mut target = home;
+    let mut from = sector;
     let mut left = len;
     'copies: loop {
-        let target = first_homes(walker, snapshot.store, to, source.len);
-        sink.piece(copy_piece(&source, &target))?;
-        left -= target.len;
+        let part = source.len.min(target.len);
+        sink.piece(copy_piece(&source, &target, part))?;
+        left -= part;
         if left == 0 {
-            return Ok(());
+            return Ok(home);
         }
-        from += target.len;
-        to += target.len;
+        from += part;
+        to += part;
         source = first_stretch(walker, MOST_DEPTH, snapshot.origin, from, left);
+        target = first_homes(walker, snapshot.store, to, left);
     }
 }
 
-/// The copy of as many sectors as the target has, from a stretch that can be read.
-fn copy_piece(from: &Stretch, to: &HomeStretch) -> Piece
+/// The copy of the first `len` sectors of a stretch that can be read, to where sectors of a store lie.
+fn copy_piece(from: &Stretch, to: &HomeStretch, len: u64) -> Piece
     requires { from.now.ground ≢ Fails }
     ensures units { units_of result
         ≡ units_in (copy_to (ground_unit from.now.ground)
-        (record { disk = to.now.disk; sector = to.now.start })) to.now.len }
-    ensures len { piece_len result ≡ to.now.len }
+        (record { disk = to.now.disk; sector = to.now.start })) len }
+    ensures len { piece_len result ≡ len }
     ensures diskless { diskless_len result ≡ 0 }
-    ensures lies { (stack : Description) → IsGroundInStack stack from.now.ground to.now.len
-        → IsOnDisk stack to.now.disk to.now.start to.now.len → IsOnDisks stack result }
+    ensures lies { (stack : Description) → IsGroundInStack stack from.now.ground len
+        → IsOnDisk stack to.now.disk to.now.start len → IsOnDisks stack result }
 {
     match &from.ground {
         Ground::Disk { disk, start } => Piece::Copy {
             disk: *disk,
             start: *start,
-            len: to.len,
+            len,
             to: to.disk,
             to_start: to.start,
         },
         Ground::Zeros => Piece::Fill {
-            len: to.len,
+            len,
             disk: to.disk,
             start: to.start,
         },
         Ground::Fails => unreachable!(),
-    }
-}
-
-/// Writes sectors of a store, stretch by stretch.
-pub(crate) fn write_store<S: Sink, T: Taken>(
-    walker: &mut Walker<'_, T>,
-    store: &Lower,
-    sector: u64,
-    len: u64,
-    sink: &mut S,
-) -> Result<(), S::Fault>
-    requires inside { sector + len ≤ lower_len walker.old.stack store.now }
-    requires store { IsStore walker.old.stack store.now }
-    requires sink { HasRoomFor S.view sink.old walker.old.stack 0 }
-    ensures { IsWalked S.took S.left S.view
-        result sink.old sink.new walker.old walker.new
-        (keep (store_writes walker.old.stack store.now sector len) walker.old.state) 0 }
-{
-    walker.recall_soundness();
-    let mut at = sector;
-    let mut left = len;
-    while left > 0 {
-        let home = first_homes(walker, *store, at, left);
-        sink.piece(Piece::Write {
-            disk: home.disk,
-            start: home.start,
-            len: home.len,
-        })?;
-        at += home.len;
-        left -= home.len;
-    }
-    Ok(())
-}
-
-/// Where the first sectors of a range of a store lie.
-fn first_homes<T: Taken>(
-    walker: &mut Walker<'_, T>,
-    store: Lower,
-    sector: u64,
-    len: u64,
-) -> HomeStretch
-    requires some { 1 ≤ len }
-    requires inside { sector + len ≤ lower_len walker.old.stack store }
-    requires store { IsStore walker.old.stack store }
-    ensures is { IsFirstHomes walker.old.stack store sector len result }
-    ensures same { stack_state walker.new ≡ stack_state walker.old }
-    ensures looked { AreAdded walker.old.looked walker.new.looked }
-{
-    walker.recall_soundness();
-    let stretch = first_stretch(walker, MOST_DEPTH, store, sector, len);
-    let Ground::Disk { disk, start } = &stretch.ground else {
-        unreachable!()
-    };
-    HomeStretch {
-        disk: *disk,
-        start: *start,
-        len: stretch.len,
     }
 }

@@ -2,6 +2,7 @@ use Rattle.std.proofs.Common.{rules, ◌≡◌, ℕ, ◌+◌, ◌-◌, ◌<◌, 
 use Rattle.dm_table.specs.declared.requests.request.Op.TheVariants.{Read}
 use Rattle.dm_stack.specs.declared.found_line.FoundTarget.{FoundTarget}
 use Rattle.dm_stack.specs.declared.id.Lower.{Lower}
+use Rattle.dm_stack.specs.declared.id.Lower.TheVariants.{Device}
 use Rattle.dm_stack.specs.declared.leg.Beneath.{Beneath}
 use Rattle.dm_stack.proofs.LegLemmas.{shorter}
 use Rattle.dm_stack.specs.Below.{IsOriginSound, IsTargetSound, found_at}
@@ -40,30 +41,37 @@ first_stretch-returns-in-Disk g t c =
     (ap (λ (lower : Lower). range_step w.stack Read a.levels lower w.state a.sector a.len) c.in-Disk.is ∙ range_disk w.stack Read a.levels c.in-Disk.disk a.sector a.len w.state)
     (record { there = disk_there w.stack c.in-Disk.disk a.sector (omega (arith, inside, c.requires.some)); inside = inside })
 
-pub first_stretch-returns-then-levels-eq0 : goal.first_stretch-returns-then-levels-eq0
-first_stretch-returns-then-levels-eq0 g t c =
-    let a = c.args in let w = a.walker.now in
-    known w _ a.len a.len grounds.Fails c.requires.some (omega arith)
-    (ap (λ (lower : Lower). range_step w.stack Read a.levels lower w.state a.sector a.len) c.in-Device.is ∙ range_deepest w.stack Read a.levels c.in-Device.device a.sector a.len w.state c.if-levels-eq0.true) tt
+pub first_stretch-device_stretch-requires : goal.first_stretch-device_stretch-requires
+first_stretch-device_stretch-requires g t c κs within =
+    let a = c.args in
+    let inside : a.sector + a.len ≤ lower_len a.walker.now.stack (Device c.in-Device.device) = subst (λ (lower : Lower). a.sector + a.len ≤ lower_len a.walker.now.stack lower) c.in-Device.is c.requires.inside in
+    search rules
 
-pub first_stretch-look-line-requires-clause-device : goal.first_stretch-look-line-requires-clause-device
-first_stretch-look-line-requires-clause-device g t c =
-    let a = c.args in let w = a.walker.now in
-    let inside = subst (λ (lower : Lower). a.sector + a.len ≤ lower_len w.stack lower) c.in-Device.is c.requires.inside in
-    device_there w.stack c.in-Device.device a.sector (omega (arith, inside, c.requires.some))
+pub first_stretch-returns-in-Device : goal.first_stretch-returns-in-Device
+first_stretch-returns-in-Device g t c =
+    let a = c.args in let w = a.walker.now in let s = c.device_stretch in
+    subst (λ (lower : Lower). IsFirst w s.new.walker (range_step w.stack Read a.levels lower w.state a.sector) a.len s.result) (sym c.in-Device.is) s.ensures
 
-pub first_stretch-returns-else-levels-eq0 : goal.first_stretch-returns-else-levels-eq0
-first_stretch-returns-else-levels-eq0 g t c =
+pub device_stretch-returns-then-levels-eq0 : goal.device_stretch-returns-then-levels-eq0
+device_stretch-returns-then-levels-eq0 g t c =
+    let a = c.args in let w = a.walker.now in
+    known w _ a.len a.len grounds.Fails c.requires.some (omega arith) (range_deepest w.stack Read a.levels a.device a.sector a.len w.state c.if-levels-eq0.true) tt
+
+pub device_stretch-look-line-requires-clause-device : goal.device_stretch-look-line-requires-clause-device
+device_stretch-look-line-requires-clause-device g t c =
+    let a = c.args in device_there a.walker.now.stack a.device a.sector (omega (arith, c.requires.inside, c.requires.some))
+
+pub device_stretch-returns : goal.device_stretch-returns
+device_stretch-returns g t c =
     let a = c.args in let w = a.walker.now in let line = c.look-line.result.now in let s = c.line_stretch.ensures in let n = c.line_stretch.result.len in let of = c.look-line.ensures.line in
-    let each : (i : ℕ) → i < n → found_at w.stack c.in-Device.device (a.sector + i) ≡ Some line = λ i within.
+    let each : (i : ℕ) → i < n → found_at w.stack a.device (a.sector + i) ≡ Some line = λ i within.
     of.is.all (a.sector + i) (omega (arith, of.from)) (omega (arith, of.from, of.before, c.part_in-part.ensures, s.most, within)) in
     let looked : (look : StackState → Step) → look (stack_state c.look-line.new.self) ≡ look (stack_state w) = λ look. ap look c.look-line.ensures.same in
     record {
       some = s.some;
       most = omega (arith, s.most, c.part_in-part.ensures);
-      read = ap (λ (lower : Lower). range_step w.stack Read a.levels lower w.state a.sector n) c.in-Device.is
-          ∙ range_line w.stack Read a.levels (a.levels - 1) c.in-Device.device a.sector n w.state line (omega (arith, c.if-levels-eq0.false)) refl of.from each
-          ∙ sym (looked (λ v. line_step v.stack Read (a.levels - 1) c.in-Device.device line.target v.state (a.sector - line.start) n)) ∙ s.read
+      read = range_line w.stack Read a.levels (a.levels - 1) a.device a.sector n w.state line (omega (arith, c.if-levels-eq0.false)) refl of.from each
+          ∙ sym (looked (λ v. line_step v.stack Read (a.levels - 1) a.device line.target v.state (a.sector - line.start) n)) ∙ s.read
           ∙ looked (λ v. keep (units_in (ground_unit c.line_stretch.result.ground) n) v.state);
       lies = subst (λ (v : StackState). IsGroundInStack v.stack c.line_stretch.result.ground n) c.look-line.ensures.same s.lies;
       same = s.same ∙ c.look-line.ensures.same;

@@ -2,7 +2,10 @@ use Rattle.std.proofs.Common.{◌+◌, ◌*◌}
 use Rattle.dm_map.proofs.walk.stretch.+stretch.Given as goal
 
 abbrev pub decreases-first_stretch : goal.decreases-first_stretch
-decreases-first_stretch g l = 2 * l.levels
+decreases-first_stretch g l = 3 * l.levels + 1
+
+abbrev pub decreases-device_stretch : goal.decreases-device_stretch
+decreases-device_stretch g l = 3 * l.levels
 
 abbrev pub decreases-line_stretch : goal.decreases-line_stretch
-decreases-line_stretch g l = 2 * l.levels + 1
+decreases-line_stretch g l = 3 * l.levels + 2

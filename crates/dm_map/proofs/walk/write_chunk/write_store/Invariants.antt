@@ -1,7 +1,7 @@
 use Rattle.std.proofs.Common.{◌≡◌, ◌+◌, ◌-◌, ◌≤◌}
 use Rattle.dm_map.specs.walk.SnapshotWrites.{store_writes}
 use Rattle.dm_map.proofs.walk.ChunkCopies.{IsGoingOn}
-use Rattle.dm_map.proofs.walk.take_chunk.write_store.Given as goal
+use Rattle.dm_map.proofs.walk.write_chunk.write_store.Given as goal
 
 abbrev pub invariant-loop-left : goal.invariant-loop-left
 invariant-loop-left g l = record {

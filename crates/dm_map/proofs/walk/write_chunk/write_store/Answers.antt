@@ -9,7 +9,7 @@ use Rattle.dm_map.proofs.walk.ChunkCopies.{next_writes}
 use Rattle.dm_map.proofs.walk.Rows.{added_then, walked_cut}
 use Rattle.dm_stack.proofs.InStack.{lower_small}
 use Rattle.dm_map.proofs.walk.UnitRows.{left_row, took_row}
-use Rattle.dm_map.proofs.walk.take_chunk.write_store.Goals as goal
+use Rattle.dm_map.proofs.walk.write_chunk.write_store.Goals as goal
 
 abbrev writes_to : WalkerView → Lower → ℕ → BlockUnit
 writes_to walk store s = write_to (home walk.stack store s)

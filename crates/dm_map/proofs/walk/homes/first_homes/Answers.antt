@@ -4,7 +4,7 @@ use Rattle.dm_map.specs.walk.Stretch.{ground_unit, IsGroundInStack}
 use Rattle.dm_map.specs.pieces.Units.{units_in}
 use Rattle.dm_map.proofs.walk.Stores.{not_on_disk, store_row}
 use Rattle.dm_map.proofs.walk.UnitRows.{first_reads, homes_go_on}
-use Rattle.dm_map.proofs.walk.take_chunk.first_homes.Goals as goal
+use Rattle.dm_map.proofs.walk.homes.first_homes.Goals as goal
 
 pub unreachable-requires : goal.unreachable-requires
 unreachable-requires g c =

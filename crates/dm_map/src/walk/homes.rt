@@ -1,0 +1,49 @@
+//! Homes: where the sectors of a store lie on disks.
+//!
+//! A store is linear and striped lines alone, down to disks, so its sectors have a home whatever the state is.
+
+ghost use Rattle.std.specs.Prelude.{◌≡◌, ◌+◌, ◌≤◌};
+ghost use Rattle.dm_stack.specs.Description.{lower_len};
+ghost use Rattle.dm_stack.specs.Store.{IsStore};
+ghost use Rattle.dm_map.specs.state.Counts.{AreAdded};
+ghost use Rattle.dm_map.specs.state.Walker.{stack_state};
+ghost use Rattle.dm_map.specs.walk.Homes.{IsFirstHomes};
+
+use crate::state::taken::Taken;
+use crate::state::walker::Walker;
+use crate::walk::stretch::{Ground, first_stretch};
+use dm_stack::{DiskId, Lower, MOST_DEPTH};
+
+/// Sectors of a store that lie in a row on a disk: `len` of them, from `start` on.
+#[derive(Clone, Copy, Drop)]
+pub(crate) struct HomeStretch {
+    pub(crate) disk: DiskId,
+    pub(crate) start: u64,
+    pub(crate) len: u64,
+}
+
+/// Where the first sectors of a range of a store lie.
+pub(crate) fn first_homes<T: Taken>(
+    walker: &mut Walker<'_, T>,
+    store: Lower,
+    sector: u64,
+    len: u64,
+) -> HomeStretch
+    requires some { 1 ≤ len }
+    requires inside { sector + len ≤ lower_len walker.old.stack store }
+    requires store { IsStore walker.old.stack store }
+    ensures is { IsFirstHomes walker.old.stack store sector len result }
+    ensures same { stack_state walker.new ≡ stack_state walker.old }
+    ensures looked { AreAdded walker.old.looked walker.new.looked }
+{
+    walker.recall_soundness();
+    let stretch = first_stretch(walker, MOST_DEPTH, store, sector, len);
+    let Ground::Disk { disk, start } = &stretch.ground else {
+        unreachable!()
+    };
+    HomeStretch {
+        disk: *disk,
+        start: *start,
+        len: stretch.len,
+    }
+}

@@ -1,0 +1,134 @@
+//! Writing a chunk of a snapshot: it is found, or taken, once, and what was found is handed on.
+//!
+//! The number under which a chunk was taken says where its sectors are in the store. Where a new chunk lies
+//! on a disk is known from its copies, so that it is not looked up again for the write.
+
+ghost use Rattle.std.specs.Prelude.{◌≡◌, ◌+◌, ◌/◌, ◌<◌, ◌≤◌, ◌&&◌, true, None, Some, length, not};
+ghost use Rattle.dm_stack.specs.Description.{lower_len};
+ghost use Rattle.dm_stack.specs.Store.{IsStore};
+ghost use Rattle.dm_map.specs.state.Snapshots.{has_place, number_in};
+ghost use Rattle.dm_map.specs.state.State.{taken_at};
+ghost use Rattle.dm_map.specs.state.Tables.{snapshot_at};
+ghost use Rattle.dm_map.specs.walk.Range.{AreAskedOfChunk, HasRoomFor, IsWalked};
+ghost use Rattle.dm_map.specs.walk.SnapshotWrites.{is_keeping, store_writes, write_snapshot};
+ghost use Rattle.dm_map.specs.walk.Steps.{keep, steps};
+
+use crate::pieces::piece::Piece;
+use crate::pieces::sink::Sink;
+use crate::state::taken::Taken;
+use crate::state::walker::Walker;
+use crate::walk::chunk::store_sector;
+use crate::walk::homes::first_homes;
+use crate::walk::take_chunk::take_new_chunk;
+use dm_stack::{DeviceId, FoundSnapshot, Lower};
+use dm_table::StoreKind;
+
+/// Hands over the units of writes to sectors of one chunk of a snapshot: the chunk is taken, if it was
+/// not, and then they are written where they are read from then on. All of them fail if the snapshot is lost.
+pub(crate) fn write_chunk<S: Sink, T: Taken>(
+    walker: &mut Walker<'_, T>,
+    device: DeviceId,
+    snapshot: &FoundSnapshot,
+    sector: u64,
+    len: u64,
+    sink: &mut S,
+) -> Result<(), S::Fault>
+    requires { AreAskedOfChunk S.view sink.old walker.old.stack device snapshot.now sector len }
+    ensures { IsWalked S.took S.left S.view
+        result sink.old sink.new walker.old walker.new
+        (steps (write_snapshot walker.old.stack snapshot.now device) walker.old.state sector len) len }
+{
+    if !walker.is_valid(device) {
+        return sink.piece(Piece::Error { len });
+    }
+    walker.recall_soundness();
+    match walker.find(device, sector / snapshot.chunk as u64) {
+        Some(number) => {
+            let at = store_sector(snapshot, number, sector);
+            write_store(walker, &snapshot.store, at, len, sink)
+        }
+        None => write_new_chunk(walker, device, snapshot, sector, len, sink),
+    }
+}
+
+/// The same of a valid snapshot that has not taken the chunk. Where the store keeps what it has and has
+/// no place for one more, all of them fail, and nothing changes.
+fn write_new_chunk<S: Sink, T: Taken>(
+    walker: &mut Walker<'_, T>,
+    device: DeviceId,
+    snapshot: &FoundSnapshot,
+    sector: u64,
+    len: u64,
+    sink: &mut S,
+) -> Result<(), S::Fault>
+    requires asked { AreAskedOfChunk S.view sink.old walker.old.stack device snapshot.now sector len }
+    requires valid { (taken_at walker.old.state device).valid ≡ true }
+    requires fresh { number_in (sector / snapshot.now.chunk) (taken_at walker.old.state device).chunks ≡ None }
+    ensures { IsWalked S.took S.left S.view
+        result sink.old sink.new walker.old walker.new
+        (steps (write_snapshot walker.old.stack snapshot.now device) walker.old.state sector len) len }
+{
+    walker.recall_soundness();
+    walker.recall_tables();
+    if is_refused(walker, device, snapshot) {
+        return sink.piece(Piece::Error { len });
+    }
+    let chunk_size = snapshot.chunk as u64;
+    let number = walker.count(device);
+    let Some(home) = take_new_chunk(walker, device, snapshot, sector / chunk_size, number, sink)?
+    else {
+        return sink.piece(Piece::Error { len });
+    };
+    let distance = sector % chunk_size;
+    if distance + len <= home.len {
+        return sink.piece(Piece::Write {
+            disk: home.disk,
+            start: home.start + distance,
+            len,
+        });
+    }
+    let at = store_sector(snapshot, number, sector);
+    write_store(walker, &snapshot.store, at, len, sink)
+}
+
+/// Whether a write of a chunk that is not taken is refused: its store keeps what it has, and there is no place
+/// for one more.
+fn is_refused<T: Taken>(walker: &Walker<'_, T>, device: DeviceId, snapshot: &FoundSnapshot) -> bool
+    requires device { device < length walker.now.stack.devices }
+    requires is { snapshot_at walker.now.stack device ≡ Some snapshot.now }
+    ensures { result ≡ (is_keeping snapshot.now.kind
+        && not (has_place walker.now.stack snapshot.now (length (taken_at walker.now.state device).chunks))) }
+{
+    matches!(snapshot.kind, StoreKind::Keeping) && walker.is_full(device)
+}
+
+/// Writes sectors of a store, stretch by stretch.
+fn write_store<S: Sink, T: Taken>(
+    walker: &mut Walker<'_, T>,
+    store: &Lower,
+    sector: u64,
+    len: u64,
+    sink: &mut S,
+) -> Result<(), S::Fault>
+    requires inside { sector + len ≤ lower_len walker.old.stack store.now }
+    requires store { IsStore walker.old.stack store.now }
+    requires sink { HasRoomFor S.view sink.old walker.old.stack 0 }
+    ensures { IsWalked S.took S.left S.view
+        result sink.old sink.new walker.old walker.new
+        (keep (store_writes walker.old.stack store.now sector len) walker.old.state) 0 }
+{
+    walker.recall_soundness();
+    let mut at = sector;
+    let mut left = len;
+    while left > 0 {
+        let home = first_homes(walker, *store, at, left);
+        sink.piece(Piece::Write {
+            disk: home.disk,
+            start: home.start,
+            len: home.len,
+        })?;
+        at += home.len;
+        left -= home.len;
+    }
+    Ok(())
+}
