@@ -69,11 +69,11 @@ pub(crate) fn read_ahead<T: Taken>(
 
 /// Writes the pieces that a mapper makes of requests.
 #[derive(Drop)]
-pub(crate) struct RequestMapper<'m, 's, T: Taken, W> {
+pub(crate) struct RequestMapper<'m, 's, T, W> {
     pub(crate) join: Join<'m, W>,
     /// What was read ahead of requests, added up: nobody asks for it, but without it nothing would be read.
     pub(crate) prefetched: u64,
-    /// The mapper that the answers come from.
+    /// The stack of the mapper that the answers come from, and how it keeps taken chunks.
     pub(crate) mapper: PhantomData<(&'s Stack, T)>,
 }
 

@@ -28,8 +28,8 @@ use std::marker::PhantomData;
 struct RequestPlayer<'m, 's, W> {
     alloc: Global,
     output: &'m mut W,
-    /// The replay that the answers come from.
-    replay: PhantomData<Replay<'s, TrieTaken>>,
+    /// The stack of the replay that the answers come from.
+    stack: PhantomData<&'s Stack>,
 }
 
 impl<'s, W: Output> Handler for RequestPlayer<'_, 's, W> {
@@ -131,7 +131,7 @@ fn play_requests<'s, Q: Input, W: Output>(
     let mut player = RequestPlayer {
         alloc,
         output,
-        replay: PhantomData,
+        stack: PhantomData,
     };
     let exit = play_lines(stack, requests, replay, &mut player);
     let RequestPlayer {

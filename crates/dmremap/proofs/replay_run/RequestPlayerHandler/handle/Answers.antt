@@ -17,7 +17,7 @@ returns-in_default-clause-stopped g c =
     let request = numbered c.args.request.now in
     let stack = c.args.stack.now in (
       one_stopped (IsOfNone stack request.number) stack c.args.replay.now.asked request (g.W.Output.past c.args.self.now.output.now).written
-          (record { of_number = refl; none = none_named stack request.values.device ? }),
+          (record { of_number = refl; none = none_named stack request.values.device (c.requires.found ∙ c.in_default.is) }),
       written_to_none g.W.Output.past c.args.self.now.output,
     )
 
