@@ -1,6 +1,7 @@
 -- The two checks that look at fields.
 use Rattle.std.specs.Prelude.{ℕ}
 
+-- which check looks at a field
 pub data Check : Type 0 where
   -- each field is there, and holds what it may
   Fields : Check

@@ -57,7 +57,7 @@ abbrev pub segment_fields : List Field
 segment_fields =
     always (codes "start_extent") kinds.Extents
     ∷ always (codes "extent_count") kinds.Extents
-    ∷ always (codes "type") kinds.Type
+    ∷ always (codes "type") kinds.TypeWord
     ∷ field (codes "stripe_count") kinds.Positive Striped
     ∷ field (codes "stripes") kinds.Stripes Striped
     ∷ field (codes "stripe_size") kinds.Number Several
@@ -169,7 +169,7 @@ fits kinds.Positive tree content = is_number_with (λ n. nat_lt 0 n) content
 fits kinds.Extents tree content = is_number_with (λ n. true) content
 fits kinds.Text tree content = is_text_with (λ text. true) content
 fits kinds.Texts tree content = is_list_with (list_all is_text) content
-fits kinds.Type tree content = is_text_with is_type content
+fits kinds.TypeWord tree content = is_text_with is_type content
 fits kinds.Stripes tree content = is_list_with (λ items. are_pairs items && 2 * number_at (codes "stripe_count") tree == length items) content
 fits kinds.Section tree content = is_section content
 

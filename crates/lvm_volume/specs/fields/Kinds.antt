@@ -1,5 +1,6 @@
 -- What fields may hold, and where they are asked for.
 
+-- what a field may hold
 pub data Kind : Type 0 where
   -- the string that says what the text is
   Title : Kind
@@ -16,12 +17,13 @@ pub data Kind : Type 0 where
   -- a list of strings
   Texts : Kind
   -- the type of a segment
-  «Type» : Kind
+  TypeWord : Kind
   -- as many pairs of a string and an integer as the section has stripes
   Stripes : Kind
   -- a section
   Section : Kind
 
+-- where a field is asked for
 pub data Condition : Type 0 where
   Always : Condition
   -- where the key is there

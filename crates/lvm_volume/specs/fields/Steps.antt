@@ -55,7 +55,7 @@ later_fields =
     ∷ []
 
 abbrev pub type_fields : List Field
-type_fields = always (codes "type") kinds.«Type» ∷ later_fields
+type_fields = always (codes "type") kinds.TypeWord ∷ later_fields
 
 -- what is found in segments, and at their keys in a volume of this many
 

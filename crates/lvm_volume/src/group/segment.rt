@@ -141,7 +141,7 @@ fn type_named(word: &str) -> Option<TypeName>
 
 /// The type of a segment.
 fn type_at(segment: &Section<'_>) -> Result<TypeName, LoadFault>
-    ensures step { IsPlainStep (at_key kinds.«Type» (codes "type") segment.now) (result_err result) }
+    ensures step { IsPlainStep (at_key kinds.TypeWord (codes "type") segment.now) (result_err result) }
     ensures name { IfOk result (λ name. text_at (codes "type") segment.now ≡ type_text name) }
 {
     let node = node_at(segment, "type")?;
