@@ -63,31 +63,35 @@ PLACES = {
     ("lvm_volume/checks/extents", "check_extents", "maps_of"): OURS,
     ("lvm_volume/checks/extents", "check_segments", "is_misplaced"): OURS,
     ("lvm_volume/checks/segment_check", "check_snapshots", "roles_of"): OURS,
-    ("lvm_volume/fields/walk", "check_group", "sections_at"): OURS + ": two, of physical volumes and of volumes",
-    ("lvm_volume/fields/walk", "check_keys", "segment_key"): OURS,
-    ("lvm_volume/fields/walk", "check_text", "sections_of"): OURS,
-    ("lvm_volume/fields/walk", "check_volume", "segments_of"): OURS,
     ("lvm_volume/tables/device_names", "name_of", "built_name"):
         "a name is built of these parts, as is required, and then it fails only for a growth",
     ("lvm_volume/tables/disks", "copy_of", "DiskName::new"):
         "a name is one by its type, and then it fails only for a growth",
     ("lvm_volume/names", "build_name", "joined"): OURS,
-    ("lvm_volume/group/physical", "physicals_in", "counts_of"): OURS,
-    ("lvm_volume/group/physical", "physicals_in", "devices_of"): OURS,
-    ("lvm_volume/group/physical", "physicals_in", "physicals.push"): STD,
+    ("lvm_volume/group/group_fields", "physicals_of", "sections_of"): OURS,
+    ("lvm_volume/group/group_fields", "read_fields", "sections_of"): OURS,
+    ("lvm_volume/group/group_fields", "volumes_of", "GroupPositions::new"): OURS,
+    ("lvm_volume/group/group_fields", "volumes_of", "sections_of"): OURS,
+    ("lvm_volume/group/physical", "fields_in", "Vec::with_capacity"): STD,
+    ("lvm_volume/group/physical", "fields_in", "all.push"): STD,
+    ("lvm_volume/group/physical", "named_physicals", "Vec::with_capacity"): STD,
+    ("lvm_volume/group/physical", "named_physicals", "counts_of"): OURS,
+    ("lvm_volume/group/physical", "named_physicals", "physicals.push"): STD,
     ("lvm_volume/group/positions", "add_key", "keys.insert"): STD,
+    ("lvm_volume/group/segment", "segments_in", "Vec::with_capacity"): STD,
+    ("lvm_volume/group/segment", "segments_in", "segments.push"): STD,
+    ("lvm_volume/group/segment", "stripes_at", "stripes_of"): OURS,
+    ("lvm_volume/group/volume", "segment_sections", "sections.push"): STD,
+    ("lvm_volume/group/volume", "segment_sections", "segment_key"): OURS,
+    ("lvm_volume/group/volume", "volume_of", "Key::new"): OURS,
+    ("lvm_volume/group/volume", "volumes_in", "Vec::with_capacity"): STD,
+    ("lvm_volume/group/volume", "volumes_in", "volumes.push"): STD,
     ("lvm_volume/fields/source_line", "memory_fault", ""): "the fault itself, for those that answer it",
     ("lvm_volume/tables", "tables", "devices_of"): OURS,
     ("lvm_volume/tables", "tables", "disks_of"): OURS,
     ("lvm_volume/tables", "tables", "roles_of"): OURS,
-    ("lvm_volume/volume_group", "parts_in", "sections_at"): OURS,
-    ("lvm_volume/volume_group", "parts_in", "volumes_of"): OURS,
-    ("lvm_volume/volume_group", "read", "sections_of"): OURS,
-    ("lvm_volume/volume_group", "read_group", "Key::new"): OURS,
+    ("lvm_volume/volume_group", "read", "Key::new"): OURS,
 }
-
-# The places of which a function has more than one.
-TIMES = {("lvm_volume/fields/walk", "check_group", "sections_at"): 2}
 
 # A refusal as a value. In a type it is followed by `>`, or stands after a colon or an equals sign.
 MADE = re.compile(r"(?<!== )\b\w+::(?:Memory|OutOfMemory)\b|\bLoadFault::memory\(|\bmemory_fault\(|\bout_of_memory\(|(?<!: )(?<!= )(?<!<)\bAlloc(?:Error|Failed)\b(?![>;<])")
@@ -107,7 +111,7 @@ def check(tally, top):
     made = [place for it in sources for place in places_in(module_of(it), text_of(it).split("\n"))]
     for place in made:
         tally.holds("out of memory in %s, %s" % place[:2], place in PLACES, "by %r, which no row explains" % place[2])
-    lost = [place for place in PLACES if made.count(place) != TIMES.get(place, 1)]
+    lost = [place for place in PLACES if made.count(place) != 1]
     tally.holds("places that are out of memory", not lost, "not there, or not as often: %s" % lost)
     mixed = [module_of(it) for it in sources if MIXED.search(re.sub(r"//.*", "", text_of(it)))]
     tally.holds("patterns for refusals have nothing else", not mixed, "others in %s" % ", ".join(mixed))

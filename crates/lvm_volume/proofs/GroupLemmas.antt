@@ -5,11 +5,11 @@ use Rattle.dm_table.specs.declared.load.place.Part.TheVariants.{Source}
 use Rattle.dm_table.specs.declared.load.load_fault.LoadKind.TheVariants.{Memory}
 use Rattle.dm_table.specs.declared.load.load_fault.LoadFault.{LoadFault}
 use Rattle.dm_table.specs.load.LoadFault.{IsMemoryFault, first_fault, first_or, unless}
-use Rattle.lvm_volume.specs.declared.fields.check.Check.TheVariants.{Fields, Limits}
+use Rattle.lvm_volume.specs.fields.Checks.{Fields, Limits}
 use Rattle.lvm_volume.specs.checks.Extents.{name_faults, snapshot_faults, unknown_faults}
 use Rattle.lvm_volume.specs.fields.Fields.{faults_of_fields}
 use Rattle.lvm_volume.specs.group.Group.{Group, group_of}
-use Rattle.lvm_volume.specs.tables.Tables.{members_of, checks_of_parts, extent_faults, group_checks, later_checks, unnamed}
+use Rattle.lvm_volume.specs.tables.Tables.{members_of, checks_of_parts, extent_faults, group_checks, unnamed}
 use Rattle.lvm_volume.proofs.checks.FaultKinds.{NoMemory, first_kind, of_walk, of_unknown, of_extents, of_snapshots, of_unnamed}
 
 -- what is returned where a fault is found
@@ -37,30 +37,49 @@ pub ok_is : {X : Type 0} (o : Option LoadFault) (x y : X) → unless o x ≡ Ok 
 ok_is None x y e = (refl, cc)
 ok_is (Some f) x y e = absurd cc
 
--- the first fault of the checks after that of fields, at the group of the text
-abbrev later_of : Tree → Group → Option LoadFault
-later_of top group = first_or (faults_of_fields (Limits group.extent_size) top) (first_or (name_faults group.physicals) (first_fault (checks_of_parts group)))
+-- The two checks of fields
 
-said_is : (top : Tree) (group : Group) → group_of top ≡ group → unless (first_fault (later_checks top)) (group_of top) ≡ unless (later_of top group) group
-said_is top group is = ap (λ (g : Group). unless (later_of top g) g) is
+-- the first fault of the two checks of fields
+abbrev pub of_both : Tree → Option LoadFault
+of_both top = first_or (faults_of_fields Fields top) (first_or (faults_of_fields (Limits (group_of top).extent_size) top) None)
 
-pub at_fields : (top : Tree) (fault : LoadFault) → first_or (faults_of_fields Fields top) None ≡ Some fault → Refused fault (unless (first_fault (group_checks top)) (group_of top))
-at_fields top fault found = (
-  λ memory. absurd (first_kind _ fault (of_walk Fields top) found memory),
-  λ other. ap (λ (o : Option LoadFault). unless o (group_of top)) (found_first (faults_of_fields Fields top) _ fault found),
-)
+both_found : (fields limits : List LoadFault) (later : Option LoadFault) (fault : LoadFault) → first_or fields (first_or limits None) ≡ Some fault → first_or fields (first_or limits later) ≡ Some fault
+both_found [] limits later fault e = found_first limits later fault e
+both_found (f ∷ fields) limits later fault e = e
 
-pub at_limits : (top : Tree) (group : Group) (fault : LoadFault) → group_of top ≡ group → first_or (faults_of_fields (Limits group.extent_size) top) None ≡ Some fault → Refused fault (unless (first_fault (later_checks top)) (group_of top))
-at_limits top group fault is found = (
-  λ memory. absurd (first_kind _ fault (of_walk (Limits group.extent_size) top) found memory),
-  λ other. said_is top group is ∙ ap (λ (o : Option LoadFault). unless o group) (found_first (faults_of_fields (Limits group.extent_size) top) _ fault found),
-)
+both_kind : (fields limits : List LoadFault) (fault : LoadFault) → NoMemory fields → NoMemory limits → first_or fields (first_or limits None) ≡ Some fault → fault.kind ≢ Memory
+both_kind [] limits fault none more e = first_kind limits fault more e
+both_kind (f ∷ fields) limits fault none more e = first_kind (f ∷ fields) fault none e
 
-pub at_names : {X : Type 0} (top : Tree) (group : Group) (x : X) (fault : LoadFault) → group_of top ≡ group → first_or (faults_of_fields (Limits group.extent_size) top) None ≡ None
-    → Refused fault (unless (first_or (name_faults group.physicals) None) x) → Refused fault (unless (first_fault (later_checks top)) (group_of top))
-at_names top group x fault is limits h = (
+pub both_none : (fields limits : List LoadFault) → first_or fields (first_or limits None) ≡ None → (first_or fields None ≡ None) × (first_or limits None ≡ None)
+both_none [] limits e = (refl, e)
+both_none (f ∷ fields) limits e = absurd cc
+
+pub at_fields : (top : Tree) (fault : LoadFault) → of_both top ≡ Some fault → Refused fault (unless (first_fault (group_checks top)) (group_of top))
+at_fields top fault found =
+    let limits = Limits (group_of top).extent_size in (
+      λ memory. absurd (both_kind (faults_of_fields Fields top) (faults_of_fields limits top) fault (of_walk Fields top) (of_walk limits top) found memory),
+      λ other. ap (λ (o : Option LoadFault). unless o (group_of top)) (both_found (faults_of_fields Fields top) (faults_of_fields limits top) _ fault found),
+    )
+
+-- The later ones
+
+-- what they find at a group
+abbrev of_group : Group → Option LoadFault
+of_group group = first_or (name_faults group.physicals) (first_fault (checks_of_parts group))
+
+past_fields : (top : Tree) → of_both top ≡ None → first_fault (group_checks top) ≡ of_group (group_of top)
+past_fields top none =
+    let h = both_none (faults_of_fields Fields top) (faults_of_fields (Limits (group_of top).extent_size) top) none in
+    found_later (faults_of_fields Fields top) _ h.0 ∙ found_later (faults_of_fields (Limits (group_of top).extent_size) top) _ h.1
+
+past_names : (top : Tree) → of_both top ≡ None → first_or (name_faults (group_of top).physicals) None ≡ None → first_fault (group_checks top) ≡ first_fault (checks_of_parts (group_of top))
+past_names top none names = past_fields top none ∙ found_later (name_faults (group_of top).physicals) _ names
+
+pub at_names : {X : Type 0} (top : Tree) (x : X) (fault : LoadFault) → of_both top ≡ None → Refused fault (unless (first_or (name_faults (group_of top).physicals) None) x) → Refused fault (unless (first_fault (group_checks top)) (group_of top))
+at_names top x fault none h = (
   h.0,
-  λ other. said_is top group is ∙ ap (λ (o : Option LoadFault). unless o group) (found_later (faults_of_fields (Limits group.extent_size) top) _ limits ∙ found_first (name_faults group.physicals) _ fault (err_is _ x fault (h.1 other))),
+  λ other. ap (λ (o : Option LoadFault). unless o (group_of top)) (past_fields top none ∙ found_first (name_faults (group_of top).physicals) _ fault (err_is _ x fault (h.1 other))),
 )
 
 parts_kind : (group : Group) (fault : LoadFault) → first_fault (checks_of_parts group) ≡ Some fault → fault.kind ≢ Memory
@@ -71,19 +90,15 @@ parts_kind group fault found =
       by_first [] none later h e = h e
       by_first (f ∷ faults) none later h e = first_kind (f ∷ faults) fault none e
 
-past_names : (top : Tree) (group : Group) → first_or (faults_of_fields (Limits group.extent_size) top) None ≡ None → first_or (name_faults group.physicals) None ≡ None → later_of top group ≡ first_fault (checks_of_parts group)
-past_names top group limits names = found_later (faults_of_fields (Limits group.extent_size) top) _ limits ∙ found_later (name_faults group.physicals) _ names
-
-pub at_parts : (top : Tree) (group : Group) (fault : LoadFault) → group_of top ≡ group → first_or (faults_of_fields (Limits group.extent_size) top) None ≡ None → first_or (name_faults group.physicals) None ≡ None
-    → first_fault (checks_of_parts group) ≡ Some fault → Refused fault (unless (first_fault (later_checks top)) (group_of top))
-at_parts top group fault is limits names found = (
-  λ memory. absurd (parts_kind group fault found memory),
-  λ other. said_is top group is ∙ ap (λ (o : Option LoadFault). unless o group) (past_names top group limits names ∙ found),
+pub at_parts : (top : Tree) (fault : LoadFault) → of_both top ≡ None → first_or (name_faults (group_of top).physicals) None ≡ None → first_fault (checks_of_parts (group_of top)) ≡ Some fault
+    → Refused fault (unless (first_fault (group_checks top)) (group_of top))
+at_parts top fault none names found = (
+  λ memory. absurd (parts_kind (group_of top) fault found memory),
+  λ other. ap (λ (o : Option LoadFault). unless o (group_of top)) (past_names top none names ∙ found),
 )
 
-pub accepted : (top : Tree) (group : Group) → group_of top ≡ group → first_or (faults_of_fields (Limits group.extent_size) top) None ≡ None → first_or (name_faults group.physicals) None ≡ None
-    → first_fault (checks_of_parts group) ≡ None → unless (first_fault (later_checks top)) (group_of top) ≡ Ok group
-accepted top group is limits names parts = said_is top group is ∙ ap (λ (o : Option LoadFault). unless o group) (past_names top group limits names ∙ parts)
+pub accepted : (top : Tree) → of_both top ≡ None → first_or (name_faults (group_of top).physicals) None ≡ None → first_fault (checks_of_parts (group_of top)) ≡ None → unless (first_fault (group_checks top)) (group_of top) ≡ Ok (group_of top)
+accepted top none names parts = ap (λ (o : Option LoadFault). unless o (group_of top)) (past_names top none names ∙ parts)
 
 -- the check of names
 pub at_unnamed : {X : Type 0} (group : Group) (x : X) (fault : LoadFault) → first_or (unnamed group) None ≡ Some fault → Refused fault (unless (first_or (unnamed group) None) x)

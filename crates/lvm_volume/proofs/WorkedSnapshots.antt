@@ -18,7 +18,7 @@ use Rattle.lvm_volume.specs.declared.group.segment.Segment.{Segment}
 use Rattle.lvm_volume.specs.declared.group.segment.SegmentType.{SegmentType}
 use Rattle.lvm_volume.specs.declared.group.segment.SegmentType.TheVariants.{Striped, Snapshot}
 use Rattle.lvm_volume.specs.declared.group.volume.Volume.{Volume}
-use Rattle.lvm_volume.specs.declared.fields.check.Check.TheVariants.{Fields}
+use Rattle.lvm_volume.specs.fields.Checks.{Fields}
 use Rattle.lvm_volume.specs.checks.Extents.{source_line}
 use Rattle.lvm_volume.specs.fields.Fields.{field_faults, fields_faults, segment_fields}
 use Rattle.lvm_volume.specs.group.Group.{Group, segment_of}

@@ -2,4 +2,6 @@
 pub mod PhysicalLemmas
 pub mod PositionLemmas
 pub mod RoleLemmas
+pub mod SegmentLemmas
 pub mod StripeLemmas
+pub mod TextLemmas

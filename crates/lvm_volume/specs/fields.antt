@@ -1,2 +1,5 @@
--- Fields of a metadata text: which are read, and what each may hold.
+-- The fields that are read, and what is found at them.
+pub mod Checks
 pub mod Fields
+pub mod Kinds
+pub mod Steps

@@ -1,9 +1,6 @@
-//! Fields of a metadata text: which are read, what each may hold, the values that sections have for them, and the
-//! walk that checks them.
+//! Fields of a metadata text: what each may hold, and a reader of them that makes both checks in one pass.
 
-pub(crate) mod check;
-pub(crate) mod field;
 pub(crate) mod fits;
+pub(crate) mod reader;
 pub(crate) mod source_line;
 pub(crate) mod value;
-pub(crate) mod walk;

@@ -1,6 +1,7 @@
 //! What the sections of a group say: its physical volumes, its volumes with their segments, and what volumes are
 //! to snapshots.
 
+pub(crate) mod group_fields;
 pub(crate) mod key;
 pub(crate) mod physical;
 pub(crate) mod positions;

@@ -4,28 +4,20 @@
 //! bits in sectors, stripes of physical volumes that are there, and snapshots of volumes that are origins. A
 //! new check takes its place here and in `group_checks` of `specs/tables/Tables.antt`.
 
-ghost use Rattle.std.specs.Prelude.{◌≡◌, ◌∷◌, [], ℕ, List, None, IfOk, codes, length, map};
-ghost use Rattle.lvm_text.specs.Tree as tree;
-ghost use Rattle.lvm_text.specs.Iterate.{item_view};
+ghost use Rattle.std.specs.Prelude.{◌≡◌, ℕ, List};
 ghost use Rattle.dm_table.specs.load.LoadFault.{Answers, first_fault, unless};
 ghost use Rattle.dm_table.specs.declared.load.place.Part.TheVariants.{Source};
-ghost use Rattle.lvm_volume.specs.declared.fields.check.Check.TheVariants.{Fields};
-ghost use Rattle.lvm_volume.specs.checks.Extents.{name_faults};
-ghost use Rattle.lvm_volume.specs.fields.Fields.{IsChecked, faults_of_fields, first_of};
-ghost use Rattle.lvm_volume.specs.group.Group.{group_in, group_of, group_with, volumes_in};
-ghost use Rattle.lvm_volume.specs.group.GroupCode.{parts_view};
-ghost use Rattle.lvm_volume.specs.tables.Tables.{checks_of_parts, group_checks, later_checks};
+ghost use Rattle.lvm_volume.specs.fields.Fields.{IsChecked};
+ghost use Rattle.lvm_volume.specs.group.Group.{group_of, group_with};
+ghost use Rattle.lvm_volume.specs.tables.Tables.{checks_of_parts, group_checks};
 
 use crate::checks::extents::{check_extents, check_sizes};
 use crate::checks::segment_check::{check_snapshots, check_targets};
-use crate::fields::check::Check;
 use crate::fields::source_line::memory_fault;
-use crate::fields::value::{number_at, sections_at, sections_of};
-use crate::fields::walk::check_text;
+use crate::group::group_fields::read_fields;
 use crate::group::key::Key;
-use crate::group::physical::{Physical, physicals_in};
-use crate::group::positions::GroupPositions;
-use crate::group::volume::{Volume, volumes_in};
+use crate::group::physical::{Physical, named_physicals};
+use crate::group::volume::Volume;
 use dm_table::LoadFault;
 use lvm_text::Section;
 use std::alloc::{AllocError, Global};
@@ -79,71 +71,25 @@ impl VolumeGroup {
         ensures { Answers Source (λ group. group) result
             (unless (first_fault (group_checks top.now)) (group_of top.now)) }
     {
-        check_text(alloc, Check::Fields, top)?;
-        let Ok(sections) = sections_of(alloc, top) else {
+        let fields = match read_fields(alloc, top) {
+            Ok(fields) => fields,
+            Err(fault) => return Err(fault),
+        };
+        let parts = Parts {
+            physicals: named_physicals(alloc, &fields.physicals)?,
+            volumes: fields.volumes,
+        };
+        check_parts(alloc, fields.extent_size, &parts)?;
+        let Ok(name) = Key::new(alloc, fields.name) else {
             return Err(memory_fault());
         };
-        read_group(alloc, top, only(&sections))
+        Ok(VolumeGroup {
+            name,
+            extent_size: fields.extent_size,
+            physicals: parts.physicals,
+            volumes: parts.volumes,
+        })
     }
-}
-
-/// The one section of a list.
-fn only<'s, 'a>(sections: &[(&'a str, &'s Section<'a>)]) -> (&'a str, &'s Section<'a>)
-    requires { length sections.now ≡ 1 }
-    ensures { map item_view sections.now ≡ item_view result ∷ [] }
-{
-    sections[0]
-}
-
-/// The group of a section with its key, by the checks after the one of fields.
-fn read_group(
-    alloc: Global,
-    top: &Section<'_>,
-    group: (&str, &Section<'_>),
-) -> Result<VolumeGroup, LoadFault>
-    requires one { tree.sections_of top.now.values ≡ item_view group ∷ [] }
-    requires fields { first_of (faults_of_fields Fields top.now) ≡ None }
-    ensures { Answers Source (λ group. group) result
-        (unless (first_fault (later_checks top.now)) (group_of top.now)) }
-{
-    let extent_size = number_at(group.1, "extent_size");
-    check_text(alloc, Check::Limits { extent_size }, top)?;
-    let parts = parts_in(alloc, group)?;
-    check_parts(alloc, extent_size, &parts)?;
-    let Ok(name) = Key::new(alloc, group.0) else {
-        return Err(memory_fault());
-    };
-    Ok(VolumeGroup {
-        name,
-        extent_size,
-        physicals: parts.physicals,
-        volumes: parts.volumes,
-    })
-}
-
-/// The parts of a group, unless a disk gets no name.
-fn parts_in(alloc: Global, group: (&str, &Section<'_>)) -> Result<Parts, LoadFault>
-    ensures { let said = group_in (item_view group.entry) in
-        Answers Source parts_view result
-        (unless (first_of (name_faults said.physicals)) (said.physicals, said.volumes)) }
-{
-    let Ok(sections) = sections_at(alloc, group.1, "physical_volumes") else {
-        return Err(memory_fault());
-    };
-    let physicals = physicals_in(alloc, &sections)?;
-    let Ok(volumes) = volumes_of(alloc, group.1) else {
-        return Err(memory_fault());
-    };
-    Ok(Parts { physicals, volumes })
-}
-
-/// The volumes of a group.
-fn volumes_of(alloc: Global, group: &Section<'_>) -> Result<Vec<Volume>, AllocError>
-    ensures { IfOk result (λ v. v.items ≡ volumes_in group.now) }
-{
-    let positions = GroupPositions::new(alloc, group)?;
-    let sections = sections_at(alloc, group, "logical_volumes")?;
-    volumes_in(alloc, &positions, &sections)
 }
 
 /// The checks of what segments name, of extents, and of snapshots, in this order.

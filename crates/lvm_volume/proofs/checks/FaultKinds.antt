@@ -9,9 +9,9 @@ use Rattle.dm_table.specs.declared.load.load_fault.LoadKind.TheVariants as loads
 use Rattle.dm_table.specs.declared.load.load_fault.LoadFault.{LoadFault}
 use Rattle.dm_table.specs.declared.load.place.Place.{Place}
 use Rattle.dm_table.specs.load.LoadFault.{fault, faults_by, first_or}
-use Rattle.lvm_volume.specs.declared.fields.check.Check.{Check}
-use Rattle.lvm_volume.specs.declared.fields.check.Check.TheVariants.{Fields, Limits}
-use Rattle.lvm_volume.specs.declared.fields.field.Kind.{Kind}
+use Rattle.lvm_volume.specs.fields.Checks.{Check}
+use Rattle.lvm_volume.specs.fields.Checks.{Fields, Limits}
+use Rattle.lvm_volume.specs.fields.Kinds.{Kind}
 use Rattle.lvm_volume.specs.declared.group.physical.Physical.{Physical}
 use Rattle.lvm_volume.specs.declared.group.roles.Role.{Role}
 use Rattle.lvm_volume.specs.declared.group.segment.Segment.{Segment}

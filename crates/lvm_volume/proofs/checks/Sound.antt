@@ -9,10 +9,10 @@ use Rattle.dm_table.specs.declared.load.load_fault.LoadKind.TheVariants.{Extents
 use Rattle.dm_table.specs.declared.load.load_fault.LoadKind.TheVariants as loads
 use Rattle.dm_table.specs.declared.load.load_fault.LoadFault.{LoadFault}
 use Rattle.dm_table.specs.load.LoadFault.{first_or, first_fault}
-use Rattle.lvm_volume.specs.declared.fields.check.Check.TheVariants.{Fields, Limits}
-use Rattle.lvm_volume.specs.declared.fields.field.Kind.{Kind}
-use Rattle.lvm_volume.specs.declared.fields.field.Kind.TheVariants as kinds
-use Rattle.lvm_volume.specs.declared.fields.field.Condition.TheVariants.{Always}
+use Rattle.lvm_volume.specs.fields.Checks.{Fields, Limits}
+use Rattle.lvm_volume.specs.fields.Kinds.{Kind}
+use Rattle.lvm_volume.specs.fields.Kinds as kinds
+use Rattle.lvm_volume.specs.fields.Kinds.{Always}
 use Rattle.lvm_volume.specs.declared.group.physical.Physical.{Physical}
 use Rattle.lvm_volume.specs.declared.group.positions.GroupPositions.{GroupPositions}
 use Rattle.lvm_volume.specs.declared.group.segment.Stripe.{Stripe}
@@ -22,7 +22,7 @@ use Rattle.lvm_volume.specs.fields.Fields.{faults_of_fields, field, field_faults
 use Rattle.lvm_volume.specs.checks.Extents as extents
 use Rattle.lvm_volume.specs.checks.Extents.{Claim, at_line, claims_of, used_after, used_by, extents_at, have_clash, hit, is_misplaced, is_unknown, least_line, least_line_of, lesser, meets, parts_of, segment_faults, size_faults, snapshot_faults, stripes_of, unknown_faults}
 use Rattle.lvm_volume.specs.checks.Used.{claims_by}
-use Rattle.lvm_volume.specs.group.Group.{Keyed, device_of, group_in, physical_of, positions_in, segment_of, volume_of}
+use Rattle.lvm_volume.specs.group.Group.{Keyed, device_of, first_section, group_in, physical_of, positions_in, segment_of, volume_of}
 use Rattle.lvm_volume.specs.group.Roles.{is_bad_snapshot, roles_of}
 use Rattle.lvm_volume.specs.tables.Tables.{IsSegmentIn, IsSoundGroup, IsStripeIn, checks_of_parts, extent_faults, physical_at}
 use Rattle.lvm_volume.proofs.checks.OriginLemmas.{all_origins}
@@ -145,10 +145,10 @@ one-in_limits size top group one e =
     in-limits size group.1 (sym (ap (one_group_faults (Limits size) top.line) one) ∙ a.1)
 
 -- where the check of fields finds nothing there is one section
-pub one_section : (top : Tree) → first_or (faults_of_fields Fields top) None ≡ None → length (sections_of top.values) ≡ 1
+pub one_section : (top : Tree) → first_or (faults_of_fields Fields top) None ≡ None → sections_of top.values ≡ first_section (sections_of top.values) ∷ []
 unfolding one_group_faults
 one_section top e = by_list (sections_of top.values) (append-nil_both (fields_faults Fields top top_fields) _ (first_or-nil (faults_of_fields Fields top) None e).0).1 where
-  by_list : (sections : List Keyed) → one_group_faults Fields top.line sections ≡ [] → length sections ≡ 1
+  by_list : (sections : List Keyed) → one_group_faults Fields top.line sections ≡ [] → sections ≡ first_section sections ∷ []
   by_list [] h = absurd cc
   by_list (group ∷ []) h = refl
   by_list (group ∷ second ∷ more) h = absurd cc

@@ -1,5 +1,5 @@
 -- The fields of a group's metadata that are read, and what each may hold (vgcfgbackup(8), lvm.conf(5)).
-use Rattle.std.specs.Prelude.{◌≡◌, ◌⊎◌, ℕ, ◌*◌, Bool, true, false, not, ◌&&◌, ◌||◌, ◌==◌, List, [], ◌∷◌, ◌++◌, Option, Some, None, Result, Ok, Err, nat_lt, is_some, bytes_eq, codes, decimal, length, map, if◌then◌else◌}
+use Rattle.std.specs.Prelude.{◌≡◌, ◌⊎◌, ℕ, ◌*◌, Bool, true, false, not, ◌&&◌, ◌||◌, ◌==◌, List, [], ◌∷◌, ◌++◌, Option, Some, None, Result, Ok, Err, nat_lt, is_some, bytes_eq, codes, decimal, length, if◌then◌else◌}
 use Rattle.std.specs.List.{flat_map, list_any, list_all, range_with_len}
 use Rattle.lvm_text.specs.Tree.{Tree, Content, Inner, Whole, Items, Scalar, Int, Text, Shown, node_of, sections_of}
 use Rattle.dm_table.specs.declared.load.place.Part.TheVariants.{Source}
@@ -7,13 +7,9 @@ use Rattle.dm_table.specs.declared.load.load_fault.LoadKind.{LoadKind}
 use Rattle.dm_table.specs.declared.load.load_fault.LoadKind.TheVariants as loads
 use Rattle.dm_table.specs.declared.load.load_fault.LoadFault.{LoadFault}
 use Rattle.dm_table.specs.load.LoadFault.{IsMemoryFault, fault_at, first_or}
-use Rattle.lvm_volume.specs.declared.fields.field.Kind.{Kind}
-use Rattle.lvm_volume.specs.declared.fields.field.Kind.TheVariants as kinds
-use Rattle.lvm_volume.specs.declared.fields.field.Condition.{Condition}
-use Rattle.lvm_volume.specs.declared.fields.field.Condition.TheVariants.{Always, Given, Striped, Several, Snapshot}
-use Rattle.lvm_volume.specs.declared.fields.field.Field as code
-use Rattle.lvm_volume.specs.declared.fields.check.Check.{Check}
-use Rattle.lvm_volume.specs.declared.fields.check.Check.TheVariants.{Fields, Limits}
+use Rattle.lvm_volume.specs.fields.Kinds as kinds
+use Rattle.lvm_volume.specs.fields.Kinds.{Kind, Condition, Always, Given, Striped, Several, Snapshot}
+use Rattle.lvm_volume.specs.fields.Checks.{Check, Fields, Limits}
 use Rattle.lvm_text.specs.declared.tree.Scalar.{Scalar as code_scalar}
 use Rattle.lvm_text.specs.View.{scalar_views}
 use denote.Ref.{Bor}
@@ -61,7 +57,7 @@ abbrev pub segment_fields : List Field
 segment_fields =
     always (codes "start_extent") kinds.Extents
     ∷ always (codes "extent_count") kinds.Extents
-    ∷ always (codes "type") kinds.Type
+    ∷ always (codes "type") kinds.TypeWord
     ∷ field (codes "stripe_count") kinds.Positive Striped
     ∷ field (codes "stripes") kinds.Stripes Striped
     ∷ field (codes "stripe_size") kinds.Number Several
@@ -173,7 +169,7 @@ fits kinds.Positive tree content = is_number_with (λ n. nat_lt 0 n) content
 fits kinds.Extents tree content = is_number_with (λ n. true) content
 fits kinds.Text tree content = is_text_with (λ text. true) content
 fits kinds.Texts tree content = is_list_with (list_all is_text) content
-fits kinds.Type tree content = is_text_with is_type content
+fits kinds.TypeWord tree content = is_text_with is_type content
 fits kinds.Stripes tree content = is_list_with (λ items. are_pairs items && 2 * number_at (codes "stripe_count") tree == length items) content
 fits kinds.Section tree content = is_section content
 
@@ -271,18 +267,12 @@ one_group_faults check line (group ∷ second ∷ more) = missing check second.1
 abbrev pub faults_of_fields : Check → Tree → List LoadFault
 faults_of_fields check top = fields_faults check top top_fields ++ one_group_faults check top.line (sections_of top.values)
 
--- The fields as the code has them
+-- Sections and lists as the code has them
 
-abbrev pub field_view : code.Field → Field
-field_view f = record { key = f.key.now; kind = f.kind; when = f.when }
-
-abbrev pub field_views : List code.Field → List Field
-field_views = map field_view
-
--- a section that may be missing, as a list
-abbrev pub section_list : Option (Bor Tree) → List Tree
-section_list None = []
-section_list (Some section) = section.now ∷ []
+-- the sections inside one that may be missing, with their keys
+abbrev pub inner_sections : Option (Bor Tree) → List (List ℕ × Tree)
+inner_sections None = []
+inner_sections (Some section) = sections_of section.now.values
 
 abbrev pub section_view : Bor Tree → Tree
 section_view section = section.now

@@ -27,7 +27,7 @@ use Rattle.lvm_volume.specs.declared.tables.device_names.Layer.TheVariants.{Real
 use Rattle.lvm_volume.specs.declared.group.roles.Record.{Record}
 use Rattle.lvm_volume.specs.declared.group.roles.Role.{Role}
 use Rattle.lvm_volume.specs.declared.group.roles.Role.TheVariants as roles
-use Rattle.lvm_volume.specs.declared.fields.check.Check.TheVariants.{Fields, Limits}
+use Rattle.lvm_volume.specs.fields.Checks.{Fields, Limits}
 use Rattle.lvm_volume.specs.Names.{NameParts, fault_of, joined}
 use Rattle.lvm_volume.specs.fields.Fields.{faults_of_fields}
 use Rattle.lvm_volume.specs.group.Group.{Group, group_of}

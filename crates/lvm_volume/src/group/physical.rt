@@ -6,6 +6,7 @@
 
 ghost use Rattle.std.specs.Prelude.{◌≡◌, Err, List, [], ◌∷◌, ℕ, None, false, true, map, nat_lt, unwrap_or};
 ghost use Rattle.std.specs.Prelude.{IfOk};
+ghost use Rattle.std.specs.Result.{result_err};
 ghost use Rattle.std.specs.Ordering.{nat_cmp};
 ghost use Rattle.std.specs.Cmp.Lexicographic.{slice_cmp};
 ghost use Rattle.std.specs.BTreeMap.{get_by};
@@ -14,17 +15,31 @@ ghost use Rattle.dm_table.specs.load.LoadFault.{Answers, unless};
 ghost use Rattle.dm_table.specs.words.Name.{is_disk_name};
 ghost use Rattle.dm_table.specs.declared.load.place.Part.TheVariants.{Source};
 ghost use Rattle.dm_table.specs.declared.words.name.CheckFault.TheVariants.{Form};
-ghost use Rattle.lvm_volume.specs.fields.Fields.{first_of};
+ghost use Rattle.lvm_volume.specs.fields.Fields.{fields_faults, first_of, physical_fields, physicals_faults};
+ghost use Rattle.lvm_volume.specs.fields.Steps.{IsStep};
 ghost use Rattle.lvm_volume.specs.checks.Extents.{name_faults};
-ghost use Rattle.lvm_volume.specs.group.Group.{chosen, device_of, physical_of, physicals_in};
+ghost use Rattle.lvm_volume.specs.group.Group.{chosen};
 ghost use Rattle.lvm_volume.specs.group.GroupCode.{Counts, texts};
+ghost use Rattle.lvm_volume.specs.group.PhysicalFields.{all_named, devices_in, fields_of, fields_view, named};
 
+use crate::fields::reader::{FieldReader, NumberKind, text_at};
 use crate::fields::source_line::{memory_fault, source_fault};
-use crate::fields::value::{number_at, text_at};
 use dm_table::{CheckFault, DiskName, LoadFault, LoadKind};
 use lvm_text::Section;
 use std::alloc::{AllocError, Global};
 use std::collections::BTreeMap;
+
+/// A physical volume as its section says it: its key, its device, the sectors of that, the sector where its
+/// extents begin, how many there are, and the line of the key.
+#[derive(Clone, Copy, Drop)]
+pub(crate) struct PhysicalFields<'a> {
+    pub key: &'a str,
+    pub device: &'a str,
+    pub size: u64,
+    pub start: u64,
+    pub count: u64,
+    pub line: u64,
+}
 
 /// A physical volume: the name of its disk, the sectors of that, the sector where its extents begin, how many
 /// there are, and the line of its key.
@@ -37,25 +52,71 @@ pub(crate) struct Physical {
     pub line: u64,
 }
 
-/// The physical volumes that sections say, or the first whose disk gets no name.
+/// The fields of physical volumes that sections say.
+pub(crate) fn fields_in<'s, 'a>(
+    alloc: Global,
+    reader: &mut FieldReader,
+    sections: &[(&'a str, &'s Section<'a>)],
+) -> Result<Vec<PhysicalFields<'a>>, LoadFault>
+    ensures step { IsStep (λ check. physicals_faults check (map item_view sections.now)) reader.old reader.new
+        (result_err result) }
+    ensures value { IfOk result
+        (λ v. map fields_view v.items ≡ map fields_of (map item_view sections.now)) }
+{
+    let Ok(mut all) = Vec::with_capacity(alloc, sections.len()) else {
+        return Err(memory_fault());
+    };
+    for section in sections {
+        let fields = fields_of(reader, section.0, section.1)?;
+        let Ok(()) = all.push(fields) else {
+            return Err(memory_fault());
+        };
+    }
+    Ok(all)
+}
+
+/// The fields of a physical volume that a section says.
+fn fields_of<'a>(
+    reader: &mut FieldReader,
+    key: &'a str,
+    section: &Section<'a>,
+) -> Result<PhysicalFields<'a>, LoadFault>
+    ensures step { IsStep (λ check. fields_faults check section.now physical_fields) reader.old reader.new
+        (result_err result) }
+    ensures value { IfOk result (λ fields. fields_view fields ≡ fields_of (key.now, section.now)) }
+{
+    let device = text_at(section, "device")?;
+    let size = reader.number(section, "dev_size", NumberKind::Any)?;
+    let start = reader.number(section, "pe_start", NumberKind::Any)?;
+    let count = reader.number(section, "pe_count", NumberKind::Extents)?;
+    Ok(PhysicalFields {
+        key,
+        device,
+        size,
+        start,
+        count,
+        line: section.line(),
+    })
+}
+
+/// The physical volumes with the names of their disks, or the first whose disk gets no name.
 ///
 /// Cost: near-linear, with memory for each name.
-pub(crate) fn physicals_in<'s, 'a>(
+pub(crate) fn named_physicals(
     alloc: Global,
-    sections: &[(&'a str, &'s Section<'a>)],
+    all: &[PhysicalFields<'_>],
 ) -> Result<Vec<Physical>, LoadFault>
-    ensures { let said = physicals_in (map item_view sections.now) in
+    ensures { let said = all_named (map fields_view all.now) in
         Answers Source (λ v. v.items) result (unless (first_of (name_faults said)) said) }
 {
-    let Ok(devices) = devices_of(alloc, sections) else {
+    let Ok(counts) = counts_of(alloc, all) else {
         return Err(memory_fault());
     };
-    let Ok(counts) = counts_of(alloc, &devices) else {
+    let Ok(mut physicals) = Vec::with_capacity(alloc, all.len()) else {
         return Err(memory_fault());
     };
-    let mut physicals = Vec::new(alloc);
-    for section in sections {
-        let physical = physical_of(alloc, &counts, section.0, section.1)?;
+    for fields in all {
+        let physical = named(alloc, &counts, fields)?;
         let Ok(()) = physicals.push(physical) else {
             return Err(memory_fault());
         };
@@ -63,27 +124,16 @@ pub(crate) fn physicals_in<'s, 'a>(
     Ok(physicals)
 }
 
-/// The devices that sections of physical volumes say.
-fn devices_of<'s, 'a>(
-    alloc: Global,
-    sections: &[(&'a str, &'s Section<'a>)],
-) -> Result<Vec<&'a str>, AllocError>
-    ensures { IfOk result (λ v. texts v.items ≡ map device_of (map item_view sections.now)) }
-{
-    let mut devices = Vec::new(alloc);
-    for section in sections {
-        devices.push(text_at(section.1, "device"))?;
-    }
-    Ok(devices)
-}
-
 /// How often each device is there.
-fn counts_of<'a>(alloc: Global, devices: &[&'a str]) -> Result<BTreeMap<&'a str, usize>, AllocError>
-    ensures { IfOk result (λ counts. Counts counts (texts devices.now)) }
+fn counts_of<'a>(
+    alloc: Global,
+    all: &[PhysicalFields<'a>],
+) -> Result<BTreeMap<&'a str, usize>, AllocError>
+    ensures { IfOk result (λ counts. Counts counts (devices_in (map fields_view all.now))) }
 {
     let mut counts = BTreeMap::new(alloc);
-    for device in devices {
-        *counts.entry(*device)?.or_insert(0) += 1;
+    for fields in all {
+        *counts.entry(fields.device)?.or_insert(0) += 1;
     }
     Ok(counts)
 }
@@ -116,28 +166,26 @@ fn disk_name(alloc: Global, shared: bool, key: &str, device: &str) -> Result<Dis
     DiskName::new(alloc, key)
 }
 
-/// The physical volume that a section says, unless its disk gets no name.
-#[tactic(auto, unfolding(crate::specs::group::Group::physical_of))]
-fn physical_of(
+/// The physical volume of these fields, unless its disk gets no name.
+fn named(
     alloc: Global,
     counts: &BTreeMap<&str, usize>,
-    key: &str,
-    section: &Section<'_>,
+    fields: &PhysicalFields<'_>,
 ) -> Result<Physical, LoadFault>
     ensures { (devices : List (List ℕ)) → Counts counts.now devices
-        → let said = physical_of devices (key.now, section.now) in
+        → let said = named devices (fields_view fields.now) in
         Answers Source (λ p. p) result (unless (first_of (name_faults (said ∷ []))) said) }
 {
-    let device = text_at(section, "device");
-    match disk_name(alloc, is_shared(counts, device), key, device) {
+    let shared = is_shared(counts, fields.device);
+    match disk_name(alloc, shared, fields.key, fields.device) {
         Ok(disk) => Ok(Physical {
             disk,
-            size: number_at(section, "dev_size"),
-            start: number_at(section, "pe_start"),
-            count: number_at(section, "pe_count"),
-            line: section.line(),
+            size: fields.size,
+            start: fields.start,
+            count: fields.count,
+            line: fields.line,
         }),
-        Err(CheckFault::Form) => Err(source_fault(LoadKind::Name, section.line())),
+        Err(CheckFault::Form) => Err(source_fault(LoadKind::Name, fields.line)),
         Err(CheckFault::Memory) => Err(memory_fault()),
     }
 }

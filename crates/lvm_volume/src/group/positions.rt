@@ -6,11 +6,9 @@
 ghost use Rattle.std.specs.Prelude.{◌≡◌, ◌++◌, ◌∷◌, [], false, IfOk, OnOk, bytes_eq};
 ghost use Rattle.std.specs.List.{list_any};
 ghost use Rattle.lvm_text.specs.Tree.{sections_of};
-ghost use Rattle.lvm_volume.specs.fields.Fields.{sections_at};
-ghost use Rattle.lvm_volume.specs.group.Group.{keys_in, position_of, positions_in};
+ghost use Rattle.lvm_volume.specs.group.Group.{keys_in, position_of};
 ghost use Rattle.lvm_volume.specs.group.GroupCode.{texts};
 
-use crate::fields::value::section_at;
 use indexmap::IndexSet;
 use lvm_text::Section;
 use std::alloc::{AllocError, Global};
@@ -39,23 +37,15 @@ impl<'a> Model for Positions<'a> {
 }
 
 impl<'a> Positions<'a> {
-    /// The positions of the sections inside the section of a key.
-    pub(crate) fn new(
-        alloc: Global,
-        section: &Section<'a>,
-        key: &str,
-    ) -> Result<Positions<'a>, AllocError>
-        ensures { IfOk result (λ positions. positions ≡ keys_in (sections_at key.now section.now)) }
+    /// The positions of the sections inside a section.
+    fn new(alloc: Global, section: &Section<'a>) -> Result<Positions<'a>, AllocError>
+        ensures { IfOk result (λ positions. positions ≡ keys_in (sections_of section.now.values)) }
     {
-        match section_at(section, key) {
-            Some(inner) => {
-                let keys = keys_of(alloc, inner)?;
-                Ok(Positions { keys })
-            }
-            None => Ok(Positions {
-                keys: IndexSet::new(alloc),
-            }),
+        let mut keys = IndexSet::new(alloc);
+        for item in section.sections() {
+            add_key(&mut keys, item.0)?;
         }
+        Ok(Positions { keys })
     }
 
     /// The position of a key, or the number of keys where it is none of them.
@@ -70,26 +60,22 @@ impl<'a> Positions<'a> {
 }
 
 impl<'a> GroupPositions<'a> {
-    /// The positions of what is inside the section of a group.
-    pub(crate) fn new(alloc: Global, group: &Section<'a>) -> Result<GroupPositions<'a>, AllocError>
-        ensures { IfOk result (λ positions. positions ≡ positions_in group.now) }
+    /// The positions of what is inside the sections of a group's physical volumes and of its volumes.
+    pub(crate) fn new(
+        alloc: Global,
+        physicals: &Section<'a>,
+        volumes: &Section<'a>,
+    ) -> Result<GroupPositions<'a>, AllocError>
+        ensures physicals { IfOk result
+            (λ positions. positions.physicals ≡ keys_in (sections_of physicals.now.values)) }
+        ensures volumes { IfOk result
+            (λ positions. positions.volumes ≡ keys_in (sections_of volumes.now.values)) }
     {
         Ok(GroupPositions {
-            physicals: Positions::new(alloc, group, "physical_volumes")?,
-            volumes: Positions::new(alloc, group, "logical_volumes")?,
+            physicals: Positions::new(alloc, physicals)?,
+            volumes: Positions::new(alloc, volumes)?,
         })
     }
-}
-
-/// The keys of a section that hold sections.
-fn keys_of<'a>(alloc: Global, section: &Section<'a>) -> Result<IndexSet<&'a str>, AllocError>
-    ensures { IfOk result (λ keys. texts keys.keys ≡ keys_in (sections_of section.now.values)) }
-{
-    let mut keys = IndexSet::new(alloc);
-    for item in section.sections() {
-        add_key(&mut keys, item.0)?;
-    }
-    Ok(keys)
 }
 
 /// Adds a key after the others, of which it is none.

@@ -3,16 +3,25 @@
 //! What they say is not checked here. A new type of segment is a variant of `SegmentType`, a word of the
 //! field `type`, and an arm where segments are checked and where they become lines.
 
-ghost use Rattle.std.specs.Prelude.{◌≡◌, ◌+◌, ◌∷◌, [], ℕ, List, MatchOption, IfOk, map};
+ghost use Rattle.std.specs.Prelude.{◌≡◌, ◌+◌, ◌∷◌, [], ℕ, List, MatchOption, IfOk, codes, map, true};
+ghost use Rattle.std.specs.Result.{result_err};
+ghost use Rattle.std.specs.List.{flat_map};
 ghost use Rattle.lvm_text.specs.Tree as tree;
 ghost use Rattle.lvm_text.specs.View.{scalar_view, scalar_views};
-ghost use Rattle.lvm_volume.specs.fields.Fields.{section_view};
+ghost use Rattle.lvm_volume.specs.fields.Kinds as kinds;
+ghost use Rattle.lvm_volume.specs.fields.Fields.{field, field_faults, fields_faults, items_at, number_at};
+ghost use Rattle.lvm_volume.specs.fields.Fields.{section_view, segment_fields, text_at};
+ghost use Rattle.lvm_volume.specs.fields.Steps.{IsPlainStep, IsStep, at_key, later_fields, segments_faults, type_fields};
+ghost use Rattle.lvm_volume.specs.declared.group.segment.TypeName.TheVariants as types;
+ghost use Rattle.lvm_volume.specs.group.TypeName.{named_type, type_text};
 ghost use Rattle.lvm_volume.specs.group.Group.{segment_of, snapshot_in, striped_in, stripes_in, target_of};
 
-use crate::fields::fits::{is_snapshot, is_striped};
-use crate::fields::value::{items_at, number_at, text_at};
+use crate::fields::fits::{are_pairs, has_far, is_half};
+use crate::fields::reader::{FieldReader, NumberKind, items_of, node_at, text_at, text_of, wrong};
+use crate::fields::source_line::memory_fault;
+use crate::fields::value::number_if_given;
 use crate::group::positions::{GroupPositions, Positions};
-use dm_table::Listed;
+use dm_table::{Listed, LoadFault};
 use lvm_text::{Scalar, Section};
 use std::alloc::{AllocError, Global};
 
@@ -104,73 +113,193 @@ fn pair<'a>(first: &Scalar<'a>, second: &Scalar<'a>) -> Option<(&'a str, u64)>
     }
 }
 
-/// What a segment's extents are mapped to.
-fn target_of(
+/// The types of segments.
+#[derive(Clone, Copy)]
+pub(crate) enum TypeName {
+    Striped,
+    Zero,
+    Error,
+    Snapshot,
+}
+
+/// The type that a word names.
+fn type_named(word: &str) -> Option<TypeName>
+    ensures { result ≡ named_type word.now }
+{
+    if word == "striped" {
+        Some(TypeName::Striped)
+    } else if word == "zero" {
+        Some(TypeName::Zero)
+    } else if word == "error" {
+        Some(TypeName::Error)
+    } else if word == "snapshot" {
+        Some(TypeName::Snapshot)
+    } else {
+        None
+    }
+}
+
+/// The type of a segment.
+fn type_at(segment: &Section<'_>) -> Result<TypeName, LoadFault>
+    ensures step { IsPlainStep (at_key kinds.TypeWord (codes "type") segment.now) (result_err result) }
+    ensures name { IfOk result (λ name. text_at (codes "type") segment.now ≡ type_text name) }
+{
+    let node = node_at(segment, "type")?;
+    let word = text_of(node)?;
+    match type_named(word) {
+        Some(name) => Ok(name),
+        None => Err(wrong(node)),
+    }
+}
+
+/// What a segment's extents are mapped to, by its type.
+fn target_at(
     alloc: Global,
+    reader: &mut FieldReader,
     positions: &GroupPositions<'_>,
     segment: &Section<'_>,
-) -> Result<SegmentType, AllocError>
-    ensures { IfOk result (λ target. target ≡ target_of positions.now segment.now) }
+) -> Result<SegmentType, LoadFault>
+    ensures step { IsStep (λ check. fields_faults check segment.now type_fields) reader.old reader.new
+        (result_err result) }
+    ensures value { IfOk result (λ target. target ≡ target_of positions.now segment.now) }
 {
-    if is_striped(segment) {
-        return striped(alloc, &positions.physicals, segment);
-    }
-    if is_snapshot(segment) {
-        return Ok(snapshot(&positions.volumes, segment));
-    }
-    if text_at(segment, "type") == "zero" {
-        Ok(SegmentType::Zero)
-    } else {
-        Ok(SegmentType::Error)
+    match type_at(segment)? {
+        TypeName::Striped => striped(alloc, reader, &positions.physicals, segment),
+        TypeName::Snapshot => snapshot(reader, &positions.volumes, segment),
+        TypeName::Zero => Ok(SegmentType::Zero),
+        TypeName::Error => Ok(SegmentType::Error),
     }
 }
 
 /// The stripes of a striped segment, with the size of their pieces.
 fn striped(
     alloc: Global,
+    reader: &mut FieldReader,
     positions: &Positions<'_>,
     segment: &Section<'_>,
-) -> Result<SegmentType, AllocError>
-    ensures { IfOk result (λ target. target ≡ striped_in positions.now segment.now) }
+) -> Result<SegmentType, LoadFault>
+    requires { text_at (codes "type") segment.now ≡ type_text types.Striped }
+    ensures step { IsStep (λ check. fields_faults check segment.now later_fields) reader.old reader.new
+        (result_err result) }
+    ensures value { IfOk result (λ target. target ≡ striped_in positions.now segment.now) }
 {
-    let stripes = match items_at(segment, "stripes") {
-        Some(items) => stripes_of(alloc, positions, items)?,
-        None => Vec::new(alloc),
-    };
+    let parts = reader.number(segment, "stripe_count", NumberKind::Positive)?;
+    let stripes = stripes_at(alloc, reader, positions, segment, parts)?;
+    let stripe_size = stripe_size_at(reader, segment, parts)?;
     Ok(SegmentType::Striped {
-        stripe_size: number_at(segment, "stripe_size"),
+        stripe_size,
         stripes: Stripes::from_vec(stripes),
     })
 }
 
-/// A snapshot, with its volumes by their positions.
-fn snapshot(positions: &Positions<'_>, segment: &Section<'_>) -> SegmentType
-    ensures { result ≡ snapshot_in positions.now segment.now }
+/// The stripes of a segment, of which it has this many.
+fn stripes_at(
+    alloc: Global,
+    reader: &mut FieldReader,
+    positions: &Positions<'_>,
+    segment: &Section<'_>,
+    parts: u64,
+) -> Result<Vec<Stripe>, LoadFault>
+    requires { parts ≡ number_at (codes "stripe_count") segment.now }
+    ensures step { IsStep (at_key kinds.Stripes (codes "stripes") segment.now) reader.old reader.new
+        (result_err result) }
+    ensures value { IfOk result (λ v. v.items
+        ≡ stripes_in positions.now (items_at (codes "stripes") segment.now)) }
 {
-    SegmentType::Snapshot {
-        chunk_size: number_at(segment, "chunk_size"),
-        origin: positions.position_of(text_at(segment, "origin")),
-        store: positions.position_of(text_at(segment, "cow_store")),
+    let node = node_at(segment, "stripes")?;
+    let items = items_of(node)?;
+    if !are_pairs(items) || !is_half(parts, items.len()) {
+        return Err(wrong(node));
+    }
+    reader.note(has_far(items), node.line());
+    match stripes_of(alloc, positions, items) {
+        Ok(stripes) => Ok(stripes),
+        Err(_) => Err(memory_fault()),
     }
 }
 
+/// The size of the pieces of a segment of this many stripes. One alone needs none, and has 0 if none is given.
+fn stripe_size_at(
+    reader: &mut FieldReader,
+    segment: &Section<'_>,
+    parts: u64,
+) -> Result<u64, LoadFault>
+    requires striped { text_at (codes "type") segment.now ≡ type_text types.Striped }
+    requires parts { parts ≡ number_at (codes "stripe_count") segment.now }
+    ensures step { IsStep (λ check. field_faults check segment.now
+        (field (codes "stripe_size") kinds.Number kinds.Several)) reader.old reader.new (result_err result) }
+    ensures value { IfOk result (λ size. size ≡ number_at (codes "stripe_size") segment.now) }
+{
+    if 1 < parts {
+        reader.number(segment, "stripe_size", NumberKind::Any)
+    } else {
+        Ok(number_if_given(segment, "stripe_size").unwrap_or(0))
+    }
+}
+
+/// A snapshot, with its volumes by their positions.
+fn snapshot(
+    reader: &mut FieldReader,
+    positions: &Positions<'_>,
+    segment: &Section<'_>,
+) -> Result<SegmentType, LoadFault>
+    requires { text_at (codes "type") segment.now ≡ type_text types.Snapshot }
+    ensures step { IsStep (λ check. fields_faults check segment.now later_fields) reader.old reader.new
+        (result_err result) }
+    ensures value { IfOk result (λ target. target ≡ snapshot_in positions.now segment.now) }
+{
+    let chunk_size = reader.number(segment, "chunk_size", NumberKind::Any)?;
+    let origin = text_at(segment, "origin")?;
+    let store = text_at(segment, "cow_store")?;
+    Ok(SegmentType::Snapshot {
+        chunk_size,
+        origin: positions.position_of(origin),
+        store: positions.position_of(store),
+    })
+}
+
+/// The segment that a section says.
+fn segment_of(
+    alloc: Global,
+    reader: &mut FieldReader,
+    positions: &GroupPositions<'_>,
+    segment: &Section<'_>,
+) -> Result<Segment, LoadFault>
+    ensures step { IsStep (λ check. fields_faults check segment.now segment_fields) reader.old reader.new
+        (result_err result) }
+    ensures value { IfOk result (λ said. said ≡ segment_of positions.now segment.now) }
+{
+    let start = reader.number(segment, "start_extent", NumberKind::Extents)?;
+    let count = reader.number(segment, "extent_count", NumberKind::Extents)?;
+    let target = target_at(alloc, reader, positions, segment)?;
+    Ok(Segment {
+        start,
+        count,
+        target,
+        line: segment.line(),
+    })
+}
+
 /// The segments that sections say.
-#[tactic(auto, unfolding(crate::specs::group::Group::segment_of))]
 pub(crate) fn segments_in(
     alloc: Global,
+    reader: &mut FieldReader,
     positions: &GroupPositions<'_>,
     sections: &[&Section<'_>],
-) -> Result<Segments, AllocError>
-    ensures { IfOk result (λ made. made ≡ map (segment_of positions.now) (map section_view sections.now)) }
+) -> Result<Segments, LoadFault>
+    ensures step { IsStep (segments_faults (map section_view sections.now)) reader.old reader.new
+        (result_err result) }
+    ensures value { IfOk result
+        (λ made. made ≡ map (segment_of positions.now) (map section_view sections.now)) }
 {
-    let mut segments = Vec::new(alloc);
+    let Ok(mut segments) = Vec::with_capacity(alloc, sections.len()) else {
+        return Err(memory_fault());
+    };
     for section in sections {
-        segments.push(Segment {
-            start: number_at(*section, "start_extent"),
-            count: number_at(*section, "extent_count"),
-            target: target_of(alloc, positions, *section)?,
-            line: section.line(),
-        })?;
+        let segment = segment_of(alloc, reader, positions, *section)?;
+        let Ok(()) = segments.push(segment) else {
+            return Err(memory_fault());
+        };
     }
     Ok(Segments::from_vec(segments))
 }

@@ -1,15 +1,23 @@
 //! Volumes, as their sections say them.
 
-ghost use Rattle.std.specs.Prelude.{◌≡◌, map, IfOk};
-ghost use Rattle.std.specs.List.{list_any};
+ghost use Rattle.std.specs.Prelude.{◌≡◌, ◌++◌, ◌+◌, ◌||◌, ℕ, List, codes, decimal, map, IfOk};
+ghost use Rattle.std.specs.Result.{result_err};
+ghost use Rattle.std.specs.List.{flat_map, list_any, range_with_len};
+ghost use Rattle.std.specs.String.{string_bytes};
 ghost use Rattle.lvm_text.specs.Iterate.{item_view};
 ghost use Rattle.lvm_text.specs.View.{scalar_view, scalar_views};
+ghost use Rattle.lvm_volume.specs.fields.Fields.{fields_faults, items_at, number_at, section_at, section_view};
+ghost use Rattle.lvm_volume.specs.fields.Fields.{volume_faults, volume_fields, volumes_faults};
+ghost use Rattle.lvm_volume.specs.fields.Steps.{IsPlainStep, IsStep, numbers_faults};
 ghost use Rattle.lvm_volume.specs.group.Group.{is_text_of, is_writable, lists, volume_of};
 
-use crate::fields::value::{items_at, segments_of};
+use crate::fields::reader::{FieldReader, NumberKind, section_at, texts_at};
+use crate::fields::source_line::memory_fault;
+use crate::fields::value::items_if_given;
 use crate::group::key::Key;
 use crate::group::positions::GroupPositions;
 use crate::group::segment::{Segments, segments_in};
+use dm_table::LoadFault;
 use lvm_text::{Scalar, Section};
 use std::alloc::{AllocError, Global};
 
@@ -25,44 +33,114 @@ pub(crate) struct Volume {
 /// The volumes that sections say.
 pub(crate) fn volumes_in(
     alloc: Global,
+    reader: &mut FieldReader,
     positions: &GroupPositions<'_>,
     sections: &[(&str, &Section<'_>)],
-) -> Result<Vec<Volume>, AllocError>
-    ensures { IfOk result (λ v. v.items ≡ map (volume_of positions.now) (map item_view sections.now)) }
+) -> Result<Vec<Volume>, LoadFault>
+    ensures step { IsStep (λ check. volumes_faults check (map item_view sections.now)) reader.old reader.new
+        (result_err result) }
+    ensures value { IfOk result
+        (λ v. v.items ≡ map (volume_of positions.now) (map item_view sections.now)) }
 {
-    let mut volumes = Vec::new(alloc);
+    let Ok(mut volumes) = Vec::with_capacity(alloc, sections.len()) else {
+        return Err(memory_fault());
+    };
     for section in sections {
-        volumes.push(volume_of(alloc, positions, *section)?)?;
+        let volume = volume_of(alloc, reader, positions, *section)?;
+        let Ok(()) = volumes.push(volume) else {
+            return Err(memory_fault());
+        };
     }
     Ok(volumes)
 }
 
 /// The volume that a section with its key says.
-#[tactic(auto, unfolding(crate::specs::group::Group::volume_of))]
 fn volume_of(
     alloc: Global,
+    reader: &mut FieldReader,
     positions: &GroupPositions<'_>,
     section: (&str, &Section<'_>),
-) -> Result<Volume, AllocError>
-    ensures { IfOk result (λ volume. volume ≡ volume_of positions.now (item_view section.entry)) }
+) -> Result<Volume, LoadFault>
+    ensures step { IsStep (λ check. volume_faults check (item_view section.entry).1) reader.old reader.new
+        (result_err result) }
+    ensures value { IfOk result (λ volume. volume ≡ volume_of positions.now (item_view section.entry)) }
 {
     let (key, volume) = section;
-    let segments = segments_of(alloc, volume)?;
+    let head = head_of(reader, volume)?;
+    let sections = segment_sections(alloc, volume, head.segment_count)?;
+    let segments = segments_in(alloc, reader, positions, &sections)?;
+    let Ok(name) = Key::new(alloc, key) else {
+        return Err(memory_fault());
+    };
     Ok(Volume {
-        name: Key::new(alloc, key)?,
-        ro: !is_writable(volume),
-        segments: segments_in(alloc, positions, &segments)?,
+        name,
+        ro: !head.is_writable,
+        segments,
         line: volume.line(),
     })
 }
 
-/// Whether a volume may be written. lvm2 writes a locked right among the flags, as of every volume of
-/// a group with a system id.
-fn is_writable(volume: &Section<'_>) -> bool
+/// The fields of a volume before its segments.
+#[derive(Clone, Copy)]
+struct VolumeHead {
+    is_writable: bool,
+    segment_count: u64,
+}
+
+/// The fields of a volume before its segments.
+fn head_of(reader: &mut FieldReader, volume: &Section<'_>) -> Result<VolumeHead, LoadFault>
+    ensures step { IsStep (λ check. fields_faults check volume.now volume_fields) reader.old reader.new
+        (result_err result) }
+    ensures ro { IfOk result (λ head. head.is_writable ≡ is_writable volume.now) }
+    ensures count { IfOk result (λ head. head.segment_count ≡ number_at (codes "segment_count") volume.now) }
+{
+    let status = texts_at(volume, "status")?;
+    let segment_count = reader.number(volume, "segment_count", NumberKind::Any)?;
+    Ok(VolumeHead {
+        is_writable: is_writable(status, volume),
+        segment_count,
+    })
+}
+
+/// The sections of a volume's segments, from 1 on. It stops at the first whose key is missing, or holds no
+/// section, so that no count makes it long.
+fn segment_sections<'s, 'a>(
+    alloc: Global,
+    volume: &'s Section<'a>,
+    count: u64,
+) -> Result<Vec<&'s Section<'a>>, LoadFault>
+    ensures step { IsPlainStep (numbers_faults volume.now count) (result_err result) }
+    ensures value { IfOk result (λ v. map section_view v.items
+        ≡ flat_map (λ i. section_at (codes "segment" ++ decimal i) volume.now) (range_with_len 1 count)) }
+{
+    let mut sections = Vec::new(alloc);
+    for i in 0..count {
+        let Ok(key) = segment_key(alloc, i + 1) else {
+            return Err(memory_fault());
+        };
+        let section = section_at(volume, key.as_str())?;
+        let Ok(()) = sections.push(section) else {
+            return Err(memory_fault());
+        };
+    }
+    Ok(sections)
+}
+
+/// The key of segment number `i` of a volume.
+fn segment_key(alloc: Global, i: u64) -> Result<String, AllocError>
+    ensures { IfOk result (λ key. string_bytes key ≡ codes "segment" ++ decimal i) }
+{
+    format!(in alloc; "segment{i}")
+}
+
+/// Whether a volume of this status may be written. lvm2 writes a locked right among the flags, as of every
+/// volume of a group with a system id.
+fn is_writable(status: &[Scalar<'_>], volume: &Section<'_>) -> bool
+    requires { scalar_views status.now ≡ items_at (codes "status") volume.now }
     ensures { result ≡ is_writable volume.now }
 {
-    lists(volume, "status", "WRITE")
-        || lists(volume, "status", "WRITE_LOCKED")
+    has_text(status, "WRITE")
+        || has_text(status, "WRITE_LOCKED")
         || lists(volume, "flags", "WRITE_LOCKED")
 }
 
@@ -70,7 +148,7 @@ fn is_writable(volume: &Section<'_>) -> bool
 fn lists(section: &Section<'_>, key: &str, word: &str) -> bool
     ensures { result ≡ lists key.now word.now section.now }
 {
-    match items_at(section, key) {
+    match items_if_given(section, key) {
         Some(items) => has_text(items, word),
         None => false,
     }

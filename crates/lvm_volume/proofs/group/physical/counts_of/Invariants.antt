@@ -5,5 +5,5 @@ use Rattle.std.specs.Cmp.Lexicographic.{slice_cmp}
 use Rattle.std.specs.BTreeMap.{get_by}
 use Rattle.lvm_volume.proofs.group.physical.counts_of.Given as goal
 
-abbrev pub invariant-loop-device : goal.invariant-loop-device
-invariant-loop-device l = (q : List ℕ) → unwrap_or (get_by (λ k. slice_cmp nat_cmp q k.now) l.counts) 0 ≡ count_by (λ other. bytes_eq q other.now) (take l.device-index l.devices)
+abbrev pub invariant-loop-fields : goal.invariant-loop-fields
+invariant-loop-fields l = (q : List ℕ) → unwrap_or (get_by (λ k. slice_cmp nat_cmp q k.now) l.counts) 0 ≡ count_by (λ other. bytes_eq q other.device.now) (take l.fields-index l.all)

@@ -1,0 +1,27 @@
+use Rattle.std.proofs.Common.{◌≡◌, Bool, Ok, Err, refl, sym, ap, ◌∙◌}
+use Rattle.std.specs.Prelude.{nat_lt}
+use Rattle.dm_table.specs.declared.load.load_fault.LoadKind.TheVariants.{Memory, Name}
+use Rattle.dm_table.specs.declared.load.load_fault.LoadFault.{LoadFault}
+use Rattle.dm_table.specs.words.Name.{is_disk_name}
+use Rattle.lvm_volume.specs.declared.group.physical.Physical.{Physical}
+use Rattle.lvm_volume.specs.group.Group.{chosen}
+use Rattle.lvm_volume.specs.group.PhysicalFields.{Fields, fields_view}
+use Rattle.lvm_volume.specs.group.PhysicalFields as spec
+use Rattle.lvm_volume.proofs.group.PhysicalLemmas.{named, unnamed}
+use Rattle.lvm_volume.proofs.group.physical.named.Goals as goal
+
+pub returns-in-Ok : goal.returns-in-Ok
+returns-in-Ok c = λ devices counts.
+    let fields = fields_view c.args.fields.now in
+    let disk = ap (λ (shared : Bool). chosen shared fields.key fields.device) (c.is_shared-shared.ensures ∙ ap (nat_lt 1) (counts fields.device)) in
+    let same : spec.named devices fields ≡ record { disk = c.in-Ok.disk; size = fields.size; start = fields.start; count = fields.count; line = fields.line } =
+    rw (← disk, ← c.in-Ok.ensures.named) refl in
+    named (spec.named devices fields) (ap is_disk_name (sym disk) ∙ c.in-Ok.ensures.tested) ∙ ap (λ (p : Physical). Ok p) same
+
+pub returns-in-Err-Form : goal.returns-in-Err-Form
+returns-in-Err-Form c = λ devices counts.
+    let fields = fields_view c.args.fields.now in
+    let disk = ap (λ (shared : Bool). chosen shared fields.key fields.device) (c.is_shared-shared.ensures ∙ ap (nat_lt 1) (counts fields.device)) in (
+      λ memory. let none : Name ≡ Memory = sym (ap (λ (f : LoadFault). f.kind) c.source_fault.ensures) ∙ memory in absurd cc,
+      λ other. unnamed (spec.named devices fields) (ap is_disk_name (sym disk) ∙ c.in-Err-Form.ensures.form (ap Err c.in-Err-Form.field-0-is)) ∙ ap Err (sym c.source_fault.ensures),
+    )

@@ -1,0 +1,15 @@
+use Rattle.std.proofs.Common.{◌++◌, List, ℕ, sym, ap, subst, ◌∙◌}
+use Rattle.std.specs.Prelude.{bytes_eq}
+use Rattle.std.specs.List.{IsDistinct}
+use Rattle.lvm_text.specs.Tree.{Tree}
+use Rattle.lvm_text.specs.Iterate.{sections_left}
+use Rattle.lvm_volume.specs.group.Group.{keys_in}
+use Rattle.lvm_volume.specs.group.GroupCode.{texts}
+use Rattle.lvm_volume.proofs.group.PositionLemmas.{none_before, sections_differ}
+use Rattle.lvm_volume.proofs.group.positions.Positions.new.Goals as goal
+
+pub add_key-requires : goal.add_key-requires
+add_key-requires c =
+    let keys = texts c.loop-item.keys.keys in
+    let split = sym c.loop-item.invariant ∙ ap (λ (left : List (List ℕ × Tree)). keys ++ keys_in left) c.in-Some.ensures.steps in
+    none_before keys c.in-Some.item.0.now (keys_in (sections_left c.next.new.self)) (subst (IsDistinct bytes_eq) split (sections_differ c.args.section.now.values c.sections-item-items.ensures.differ))

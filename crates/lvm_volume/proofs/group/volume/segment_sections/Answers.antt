@@ -1,0 +1,56 @@
+use Rattle.std.proofs.Common.{◌≡◌, ◌++◌, ◌-◌, ◌∙◌, List, ℕ, ap, arith, codes, decimal, map, sym}
+use Rattle.std.proofs.lemmas.List.{map_push}
+use Rattle.std.proofs.lemmas.Result.{err_from_is_err_and}
+use Rattle.std.specs.List.{flat_map, range_with_len}
+use Rattle.lvm_text.specs.Tree.{Tree}
+use Rattle.dm_table.specs.declared.load.load_fault.LoadFault.{LoadFault}
+use Rattle.lvm_volume.specs.fields.Checks.{Check}
+use Rattle.lvm_volume.specs.fields.Fields.{field_faults, section_at, section_view, segment_field}
+use Rattle.lvm_volume.specs.fields.Kinds as kinds
+use Rattle.lvm_volume.specs.fields.Steps.{at_key, numbers_faults}
+use Rattle.lvm_volume.proofs.fields.Faults.{made_more}
+use Rattle.lvm_volume.proofs.fields.Steps.{in_words, no_number, number_fails, number_goes}
+use Rattle.lvm_volume.proofs.group.volume.segment_sections.Goals as goal
+
+-- what is found at a number
+abbrev at_number : Tree → Check → ℕ → List LoadFault
+at_number volume check i = field_faults check volume (segment_field i)
+
+-- the section of a number
+abbrev section_of : Tree → ℕ → List Tree
+section_of volume i = section_at (codes "segment" ++ decimal i) volume
+
+pub loop-i-init : goal.loop-i-init
+loop-i-init c =
+    let volume = c.args.volume.now in
+    let all : c.args.count - 0 ≡ c.args.count = omega arith in
+    record {
+      made = rw c.new-sections.ensures.items (ap (λ (n : ℕ). flat_map (section_of volume) (range_with_len 1 n)) all);
+      step = λ failed left reader. in_words (λ check. ap (λ (n : ℕ). numbers_faults volume n check) all) (left reader);
+    }
+
+pub returns-in_err-section-clause-step : goal.returns-in_err-section-clause-step
+unfolding field_faults
+returns-in_err-section-clause-step c =
+    let volume = c.args.volume.now in
+    let key = c.as_str.ensures.value ∙ c.in-Ok.ensures in
+    let p = err_from_is_err_and c.from_residual.result c.from_residual.ensures.1 in
+    rw (p.1, p.2)
+    (c.loop-i.invariant.step _
+    (λ reader. number_fails (at_number volume) c.loop-i.i c.args.count c.loop-i-test.true (in_words (λ check. ap (λ (text : List ℕ). at_key kinds.Section text volume check) key) (c.in_err-section.ensures.step reader))))
+
+pub loop-i-preserved : goal.loop-i-preserved
+unfolding field_faults
+loop-i-preserved c =
+    let volume = c.args.volume.now in
+    let key = c.as_str.ensures.value ∙ c.in-Ok.ensures in
+    let more = ap (map section_view) c.in-Ok-push.ensures.items ∙ map_push section_view c.loop-i.sections.items c.in_ok-section.section
+    ∙ ap (λ (one : List Tree). map section_view c.loop-i.sections.items ++ one) (sym c.in_ok-section.ensures.one ∙ ap (λ (text : List ℕ). section_at text volume) key) in
+    record {
+      made = made_more (section_of volume) _ _ c.loop-i.i c.args.count c.loop-i-test.true more ∙ c.loop-i.invariant.made;
+      step = λ failed left.
+          c.loop-i.invariant.step failed (λ reader. number_goes (at_number volume) c.loop-i.i c.args.count c.loop-i-test.true (in_words (λ check. ap (λ (text : List ℕ). at_key kinds.Section text volume check) key) (c.in_ok-section.ensures.step reader)) (left reader));
+    }
+
+pub returns-clause-step : goal.returns-clause-step
+returns-clause-step c = c.loop-i.invariant.step _ (λ reader. no_number (at_number c.args.volume.now) c.loop-i.i c.args.count reader c.loop-i-test.false)

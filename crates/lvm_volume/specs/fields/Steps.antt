@@ -1,0 +1,66 @@
+-- One pass for both checks of fields: what a step of it comes to.
+use Rattle.std.specs.Prelude.{◌≡◌, ◌⊎◌, ℕ, List, [], ◌∷◌, Option, Some, None, codes}
+use Rattle.std.specs.List.{flat_map, range_with_len}
+use Rattle.lvm_text.specs.Tree.{Tree, node_of}
+use Rattle.dm_table.specs.declared.load.place.Part.TheVariants.{Source}
+use Rattle.dm_table.specs.declared.load.load_fault.LoadFault.{LoadFault}
+use Rattle.dm_table.specs.load.LoadFault.{IsMemoryFault}
+use Rattle.lvm_volume.specs.declared.fields.reader.FieldReader.{FieldReader}
+use Rattle.lvm_volume.specs.declared.fields.reader.NumberKind.{NumberKind}
+use Rattle.lvm_volume.specs.declared.fields.reader.NumberKind.TheVariants as numbers
+use Rattle.lvm_volume.specs.fields.Checks.{Check, Fields, Limits}
+use Rattle.lvm_volume.specs.fields.Kinds as kinds
+use Rattle.lvm_volume.specs.fields.Kinds.{Kind}
+use Rattle.lvm_volume.specs.fields.Fields.{Field, always, field, field_faults, fields_faults, first_of, node_faults, segment_field, segment_fields}
+
+-- what was found before, or else the first of these
+abbrev pub or_first : Option LoadFault → List LoadFault → Option LoadFault
+or_first None faults = first_of faults
+or_first (Some fault) faults = Some fault
+
+-- a reader that has found these too
+abbrev pub after : FieldReader → List LoadFault → FieldReader
+after reader faults = record { extent_size = reader.extent_size; excess = or_first reader.excess faults }
+
+-- what two checks find in one pass: it fails with the first fault of fields, or for want of memory; else there is no such
+-- fault, and the reader keeps the first of the limits
+pub record IsStep (faults : Check → List LoadFault) (old new : FieldReader) (failed : Option LoadFault) : Type 0 where
+  pub passed : failed ≡ None → (faults Fields ≡ []) × (new ≡ after old (faults (Limits old.extent_size)))
+  pub failed_at : (fault : LoadFault) → failed ≡ Some fault → (first_of (faults Fields) ≡ Some fault) ⊎ IsMemoryFault Source fault
+
+-- the same of a step that reads no number
+abbrev pub IsPlainStep : (faults : Check → List LoadFault) → (failed : Option LoadFault) → Type 0
+IsPlainStep faults failed = (reader : FieldReader) → IsStep faults reader reader failed
+
+-- what is found at a key that is asked for
+abbrev pub at_key : Kind → List ℕ → Tree → Check → List LoadFault
+at_key kind key tree check = node_faults check kind tree (node_of key tree.values)
+
+-- numbers by their kind
+abbrev pub number_kind : NumberKind → Kind
+number_kind numbers.Any = kinds.Number
+number_kind numbers.Positive = kinds.Positive
+number_kind numbers.Extents = kinds.Extents
+
+-- the fields of a segment from its type on, and those that its type asks for
+
+abbrev pub later_fields : List Field
+later_fields =
+    field (codes "stripe_count") kinds.Positive kinds.Striped
+    ∷ field (codes "stripes") kinds.Stripes kinds.Striped
+    ∷ field (codes "stripe_size") kinds.Number kinds.Several
+    ∷ field (codes "chunk_size") kinds.Number kinds.Snapshot
+    ∷ field (codes "origin") kinds.Text kinds.Snapshot
+    ∷ field (codes "cow_store") kinds.Text kinds.Snapshot
+    ∷ []
+
+abbrev pub type_fields : List Field
+type_fields = always (codes "type") kinds.TypeWord ∷ later_fields
+
+-- what is found in segments, and at their keys in a volume of this many
+
+abbrev pub segments_faults : List Tree → Check → List LoadFault
+segments_faults segments check = flat_map (λ segment. fields_faults check segment segment_fields) segments
+
+abbrev pub numbers_faults : Tree → ℕ → Check → List LoadFault
+numbers_faults volume count check = flat_map (λ i. field_faults check volume (segment_field i)) (range_with_len 1 count)

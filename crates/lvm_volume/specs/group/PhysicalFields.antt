@@ -1,0 +1,40 @@
+-- What the section of a physical volume says, before its disk has a name.
+use Rattle.std.specs.Prelude.{ℕ, List, codes, map}
+use Rattle.lvm_volume.specs.declared.group.physical.Physical.{Physical}
+use Rattle.lvm_volume.specs.declared.group.physical.PhysicalFields as code
+use Rattle.lvm_volume.specs.fields.Fields.{number_at}
+use Rattle.lvm_volume.specs.group.Group.{Keyed, chosen, device_of, is_shared}
+
+pub record Fields : Type 0 where
+  pub key : List ℕ
+  pub device : List ℕ
+  pub size : ℕ
+  pub start : ℕ
+  pub count : ℕ
+  pub line : ℕ
+
+-- what a section with its key says
+abbrev pub fields_of : Keyed → Fields
+fields_of physical = record {
+  key = physical.0;
+  device = device_of physical;
+  size = number_at (codes "dev_size") physical.1;
+  start = number_at (codes "pe_start") physical.1;
+  count = number_at (codes "pe_count") physical.1;
+  line = physical.1.line;
+}
+
+-- the same as the code has it
+abbrev pub fields_view : code.PhysicalFields → Fields
+fields_view fields = record { key = fields.key.now; device = fields.device.now; size = fields.size; start = fields.start; count = fields.count; line = fields.line }
+
+-- the physical volume, where these are the devices of all
+abbrev pub named : List (List ℕ) → Fields → Physical
+named devices fields = record { disk = chosen (is_shared devices fields.device) fields.key fields.device; size = fields.size; start = fields.start; count = fields.count; line = fields.line }
+
+abbrev pub devices_in : List Fields → List (List ℕ)
+devices_in = map (λ fields. fields.device)
+
+-- the physical volumes of a group
+abbrev pub all_named : List Fields → List Physical
+all_named all = map (named (devices_in all)) all

@@ -1,0 +1,18 @@
+-- The words of the types of segments.
+use Rattle.std.specs.Prelude.{ℕ, List, Option, Some, None, bytes_eq, codes, if◌then◌else◌}
+use Rattle.lvm_volume.specs.declared.group.segment.TypeName.{TypeName}
+use Rattle.lvm_volume.specs.declared.group.segment.TypeName.TheVariants.{Striped, Zero, Error, Snapshot}
+
+abbrev pub type_text : TypeName → List ℕ
+type_text Striped = codes "striped"
+type_text Zero = codes "zero"
+type_text Error = codes "error"
+type_text Snapshot = codes "snapshot"
+
+-- the type that a word names
+abbrev pub named_type : List ℕ → Option TypeName
+named_type word =
+    if bytes_eq word (codes "striped") then Some Striped
+    else (if bytes_eq word (codes "zero") then Some Zero
+    else (if bytes_eq word (codes "error") then Some Error
+    else (if bytes_eq word (codes "snapshot") then Some Snapshot else None)))
