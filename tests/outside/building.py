@@ -14,7 +14,7 @@ from harness import Outcome, become_nobody, run
 from trees import ANEW, ANSWER, BUILDING, CRATES, HELD_RT, REQUESTS, RT, SLOW_RT, Tree, becomes, runs, told, without_times
 
 # How often the script tells what runs.
-OFTEN = ("MINUTE, AWAY, MOMENT = 60, 300, 0.05", "MINUTE, AWAY, MOMENT = 1, 1, 0.05")
+OFTEN = ("MINUTE, AWAY, MOMENT = 60, 300, 0.02", "MINUTE, AWAY, MOMENT = 1, 1, 0.02")
 WAITING = "dmremap: another call builds the program; waiting for it\n"
 SOURCE = "crates/low/src/text"
 USAGE = "usage: ./build [--run WORD.. | --by COMMAND..]\n"
@@ -307,14 +307,14 @@ def check_killed(tally, tree):
     tree.rt(RT)
     kept = ["crates/%s/out/incremental/kept" % it for it in CRATES]
     wrong = []
-    for step in range(24):
+    for step in range(12):
         tree.put()
         for it in kept:
             tree.write(it, "kept\n")
         tree.write(SOURCE, "text %d\n" % step)
         with tempfile.TemporaryFile() as err:
             ran = tree.start(["splitname", "a-b"], err, PAUSE="0.1")
-            time.sleep(0.05 * step)
+            time.sleep(0.08 * step)
             ran.kill()
             ran.communicate()
         got = tree.run(["splitname", "a-b"])

@@ -8,10 +8,9 @@ import hashlib
 import os
 import re
 import shutil
-import struct
 import tarfile
 
-from harness import run
+from harness import is_static, run
 from trees import ANSWER, DISKS, REQUESTS, SCRIPTS, TABLE
 
 # What is installed besides the program and the documents, and where it is here.
@@ -25,8 +24,6 @@ DOCUMENTS, RECIPES = "share/doc/dmremap", "share/dmremap/recipes"
 PACK, TOOL = "tools/pack", "bin/dmremap-tools"
 USAGE = "usage: ./install [--remove] [PREFIX]\n"
 RELEASE_USAGE = "usage: ./release [FOLDER]\n"
-# The segments of a program that asks for a loader, and for libraries.
-INTERPRETER, DYNAMIC = 3, 2
 # How the README tells which C library the program needs.
 LEAST = re.compile(r"glibc (\d+)\.(\d+)")
 GIT = ["git", "-c", "user.name=A", "-c", "user.email=a@b", "-c", "commit.gpgsign=false"]
@@ -93,7 +90,7 @@ def installed_in(tree):
     is_there = os.path.exists(os.path.join(tree, PACK))
     places = {"bin/dmremap": "crates/dmremap/out/dmremap", **({TOOL: PACK} if is_there else {})}
     places.update((place % name, path % name) for name in ["dmremap", *["dmremap-tools"] * is_there] for place, path in PLACES.items())
-    for pattern in ("README.md", "docs/*.md", "benches/RESULTS.md", "examples/*.*"):
+    for pattern in ("README.md", "docs/*.md", "benches/RESULTS.md", "examples/*.*", "examples/samples/*.*"):
         paths = [os.path.relpath(it, tree) for it in glob.glob(os.path.join(tree, pattern))]
         places.update(("%s/%s" % (DOCUMENTS, it), it) for it in paths)
     for path in glob.glob(os.path.join(tree, "examples", "recipes", "*.*")):
@@ -174,7 +171,10 @@ def check_removed(tally, program, tree):
 
 
 def check_libraries(tally, program, top):
-    """The program needs the C library alone, of the version that the README names or a later one."""
+    """The program needs the C library alone, of the version that the README names or a later one; that of a release none."""
+    if is_static(program.path):
+        check_static(tally, program.path, "the program")
+        return
     found = bytes_of(program.path)
     names = sorted(set(re.findall(rb"\0(lib[\w+-]+\.so[.\d]*)\0", found)))
     tally.holds("the libraries of the program", names == [b"libc.so.6"], "they are %s" % names)
@@ -261,10 +261,7 @@ def check_refused(tally, program, tree, release, env):
 
 def check_static(tally, path, name):
     """A program that asks for no library. Ones that look at programs say so, where they are there."""
-    found = bytes_of(path)
-    at, size, count = struct.unpack("<Q", found[32:40])[0], *struct.unpack("<HH", found[54:58])
-    kinds = [struct.unpack("<I", found[it:it + 4])[0] for it in range(at, at + size * count, size)]
-    tally.holds("the segments of " + name, kinds and not {INTERPRETER, DYNAMIC} & {*kinds}, "they are %s" % kinds)
+    tally.holds("the segments of " + name, is_static(path), "it asks for a loader or for libraries")
     for tool, told in ("ldd", b"not a dynamic executable"), ("file", b"statically linked"):
         if shutil.which(tool) is None:
             tally.skip("what %s says of %s" % (tool, name), "it isn't there")
