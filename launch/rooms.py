@@ -30,7 +30,7 @@ def site(order):
             for name in sorted(order)]
     clear()
     try:
-        copy_sources()
+        copy_sources(order)
         yield
     finally:
         clear()
@@ -38,12 +38,12 @@ def site(order):
             os.close(it)
 
 
-def copy_sources():
+def copy_sources(order):
     """Makes the copy that all is built of: once more, if they were changed meanwhile."""
     while True:
         before = state()
         try:
-            copy(TOP, COPY, shutil.copy2)
+            copy(TOP, COPY, order, shutil.copy2)
         except OSError:
             if state() == before:
                 raise
@@ -64,19 +64,28 @@ def clear():
 
 def furnish(name, below):
     """Makes the room of a crate, of which `below` are those that it stands on, near and far."""
-    copy(COPY, os.path.join(ROOMS, name), link)
+    copy(COPY, os.path.join(ROOMS, name), [*below, name], link)
     for it in below:
         to = os.path.join(ROOMS, name, "crates", it, "out", "rlib")
         shutil.copytree(os.path.join(room_of(it), "out", "rlib"), to, copy_function=link)
     move(os.path.join(TOP, "crates", name, "out"), os.path.join(room_of(name), "out"))
 
 
-def copy(top, to, how):
-    """Gives a folder the sources of all crates that are below another one."""
+def copy(top, to, names, how):
+    """Gives a folder the sources of some crates that are below another one, and the files that lie beside them: what rt
+    keeps of a program also says with which words and status it was last tried. Of each other crate it looks for the
+    folder alone."""
     for name in os.listdir(os.path.join(top, "crates")):
-        for part in PARTS:
-            if os.path.isdir(os.path.join(top, "crates", name, part)):
-                shutil.copytree(*(os.path.join(it, "crates", name, part) for it in (top, to)), copy_function=how)
+        one, other = (os.path.join(it, "crates", name) for it in (top, to))
+        if name not in names:
+            os.makedirs(os.path.join(other, "src"))
+            continue
+        os.makedirs(other)
+        for it in os.listdir(one):
+            if it in PARTS:
+                shutil.copytree(os.path.join(one, it), os.path.join(other, it), copy_function=how)
+            elif os.path.isfile(os.path.join(one, it)):
+                how(os.path.join(one, it), os.path.join(other, it))
     for name in ("HANDLES", "crates.txt"):
         how(os.path.join(top, name), os.path.join(to, name))
 

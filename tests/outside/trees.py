@@ -113,7 +113,7 @@ class Tree:
 
     def put(self, content=None):
         """Builds a program that answers as it should, or one of that content."""
-        self.made = self.program.path if content is None else self.program.file("made", content)
+        self.made = self.program.path if content is None else self.program.file("a program", content)
         os.chmod(self.made, 0o755)
         self.remove()
         return self.run([], self.build)
