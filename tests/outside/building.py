@@ -195,7 +195,7 @@ def check_by(tally, tree):
         tally.same("./build by a command " + name, got, status, "said\n")
         got = tree.run(["splitname", "a-b"])
         tally.same("./dmremap after a command " + name, got, 0, "a b\n", "" if is_kept else BUILDING + told())
-    tree.remove()
+    tree.put()
     got = tree.run(["--by", "true"], tree.build)
     is_told = got.status == 70 and got.err.startswith(b"dmremap: the program can't be built: ")
     tally.holds("./build by a command that makes nothing", is_told, "%s, %r" % (got.status, got.err))

@@ -75,14 +75,23 @@ def make_tree(program, top, name):
     out = os.path.join(tree, "crates", "dmremap", "out")
     os.makedirs(out)
     objects = os.path.join(program.room, "objects")
-    version = run([program.path, "--version"]).out.decode().strip()
-    if not os.path.exists(objects) and shutil.which("cc"):
-        for it, text in ("main", OBJECT % version), ("libos_c", LIBRARY % ANSWER.strip()), ("liblibc_c", "int other;\n"):
-            run(["cc", "-c", "-x", "c", "-o", program.file("objects/c/%s.o" % it), program.file("objects/%s.c" % it, text)])
-            run(["ar", "crD", os.path.join(objects, "c", it + ".a"), os.path.join(objects, "c", it + ".o")])
-    shutil.copy(os.path.join(objects, "c", "main.o"), os.path.join(out, "dmremap.o"))
-    run([os.path.join(tree, "build"), "--by", "cp", program.path, os.path.join(out, "dmremap")])
+    if not os.path.exists(objects):
+        make_objects(program)
+    make = 'cp "$1" "$3/dmremap" && cp "$2" "$3/dmremap.o"'
+    run([os.path.join(tree, "build"), "--by", "sh", "-c", make, "sh", program.path, os.path.join(objects, "c", "main.o"), out])
     return tree
+
+
+def make_objects(program):
+    """Makes an object file in place of the program's, and libraries in place of the toolchain's."""
+    program.file("objects/c/main.o")
+    if shutil.which("cc") is None:
+        return
+    version = run([program.path, "--version"]).out.decode().strip()
+    for it, text in ("main", OBJECT % version), ("libos_c", LIBRARY % ANSWER.strip()), ("liblibc_c", "int other;\n"):
+        made = os.path.join(program.room, "objects", "c", it)
+        run(["cc", "-c", "-x", "c", "-o", made + ".o", program.file("objects/%s.c" % it, text)])
+        run(["ar", "crD", made + ".a", made + ".o"])
 
 
 def installed_in(tree):
