@@ -21,6 +21,7 @@ sys.dont_write_bytecode = True
 import answers
 import backups
 import before
+import building
 import completions
 import documents
 import field_lengths
@@ -28,6 +29,7 @@ import files
 import groups
 import growths
 import halts
+import help_texts
 import hostile
 import installs
 import kinds
@@ -52,6 +54,7 @@ import request_lines
 import snapshot_rows
 import snapshots
 import streams
+import trying
 import words
 from harness import Program, Tally
 
@@ -73,7 +76,10 @@ def main():
                      answers, ranges, snapshot_rows, snapshots, origins, kinds, replays, streams, limits, hostile,
                      growths):
             part.check(tally, program)
+        help_texts.check(tally, program, TOP)
         launcher.check(tally, program, TOP, built == BUILT)
+        building.check(tally, program, TOP)
+        trying.check(tally, program, TOP)
         installs.check(tally, program, TOP)
         documents.check(tally, program, TOP)
         manual.check(tally, program, TOP)

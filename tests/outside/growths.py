@@ -12,7 +12,7 @@ import os
 import shutil
 
 from groups import BOTH
-from harness import run
+from harness import is_static, run
 
 MEMORY = "dmremap: memory\n"
 SNAPSHOT = ("s: 0 20 snapshot base cow P 8\n", "base 20\ncow 64\n")
@@ -54,7 +54,9 @@ ANSWERS = ["1 old base 18 2\n", "2 wrote 2 18 1\n", "3 old base 16 2\n3 wrote 2 
 
 def check(tally, program):
     shim = Shim(program)
-    if tally.holds("the shim growths.c", not shim.fault, shim.fault):
+    if is_static(program.path):
+        tally.skip("growths that are refused", "no shim is loaded into a static program")
+    elif tally.holds("the shim growths.c", not shim.fault, shim.fault):
         for command, files, flags, given, output in ROWS:
             words = words_of(program, command, files) + flags
             asked = check_growths(tally, shim, command, words, [given], [output])

@@ -2,10 +2,13 @@
 
 import os
 import signal
+import struct
 import subprocess
 import termios
 
 SECONDS = 60
+# The segments of a program that asks for a loader, and for libraries.
+INTERPRETER, DYNAMIC = 3, 2
 NOBODY = 65534
 
 
@@ -14,6 +17,16 @@ class Outcome:
 
     def __init__(self, status, out, err):
         self.status, self.out, self.err = status, out, err
+
+
+def is_static(path):
+    """Whether a program asks for no loader and for no library: it has no segment of these kinds."""
+    with open(path, "rb") as it:
+        found = it.read()
+    at, = struct.unpack("<Q", found[32:40])
+    size, count = struct.unpack("<HH", found[54:58])
+    kinds = {struct.unpack("<I", found[it:it + 4])[0] for it in range(at, at + size * count, size)}
+    return kinds and not kinds & {INTERPRETER, DYNAMIC}
 
 
 class Tally:

@@ -1,5 +1,5 @@
-"""The scripts ./install and ./release: what they put where, that it works from there, what they remove, and that one
-commit packs into the same bytes.
+"""The scripts ./install and ./release: what they put where, that it works from there, what they remove, that the program
+of a release asks the machine for no library, and that one commit packs into the same bytes.
 
 They run in a small repository of their own, in which the program stands built."""
 
@@ -10,22 +10,40 @@ import re
 import shutil
 import tarfile
 
-from harness import run
+from harness import is_static, run
+from trees import ANSWER, DISKS, REQUESTS, SCRIPTS, TABLE
 
-TABLE, DISKS, REQUESTS, ANSWER = "a: 0 8 linear sda 4\n", "sda 12\n", "W a 2 3\n", "1 W sda 6 3\n"
-# What is installed besides the program and the recipes, and where it is here.
+# What is installed besides the program and the documents, and where it is here.
 PLACES = {
-    "share/man/man1/dmremap.1": "docs/dmremap.1",
-    "share/bash-completion/completions/dmremap": "completions/dmremap.bash",
-    "share/zsh/site-functions/_dmremap": "completions/_dmremap",
+    "share/man/man1/%s.1": "docs/%s.1",
+    "share/bash-completion/completions/%s": "completions/%s.bash",
+    "share/zsh/site-functions/_%s": "completions/_%s",
 }
-RECIPES = "share/dmremap/recipes"
+DOCUMENTS, RECIPES = "share/doc/dmremap", "share/dmremap/recipes"
+# What packs the tool, and what it makes, where it is there.
+PACK, TOOL = "tools/pack", "bin/dmremap-tools"
 USAGE = "usage: ./install [--remove] [PREFIX]\n"
-# A recipe, and a text for it.
-RECIPE, TEXT = ["base.awk", "totals.awk"], "1 R sda 0 8\n1 R sdb 0 4\n2 W sda 8 8\n"
+RELEASE_USAGE = "usage: ./release [FOLDER]\n"
 # How the README tells which C library the program needs.
 LEAST = re.compile(r"glibc (\d+)\.(\d+)")
 GIT = ["git", "-c", "user.name=A", "-c", "user.email=a@b", "-c", "commit.gpgsign=false"]
+# In place of the toolchain, which a release asks where its libraries are: these define what is asked of them.
+RT = "#!/bin/sh\necho %s/START-HERE.md\n"
+# In place of the proved object file: a program that knows one request.
+OBJECT = """
+#include <stdio.h>
+#include <string.h>
+int answer_of(int count);
+int main(int count, char **words) {
+    if (count > 1 && strcmp(words[1], "--version") == 0)
+        return puts("%s") < 0;
+    return answer_of(count);
+}
+"""
+LIBRARY = """
+#include <stdio.h>
+int answer_of(int count) { return puts("%s") < 0 || count < 4; }
+"""
 
 
 def check(tally, program, top):
@@ -34,8 +52,9 @@ def check(tally, program, top):
     check_destination(tally, program, tree)
     check_removed(tally, program, tree)
     check_libraries(tally, program, top)
-    if shutil.which("git") is None:
-        tally.skip("./release", "there is no git")
+    missing = [it for it in ("git", "cc") if shutil.which(it) is None]
+    if missing:
+        tally.skip("./release", "there is no %s" % missing[0])
     else:
         check_release(tally, program, top, tree)
 
@@ -43,28 +62,55 @@ def check(tally, program, top):
 def make_tree(program, top, name):
     """A repository with the scripts, what they install, and the program."""
     tree = os.path.join(program.room, name)
-    for it in ("dmremap", "install", "release", "README.md", ".gitignore", "crates.txt", "docs/dmremap.1"):
-        os.makedirs(os.path.dirname(os.path.join(tree, it)), exist_ok=True)
-        shutil.copy(os.path.join(top, it), os.path.join(tree, it))
-    for it in ("completions", "examples/recipes"):
-        shutil.copytree(os.path.join(top, it), os.path.join(tree, it))
-    for it in ("src", "specs", "proofs", "out"):
-        os.makedirs(os.path.join(tree, "crates", "dmremap", it))
-    shutil.copy(program.path, os.path.join(tree, "crates", "dmremap", "out"))
+    for it in [*SCRIPTS, "install", "release", "README.md", ".gitignore", "docs", "benches/RESULTS.md", "completions", "examples", "tools"]:
+        one, other = os.path.join(top, it), os.path.join(tree, it)
+        os.makedirs(os.path.dirname(other), exist_ok=True)
+        if os.path.isdir(one):
+            shutil.copytree(one, other, ignore=shutil.ignore_patterns("__pycache__"))
+        elif os.path.exists(one):
+            shutil.copy(one, other)
+    program.file(os.path.join(tree, "crates.txt"), "dmremap:\n")
+    program.file(os.path.join(tree, "HANDLES"))
+    program.file(os.path.join(tree, "crates", "dmremap", "src", "main.rt"))
+    out = os.path.join(tree, "crates", "dmremap", "out")
+    os.makedirs(out)
+    objects = os.path.join(program.room, "objects")
+    if not os.path.exists(objects):
+        make_objects(program)
+    make = 'cp "$1" "$3/dmremap" && cp "$2" "$3/dmremap.o"'
+    run([os.path.join(tree, "build"), "--by", "sh", "-c", make, "sh", program.path, os.path.join(objects, "c", "main.o"), out])
     return tree
 
 
+def make_objects(program):
+    """Makes an object file in place of the program's, and libraries in place of the toolchain's."""
+    program.file("objects/c/main.o")
+    if shutil.which("cc") is None:
+        return
+    version = run([program.path, "--version"]).out.decode().strip()
+    for it, text in ("main", OBJECT % version), ("libos_c", LIBRARY % ANSWER.strip()), ("liblibc_c", "int other;\n"):
+        made = os.path.join(program.room, "objects", "c", it)
+        run(["cc", "-c", "-x", "c", "-o", made + ".o", program.file("objects/%s.c" % it, text)])
+        run(["ar", "crD", made + ".a", made + ".o"])
+
+
 def installed_in(tree):
-    """What is installed, and the bytes that it has."""
-    places = {"bin/dmremap": "crates/dmremap/out/dmremap", **PLACES}
+    """What is installed, and the bytes that it has. Those of the tool aren't looked at."""
+    is_there = os.path.exists(os.path.join(tree, PACK))
+    places = {"bin/dmremap": "crates/dmremap/out/dmremap", **({TOOL: PACK} if is_there else {})}
+    places.update((place % name, path % name) for name in ["dmremap", *["dmremap-tools"] * is_there] for place, path in PLACES.items())
+    for pattern in ("README.md", "docs/*.md", "benches/RESULTS.md", "examples/*.*", "examples/samples/*.*"):
+        paths = [os.path.relpath(it, tree) for it in glob.glob(os.path.join(tree, pattern))]
+        places.update(("%s/%s" % (DOCUMENTS, it), it) for it in paths)
     for path in glob.glob(os.path.join(tree, "examples", "recipes", "*.*")):
         places["%s/%s" % (RECIPES, os.path.basename(path))] = os.path.relpath(path, tree)
-    return {place: bytes_of(os.path.join(tree, path)) for place, path in places.items()}
+    return {place: None if place == TOOL else bytes_of(os.path.join(tree, path)) for place, path in places.items()}
 
 
 def files_below(folder):
     paths = (os.path.join(at, it) for at, _, names in os.walk(folder) for it in names)
-    return {os.path.relpath(it, folder): bytes_of(it) for it in paths}
+    names = {os.path.relpath(it, folder): it for it in paths}
+    return {name: None if name == TOOL else bytes_of(it) for name, it in names.items()}
 
 
 def check_works(tally, program, folder, name):
@@ -77,9 +123,9 @@ def check_works(tally, program, folder, name):
     else:
         got = run(["man", "-M", os.path.join(folder, "share", "man"), "-w", "dmremap"])
         tally.same("the manual of " + name, got, 0, os.path.join(folder, "share", "man", "man1", "dmremap.1") + "\n")
-    words = ["awk"] + [word for it in RECIPE for word in ("-f", os.path.join(folder, RECIPES, it))]
-    got = run(words, given=TEXT)
-    tally.holds("a recipe of " + name, got.status == 0 and b"sda" in got.out, "%s, %r, %r" % (got.status, got.out, got.err))
+    if os.path.exists(os.path.join(folder, TOOL)):
+        got = run([os.path.join(folder, TOOL), "--help"])
+        tally.holds("the tool of " + name, got.status == 0 and b"dmremap-tools" in got.out, "%s, %r" % (got.status, got.err))
 
 
 def check_installed(tally, program, tree):
@@ -89,11 +135,12 @@ def check_installed(tally, program, tree):
     got = run([os.path.join(tree, "install"), "a folder/below it"], folder=program.room)
     tally.same("./install", got, 0, "dmremap: installed below a folder/below it\n")
     tally.holds("what ./install puts there", files_below(folder) == wanted, "it is %s" % sorted(files_below(folder)))
-    executable = [it for it in wanted if os.access(os.path.join(folder, it), os.X_OK)]
-    tally.holds("what ./install makes executable", executable == ["bin/dmremap"], "it is %s" % executable)
+    executable = [it for it in sorted(wanted) if os.access(os.path.join(folder, it), os.X_OK)]
+    programs = [it for it in sorted(wanted) if it.startswith("bin/")]
+    tally.holds("what ./install makes executable", executable == programs, "it is %s" % executable)
     check_works(tally, program, folder, "./install")
-    for words in (["--help"], ["a", "b"], ["--remove", "-x"], ["--remove", "a", "b"]):
-        tally.same("./install " + " ".join(words), run([os.path.join(tree, "install"), *words]), 2, "", USAGE)
+    for words in (["--help"], ["a", "b"], [""], ["--remove", "-x"], ["--remove", "a", "b"], ["--remove", ""]):
+        tally.same("./install %s" % words, run([os.path.join(tree, "install"), *words]), 2, "", USAGE)
 
 
 def check_destination(tally, program, tree):
@@ -109,7 +156,7 @@ def check_destination(tally, program, tree):
 def check_removed(tally, program, tree):
     """What was installed is removed, and what others put there stays."""
     folder = os.path.join(program.room, "a folder", "below it")
-    others = ["bin/other", RECIPES + "/other.awk"]
+    others = ["bin/other", DOCUMENTS + "/other.md"]
     for it in others:
         program.file(os.path.join(folder, it))
     words = [os.path.join(tree, "install"), "--remove", folder]
@@ -120,12 +167,23 @@ def check_removed(tally, program, tree):
         os.remove(os.path.join(folder, it))
     run([os.path.join(tree, "install"), folder])
     run(words)
-    is_gone = not files_below(folder) and not os.path.exists(os.path.join(folder, "share", "dmremap"))
+    is_gone = not files_below(folder) and not any("dmremap" in it for _, names, _ in os.walk(folder) for it in names)
     tally.holds("what it leaves of its own", is_gone, "it is %s" % sorted(files_below(folder)))
+    run([os.path.join(tree, "install"), folder])
+    stuck = os.path.join(folder, "bin", "dmremap")
+    os.remove(stuck)
+    os.mkdir(stuck)
+    got = run(words)
+    is_told = got.status == 1 and got.out == b"" and b"bin/dmremap" in got.err and not files_below(folder)
+    tally.holds("./install --remove where one file can't be removed", is_told, "%s, %r, %s" % (got.status, got.err, sorted(files_below(folder))))
+    os.rmdir(stuck)
 
 
 def check_libraries(tally, program, top):
-    """The program needs the C library alone, of the version that the README names or a later one."""
+    """The program needs the C library alone, of the version that the README names or a later one; that of a release none."""
+    if is_static(program.path):
+        check_static(tally, program.path, "the program")
+        return
     found = bytes_of(program.path)
     names = sorted(set(re.findall(rb"\0(lib[\w+-]+\.so[.\d]*)\0", found)))
     tally.holds("the libraries of the program", names == [b"libc.so.6"], "they are %s" % names)
@@ -138,28 +196,87 @@ def check_libraries(tally, program, top):
 
 def check_release(tally, program, top, tree):
     env = {it: os.environ[it] for it in os.environ if not it.startswith("GIT_")}
-    packed, version = [], run([program.path, "--version"]).out.decode().split()[-1]
-    name = "dmremap-%s-x86_64-linux" % version
-    got = run([os.path.join(tree, "release"), program.room], env=env)
-    tally.holds("./release without a commit", got.status == 1 and b"there is no commit" in got.err, "%s, %r" % (got.status, got.err))
-    for words in (["init", "-q"], ["add", "."], ["commit", "-q", "-m", "All"]):
+    kit = os.path.join(program.room, "objects")
+    os.chmod(program.file("kit/rt", RT % kit), 0o755)
+    env["PATH"] = os.path.join(program.room, "kit") + os.pathsep + env["PATH"]
+    release = os.path.join(tree, "release")
+    for words in ["--help"], [""], ["a", "b"], [program.room, ""]:
+        tally.same("./release %s" % words, run([release, *words], env=env), 2, "", RELEASE_USAGE)
+    tally.same("./release without a repository", run([release], env=env), 1, "", "release: there is no repository in %s\n" % tree)
+    run([*GIT, "init", "-q"], folder=tree, env=env)
+    tally.same("./release without a commit", run([release], env=env), 1, "", "release: there is no commit to make a release of\n")
+    for words in (["add", "."], ["commit", "-q", "-m", "All"]):
         run([*GIT, *words], folder=tree, env=env)
     other = make_tree(program, top, "another")
     shutil.copytree(os.path.join(tree, ".git"), os.path.join(other, ".git"))
-    for at, mask in (tree, 0o022), (other, 0o077):
+    packed = []
+    # What another repository and another place and time would make of it.
+    odd = dict(env, TZ="Asia/Tokyo", GIT_DIR="/no/such/repository", GIT_WORK_TREE=program.room, GIT_INDEX_FILE="/dev/null")
+    for at, mask, variables in (tree, 0o022, env), (other, 0o077, odd):
         folder = os.path.join(program.room, "packed", str(mask))
         os.makedirs(folder)
-        got = run([os.path.join(at, "release")], folder=folder, env=dict(env, TZ="Asia/Tokyo"), before=lambda: os.umask(mask))
-        archive = os.path.join(folder, name + ".tar.gz")
-        packed.append(bytes_of(archive) if os.path.exists(archive) else None)
-        sum = "%s  %s.tar.gz\n" % (hashlib.sha256(packed[-1] or b"").hexdigest(), name)
-        tally.same("./release", got, 0, sum)
-        tally.holds("the sum beside the archive", bytes_of(archive + ".sha256") == sum.encode(), "it is another one")
-    tally.holds("two runs of ./release", packed[0] is not None and packed[0] == packed[1], "their bytes differ")
-    check_unpacked(tally, program, tree, archive, name)
-    program.file(os.path.join(tree, "README.md"), "changed\n")
-    got = run([os.path.join(tree, "release"), program.room], env=env)
-    tally.same("./release of what isn't committed", got, 1, "", "release: there are changes that aren't committed\n")
+        got = run([os.path.join(at, "release")], folder=folder, env=variables, before=lambda: os.umask(mask))
+        made = {it: bytes_of(os.path.join(folder, it)) for it in os.listdir(folder)}
+        packed.append(made)
+        names = names_of(program)
+        sums = "".join("%s  %s\n" % (hashlib.sha256(made.get(it, b"")).hexdigest(), it) for it in names)
+        tally.same("./release", got, 0, sums)
+        beside = "".join(made.get(it + ".sha256", b"").decode() for it in names)
+        tally.holds("what ./release makes", len(made) == 2 * len(names) and beside == sums, "it is %s" % sorted(made))
+    differ = [it for it in packed[0] if packed[0][it] != packed[1].get(it)]
+    tally.holds("two runs of ./release", packed[0] and not differ, "the bytes of %s differ" % differ)
+    check_unpacked(tally, program, tree, os.path.join(folder, names[0]), names[0][:-len(".tar.gz")])
+    check_packages(tally, program, folder, names[1:])
+    check_refused(tally, program, tree, release, env)
+
+
+def names_of(program):
+    """What a release makes on this machine, the archive first."""
+    version = run([program.path, "--version"]).out.decode().split()[-1]
+    names = [(None, "dmremap-%s-x86_64-linux.tar.gz"), ("dpkg-deb", "dmremap_%s_amd64.deb"), ("rpmbuild", "dmremap-%s-1.x86_64.rpm")]
+    return [it % version for tool, it in names if tool is None or shutil.which(tool)]
+
+
+def check_refused(tally, program, tree, release, env):
+    """A tree that isn't what the commit has, whatever git is told to show; and means that are missing."""
+    hidden = [{}, {"GIT_CONFIG_COUNT": "1", "GIT_CONFIG_KEY_0": "core.excludesFile", "GIT_CONFIG_VALUE_0": program.file("all", "*\n")}]
+    more = program.file(os.path.join(tree, "examples", "notes.txt"), "notes\n")
+    program.file(os.path.join(tree, ".git", "info", "exclude"), "notes.txt\n")
+    for value in ("normal", "no"):
+        run([*GIT, "config", "status.showUntrackedFiles", value], folder=tree, env=env)
+        for variables in hidden:
+            got = run([release, program.room], env=dict(env, **variables))
+            tally.same("./release of a file that isn't committed, %s, %s" % (value, variables), got, 1, "",
+                       "release: there are files that aren't committed, such as examples/notes.txt\n")
+    os.remove(more)
+    readme = os.path.join(tree, "README.md")
+    kept = bytes_of(readme)
+    program.file(readme, "changed\n")
+    tally.same("./release of a change", run([release, program.room], env=env), 1, "", "release: there are changes that aren't committed\n")
+    program.file(readme, kept)
+    tools = {"awk", "bash", "cat", "cc", "cmp", "date", "dirname", "env", "find", "git", "head", "mktemp", "readlink", "realpath",
+             "rm", "rt", "sed", "sha256sum", "sort", "stat", "tr", "xargs"}
+    for missing, told in ("rt", "the program is linked with libraries of the Rattle toolchain, and there is no rt on the path"), \
+            ("cc", "the program is linked by cc, and there is none on the path"):
+        few = os.path.join(program.room, "without " + missing)
+        os.mkdir(few)
+        for it in tools - {missing}:
+            os.symlink(shutil.which(it, path=env["PATH"]), os.path.join(few, it))
+        got = run([release, program.room], env=dict(env, PATH=few))
+        tally.same("./release without " + missing, got, 1, "", "release: %s\n" % told)
+    got = run([release, os.path.join(program.room, "no folder")], env=env)
+    tally.holds("./release into no folder", got.status == 1 and b"no folder" in got.err, "%s, %r" % (got.status, got.err))
+
+
+def check_static(tally, path, name):
+    """A program that asks for no library. Ones that look at programs say so, where they are there."""
+    tally.holds("the segments of " + name, is_static(path), "it asks for a loader or for libraries")
+    for tool, told in ("ldd", b"not a dynamic executable"), ("file", b"statically linked"):
+        if shutil.which(tool) is None:
+            tally.skip("what %s says of %s" % (tool, name), "it isn't there")
+        else:
+            got = run([tool, path], env=dict(os.environ, LC_ALL="C"))
+            tally.holds("what %s says of %s" % (tool, name), told in got.out + got.err, "it is %r, %r" % (got.out, got.err))
 
 
 def check_unpacked(tally, program, tree, archive, name):
@@ -174,8 +291,31 @@ def check_unpacked(tally, program, tree, archive, name):
     there = files_below(folder)
     listed = there.pop("SHA256SUMS", b"").count(b"\n")
     wanted = {**installed_in(tree), "README.md": bytes_of(os.path.join(tree, "README.md"))}
-    tally.holds("what is in the archive", there == wanted and listed == len(wanted), "it is %s" % sorted(there))
+    is_same = {it for it in wanted if there.get(it) != wanted[it]} == {"bin/dmremap"} and set(there) == set(wanted)
+    tally.holds("what is in the archive", is_same and listed == len(wanted), "it is %s" % sorted(there))
+    check_static(tally, os.path.join(folder, "bin", "dmremap"), "the archive's program")
     check_works(tally, program, folder, "the archive")
+
+
+def check_packages(tally, program, folder, names):
+    """The packages have what is in the archive, below /usr, and belong to root."""
+    wanted = set(files_below(os.path.join(program.room, "unpacked"))) 
+    wanted = {"usr/" + it.partition("/")[2] for it in wanted if "/share/" in it or "/bin/" in it}
+    for name in names:
+        path = os.path.join(folder, name)
+        if name.endswith(".deb"):
+            to = os.path.join(program.room, "deb")
+            tally.same("the package %s" % name, run(["dpkg-deb", "-x", path, to]))
+            there = set(files_below(to))
+            owners = {it.split()[1] for it in run(["dpkg-deb", "-c", path]).out.decode().splitlines()}
+            fields = run(["dpkg-deb", "-f", path, "Package", "Architecture", "Depends"]).out.decode()
+            tally.holds("the fields of %s" % name, fields == "Package: dmremap\nArchitecture: amd64\n", "they are %r" % fields)
+            check_works(tally, program, os.path.join(to, "usr"), name)
+        else:
+            listed = run(["rpm", "-qp", "--nosignature", "--qf", "[%{FILENAMES} %{FILEUSERNAME}/%{FILEGROUPNAME}\n]", path]).out.decode()
+            there = {it.split()[0][1:] for it in listed.splitlines() if it.split()[0][1:] in wanted}
+            owners = {it.split()[1] for it in listed.splitlines()}
+        tally.holds("what is in %s" % name, there == wanted and owners == {"root/root"}, "it is %s, of %s" % (sorted(there ^ wanted), owners))
 
 
 def bytes_of(path):

@@ -203,10 +203,16 @@ def limit_memory(limit):
 def check_small_stack(tally, program):
     """A stack with too little room is refused before a file is opened. The least one has room for snapshots of
     snapshots as deep as they may be, each of a striped origin, and for the greatest environment that it allows."""
+    most = resource.getrlimit(resource.RLIMIT_STACK)[1]
     for size in (64, 128, 224, 511):
         for words in (["map", "lvm", "missing"], ["--version"], []):
             got = program.run(words, before=lambda: limit_stack(size << 10))
             tally.same("%s with a stack of %d KiB" % (words, size), got, 6, "", "dmremap: memory\n")
+        # The limit that holds is the soft one, also where more may be asked for.
+        got = program.run(["--version"], before=lambda: limit_stack(size << 10, most))
+        tally.same("a stack of %d KiB, which may get more" % size, got, 6, "", "dmremap: memory\n")
+    got = program.run(["splitname", "a-b"], before=lambda: limit_stack(512 << 10, most))
+    tally.same("a stack of 512 KiB, which may get more", got, 0, "a b\n")
     table = "s0: 0 64 striped 2 8 sda 0 sdb 0\n" + "".join(
         "s%d: 0 64 snapshot /dev/mapper/s%d c%d P 8\n" % (it, it - 1, it) for it in range(1, 32))
     disks = "sda 32\nsdb 32\n" + "".join("c%d 128\n" % it for it in range(1, 32))
@@ -220,5 +226,6 @@ def check_small_stack(tally, program):
         tally.holds("%s of a deep stack" % words[0], wanted.out, "it is refused: %r" % wanted.err)
 
 
-def limit_stack(limit):
-    resource.setrlimit(resource.RLIMIT_STACK, (limit, limit))
+def limit_stack(limit, most=None):
+    """Sets the limit of the stack, and what a process may still ask for, which is no more if it isn't given."""
+    resource.setrlimit(resource.RLIMIT_STACK, (limit, limit if most is None else most))

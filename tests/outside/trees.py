@@ -1,0 +1,191 @@
+"""Small trees with the scripts ./dmremap, ./build and ./try, and a few crates, in which `rt` is a script that tells how
+it was called."""
+
+import os
+import re
+import shutil
+import signal
+import subprocess
+import time
+
+from harness import run
+
+TABLE = "a: 0 8 linear sda 4\n"
+DISKS = "sda 12\n"
+REQUESTS = "W a 2 3\n"
+ANSWER = "1 W sda 6 3\n"
+# Each stands on those before it, and the program on nothing else.
+CRATES = ["low", "middle", "dmremap"]
+LINES = "# a comment: low\nlow: memchr\ndmremap: clap low middle\nbeside: low\nmiddle: low itoa\n"
+SCRIPTS = ["dmremap", "build", "try", "launch"]
+BUILDING = "dmremap: building the proved program; the first time this takes 25 minutes on four processors\n"
+ANEW = "dmremap: building the proved program; the sources were changed meanwhile\n"
+# How long crates took and since when they run, which no two runs have in common.
+TOOK = [(re.compile(rb"after \d+ min \d+ s"), b"after 0 min 0 s"), (re.compile(rb"since \d\d:\d\d"), b"since 00:00")]
+VERSION = "a kit 1 logic 2"
+README = "Proved with the one for which `rt version` prints `%s`.\n" % VERSION
+# What the scripts call, for a path where there is no rt.
+TOOLS = ["awk", "bash", "cat", "cmp", "cp", "date", "find", "readlink", "sed", "sha256sum", "sort", "stat", "tr", "xargs"]
+
+# Notes where it runs and with which words, and what is on its input, which is to be nothing. A crate whose sources it
+# has built, it leaves as it is. In the place of the object file it puts the text of all sources that it sees. Where it
+# is told to, it changes a source, makes nothing, or is killed.
+RT = """\
+#!/bin/sh
+[ "$1" != version ] || { echo "${VERSION:-%s}"; exit; }
+name=$(basename "$PWD")
+echo "$name $*" >> "$CALLS"
+cat >> "$CALLS"
+echo "rt: this is $name"
+[ "$name" != "$BROKEN" ] && [ "$BROKEN" != all ] || exit 1
+[ "$name" != "$KILLED" ] || kill -9 $$
+[ "$name" != "$IDLE" ] || exit 0
+mkdir -p out/rlib || exit 1
+[ ! -f "$SAVED" ] || { cp "$SAVED" "$AT"; rm "$SAVED"; }
+sleep "${PAUSE:-0}"
+[ "$1" = run ] || exit 0
+cp "$PROGRAM" out/dmremap && cat ../*/src/* > out/dmremap.o
+""" % VERSION
+
+# Tells who it is, and takes its time.
+SLOW_RT = """\
+#!/bin/sh
+[ "$1" != version ] || { echo %s; exit; }
+echo $$ > "$CALLS"
+exec sleep 60
+""" % VERSION
+
+# Tells how far it is, and goes on once it is let.
+HELD_RT = """\
+#!/bin/sh
+[ "$1" != version ] || { echo %s; exit; }
+echo "$(basename "$PWD")" >> "$CALLS"
+echo "so far: 1 of 7 functions checked; the verdict comes last"
+echo "so far: 3 of 7 functions checked"
+mkdir -p out/rlib
+case " $FREE " in *" $(basename "$PWD") "*) ;; *) until [ -e "$LET" ]; do sleep 0.1; done ;; esac
+pwd >> out/rlib/places
+[ "$1" != run ] || { cp "$PROGRAM" out/dmremap && cat ../*/src/* > out/dmremap.o; }
+""" % VERSION
+
+# Writes its words, one a line.
+ECHO = """\
+#!/bin/sh
+printf '%s\\n' "$@"
+exit 3
+"""
+
+
+class Tree:
+    """A tree with the scripts and a few crates, of one source each."""
+
+    def __init__(self, program, top, name="a tree"):
+        self.program, self.room = program, program.room
+        self.top = os.path.join(self.room, name)
+        self.calls = os.path.join(self.room, "calls")
+        for crate in [*CRATES, "beside"]:
+            for part in ("src", "specs", "proofs"):
+                program.file(os.path.join(self.top, "crates", crate, part, "text"), "%s of %s\n" % (part, crate))
+        program.file(os.path.join(self.top, "crates.txt"), LINES)
+        program.file(os.path.join(self.top, "README.md"), README)
+        program.file(os.path.join(self.top, "HANDLES"), "Handles allowed: none.\n")
+        for it in SCRIPTS:
+            how = shutil.copytree if os.path.isdir(os.path.join(top, it)) else shutil.copy
+            how(os.path.join(top, it), os.path.join(self.top, it))
+        self.script, self.build = os.path.join(self.top, "dmremap"), os.path.join(self.top, "build")
+        self.built = os.path.join(self.top, "crates", "dmremap", "out", "dmremap")
+        self.made = program.path
+        self.rt(RT)
+
+    def rt(self, text):
+        os.chmod(self.program.file("bin/rt", text), 0o755)
+
+    def path(self, name):
+        return os.path.join(self.top, name)
+
+    def write(self, name, text):
+        return self.program.file(self.path(name), text)
+
+    def remove(self):
+        """Removes all that was built and kept."""
+        for it in [self.path("out"), *(self.path(os.path.join("crates", it, "out")) for it in (*CRATES, "beside"))]:
+            shutil.rmtree(it, ignore_errors=True)
+
+    def put(self, content=None):
+        """Builds a program that answers as it should, or one of that content."""
+        self.made = self.program.path if content is None else self.program.file("a program", content)
+        os.chmod(self.made, 0o755)
+        self.remove()
+        return self.run([], self.build)
+
+    def words(self):
+        return ["map", "table", self.program.file("the table", TABLE), self.program.file("the disks", DISKS)]
+
+    def environment(self, **variables):
+        """The variables of a run, in which `rt` is that of this tree."""
+        self.program.file("calls")
+        return self.other_environment(**variables)
+
+    def other_environment(self, **variables):
+        """The variables of a run beside another one, whose calls of rt stay noted."""
+        path = os.path.join(self.room, "bin") + os.pathsep + os.environ["PATH"]
+        return {**os.environ, "PATH": path, "CALLS": self.calls, "PROGRAM": self.made, **variables}
+
+    def run(self, words, script=None, variables=None, **how):
+        got = run([script or self.script, *words], env=self.environment(**(variables or {})), **how)
+        got.err = without_times(got.err)
+        return got
+
+    def start(self, words, err, script=None, env=None, **variables):
+        """Starts a call whose standard error goes to a file, or to what has that number."""
+        # Who calls these tests may have told all below to pass signals over.
+        return subprocess.Popen([script or self.script, *words], env=env or self.environment(**variables),
+                                stdin=subprocess.DEVNULL, stdout=subprocess.PIPE, stderr=err, preexec_fn=restore_signals)
+
+    def called(self):
+        """How rt was called, but for the number of jobs."""
+        with open(self.calls, encoding="utf-8") as it:
+            return re.sub(r" --jobs \d+", "", it.read()).splitlines()
+
+    def made_of(self):
+        """The text that the program was made of."""
+        with open(self.built + ".o", encoding="utf-8") as it:
+            return it.read()
+
+    def leaves_nothing(self):
+        """Whether no room is left of a build."""
+        return not os.path.exists(self.path(os.path.join("crates", "dmremap", "out", "site")))
+
+
+def told(crates=CRATES):
+    """What is told of crates that are built."""
+    return "".join("dmremap: %s is proved and built (%d of %d, after 0 min 0 s)\n" % (it, at + 1, len(crates))
+                   for at, it in enumerate(crates))
+
+
+def restore_signals():
+    for number in (signal.SIGINT, signal.SIGTERM, signal.SIGHUP):
+        signal.signal(number, signal.SIG_DFL)
+
+
+def without_times(text):
+    for pattern, plain in TOOK:
+        text = pattern.sub(plain, text)
+    return text
+
+
+def runs(process):
+    """Whether a process runs; one that has ended may still be listed."""
+    try:
+        with open("/proc/%s/stat" % process, encoding="utf-8") as it:
+            return it.read().rpartition(")")[2].split()[0] != "Z"
+    except OSError:
+        return False
+
+
+def becomes(is_so, seconds=30):
+    """Whether it is so within a while."""
+    end = time.monotonic() + seconds
+    while not is_so() and time.monotonic() < end:
+        time.sleep(0.02)
+    return is_so()
