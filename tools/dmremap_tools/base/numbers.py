@@ -1,0 +1,23 @@
+"""Whole numbers of sectors and bytes, exact up to 2^64."""
+
+import re
+from typing import Optional
+
+SECTOR = 512
+LIMIT = 1 << 64
+# As dmremap reads numbers: without a sign and without zeros in front. Longer ones are none, whatever they say.
+FORM = re.compile(r"0|[1-9][0-9]{0,19}")
+
+
+def read(text: str) -> Optional[int]:
+    """The number that a text says, or None if it isn't a whole number below 2^64."""
+    if not FORM.fullmatch(text):
+        return None
+    value = int(text)
+    return value if value < LIMIT else None
+
+
+def sectors_touched(begin: int, count: int) -> "tuple[int, int]":
+    """The first sector that some bytes touch, and how many they touch."""
+    first = begin // SECTOR
+    return first, (begin + count + SECTOR - 1) // SECTOR - first

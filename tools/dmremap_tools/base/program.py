@@ -1,0 +1,67 @@
+"""Other programs: dmremap, and what commands ask, as debugfs. How they fail is told in words."""
+
+import os
+import shutil
+import subprocess
+import sys
+from typing import List, Optional, Sequence
+
+from dmremap_tools.base import streams
+from dmremap_tools.base.refusal import Refusal
+
+OUTPUT_FAILED = 5
+
+
+def add_words(parser) -> None:
+    """Adds --program."""
+    parser.add_argument("--program", metavar="PROGRAM", help="which dmremap is asked; else that beside this tool, or on the path")
+
+
+def dmremap(given: Optional[str]) -> str:
+    """The path of dmremap: the one that was given, or that beside this tool, or that on the path."""
+    if given is not None:
+        return given
+    beside = os.path.join(os.path.dirname(os.path.realpath(sys.argv[0])), "dmremap")
+    return beside if os.access(beside, os.X_OK) else shutil.which("dmremap") or "dmremap"
+
+
+def ask(words: Sequence[str], most: int = streams.MOST_TEXT, given: Optional[int] = None) -> str:
+    """What a program prints, at most so many bytes; `given` is a descriptor for its standard input. Its messages are
+    passed on. Where it fails, so does this."""
+    return _asked(words, most, given, None).decode("utf-8", "surrogateescape")
+
+
+def ask_quietly(words: Sequence[str], most: int = streams.MOST_TEXT) -> "tuple[str, str]":
+    """What a program prints on its two outputs, whatever its status is."""
+    import tempfile
+    with tempfile.TemporaryFile() as said:
+        printed = _asked(words, most, None, said).decode("utf-8", "surrogateescape")
+        said.seek(0)
+        return printed, said.read(most).decode("utf-8", "surrogateescape")
+
+
+def _asked(words: Sequence[str], most: int, given: Optional[int], said) -> bytes:
+    streams.flush()
+    try:
+        child = subprocess.Popen(words, stdin=subprocess.DEVNULL if given is None else given, stdout=subprocess.PIPE, stderr=said)
+    except OSError as fault:
+        raise Refusal(words[0], streams.why(fault))
+    try:
+        printed = child.stdout.read(most + 1)
+        if len(printed) > most:
+            raise Refusal(words[0], "it printed more than %d bytes" % most)
+        status = child.wait()
+    finally:
+        if child.poll() is None:
+            child.kill()
+            child.wait()
+    if said is None and status:
+        fail(words[0], status)
+    return printed
+
+
+def fail(name: str, status: int) -> None:
+    """Refuses since a program ended with this status."""
+    if status == OUTPUT_FAILED:
+        raise streams.OutputFailed("%s: its output failed" % name)
+    raise Refusal(name, "it was ended by signal %d" % -status if status < 0 else "it ends with status %d" % status)

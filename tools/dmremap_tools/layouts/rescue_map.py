@@ -1,0 +1,42 @@
+"""The map in which ddrescue says what it could read: areas of a disk, in bytes, each with a status."""
+
+import re
+from typing import Iterator, NamedTuple, NoReturn
+
+from dmremap_tools.base import numbers, quoting, streams
+
+FINISHED, BAD = "+", "-"
+# A map says first where ddrescue stands. An area has a position, a size and a status.
+CURRENT = re.compile(r"(?:0x[0-9A-Fa-f]{1,16}|[0-9]{1,20})\s+[?*/+FG-](?:\s+[0-9]{1,9})?")
+AREA = re.compile(r"(0x[0-9A-Fa-f]{1,16}|[0-9]{1,20})\s+(0x[0-9A-Fa-f]{1,16}|[0-9]{1,20})\s+([?*/+-])")
+
+
+class Area(NamedTuple):
+    """The bytes from `begin` up to `end`, with a status."""
+
+    begin: int
+    end: int
+    status: str
+
+
+def areas_in(source: streams.Lines, rows: Iterator[str]) -> Iterator[Area]:
+    """The areas that the rows after the first one have. Each begins where the one before ends."""
+    end = None
+    for row in rows:
+        match = AREA.fullmatch(row)
+        begin, size = (_number(it) for it in match.groups()[:2]) if match else (0, 0)
+        if not match or not size or end not in (None, begin) or begin + size > numbers.LIMIT:
+            _refuse(source, row)
+        end = begin + size
+        yield Area(begin, end, match[3])
+
+
+def _number(text: str) -> int:
+    """A number, which C reads: in hexadecimal digits after 0x, and else in decimal ones, or octal ones after a 0."""
+    if text.startswith("0x"):
+        return int(text, 16)
+    return int(text)
+
+
+def _refuse(source: streams.Lines, row: str) -> NoReturn:
+    source.refuse("not the area that comes next: " + quoting.shown(row))
