@@ -1,7 +1,10 @@
 """Whole numbers of sectors and bytes, exact up to 2^64."""
 
+import argparse
 import re
 from typing import Optional
+
+from dmremap_tools.base import quoting
 
 SECTOR = 512
 LIMIT = 1 << 64
@@ -15,6 +18,14 @@ def read(text: str) -> Optional[int]:
         return None
     value = int(text)
     return value if value < LIMIT else None
+
+
+def word(text: str) -> int:
+    """The same for a word of a command line."""
+    value = read(text)
+    if value is None:
+        raise argparse.ArgumentTypeError("not a whole number below 2^64: '%s'" % quoting.shown(text))
+    return value
 
 
 def sectors_touched(begin: int, count: int) -> "tuple[int, int]":
