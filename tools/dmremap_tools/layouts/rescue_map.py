@@ -1,14 +1,15 @@
 """The map in which ddrescue says what it could read: areas of a disk, in bytes, each with a status."""
 
 import re
-from typing import Iterator, NamedTuple, NoReturn
+from typing import Iterator, NamedTuple
 
 from dmremap_tools.base import numbers, quoting, streams
 
 FINISHED, BAD = "+", "-"
 # A map says first where ddrescue stands. An area has a position, a size and a status.
-CURRENT = re.compile(r"(?:0x[0-9A-Fa-f]{1,16}|[0-9]{1,20})\s+[?*/+FG-](?:\s+[0-9]{1,9})?")
-AREA = re.compile(r"(0x[0-9A-Fa-f]{1,16}|[0-9]{1,20})\s+(0x[0-9A-Fa-f]{1,16}|[0-9]{1,20})\s+([?*/+-])")
+NUMBER = r"(0x[0-9A-Fa-f]{1,16}|0|[1-9][0-9]{0,19})"
+CURRENT = re.compile(NUMBER + r"\s+[?*/+FG-](?:\s+[0-9]{1,9})?")
+AREA = re.compile(NUMBER + r"\s+" + NUMBER + r"\s+([?*/+-])")
 
 
 class Area(NamedTuple):
@@ -24,19 +25,8 @@ def areas_in(source: streams.Lines, rows: Iterator[str]) -> Iterator[Area]:
     end = None
     for row in rows:
         match = AREA.fullmatch(row)
-        begin, size = (_number(it) for it in match.groups()[:2]) if match else (0, 0)
+        begin, size = (int(it, 0) for it in match.groups()[:2]) if match else (0, 0)
         if not match or not size or end not in (None, begin) or begin + size > numbers.LIMIT:
-            _refuse(source, row)
+            source.refuse("not the area that comes next: " + quoting.shown(row))
         end = begin + size
         yield Area(begin, end, match[3])
-
-
-def _number(text: str) -> int:
-    """A number, which C reads: in hexadecimal digits after 0x, and else in decimal ones, or octal ones after a 0."""
-    if text.startswith("0x"):
-        return int(text, 16)
-    return int(text)
-
-
-def _refuse(source: streams.Lines, row: str) -> NoReturn:
-    source.refuse("not the area that comes next: " + quoting.shown(row))

@@ -2,12 +2,13 @@
 
 import argparse
 import re
-from typing import Iterator, NamedTuple, Optional, Tuple
+from typing import Iterator, NamedTuple, Optional
 
 from dmremap_tools.base import numbers, quoting, streams
 from dmremap_tools.base.refusal import WrongWords
 from dmremap_tools.layouts import rescue_map
 
+DISK = re.compile(r"[!-~]{1,255}")
 QUERY = re.compile(r"([!-~]{1,255}) ([0-9]+)(?: ([0-9]+))?")
 # A kernel's block layer counts in 512 bytes, whatever sectors the disk itself has.
 KERNEL_SECTOR = re.compile(r"\bdev ([!-+\--~]{1,255}), sector ([0-9]+)\b.*")
@@ -62,7 +63,7 @@ def queries_in(path: str, unit: Unit) -> Iterator[Query]:
                 source.refuse("other columns than those of biosnoop: " + quoting.shown(row))
             is_traced = True
             continue
-        query = traced(source, row) if is_traced else logged(source, row) or asked(source, row, unit)
+        query = traced(source, row) if is_traced else asked(source, row, unit)
         if query:
             yield query
         else:
@@ -72,25 +73,22 @@ def queries_in(path: str, unit: Unit) -> Iterator[Query]:
 
 
 def asked(source: streams.Lines, row: str, unit: Unit) -> Optional[Query]:
-    """What a line asks for, or None for another line of a kernel's log."""
+    """What a line asks for, or None for one of a kernel's log that names no sector."""
     match = QUERY.fullmatch(row)
     if match and match[3] != "0":
         return unit.query(match[1], source.whole(match[2]), source.whole(match[3]) if match[3] else None)
+    match = KERNEL_SECTOR.search(row)
+    if match:
+        return Query(match[1], source.whole(match[2]), None)
     if not KERNEL_LINE.fullmatch(row):
         source.refuse("neither DISK SECTOR nor DISK SECTOR COUNT: " + quoting.shown(row))
     return None
 
 
-def logged(source: streams.Lines, row: str) -> Optional[Query]:
-    """The sector that a line of a kernel's log names."""
-    match = KERNEL_SECTOR.search(row)
-    return Query(match[1], source.whole(match[2]), None) if match else None
-
-
 def traced(source: streams.Lines, row: str) -> Query:
     """The first sector of a request that biosnoop saw."""
     fields = row.split()
-    if len(fields) < 8:
+    if len(fields) < 8 or not DISK.fullmatch(fields[-5]):
         source.refuse("not a line of biosnoop: " + quoting.shown(row))
     return Query(fields[-5], source.whole(fields[-3]), None)
 

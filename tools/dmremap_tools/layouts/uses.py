@@ -1,6 +1,5 @@
 """What uses the sectors of each disk and device of a stack, and so what lies above a sector."""
 
-import re
 from typing import Dict, Iterator, List, NamedTuple, Optional, Sequence, Tuple
 
 from dmremap_tools.base import names, numbers, quoting, tables
@@ -57,7 +56,7 @@ class Uses:
 
     def named(self, disk: str) -> Optional[str]:
         """The name that the stack has for a disk or a device that is asked for, or None."""
-        known = names_of(disk)
+        known = tables.names_in(disk)
         known += [names.MAPPER + self._minors[it] for it in map(minor_of, known) if it in self._minors]
         return next((it for it in known if it in self._uses), None)
 
@@ -92,13 +91,6 @@ def end_of(line: tables.Line, place: int, first: int, count: Optional[int]) -> i
 def moved(way: Way, by: int) -> Way:
     """The way of sectors that lie further on by this many."""
     return tuple(Step(it.name, it.sector + by, it.note) for it in way if it.sector is not None) if by else way
-
-
-def names_of(path: str) -> List[str]:
-    """What a disk or a device may be called in a stack: with and without /dev/ in front, or as a device of that name."""
-    short = re.sub("^/dev/", "", path)
-    name = names.of_path(path)
-    return [path, "/dev/" + path, short, names.MAPPER + name if name != path else path, names.MAPPER + short]
 
 
 def minor_of(path: str) -> Optional[str]:
