@@ -22,6 +22,14 @@ class Command(NamedTuple):
 
 COMMANDS: List[Command] = [
     Command("cut", REQUESTS, "requests of any length, cut where they are longer than dmremap takes", True),
+    Command("spans", LAYOUTS, "which line uses which sectors of disks and devices, sorted", True),
+    Command("free", LAYOUTS, "the same, with what no line names in between"),
+    Command("clashes", LAYOUTS, "every two lines that have sectors in common"),
+    Command("align", LAYOUTS, "what begins at no multiple of 1 MiB; lengths that stripes divide"),
+    Command("owner", LAYOUTS, "the devices that sectors of a disk belong to", True),
+    Command("tree", LAYOUTS, "the stack as a tree"),
+    Command("dot", LAYOUTS, "the stack as a picture, for Graphviz", True),
+    Command("extents", LAYOUTS, "where a whole device lies"),
 ]
 
 
