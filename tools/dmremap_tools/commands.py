@@ -21,15 +21,21 @@ class Command(NamedTuple):
 
 
 COMMANDS: List[Command] = [
-    Command("cut", REQUESTS, "requests of any length, cut where they are longer than dmremap takes", True),
-    Command("spans", LAYOUTS, "which line uses which sectors of disks and devices, sorted", True),
-    Command("free", LAYOUTS, "the same, with what no line names in between"),
-    Command("clashes", LAYOUTS, "every two lines that have sectors in common"),
-    Command("align", LAYOUTS, "what begins at no multiple of 1 MiB; lengths that stripes divide"),
-    Command("owner", LAYOUTS, "the devices that sectors of a disk belong to", True),
-    Command("tree", LAYOUTS, "the stack as a tree"),
-    Command("dot", LAYOUTS, "the stack as a picture, for Graphviz", True),
-    Command("extents", LAYOUTS, "where a whole device lies"),
+    Command("filefrag", REQUESTS, "from the extents of files, as filefrag prints them", True),
+    Command("debugfs", REQUESTS, "from the extents of a file that isn't mounted", True),
+    Command("bytes", REQUESTS, "from offsets and lengths in bytes", True),
+    Command("trace", REQUESTS, "from a trace of blkparse, btrace, ftrace or perf", True),
+    Command("fio", REQUESTS, "from a log of fio", True),
+    Command("cut", REQUESTS, "from requests that are longer than dmremap takes", True),
+    Command("whole", REQUESTS, "for the whole of a device", True),
+    Command("totals", ANSWERS, "what is done on each disk"),
+    Command("histogram", ANSWERS, "how long the pieces are"),
+    Command("splits", ANSWERS, "how many requests were split"),
+    Command("seeks", ANSWERS, "how far the heads move"),
+    Command("times", ANSWERS, "the time of each request in place of its number"),
+    Command("json", ANSWERS, "an object for each piece"),
+    Command("to-fio", ANSWERS, "a log of the disks' reads, which fio replays", True),
+    Command("dd", ANSWERS, "a line for dd for each piece", True),
 ]
 
 

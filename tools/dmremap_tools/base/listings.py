@@ -6,7 +6,7 @@ from typing import Dict, List, Optional, Pattern, Tuple
 from dmremap_tools.base import names, numbers, quoting, streams
 from dmremap_tools.base.refusal import Refusal
 
-LS = re.compile(r"(.+?)[ \t]+\((\d{1,10})[:,] ?(\d{1,10})\)")
+LS = re.compile(r"(.*\S)[ \t]+\((\d{1,10})[:,] ?(\d{1,10})\)")
 # A number and a size, then perhaps the kernel's name and that of what it lies on.
 LSBLK = re.compile(r"(\d{1,10}:\d{1,10}) (\d{1,20})(?: (\S+)(?: \S*)?)?")
 LSBLK_COMMAND = "lsblk -brno MAJ:MIN,SIZE,KNAME,PKNAME"

@@ -1,9 +1,11 @@
 """Names of devices, as tables and requests have them."""
 
 import re
+from argparse import ArgumentParser
 from typing import Dict, NoReturn, Optional, Protocol
 
 from dmremap_tools.base import quoting
+from dmremap_tools.base.refusal import Refusal
 
 FORM = re.compile(r"[-A-Za-z0-9#+.:=@_]{1,127}")
 DISK = re.compile(r"(?!/dev/mapper/)(?!.*[,;\\])[!-~]{1,255}")
@@ -16,6 +18,17 @@ class Place(Protocol):
 
     def refuse(self, reason: str) -> NoReturn:
         """Refuses what stands there."""
+
+
+class Word:
+    """A word of the command line as a place, by what it is called in the usage."""
+
+    def __init__(self, name: str) -> None:
+        self._name = name
+
+    def refuse(self, reason: str) -> NoReturn:
+        """Refuses the word."""
+        raise Refusal(self._name, reason)
 
 
 def of_path(path: str) -> str:
@@ -55,6 +68,6 @@ class Names:
         return name
 
 
-def add_words(parser) -> None:
+def add_words(parser: ArgumentParser) -> None:
     """Adds --ls."""
     parser.add_argument("--ls", metavar="LS", help="what `dmsetup ls` prints, for devices that are given as /dev/dm-N")

@@ -1,11 +1,12 @@
 """Where disks are on this machine: lines `NAME PATH`, for --paths."""
 
+from argparse import ArgumentParser
 from typing import Dict, Pattern
 
 from dmremap_tools.base import quoting, streams
 
 
-def add_words(parser, is_needed: bool = False) -> None:
+def add_words(parser: ArgumentParser, is_needed: bool = False) -> None:
     """Adds --paths."""
     parser.add_argument("--paths", metavar="PATHS", required=is_needed,
                         help="lines NAME PATH: a disk of the tables, and its path on this machine")

@@ -1,7 +1,8 @@
 """Pieces, as `dmremap map` answers."""
 
 import re
-from typing import Iterator, NamedTuple, Tuple
+from argparse import ArgumentParser
+from typing import Iterator, NamedTuple, NoReturn, Tuple
 
 from dmremap_tools.base import numbers, quoting, streams
 
@@ -11,6 +12,11 @@ _COPY = re.compile(r"([1-9][0-9]{0,19}) copy (\S+) %s %s (\S+) %s" % (_N, _N, _N
 _FILL = re.compile(r"([1-9][0-9]{0,19}) fill %s (\S+) %s" % (_N, _N))
 _OTHER = re.compile(r"([1-9][0-9]{0,19}) (zero|drop|error) %s" % _N)
 _STATUS = re.compile(r"\S+: \S+ \S+ snapshot .*")
+
+
+def add_words(parser: ArgumentParser) -> None:
+    """Adds the file of the answers."""
+    parser.add_argument("file", metavar="PIECES", nargs="?", default="-", help="what dmremap map printed; else standard input")
 
 
 class Piece(NamedTuple):
@@ -36,6 +42,7 @@ class Answers(streams.Lines):
     """The pieces of answers, as they come. Lines of `--status` are passed over, others refused."""
 
     line = ""
+    is_empty = True
 
     def __iter__(self) -> Iterator[Piece]:
         for self.line in super().__iter__():
@@ -49,7 +56,13 @@ class Answers(streams.Lines):
                 piece = self._other()
             if piece.count == 0 or max(piece.start, piece.to_start) + piece.count > numbers.LIMIT:
                 self._refuse_line()
+            self.is_empty = False
             yield piece
+
+    def tell_if_none(self) -> None:
+        """Tells at the end if there was no piece."""
+        if self.is_empty:
+            streams.tell("no piece came")
 
     def _other(self) -> Piece:
         match = _COPY.fullmatch(self.line)
@@ -63,5 +76,5 @@ class Answers(streams.Lines):
             self._refuse_line()
         return Piece(int(match[1]), match[2], int(match[3]))
 
-    def _refuse_line(self) -> "None":
+    def _refuse_line(self) -> NoReturn:
         self.refuse("not a piece of an answer: " + quoting.shown(self.line))

@@ -4,6 +4,7 @@ import os
 import shutil
 import subprocess
 import sys
+from argparse import ArgumentParser
 from typing import List, Optional, Sequence
 
 from dmremap_tools.base import streams
@@ -12,7 +13,7 @@ from dmremap_tools.base.refusal import Refusal
 OUTPUT_FAILED = 5
 
 
-def add_words(parser) -> None:
+def add_words(parser: ArgumentParser) -> None:
     """Adds --program."""
     parser.add_argument("--program", metavar="PROGRAM", help="which dmremap is asked; else that beside this tool, or on the path")
 

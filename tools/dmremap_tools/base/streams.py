@@ -32,7 +32,6 @@ class Output:
         self._descriptor, self._name = descriptor, name
         self._parts: List[str] = []
         self._size = 0
-        self._is_terminal = os.isatty(descriptor)
 
     def write(self, text: str) -> None:
         """Writes text, now or later."""
@@ -47,7 +46,7 @@ class Output:
             return
         text = "".join(self._parts)
         self._parts, self._size = [], 0
-        if self._is_terminal:
+        if os.isatty(self._descriptor):
             text = quoting.on_terminal(text)
         left = memoryview(text.encode("utf-8", "surrogateescape"))
         try:
@@ -97,14 +96,19 @@ class Lines:
 
     def whole(self, text: str) -> int:
         """The whole number below 2^64 that a word of the line is."""
-        value = numbers.read(text)
-        if value is None:
-            self.refuse("not a whole number below 2^64: '%s'" % quoting.shown(text))
-        return value
+        return whole("%s:%d" % (self.name, self.number), text)
 
     def chunk(self) -> bytes:
         """The next bytes, or none at the end. What was written goes out before they are waited for."""
         return _read_some(self._descriptor, self.name)
+
+
+def whole(where: str, text: str) -> int:
+    """The whole number below 2^64 that a text is."""
+    value = numbers.read(text)
+    if value is None:
+        raise Refusal(where, "not a whole number below 2^64: '%s'" % quoting.shown(text))
+    return value
 
 
 def _line_lists(source: Lines) -> Iterator[List[str]]:

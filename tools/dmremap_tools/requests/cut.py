@@ -1,26 +1,28 @@
 """Cuts requests that are longer than dmremap takes.
 
 Has requests of any length, `R DEVICE START LEN` or `W ..`, in sectors. Gets the same, cut after 1,048,576 sectors
-(512 MiB). Refuses lines that are no requests.
+(512 MiB). Refuses lines that are no requests. The other commands that make requests cut by themselves.
 """
+
+from argparse import ArgumentParser, Namespace
 
 from dmremap_tools.base import names, quoting, requests, streams
 
 EXAMPLE = "echo 'R vg0-lv0 8000 2500000' | dmremap-tools cut | dmremap map lvm vg0.backup"
 
 
-def add_words(parser) -> None:
+def add_words(parser: ArgumentParser) -> None:
     """Adds the arguments."""
     parser.add_argument("file", metavar="FILE", nargs="?", default="-", help="requests; else standard input")
     names.add_words(parser)
 
 
-def run(words) -> None:
+def run(words: Namespace) -> None:
     """Cuts them as they come."""
     known, source = names.Names(words.ls), streams.Lines(words.file)
     for line in source:
         fields = line.split()
         if len(fields) != 4 or fields[0] not in ("R", "W"):
             source.refuse("not a request: " + quoting.shown(line))
-        name, first, count = known.device(fields[1], source), source.whole(fields[2]), source.whole(fields[3])
-        requests.write(source, line, fields[0], name, first, count)
+        name = known.device(fields[1], source)
+        requests.write(source, line, fields[0], name, source.whole(fields[2]), source.whole(fields[3]))
