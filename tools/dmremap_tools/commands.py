@@ -36,6 +36,14 @@ COMMANDS: List[Command] = [
     Command("json", ANSWERS, "an object for each piece"),
     Command("to-fio", ANSWERS, "a log of the disks' reads, which fio replays", True),
     Command("dd", ANSWERS, "a line for dd for each piece", True),
+    Command("spans", LAYOUTS, "which line uses which sectors of disks and devices, sorted", True),
+    Command("free", LAYOUTS, "the same, with what no line names in between"),
+    Command("clashes", LAYOUTS, "every two lines that have sectors in common"),
+    Command("align", LAYOUTS, "what begins at no multiple of 1 MiB; lengths that stripes divide"),
+    Command("owner", LAYOUTS, "the devices that sectors of a disk belong to", True),
+    Command("tree", LAYOUTS, "the stack as a tree"),
+    Command("dot", LAYOUTS, "the stack as a picture, for Graphviz", True),
+    Command("extents", LAYOUTS, "where a whole device lies"),
 ]
 
 

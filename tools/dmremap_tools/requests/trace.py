@@ -21,7 +21,7 @@ EXAMPLE = "btrace /dev/dm-0 | dmremap-tools trace ls.txt vg0.table | dmremap map
 EVENT = "block_bio_queue:"
 LOST = re.compile(r"CPU:? ?[0-9]+ \[.*(?:LOST|DROPPED).*| *Skips: +0*[1-9].*")
 QUEUED = re.compile(r" *([0-9]+,[0-9]+) +[0-9]+ +[0-9]+ +([0-9.]+) +[0-9]+ +Q +(\S+) +(\S+) \+ (\S+)(?: .*)?")
-PARSED = re.compile(r" *[0-9]+,[0-9]+ +[0-9]+ +[0-9]+ +[0-9.]+ +[0-9]+ +([A-Za-z]+) +(?:\S+ +(?:\S+ +(\S+))?.*)?")
+PARSED = re.compile(r" *[0-9]+,[0-9]+ +[0-9]+ +[0-9]+ +[0-9.]+ +[0-9]+ +([A-Za-z]+) (?: *\S+ +(\S+))?")
 TIME = re.compile(r"[0-9.]+:?")
 DEVICE = re.compile(r"[0-9]+,[0-9]+")
 # Discards and flushes alone, and reads and writes, with what else a kernel says of them.
@@ -66,7 +66,7 @@ class Reader:
         elif EVENT in line:
             self._event(line)
         else:
-            parsed = PARSED.fullmatch(line)
+            parsed = PARSED.match(line)
             self.events += parsed is not None
             if parsed and parsed[1] == "Q" and not (parsed[2] or "").startswith("["):
                 self._refuse_form(line)
