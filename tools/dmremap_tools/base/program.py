@@ -11,6 +11,7 @@ from dmremap_tools.base import streams
 from dmremap_tools.base.refusal import Refusal
 
 OUTPUT_FAILED = 5
+ADMINISTRATION = "/usr/local/sbin:/usr/sbin:/sbin"
 
 
 def add_words(parser: ArgumentParser) -> None:
@@ -32,11 +33,16 @@ def ask(words: Sequence[str], most: int = streams.MOST_TEXT, given: Optional[int
     return _asked(words, most, given, None).decode("utf-8", "surrogateescape")
 
 
-def ask_quietly(words: Sequence[str], most: int = streams.MOST_TEXT) -> "tuple[str, str]":
-    """What a program prints on its two outputs, whatever its status is."""
+def found(name: str) -> str:
+    """The path of a program, which may stand where only the administrator's programs do."""
+    return shutil.which(name) or shutil.which(name, path=ADMINISTRATION) or name
+
+
+def ask_quietly(words: Sequence[str], most: int = streams.MOST_TEXT, given: Optional[int] = None) -> "tuple[str, str]":
+    """What a program prints on its two outputs, whatever its status is, in English."""
     import tempfile
     with tempfile.TemporaryFile() as said:
-        printed = _asked(words, most, None, said).decode("utf-8", "surrogateescape")
+        printed = _asked(words, most, given, said).decode("utf-8", "surrogateescape")
         said.seek(0)
         return printed, said.read(most).decode("utf-8", "surrogateescape")
 
@@ -44,7 +50,8 @@ def ask_quietly(words: Sequence[str], most: int = streams.MOST_TEXT) -> "tuple[s
 def _asked(words: Sequence[str], most: int, given: Optional[int], said) -> bytes:
     streams.flush()
     try:
-        child = subprocess.Popen(words, stdin=subprocess.DEVNULL if given is None else given, stdout=subprocess.PIPE, stderr=said)
+        child = subprocess.Popen([it.encode("utf-8", "surrogateescape") for it in words], stdout=subprocess.PIPE, stderr=said,
+                                 stdin=subprocess.DEVNULL if given is None else given, env=dict(os.environ, LC_ALL="C"))
     except OSError as fault:
         raise Refusal(words[0], streams.why(fault))
     try:
