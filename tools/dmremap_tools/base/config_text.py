@@ -68,6 +68,13 @@ class Node:
         """Whether its value is a list."""
         return self._document.content[self.value_at:self.value_at + 1] == b"["
 
+    def own_values(self) -> List[Value]:
+        """What its values are."""
+        if not self.is_plain or self.children is not None or self.is_list:
+            return [it.value for it in self.items]
+        text = self._document.content[self.value_at:self.end]
+        return [text[1:-1] if text.startswith(b'"') else int(text)]
+
     def child(self, key: bytes) -> Optional["Node"]:
         """The child of this key, or None."""
         return next((it for it in self.children or () if it.key == key), None)
@@ -79,7 +86,7 @@ class Node:
     def values(self, key: bytes) -> List[Value]:
         """The values of a field, of which there is one if it is no list."""
         found = self.child(key)
-        return [it.value for it in found.items] if found else []
+        return found.own_values() if found else []
 
     def value(self, key: bytes, kind: type) -> Value:
         """The value of a field that has one, if it is of this kind, or None."""
