@@ -42,6 +42,7 @@ COMMANDS: List[Command] = [
     Command("clashes", LAYOUTS, "every two lines that have sectors in common"),
     Command("align", LAYOUTS, "what begins at no multiple of 1 MiB; lengths that stripes divide"),
     Command("owner", LAYOUTS, "the devices that sectors of a disk belong to", True),
+    Command("files", LAYOUTS, "the files that sectors of a volume belong to"),
     Command("tree", LAYOUTS, "the stack as a tree"),
     Command("dot", LAYOUTS, "the stack as a picture, for Graphviz", True),
     Command("extents", LAYOUTS, "where a whole device lies"),
