@@ -6,7 +6,8 @@ How to add a command:
    command has, gets and refuses. Below stand
        EXAMPLE, a command line as a user would type it;
        add_words(parser), which adds arguments to an `argparse` parser;
-       run(words), which does it: `words` has what was typed, by the names of these arguments.
+       run(words), which does it: `words` has what was typed, by the names of these arguments. It may return the
+           status INCOMPLETE of `refusal`, where the answer is there but has gaps that were told.
 2. Add a line to the list in `commands.py`: name, group, summary, and whether dmremap reads what it prints.
 3. Add rows to a module in `tests/outside`, a task to `docs/RECIPES.md` and a line to `docs/dmremap-tools.1`.
 

@@ -42,9 +42,9 @@ def run(words: List[str]) -> int:
     name = TOOL + " " + command.name if command else TOOL
     is_fed = command is not None and command.is_fed
     try:
-        _run(command, name, words)
+        status = _run(command, name, words)
         streams.finish()
-        return 0
+        return status
     except SystemExit:
         return _end(0, "", False)
     except WrongWords as wrong:
@@ -64,16 +64,16 @@ def run(words: List[str]) -> int:
         return _end(OWN_FAULT, "%s: a fault of this tool: %r" % (name, fault), is_fed)
 
 
-def _run(command: "commands.Command | None", name: str, words: List[str]) -> None:
+def _run(command: "commands.Command | None", name: str, words: List[str]) -> int:
     if command:
         module = importlib.import_module("dmremap_tools." + command.module)
         parser = parser_of(command, module, name)
-        module.run(parser.parse_args(words[1:]))
-    elif words and words[0] in ("-h", "--help"):
+        return module.run(parser.parse_args(words[1:])) or 0
+    if words and words[0] in ("-h", "--help"):
         streams.out.write(commands.overview())
-    else:
-        usage = "usage: %s COMMAND ..\n" % TOOL
-        raise WrongWords(usage + ("no command '%s'; --help lists them" % words[0] if words else "--help lists the commands"))
+        return 0
+    usage = "usage: %s COMMAND ..\n" % TOOL
+    raise WrongWords(usage + ("no command '%s'; --help lists them" % words[0] if words else "--help lists the commands"))
 
 
 def parser_of(command: "commands.Command", module: ModuleType, name: str) -> Parser:

@@ -1,6 +1,10 @@
 """How a command says that it has no answer."""
 
 
+# The status of an answer with gaps, each of which was told.
+INCOMPLETE = 4
+
+
 class Refusal(Exception):
     """There is no answer: `where` is a file, perhaps with a line, or what was asked; `why` is in words."""
 
