@@ -46,6 +46,8 @@ COMMANDS: List[Command] = [
     Command("tree", LAYOUTS, "the stack as a tree"),
     Command("dot", LAYOUTS, "the stack as a picture, for Graphviz", True),
     Command("extents", LAYOUTS, "where a whole device lies"),
+    Command("store-full", LAYOUTS, "the request that fills a snapshot's store"),
+    Command("store-size", LAYOUTS, "how much of a snapshot's store writes fill"),
 ]
 
 
