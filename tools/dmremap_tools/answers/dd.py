@@ -41,7 +41,7 @@ class Writer:
     def take(self, piece: pieces.Piece) -> None:
         """Writes the line for a piece."""
         if piece.what == "error" or (piece.what in ("W", "drop") and self.image is None):
-            self.source.refuse(("no sectors: " if piece.what == "error" else "a write, and no --image: ") + quoting.shown(self.source.line))
+            self.source.refuse_line("no sectors" if piece.what == "error" else "a write, and no --image")
         if piece.what == "copy":
             self._line(piece.count, self._disk(piece.disk), piece.start, self._disk(piece.to), piece.to_start)
         elif piece.what == "fill":

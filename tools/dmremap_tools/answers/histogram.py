@@ -20,9 +20,9 @@ def run(words: Namespace) -> None:
     """Counts until the answers end."""
     counts: Dict[Tuple[str, int], int] = {}
     source = pieces.Answers(words.file)
-    for piece in source:
-        for disk, operation in piece.uses():
-            key = "%s %s" % (disk, operation), piece.count.bit_length()
+    for disk, what, count in source.uses():
+        if disk:
+            key = disk + " " + what, count.bit_length()
             counts[key] = counts.get(key, 0) + 1
     source.tell_if_none()
     greatest = max(counts.values(), default=0)

@@ -22,7 +22,7 @@ def run(words: Namespace) -> None:
     for piece in source:
         if piece.request != request:
             if piece.request < request:
-                source.refuse("out of order: " + source.line)
+                source.refuse_line("out of order")
             counts[count] = counts.get(count, 0) + 1
             request, count = piece.request, 0
         count += piece.what in ("R", "W")

@@ -6,7 +6,7 @@ pieces out of order, and requests that TIMES has not.
 
 from argparse import ArgumentParser, Namespace
 
-from dmremap_tools.base import pieces, quoting, streams
+from dmremap_tools.base import pieces, streams
 
 EXAMPLE = "dmremap-tools times times pieces"
 
@@ -23,10 +23,10 @@ def run(words: Namespace) -> None:
     coming, time = iter(times), ""
     for piece in source:
         if piece.request < times.number:
-            source.refuse("out of order: " + quoting.shown(source.line))
+            source.refuse_line("out of order")
         while times.number < piece.request:
             time = next(coming, "")
             if not time:
-                source.refuse("no time of the request: " + quoting.shown(source.line))
+                source.refuse_line("no time of the request")
         streams.out.write("%s %s\n" % (time, source.line.partition(" ")[2]))
     source.tell_if_none()

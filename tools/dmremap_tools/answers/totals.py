@@ -18,11 +18,13 @@ def run(words: Namespace) -> None:
     """Counts until the answers end."""
     totals: Dict[str, List[int]] = {}
     source = pieces.Answers(words.file)
-    for piece in source:
-        for disk, operation in piece.uses() or (("-", piece.what),):
-            total = totals.setdefault("%s %s" % (disk, operation), [0, 0])
-            total[0] += 1
-            total[1] += piece.count
+    for disk, what, count in source.uses():
+        key = (disk or "-") + " " + what
+        if key not in totals:
+            totals[key] = [0, 0]
+        total = totals[key]
+        total[0] += 1
+        total[1] += count
     source.tell_if_none()
     for key in sorted(totals):
         count, sectors = totals[key]

@@ -2,15 +2,18 @@
 
 import re
 from argparse import ArgumentParser
-from typing import Iterator, NamedTuple, NoReturn, Tuple
+from typing import Iterator, NamedTuple, Optional, Tuple
 
-from dmremap_tools.base import numbers, quoting, streams
+from dmremap_tools.base import numbers, streams
 
+# Most pieces are of one form, and their numbers are short enough to be below 2^64 in any case.
+_REQUEST = "([1-9][0-9]{0,18})"
 _N = "(0|[1-9][0-9]{0,19})"
-_MOVED = re.compile(r"([1-9][0-9]{0,19}) ([RW]) (\S+) %s %s" % (_N, _N))
-_COPY = re.compile(r"([1-9][0-9]{0,19}) copy (\S+) %s %s (\S+) %s" % (_N, _N, _N))
-_FILL = re.compile(r"([1-9][0-9]{0,19}) fill %s (\S+) %s" % (_N, _N))
-_OTHER = re.compile(r"([1-9][0-9]{0,19}) (zero|drop|error) %s" % _N)
+_MOST = re.compile(r"^%s ([RW]) (\S+) (0|[1-9][0-9]{0,17}) %s$" % (_REQUEST, "([1-9][0-9]{0,17})"), re.M)
+_MOVED = re.compile(r"%s ([RW]) (\S+) %s %s" % (_N, _N, _N))
+_COPY = re.compile(r"%s copy (\S+) %s %s (\S+) %s" % (_N, _N, _N, _N))
+_FILL = re.compile(r"%s fill %s (\S+) %s" % (_N, _N, _N))
+_OTHER = re.compile(r"%s (zero|drop|error) %s" % (_N, _N))
 _STATUS = re.compile(r"\S+: \S+ \S+ snapshot .*")
 
 
@@ -31,50 +34,65 @@ class Piece(NamedTuple):
     to: str = ""
     to_start: int = 0
 
-    def uses(self) -> Tuple[Tuple[str, str], ...]:
-        """The disks that are read and written, each with R or W. A copy is a read and a write."""
-        if self.what == "copy":
-            return (self.disk, "R"), (self.to, "W")
-        return ((self.to, "W"),) if self.what == "fill" else ((self.disk, self.what),) if self.disk else ()
-
 
 class Answers(streams.Lines):
     """The pieces of answers, as they come. Lines of `--status` are passed over, others refused."""
 
-    line = ""
     is_empty = True
 
     def __iter__(self) -> Iterator[Piece]:
-        for self.line in super().__iter__():
-            match = _MOVED.fullmatch(self.line)
-            if match:
-                request, what, disk, start, count = match.groups()
-                piece = Piece(int(request), what, int(count), disk, int(start))
-            elif _STATUS.fullmatch(self.line):
-                continue
+        make = tuple.__new__
+        for fields in self.rows(_MOST):
+            if isinstance(fields, tuple):
+                request, what, disk, start, count = fields
+                self.is_empty = False
+                yield make(Piece, (int(request), what, int(count), disk, int(start), "", 0))
             else:
-                piece = self._other()
-            if piece.count == 0 or max(piece.start, piece.to_start) + piece.count > numbers.LIMIT:
-                self._refuse_line()
-            self.is_empty = False
-            yield piece
+                piece = self._read(fields)
+                if piece:
+                    yield piece
+
+    def uses(self) -> Iterator[Tuple[str, str, int]]:
+        """For each piece the disk, what is done with it, and the number of sectors: R or W, for a copy both. There is no
+        disk where that is `zero`, `drop` or `error`."""
+        for fields in self.rows(_MOST):
+            if isinstance(fields, tuple):
+                self.is_empty = False
+                yield fields[2], fields[1], int(fields[4])
+                continue
+            piece = self._read(fields)
+            if piece and piece.to:
+                if piece.disk:
+                    yield piece.disk, "R", piece.count
+                yield piece.to, "W", piece.count
+            elif piece:
+                yield piece.disk, piece.what, piece.count
 
     def tell_if_none(self) -> None:
         """Tells at the end if there was no piece."""
         if self.is_empty:
             streams.tell("no piece came")
 
-    def _other(self) -> Piece:
-        match = _COPY.fullmatch(self.line)
-        if match:
-            return Piece(int(match[1]), "copy", int(match[4]), match[2], int(match[3]), match[5], int(match[6]))
-        match = _FILL.fullmatch(self.line)
-        if match:
-            return Piece(int(match[1]), "fill", int(match[2]), "", 0, match[3], int(match[4]))
-        match = _OTHER.fullmatch(self.line)
-        if not match:
-            self._refuse_line()
-        return Piece(int(match[1]), match[2], int(match[3]))
+    def _read(self, line: str) -> Optional[Piece]:
+        """The piece that a line is, or None for a status."""
+        if _STATUS.fullmatch(line):
+            return None
+        piece = _piece_of(line)
+        if not piece or not piece.request or not piece.count or max(piece.start, piece.to_start) + piece.count > numbers.LIMIT:
+            self.refuse_line("not a piece of an answer")
+        self.is_empty = False
+        return piece
 
-    def _refuse_line(self) -> NoReturn:
-        self.refuse("not a piece of an answer: " + quoting.shown(self.line))
+
+def _piece_of(line: str) -> Optional[Piece]:
+    match = _MOVED.fullmatch(line)
+    if match:
+        return Piece(int(match[1]), match[2], int(match[5]), match[3], int(match[4]))
+    match = _COPY.fullmatch(line)
+    if match:
+        return Piece(int(match[1]), "copy", int(match[4]), match[2], int(match[3]), match[5], int(match[6]))
+    match = _FILL.fullmatch(line)
+    if match:
+        return Piece(int(match[1]), "fill", int(match[2]), "", 0, match[3], int(match[4]))
+    match = _OTHER.fullmatch(line)
+    return Piece(int(match[1]), match[2], int(match[3])) if match else None

@@ -6,7 +6,7 @@ grows. Whatever an output doesn't take ends the command: see `main.py`.
 
 import os
 import stat
-from typing import Iterator, List, NoReturn
+from typing import Iterator, List, NoReturn, Pattern, Tuple
 
 from dmremap_tools.base import numbers, quoting
 from dmremap_tools.base.refusal import Refusal, WrongWords
@@ -15,6 +15,7 @@ CHUNK = 1 << 16
 LONGEST_LINE = 1 << 16
 MOST_TEXT = 64 << 20
 SPOILED = "refused\n"
+NO_NUMBER = "not a whole number below 2^64: '%s'"
 
 
 class OutputFailed(Exception):
@@ -77,58 +78,77 @@ class Output:
 
 class Lines:
     """The lines of a file, or of standard input for `-`, as they come. A text that ends within a line is refused, as
-    nobody can tell what the rest of it was."""
+    nobody can tell what the rest of it was. `number` is that of the line that was read last, from 1."""
 
     def __init__(self, path: str) -> None:
         self.name = "standard input" if path == "-" else path
         self.number = 0
         self._descriptor = _open(path)
+        self._block, self._before = "", 0
 
     def __iter__(self) -> Iterator[str]:
-        for lines in _line_lists(self):
-            for line in lines:
+        for block in self._blocks():
+            for line in block[:-1].split("\n"):
                 self.number += 1
                 yield line
+
+    def rows(self, form: Pattern[str]) -> "Iterator[Tuple[str, ...] | str]":
+        """For each line what the groups of a form have, or the line itself where it is of another form. The form has
+        several groups, is compiled with re.M, and begins with ^ and ends with $: so many lines are read at once."""
+        for block in self._blocks():
+            found = form.findall(block)
+            if len(found) != block.count("\n"):
+                found = [match.groups() if match else line
+                         for line in block[:-1].split("\n") for match in (form.match(line),)]
+            for self.number, fields in enumerate(found, self.number + 1):
+                yield fields
+
+    @property
+    def line(self) -> str:
+        """The line that was read last."""
+        return self._block.split("\n")[self.number - self._before - 1]
 
     def refuse(self, reason: str) -> NoReturn:
         """Refuses the line that was read last."""
         raise Refusal("%s:%d" % (self.name, self.number), reason)
 
+    def refuse_line(self, reason: str) -> NoReturn:
+        """The same, with what stands there."""
+        self.refuse("%s: %s" % (reason, quoting.shown(self.line)))
+
     def whole(self, text: str) -> int:
         """The whole number below 2^64 that a word of the line is."""
-        return whole("%s:%d" % (self.name, self.number), text)
+        value = numbers.read(text)
+        return self._refuse_number(text) if value is None else value
 
-    def chunk(self) -> bytes:
-        """The next bytes, or none at the end. What was written goes out before they are waited for."""
-        return _read_some(self._descriptor, self.name)
+    def _refuse_number(self, text: str) -> NoReturn:
+        self.refuse(NO_NUMBER % quoting.shown(text))
+
+    def _blocks(self) -> Iterator[str]:
+        """The text in pieces of whole lines. What was written goes out before more of it is waited for."""
+        rest = b""
+        for chunk in iter(lambda: _read_some(self._descriptor, self.name), b""):
+            end = chunk.rfind(b"\n") + 1
+            if end:
+                self._block, self._before = (rest + chunk[:end]).decode("utf-8", "surrogateescape"), self.number
+                rest = chunk[end:]
+                yield self._block
+            else:
+                rest += chunk
+            if len(rest) > LONGEST_LINE:
+                self.number += 1
+                self.refuse("a line of more than %d bytes" % LONGEST_LINE)
+        if rest:
+            self.number += 1
+            self.refuse("the text ends within a line: " + quoting.shown(rest.decode("utf-8", "surrogateescape")))
 
 
 def whole(where: str, text: str) -> int:
     """The whole number below 2^64 that a text is."""
     value = numbers.read(text)
     if value is None:
-        raise Refusal(where, "not a whole number below 2^64: '%s'" % quoting.shown(text))
+        raise Refusal(where, NO_NUMBER % quoting.shown(text))
     return value
-
-
-def _line_lists(source: Lines) -> Iterator[List[str]]:
-    rest = b""
-    while True:
-        chunk = source.chunk()
-        if not chunk:
-            break
-        end = chunk.rfind(b"\n")
-        if end >= 0:
-            yield (rest + chunk[:end]).decode("utf-8", "surrogateescape").split("\n")
-            rest = chunk[end + 1:]
-        else:
-            rest += chunk
-        if len(rest) > LONGEST_LINE:
-            source.number += 1
-            source.refuse("a line of more than %d bytes" % LONGEST_LINE)
-    if rest:
-        source.number += 1
-        source.refuse("the text ends within a line: %s" % quoting.shown(rest.decode("utf-8", "surrogateescape")))
 
 
 def read_bytes(path: str, most: int = MOST_TEXT) -> bytes:
