@@ -8,13 +8,15 @@ A kernel may lose the snapshot one chunk earlier, so make the store a chunk larg
 didn't have.
 """
 
+import re
 from argparse import ArgumentParser, Namespace
-from typing import Dict
+from typing import Dict, Tuple
 
 from dmremap_tools.base import names, numbers, quoting, streams
-from dmremap_tools.base.refusal import Refusal, WrongWords
+from dmremap_tools.base.refusal import WrongWords
 
 EXAMPLE = "dmremap-tools store-size --chunk 8 requests"
+REQUEST = re.compile("([RW]) (%s) (%s) (%s)" % (names.FORM.pattern, numbers.FORM.pattern, numbers.FORM.pattern))
 # Chunks are counted in pages, of a byte for each of them.
 PAGE, MOST_PAGES = 1 << 16, 1 << 12
 AREAS = ("P", "K")
@@ -33,37 +35,42 @@ def run(words: Namespace) -> None:
     if chunk == 0 or chunk & (chunk - 1):
         raise WrongWords("a chunk is a power of two: %d" % chunk)
     source = streams.Lines(words.requests)
-    taken: Dict[str, Chunks] = {}
+    taken = Chunks()
     for line in source:
-        fields = line.split(" ")
-        if len(fields) != 4 or fields[0] not in ("R", "W") or not names.FORM.fullmatch(fields[1]):
+        match = REQUEST.fullmatch(line)
+        if not match:
             source.refuse("not a request: " + quoting.shown(line))
-        first, count = source.whole(fields[2]), source.whole(fields[3])
-        if fields[0] == "W" and count:
-            taken.setdefault(fields[1], Chunks(source.name)).take(first // chunk, (first + count - 1) // chunk + 1)
-    for name, chunks in taken.items():
-        count = chunks.count()
+        first, count = int(match[3]), int(match[4])
+        if match[1] == "W" and count and not taken.take(match[2], first // chunk, (first + count - 1) // chunk + 1):
+            source.refuse("the chunks lie too far apart to be counted in %d MiB" % (MOST_PAGES * PAGE >> 20))
+    for name, count in taken.counts().items():
         own = (count // (32 * chunk) + 2) * chunk if words.kind in AREAS else 0
         streams.out.write("%s %d %d %d\n" % (name, count, count * chunk + own, own))
 
 
 class Chunks:
-    """The chunks of a device that are taken, in pages of 65,536, of which there are at most 4,096 (256 MiB)."""
+    """The chunks of devices that are taken, in pages of 65,536 that have a byte for each."""
 
-    def __init__(self, where: str) -> None:
-        self._where = where
-        self._pages: Dict[int, bytearray] = {}
+    def __init__(self) -> None:
+        self._pages: Dict[Tuple[str, int], bytearray] = {}
 
-    def take(self, first: int, end: int) -> None:
-        """Takes the chunks from `first` up to `end`."""
+    def take(self, name: str, first: int, end: int) -> bool:
+        """Takes the chunks of a device from `first` up to `end`, unless there would be too many pages."""
         while first < end:
             number, at = divmod(first, PAGE)
             stop = min(PAGE, at + end - first)
-            if number not in self._pages and len(self._pages) == MOST_PAGES:
-                raise Refusal(self._where, "more than %d chunks lie too far apart to be counted" % len(self._pages))
-            self._pages.setdefault(number, bytearray(PAGE))[at:stop] = b"\1" * (stop - at)
+            page = self._pages.get((name, number))
+            if page is None:
+                if len(self._pages) == MOST_PAGES:
+                    return False
+                page = self._pages[name, number] = bytearray(PAGE)
+            page[at:stop] = b"\1" * (stop - at)
             first += stop - at
+        return True
 
-    def count(self) -> int:
-        """How many are taken."""
-        return sum(it.count(1) for it in self._pages.values())
+    def counts(self) -> Dict[str, int]:
+        """How many of each device are taken."""
+        found: Dict[str, int] = {}
+        for (name, _), page in self._pages.items():
+            found[name] = found.get(name, 0) + page.count(1)
+        return found
