@@ -3,7 +3,9 @@
 from typing import List, NamedTuple, Optional
 
 REQUESTS, MACHINES, METADATA, ANSWERS, LAYOUTS = "requests", "FILE and DISKS", "metadata", "answers", "layouts"
-FOLDERS = {REQUESTS: "requests", MACHINES: "machines", METADATA: "metadata", ANSWERS: "answers", LAYOUTS: "layouts"}
+LAYERS = "used snapshots and other layers"
+FOLDERS = {REQUESTS: "requests", MACHINES: "machines", METADATA: "metadata", ANSWERS: "answers", LAYOUTS: "layouts",
+           LAYERS: "layers"}
 
 
 class Command(NamedTuple):
@@ -49,6 +51,7 @@ COMMANDS: List[Command] = [
     Command("extents", LAYOUTS, "where a whole device lies"),
     Command("store-full", LAYOUTS, "the request that fills a snapshot's store"),
     Command("store-size", LAYOUTS, "how much of a snapshot's store writes fill"),
+    Command("used", LAYERS, "answers from the state that the stores of snapshots hold"),
 ]
 
 

@@ -1,0 +1,86 @@
+"""A stack as dmremap loads it from FILE and DISKS."""
+
+import os
+from typing import Dict, Iterable, List, NamedTuple, Optional
+
+from dmremap_tools.base import config_text, disks, names, program, streams, tables
+from dmremap_tools.base.refusal import WrongWords
+from dmremap_tools.metadata.volume_group import sections_in
+
+MOST_TEXT = 1 << 20
+
+
+class Given(NamedTuple):
+    """The words of a `dmremap map`: a format, FILE, DISKS unless it is metadata, and whether --status is among them."""
+
+    form: str
+    file: str
+    disks: Optional[str]
+    is_status: bool = False
+
+
+class Stack(NamedTuple):
+    """The devices in their order, and the length of each disk in sectors."""
+
+    devices: List[tables.Device]
+    sizes: Dict[str, int]
+
+    def by_path(self) -> Dict[str, tables.Device]:
+        """The devices, each by its path."""
+        return {names.MAPPER + it.name: it for it in self.devices}
+
+    def write(self, folder: str) -> List[str]:
+        """Writes FILE, in the concise form, and DISKS into a folder; the words with which dmremap reads them."""
+        file, listed = os.path.join(folder, "FILE"), os.path.join(folder, "DISKS")
+        put(file, [tables.text_of(self.devices, True)])
+        put(listed, ("%s %d\n" % it for it in self.sizes.items()))
+        return ["concise", file, listed]
+
+
+def given_in(words: List[str], usage: str) -> Given:
+    """What the words `map FORMAT FILE [DISKS] [--status]` give."""
+    plain = [it for it in words if it != "--status"]
+    form = plain[1] if len(plain) > 1 else ""
+    if form not in ("table", "concise", "lvm") or plain[0] != "map" or len(plain) != (3 if form == "lvm" else 4) or len(words) > len(plain) + 1:
+        raise WrongWords(usage + "\nafter the options stand the words of a map: map FORMAT FILE [DISKS] [--status]")
+    return Given(form, plain[2], plain[3] if form != "lvm" else None, len(words) > len(plain))
+
+
+def load(asked: str, given: Given, room: str) -> Stack:
+    """Loads it by asking dmremap, which is `asked`. FILE and DISKS are read once, so they may be pipes."""
+    file, listed = os.path.join(room, "given"), os.path.join(room, "given.disks")
+    _copy(given.file, file)
+    source = [given.form, file]
+    if given.disks is not None:
+        _copy(given.disks, listed)
+        source.append(listed)
+    text = os.path.join(room, "given.concise")
+    put(text, [program.ask([asked, "concise", *source])])
+    devices = tables.read(text)[0]
+    return Stack(devices, _sizes_in_metadata(file) if given.disks is None else disks.read(listed))
+
+
+def put(path: str, parts: Iterable[str]) -> None:
+    """Writes the parts of a text to a file."""
+    try:
+        with open(path, "w", encoding="utf-8", errors="surrogateescape") as it:
+            it.writelines(parts)
+    except OSError as fault:
+        raise streams.OutputFailed("%s: %s" % (path, streams.why(fault)))
+
+
+def _copy(path: str, to: str) -> None:
+    put(to, [streams.read(path, MOST_TEXT)])
+
+
+def _sizes_in_metadata(path: str) -> Dict[str, int]:
+    """The disks of a group, which are its physical volumes, by the names that dmremap gives them."""
+    top = config_text.Document(path, streams.read_bytes(path)).top
+    found = {it.key.decode(): (it.value(b"device", bytes) or b"", it.value(b"dev_size", int) or 0)
+             for group in top.sections() for it in sections_in(group, b"physical_volumes")}
+    paths = [device for device, _ in found.values()]
+    sizes = {}
+    for key, (device, size) in found.items():
+        name = device.decode("utf-8", "surrogateescape")
+        sizes[name if name[:1] == "/" and names.DISK.fullmatch(name) and paths.count(device) == 1 else key] = size
+    return sizes

@@ -1,0 +1,84 @@
+"""Answers for snapshots that were written to: `dmremap map` from the state that their stores hold.
+
+Has the words of a map, `map FORMAT FILE [DISKS] [--status]`, requests on standard input, and the stores. A store is read
+from --store, which is the device that it is or an image of that; else from the disks that it lies on, which dmremap says.
+--paths says where these are. Gets what dmremap answers, numbered as ever. A read-only snapshot that has something in its
+store becomes a writable one below a read-only linear device, and one that its header calls invalid becomes `error`.
+With --keep, FILE, DISKS and BEFORE stay in a folder as they were made: `dmremap map concise FILE DISKS --before BEFORE`.
+
+Refuses a snapshot of kind N unless --fresh takes it as new, a store that is too short, that has no header, or that is of
+another version or another size of chunks than the table says, and lists that dmremap can't follow: chunks out of order, past
+the end, or twice. A chunk whose origin fails to be read today is refused, too; the message says how to go on.
+
+The store of a snapshot in use changes, and the kernel keeps what is read of it: suspend the snapshot, or read an image with
+O_DIRECT. It takes 8 bytes for each chunk of the stores, and a file of about 20 in the folder for temporary files.
+"""
+
+import argparse
+import os
+import re
+import subprocess
+import tempfile
+from typing import BinaryIO, Dict
+
+from dmremap_tools.base import program, streams
+from dmremap_tools.base.refusal import Refusal
+from dmremap_tools.layers import stack, state
+
+EXAMPLE = "echo 'R vg0-snap 8000 16' | dmremap-tools used --paths paths map lvm vg0-snapshot.backup"
+USAGE = "usage: dmremap-tools used [OPTION].. map FORMAT FILE [DISKS] [--status]"
+PIECE = 1 << 18
+
+
+def add_words(parser: argparse.ArgumentParser) -> None:
+    """Adds the options and the words of a map."""
+    program.add_words(parser)
+    state.add_words(parser)
+    parser.add_argument("--keep", metavar="FOLDER", help="where FILE, DISKS and BEFORE are left")
+    parser.add_argument("map", metavar="map FORMAT FILE [DISKS] [--status]", nargs=argparse.REMAINDER)
+
+
+def run(words: argparse.Namespace) -> None:
+    """Maps from the state of the stores."""
+    given, wanted, asked = stack.given_in(words.map, USAGE), state.wanted_in(words), program.dmremap(words.program)
+    with tempfile.TemporaryDirectory(prefix="dmremap-tools-") as room:
+        loaded = stack.load(asked, given, room)
+        prepared = state.prepare(asked, loaded, wanted, room if words.keep is None else _folder(words.keep))
+        _map(prepared, given.is_status)
+
+
+def _folder(path: str) -> str:
+    try:
+        os.makedirs(path, exist_ok=True)
+    except OSError as fault:
+        raise Refusal(path, streams.why(fault))
+    return path
+
+
+def _map(prepared: state.Prepared, is_status: bool) -> None:
+    """Runs dmremap over standard input. Its answers are its own, but for the names in status lines."""
+    is_renamed = is_status and bool(prepared.renamed)
+    streams.flush()
+    child = subprocess.Popen(prepared.words + ["--status"] * is_status, stdin=0, stdout=subprocess.PIPE if is_renamed else 1)
+    try:
+        if is_renamed:
+            _pass_on(child.stdout, prepared.renamed)
+        status = child.wait()
+    finally:
+        child.kill()
+        child.wait()
+    if status:
+        program.fail(prepared.words[0], status)
+
+
+def _pass_on(answers: BinaryIO, renamed: Dict[str, str]) -> None:
+    """Passes answers on as they come, and the status lines, which end them, with the snapshots' own names."""
+    of_other = re.compile("^(?:%s)(?=: )" % "|".join(renamed), re.M)
+    left = b""
+    while True:
+        more = os.read(answers.fileno(), PIECE)
+        whole, end, left = (left + more).rpartition(b"\n") if more else (left, b"", b"")
+        streams.out.write(of_other.sub(lambda it: renamed[it[0]], (whole + end).decode()))
+        if not more:
+            break
+        streams.flush()
