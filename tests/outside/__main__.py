@@ -31,6 +31,7 @@ import hostile
 import installs
 import kinds
 import launcher
+import layouts
 import limits
 import loads
 import lookers
@@ -48,6 +49,7 @@ import refusals
 import replays
 import reports
 import request_lines
+import sector_files
 import snapshot_rows
 import snapshots
 import streams
@@ -79,6 +81,8 @@ def main():
         completions.check(tally, program, TOP)
         reading_list.check(tally, TOP)
         recipes.check(tally, program, TOP)
+        layouts.check(tally, program, TOP)
+        sector_files.check(tally, program, TOP)
         metadata_areas.check(tally, program, TOP)
         lvm2_texts.check(tally, program, TOP)
         lookers.check(tally, TOP)

@@ -256,79 +256,11 @@ ANSWERED = [
          "fio version 2 iolog\n/a add\n/a open\n/a read 1024 1536\n/b add\n/b open\n/b read 0 512\n/a read 1125899906842624 512\n"
          "/a close\n/b close\n"),
     bad("to_fio", [], ["1 R 8:1 2 3\n"], "1:1: no path of a disk: 8:1"),
-    good("extents", [], ["1 R a 0 8\n2 R a 8 8\n2 zero 4\n3 zero 4\n3 R a 16 1\n3 R b 17 1\n4 error 2\n"],
-         "0 16 a 0\n16 8 zero\n24 1 a 16\n25 1 b 17\n26 2 error\n"),
-    good("extents", [], ["1 R - 0 5\n1 R - 0 5\n"], "0 5 - 0\n5 5 - 0\n"),
-    bad("extents", [], ["1 W a 0 8\n"], "1:1: not a piece of a read: 1 W a 0 8"),
-    bad("extents", [], ["2 R a 0 8\n1 R a 8 8\n"], "1:2: not a piece of a read: 1 R a 8 8"),
 ]
 ANSWERED += [bad(script, [], [REPLAYED], NOT_PIECE + REPLAYED[:-1]) for script in ("totals", "histogram", "to_fio")]
-PLACES = "size 4000\n0 8\n16 8\n"
-READ = "1 R a 0 4\n1 R b 0 4\n2 error 8\n"
-ANSWERED += [
-    bad("read_back", ["out=o"], [PLACES, READ[:10]], "2:1: request 1 is not answered in full"),
-    bad("read_back", ["out=o"], [PLACES, READ.replace("1 R b 0 4", "1 R b 0 5")], "2:2: not asked for by PLACES: 1 R b 0 5"),
-    bad("read_back", ["out=o"], [PLACES, READ + "3 R a 0 8\n"], "2:4: not asked for by PLACES: 3 R a 0 8"),
-    bad("read_back", ["out=o"], [PLACES, "1 W a 0 8\n"], "2:1: not of a read: 1 W a 0 8"),
-    bad("read_back", ["out=o"], [PLACES, REPLAYED], "2:1: not a piece of an answer: 1 wrote 1 18 1"),
-    bad("read_back", ["out=o"], [PLACES[10:], READ], "1:1: not PLACES of filefrag.awk or debugfs.awk"),
-]
-
 # Layouts.
 
-METADATA = """\
-# a text of lvm2
-g {
-\tflags = []\n\tdescription = "a \\"{\\" # b"
-\tphysical_volumes {
-\t\tpv0 {\n\t\t\tdevice = "/dev/mapper/c"\t# Hint only {\n\t\t\tpe_start = 10\n\t\t}
-\t\tpv1 {\n\t\t\tdevice = "[unknown]"\n\t\t\tpe_start = 12\n\t\t}
-\t\tpv2 {\n\t\t\tdevice = "/dev/sdz"\n\t\t\tpe_start = 14\n\t\t}
-\t}
-\tlogical_volumes { v { physical_volumes { x { pe_start = 1 } } } }
-}
-"""
-
-
-def spanned(inputs, output, message=""):
-    return good("spans.py", [], inputs, output, message)
-
-
 LAYOUTS = [
-    spanned(["d 64\n", "a: 0 8 linear d 4\na: 8 16 striped 2 4 d 0 d 32\ns: 0 24 snapshot /dev/mapper/a d K 8\n"
-             "o: 0 24 snapshot-origin /dev/mapper/a\n"],
-            "/dev/mapper/a 0 24 o 0 snapshot-origin\n/dev/mapper/a 0 24 s 0 origin\n/dev/mapper/a 24 24 - - end\n"
-            "d 0 8 a 8 striped\nd 0 64 s 0 store\nd 4 12 a 0 linear\nd 32 40 a 8 striped\nd 64 64 - - end\n"),
-    spanned(["d 64\n", "a,,,rw,0 8 striped 2 4 d 4 d 4,8 4 zero\n"], "d 4 8 a 0 striped\nd 4 8 a 0 striped\nd 64 64 - - end\n"),
-    spanned(["d 9\ne 10\n", ""], "d 9 9 - - end\ne 10 10 - - end\n"),
-    # What physical volumes have for themselves, on a disk and on a device, by path and by key.
-    spanned(["/dev/sda 64\npv1 64\n", "c: 0 60 linear /dev/sda 4\nv: 0 8 linear /dev/mapper/c 10\n", METADATA],
-            "/dev/mapper/c 0 10 g - label+metadata\n/dev/mapper/c 10 18 v 0 linear\n/dev/mapper/c 60 60 - - end\n"
-            "/dev/sda 4 64 c 0 linear\n/dev/sda 64 64 - - end\npv1 0 12 g - label+metadata\npv1 64 64 - - end\n",
-            "left out: the physical volume pv2 (/dev/sdz), which is neither a disk nor a device here\n"),
-    # A partition that became a device.
-    spanned(["/dev/sda 64\n", "sdz: 0 60 linear /dev/sda 4\n", METADATA],
-            "/dev/mapper/sdz 0 14 g - label+metadata\n/dev/mapper/sdz 60 60 - - end\n/dev/sda 4 64 sdz 0 linear\n/dev/sda 64 64 - - end\n",
-            "left out: the physical volume pv0 (/dev/mapper/c), which is neither a disk nor a device here\n"
-            "left out: the physical volume pv1 ([unknown]), which is neither a disk nor a device here\n"),
-    bad("spans.py", [], ["d 64\n", "", "g { physical_volumes { p { device = \"d\" } } }\n"], "3: no pe_start of p"),
-    bad("spans.py", [], ["d 64\n", "", "g { extent_size = 8 }\n"], "3: no physical volumes of a group"),
-    bad("spans.py", [], ["d 64\n", "", "g { x = \"\n"], "3:1: a string without an end"),
-    bad("spans.py", [], ["d 64\n", "a: 0 8 linear e 4\n"], "e: neither a disk nor a device"),
-    bad("spans.py", [], ["d 64 8\n", ""], "1:1: not a line of DISKS: d 64 8"),
-    bad("spans.py", [], ["d 64k\n", ""], "1:1: not a line of DISKS: d 64k"),
-    good("free", [], ["d 4 8 a 0 linear\nd 6 7 b 0 linear\nd 9 9 - - end\ne 5 5 - - end\n"],
-         "d 0 4 unnamed\nd 4 8 a 0 linear\nd 6 7 b 0 linear\nd 8 9 unnamed\ne 0 5 unnamed\n"),
-    good("free", [], ["d 0 12 g - label+metadata\nd 64 64 - - end\n"], "d 0 12 g - label+metadata\nd 12 64 unnamed\n"),
-    good("clashes", [], ["d 0 12 g - label+metadata\nd 8 16 a 0 linear\nd 64 64 - - end\n"], "d 8 11 g a\n"),
-    bad("free", [], ["d 4 8 a\n"], "1:1: not a line of spans.py: d 4 8 a"),
-    bad("clashes", [], ["d 8 4 a 0 linear\n"], "1:1: not a line of spans.py: d 8 4 a 0 linear"),
-    good("tree", [], ["a: 0 8 striped 2 4 /dev/mapper/b 0 /dev/mapper/b 4\nb: 0 8 linear d 0\nc: 0 8 linear /dev/mapper/a 0\n"],
-         "c\n+- 0 8 linear /dev/mapper/a 0\n|    a\n|    +- 0 8 striped 2 4 /dev/mapper/b 0 /dev/mapper/b 4\n"
-         "|    |    b\n|    |    +- 0 8 linear d 0\n"),
-    good("dot", [], ['s: 0 8 snapshot a"b P P 8\nz: 0 8 zero\nt: 0 8 striped 2 4 d 0 d 4\n'],
-         'digraph stack {\n  "disk a\\"b" [shape=box]\n  "s" -> "disk a\\"b" [label="origin 0+8"]\n  "disk P" [shape=box]\n'
-         '  "s" -> "disk P" [label="store 0+8"]\n  "s"\n  "z"\n  "disk d" [shape=box]\n  "t" -> "disk d" [label="striped 0+8"]\n  "t"\n}\n'),
     good("whole", ["volume=/dev/mapper/a"], ["b: 0 8 zero\na: 0 8 zero\n"], "R a 0 8\n"),
     good("whole", ["volume=a"], ["a: 0 8 zero\nb: 0 9 zero\na: 8 2000000 zero\n"], "R a 0 1048576\nR a 1048576 951432\n"),
     bad("whole", ["volume=c"], ["a: 0 8 zero\n"], "1:1: no device c"),
@@ -349,6 +281,4 @@ LAYOUTS += [
     bad("aliases", [], ["8:0 1 sda sdb\n8:16 1 sdb sda\n8:32 1 sdc \n", "sda 1\nsda 2\nsdc 1\n"], "2:3: devices lie on themselves: sda",
         "sda is sda\n"),
 ]
-LAYOUTS += [bad(script, [], ["a 0 8 zero\n"], "1:1: not table text: a 0 8 zero") for script in ("tree", "dot")]
-
 ROWS = FILEFRAG + DEBUGFS + TRACE + LOGS + ELSEWHERE + ANSWERED + LAYOUTS

@@ -23,7 +23,7 @@ from dmremap_tools.base.refusal import Refusal
 from dmremap_tools.layouts import ext_system, sectors_asked
 from dmremap_tools.layouts.debugfs import Debugfs
 
-EXAMPLE = "dmremap-tools files --volume home owners home.img"
+EXAMPLE = "dmremap-tools files home owners home.img"
 OWNED = re.compile(r"\S+ [0-9]+(?: ([0-9]+))? = .*")
 STEP = re.compile(r" = (\S+) ([0-9]+)(?: until it is copied)?(?= = |$)")
 MOST_BLOCKS = 1000000
@@ -42,7 +42,7 @@ class Run(NamedTuple):
 
 def add_words(parser: argparse.ArgumentParser) -> None:
     """Adds OWNERS, IMAGE and the volume."""
-    parser.add_argument("--volume", required=True, help="the device that the file system lies on")
+    parser.add_argument("volume", metavar="VOLUME", help="the device that the file system lies on, by its name or path")
     parser.add_argument("--damaged", action="store_true", help="do without the bitmaps and sums of the file system")
     names.add_words(parser)
     sectors_asked.add_words(parser)
@@ -52,8 +52,8 @@ def add_words(parser: argparse.ArgumentParser) -> None:
 
 def run(words: argparse.Namespace) -> None:
     """Prints, for each run that is asked for, the runs of its sectors that the same files have."""
-    volume = names.of_path(words.volume)
-    runs = Asked(words, volume).runs()
+    asked = Asked(words)
+    runs = asked.runs()
     debugfs = Debugfs(words.image, words.damaged)
     geometry = ext_system.geometry_of(debugfs)
     if sum(len(it.blocks(geometry.sectors)) for it in runs) > MOST_BLOCKS:
@@ -66,14 +66,15 @@ def run(words: argparse.Namespace) -> None:
             first = max(each.first, part[0] * geometry.sectors)
             end = min(each.first + each.count, (part[-1] + 1) * geometry.sectors)
             for file in files:
-                streams.out.write("%s %d %d %s\n" % (volume, first, end - first, shown_path(file)))
+                streams.out.write("%s %d %d %s\n" % (asked.volume, first, end - first, shown_path(file)))
 
 
 class Asked:
     """What OWNERS asks for: sectors of the volume. Others are counted."""
 
-    def __init__(self, words: argparse.Namespace, volume: str) -> None:
-        self._names, self._volume, self._unit = names.Names(words.ls), volume, sectors_asked.unit_of(words)
+    def __init__(self, words: argparse.Namespace) -> None:
+        self._names, self._unit = names.Names(words.ls), sectors_asked.unit_of(words)
+        self.volume = self._names.device(words.volume, names.Word("VOLUME"))
         self._source = streams.Lines(words.owners)
         self._others = 0
 
@@ -85,9 +86,9 @@ class Asked:
             if len(found) > MOST_BLOCKS:
                 self._source.refuse("more than %d runs of sectors" % MOST_BLOCKS)
         if not found:
-            raise Refusal(self._source.name, "no sector of " + quoting.shown(self._volume))
+            raise Refusal(self._source.name, "no sector of " + self.volume)
         if self._others:
-            streams.tell("left out: %d sectors that are not of %s" % (self._others, self._volume))
+            streams.tell("left out: %d sectors that are not of %s" % (self._others, self.volume))
         return found
 
     def _owned(self, row: str) -> List[Run]:
@@ -96,7 +97,7 @@ class Asked:
         if not match:
             self._source.refuse("not a line of owner: " + quoting.shown(row))
         count = self._source.whole(match[1] or "1")
-        here = [Run(self._source.whole(sector), count) for name, sector in STEP.findall(row) if name == self._volume]
+        here = [Run(self._source.whole(sector), count) for name, sector in STEP.findall(row) if name == self.volume]
         self._others += 0 if here else count
         return here
 
@@ -107,7 +108,7 @@ class Asked:
             return []
         count = query.count or 1
         path = "/dev/" + query.disk if query.disk.startswith("dm-") else query.disk
-        if self._names.known(path, self._source) == self._volume:
+        if self._names.known(path, self._source) == self.volume:
             return [Run(query.first, count)]
         self._others += count
         return []
