@@ -30,6 +30,7 @@ COMMANDS: List[Command] = [
     Command("fio", REQUESTS, "from a log of fio", True),
     Command("cut", REQUESTS, "from requests that are longer than dmremap takes", True),
     Command("whole", REQUESTS, "for the whole of a device", True),
+    Command("metadata", METADATA, "the text of a group, from the head of a physical volume"),
     Command("lvm2-text", METADATA, "a copy of lvm2's metadata that dmremap reads"),
     Command("totals", ANSWERS, "what is done on each disk"),
     Command("histogram", ANSWERS, "how long the pieces are"),

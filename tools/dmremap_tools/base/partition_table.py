@@ -1,0 +1,135 @@
+"""The partitions of a whole disk, by its MBR or its GPT (UEFI specification, chapter 5)."""
+
+import struct
+import zlib
+from typing import List, NamedTuple, Optional, Tuple
+
+from dmremap_tools.base.disk_image import Image
+from dmremap_tools.base.numbers import SECTOR
+from dmremap_tools.base.refusal import Refusal
+
+
+class Partition(NamedTuple):
+    """The number that Linux gives a partition, and where its bytes are on the disk."""
+
+    number: int
+    start: int
+    size: int
+
+
+class Table(NamedTuple):
+    """A partition table: what it is called, and what it has."""
+
+    kind: str
+    partitions: List[Partition]
+
+
+# The type of a partition, its first sector and its sectors.
+Entry = Tuple[int, int, int]
+GPT = b"EFI PART"
+# A GPT lies in the second sector, of which a disk may have either size.
+GPT_SECTORS = (512, 4096)
+# An MBR has four entries of 16 bytes from here on, and these two bytes after them.
+ENTRIES, MAGIC = 446, b"\x55\xaa"
+EXTENDED, PROTECTIVE = (0x05, 0x0F, 0x85), 0xEE
+FIRST_LOGICAL = 5
+# Bounds of what is read: entries of a GPT in bytes, and logical partitions.
+MOST_ENTRIES, MOST_LOGICAL = 1 << 20, 256
+
+
+def table_of(image: Image) -> Optional[Table]:
+    """The partition table of a disk, or None where it has none. As with Linux, an MBR that doesn't say that
+    there is a GPT goes before what is left of one."""
+    entries = mbr_entries(image.read(0, SECTOR))
+    is_protective = any(kind == PROTECTIVE for kind, _, _ in entries)
+    if entries and not is_protective:
+        return Table("MBR", mbr_partitions(image, entries))
+    for sector in GPT_SECTORS:
+        header = image.read(sector, sector)
+        if header[:len(GPT)] == GPT:
+            return Table("GPT", gpt_partitions(image, header, sector))
+    if is_protective:
+        raise damaged(image)
+    return None
+
+
+def damaged(image: Image) -> Refusal:
+    """What is said of a GPT that its sums don't confirm."""
+    return Refusal(image.path, "the image of a whole disk, whose partition table (GPT) is damaged: repair it in a copy with gdisk, "
+                   "or cut the partition out with dd")
+
+
+def gpt_partitions(image: Image, header: bytes, sector: int) -> List[Partition]:
+    """The partitions of a GPT, whose header and entries have a CRC-32 each."""
+    if len(header) < sector:
+        raise cut_off(image)
+    size = number(header, 12)
+    if not 92 <= size <= sector or zlib.crc32(header[:16] + bytes(4) + header[20:size]) != number(header, 16):
+        raise damaged(image)
+    start, count, length, checksum = struct.unpack_from("<QLLL", header, 72)
+    if length < 128 or count * length > MOST_ENTRIES:
+        raise damaged(image)
+    entries = image.read(start * sector, count * length)
+    if len(entries) < count * length:
+        raise cut_off(image)
+    if zlib.crc32(entries) != checksum:
+        raise damaged(image)
+    found = []
+    for place in range(count):
+        entry = entries[place * length:(place + 1) * length]
+        first, last = struct.unpack_from("<QQ", entry, 32)
+        if any(entry[:16]) and first <= last:
+            found.append(Partition(place + 1, first * sector, (last - first + 1) * sector))
+    return found
+
+
+def cut_off(image: Image) -> Refusal:
+    """What is said of a GPT that isn't all there."""
+    return Refusal(image.path, "the image of a whole disk, which ends before its partition table (GPT) does: take more of the disk")
+
+
+def number(content: bytes, at: int) -> int:
+    """The number of four bytes at this place."""
+    return struct.unpack_from("<L", content, at)[0]
+
+
+def mbr_entries(sector: bytes) -> List[Entry]:
+    """Each of the four entries, or none where this is no partition table.
+
+    It is one where the first byte of each entry is 0 or 0x80, and one of them has sectors."""
+    if len(sector) < SECTOR or sector[-2:] != MAGIC:
+        return []
+    entries = [struct.unpack_from("<B3xB3xLL", sector, ENTRIES + 16 * place) for place in range(4)]
+    if any(boot & 0x7F for boot, _, _, _ in entries) or not any(size for _, _, _, size in entries):
+        return []
+    return [(kind, start, size) for _, kind, start, size in entries]
+
+
+def mbr_partitions(image: Image, entries: List[Entry]) -> List[Partition]:
+    """The partitions of an MBR, those inside extended ones included."""
+    found = []
+    for place, (kind, start, size) in enumerate(entries, 1):
+        if size and kind and kind not in EXTENDED:
+            found.append(Partition(place, start * SECTOR, size * SECTOR))
+    for kind, start, size in entries:
+        if size and kind in EXTENDED:
+            return found + logical_partitions(image, start)
+    return found
+
+
+def logical_partitions(image: Image, extended: int) -> List[Partition]:
+    """The partitions inside an extended one, as far as the image goes: a chain of tables, each with two entries."""
+    found: List[Partition] = []
+    at, seen = extended, set()
+    while at not in seen and len(seen) < MOST_LOGICAL:
+        seen.add(at)
+        entries = mbr_entries(image.read(at * SECTOR, SECTOR))
+        if not entries:
+            break
+        (kind, start, size), (_, following, more) = entries[:2]
+        if size and kind:
+            found.append(Partition(FIRST_LOGICAL + len(found), (at + start) * SECTOR, size * SECTOR))
+        if not more:
+            break
+        at = extended + following
+    return found
