@@ -1,6 +1,8 @@
 """The commands about layouts, and read-back: rows, random stacks whose sectors are looked up one by one, files that are put
 together, and when stores are full."""
 
+import contextlib
+import errno
 import os
 import random
 import re
@@ -59,9 +61,30 @@ def check_read_back(tally, program, top):
     holds("gaps", put_together("gaps", "size 3072\n0 3\n3 3\n", "1 R it's 1 1\n1 error 2\n2 error 1\n2 zero 1\n2 error 1\n"), 4,
           sectors[1] + bytes(2560), "3 sectors of the file from 1 on can't be read\n1 sectors of the file from 5 on can't be read\n")
     holds("short", put_together("short", places, "1 R it's 15 2\n"), 1, None, "dmremap-tools read-back: it's: it ends before sector 17\n")
+    with unreadable(range(5, 6), range(9, 12)):
+        holds("damaged", put_together("damaged", "size 8192\n0 16\n", "1 R it's 0 16\n"), 4,
+              b"".join(bytes(512) if it in (5, 9, 10, 11) else sectors[it] for it in range(16)),
+              "1 sectors of the file from 5 on can't be read\n3 sectors of the file from 9 on can't be read\n")
     got = put_together("sparse", "size 4294967296\n8388607 1\n", "1 R it's 5 1\n")
     found = os.stat(os.path.join(folder, "sparse"))
     tally.holds("a file with a hole", got.status == 0 and found.st_size == 1 << 32 and found.st_blocks < 1024, "it has %d blocks" % found.st_blocks)
+
+
+@contextlib.contextmanager
+def unreadable(*bad):
+    """Lets no read of these sectors of a disk succeed, as where the disk is damaged."""
+    read_at = os.pread
+
+    def fails(descriptor, size, at):
+        if any(at < 512 * it.stop and 512 * it.start < at + size for it in bad):
+            raise OSError(errno.EIO, os.strerror(errno.EIO))
+        return read_at(descriptor, size, at)
+
+    os.pread = fails
+    try:
+        yield
+    finally:
+        os.pread = read_at
 
 
 def check_full(tally, program, top):
