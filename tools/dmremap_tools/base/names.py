@@ -11,6 +11,7 @@ FORM = re.compile(r"[-A-Za-z0-9#+.:=@_]{1,127}")
 DISK = re.compile(r"(?!/dev/mapper/)(?!.*[,;\\])[!-~]{1,255}")
 MINOR = re.compile(r"/dev/dm-([0-9]{1,10})")
 MAPPER = "/dev/mapper/"
+MOST_KEPT = 4096
 
 
 class Place(Protocol):
@@ -47,10 +48,11 @@ class Names:
     def __init__(self, ls: Optional[str] = None) -> None:
         self._ls = ls
         self._of_minor: Optional[Dict[str, str]] = None
+        self._found: Dict[str, str] = {}
 
     def known(self, path: str, place: Place) -> str:
         """The name that a path stands for, or the path; empty for a /dev/dm-N that `dmsetup ls` has not."""
-        minor = MINOR.fullmatch(path)
+        minor = MINOR.fullmatch(path) if path.startswith("/dev/dm-") else None
         if not minor:
             return of_path(path)
         if self._ls is None:
@@ -62,9 +64,14 @@ class Names:
 
     def device(self, path: str, place: Place) -> str:
         """The name of a device that is given by its name or a path."""
-        name = self.known(path, place)
-        if not FORM.fullmatch(name):
-            place.refuse("no name of a device: '%s'" % quoting.shown(path))
+        name = self._found.get(path)
+        if name is None:
+            name = self.known(path, place)
+            if not FORM.fullmatch(name):
+                place.refuse("no name of a device: '%s'" % quoting.shown(path))
+            if len(self._found) == MOST_KEPT:
+                self._found.clear()
+            self._found[path] = name
         return name
 
 

@@ -9,12 +9,15 @@ from dmremap_tools.base import quoting
 SECTOR = 512
 LIMIT = 1 << 64
 # As dmremap reads numbers: without a sign and without zeros in front. Longer ones are none, whatever they say.
-FORM = re.compile(r"0|[1-9][0-9]{0,19}")
+LONGEST = 20
+# The same where it is short enough to be below 2^64 in any case, for forms of lines that are read many at once.
+SHORT = "(0|[1-9][0-9]{0,17})"
+FORM = re.compile(r"0|[1-9][0-9]{0,%d}" % (LONGEST - 1))
 
 
 def read(text: str) -> Optional[int]:
     """The number that a text says, or None if it isn't a whole number below 2^64."""
-    if not FORM.fullmatch(text):
+    if not text.isdigit() or not text.isascii() or len(text) > LONGEST or (text[0] == "0" and text != "0"):
         return None
     value = int(text)
     return value if value < LIMIT else None

@@ -7,9 +7,8 @@ from typing import Iterator, NamedTuple, Optional, Tuple
 from dmremap_tools.base import numbers, streams
 
 # Most pieces are of one form, and their numbers are short enough to be below 2^64 in any case.
-_REQUEST = "([1-9][0-9]{0,18})"
+_MOST = re.compile(r"^([1-9][0-9]{0,17}) ([RW]) (\S+) %s ([1-9][0-9]{0,17})$" % numbers.SHORT, re.M)
 _N = "(0|[1-9][0-9]{0,19})"
-_MOST = re.compile(r"^%s ([RW]) (\S+) (0|[1-9][0-9]{0,17}) %s$" % (_REQUEST, "([1-9][0-9]{0,17})"), re.M)
 _MOVED = re.compile(r"%s ([RW]) (\S+) %s %s" % (_N, _N, _N))
 _COPY = re.compile(r"%s copy (\S+) %s %s (\S+) %s" % (_N, _N, _N, _N))
 _FILL = re.compile(r"%s fill %s (\S+) %s" % (_N, _N, _N))

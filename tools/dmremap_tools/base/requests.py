@@ -1,10 +1,26 @@
 """Requests, as dmremap reads them."""
 
+import re
 from typing import Iterator, Tuple
 
-from dmremap_tools.base import numbers, quoting, streams
+from dmremap_tools.base import names, numbers, streams
 
 MOST = 1 << 20
+# What to do, a device, and two numbers, as they mostly are.
+_MOST_LINES = re.compile(r"^([RW]) (\S+) %s %s$" % (numbers.SHORT, numbers.SHORT), re.M)
+
+
+def read(source: streams.Lines, known: names.Names, form: str) -> Iterator[Tuple[str, str, int, int]]:
+    """The lines that say R or W, a device, and two numbers. Others are refused as not of this form, which is in words."""
+    for fields in source.rows(_MOST_LINES):
+        if isinstance(fields, tuple):
+            operation, name, first, count = fields
+            yield operation, known.device(name, source), int(first), int(count)
+        else:
+            words = fields.split()
+            if len(words) != 4 or words[0] not in ("R", "W"):
+                source.refuse_line(form)
+            yield words[0], known.device(words[1], source), source.whole(words[2]), source.whole(words[3])
 
 
 def parts(first: int, count: int) -> Iterator[Tuple[int, int]]:
@@ -13,22 +29,22 @@ def parts(first: int, count: int) -> Iterator[Tuple[int, int]]:
         yield at, min(MOST, first + count - at)
 
 
-def write(source: streams.Lines, line: str, operation: str, name: str, first: int, count: int) -> int:
+def write(source: streams.Lines, operation: str, name: str, first: int, count: int) -> int:
     """Prints a request of a line for these sectors, or several where one would be too long; returns how many."""
-    if count == 0:
-        source.refuse("no sectors: " + quoting.shown(line))
-    if first + count > numbers.LIMIT:
-        source.refuse("it goes past sector 2^64: " + quoting.shown(line))
-    if count <= MOST:
-        streams.out.write("%s %s %d %d\n" % (operation, name, first, count))
+    if 0 < count <= MOST and first + count <= numbers.LIMIT:
+        streams.out.write(f"{operation} {name} {first} {count}\n")
         return 1
+    if count == 0:
+        source.refuse_line("no sectors")
+    if first + count > numbers.LIMIT:
+        source.refuse_line("it goes past sector 2^64")
     for at, part in parts(first, count):
         streams.out.write("%s %s %d %d\n" % (operation, name, at, part))
     return -(-count // MOST)
 
 
-def write_bytes(source: streams.Lines, line: str, operation: str, name: str, begin: int, count: int) -> None:
+def write_bytes(source: streams.Lines, operation: str, name: str, begin: int, count: int) -> None:
     """The same for all sectors that some bytes touch."""
     if count == 0:
-        source.refuse("no bytes: " + quoting.shown(line))
-    write(source, line, operation, name, *numbers.sectors_touched(begin, count))
+        source.refuse_line("no bytes")
+    write(source, operation, name, *numbers.sectors_touched(begin, count))

@@ -12,6 +12,7 @@ from dmremap_tools.base import numbers, quoting
 from dmremap_tools.base.refusal import Refusal, WrongWords
 
 CHUNK = 1 << 16
+MOST_PARTS = 1 << 10
 LONGEST_LINE = 1 << 16
 MOST_TEXT = 64 << 20
 SPOILED = "refused\n"
@@ -32,13 +33,12 @@ class Output:
     def __init__(self, descriptor: int, name: str) -> None:
         self._descriptor, self._name = descriptor, name
         self._parts: List[str] = []
-        self._size = 0
 
     def write(self, text: str) -> None:
         """Writes text, now or later."""
-        self._parts.append(text)
-        self._size += len(text)
-        if self._size >= CHUNK:
+        parts = self._parts
+        parts.append(text)
+        if len(parts) >= MOST_PARTS or len(text) > CHUNK:
             self.flush()
 
     def flush(self) -> None:
@@ -46,7 +46,7 @@ class Output:
         if not self._parts:
             return
         text = "".join(self._parts)
-        self._parts, self._size = [], 0
+        self._parts = []
         if os.isatty(self._descriptor):
             text = quoting.on_terminal(text)
         left = memoryview(text.encode("utf-8", "surrogateescape"))
@@ -70,7 +70,7 @@ class Output:
         self.flush()
 
     def _fail(self, fault: OSError) -> NoReturn:
-        self._parts, self._size = [], 0
+        self._parts = []
         if isinstance(fault, BrokenPipeError):
             raise ReaderGone
         raise OutputFailed("%s: %s" % (self._name, why(fault)))
@@ -119,10 +119,9 @@ class Lines:
     def whole(self, text: str) -> int:
         """The whole number below 2^64 that a word of the line is."""
         value = numbers.read(text)
-        return self._refuse_number(text) if value is None else value
-
-    def _refuse_number(self, text: str) -> NoReturn:
-        self.refuse(NO_NUMBER % quoting.shown(text))
+        if value is None:
+            self.refuse(NO_NUMBER % quoting.shown(text))
+        return value
 
     def _blocks(self) -> Iterator[str]:
         """The text in pieces of whole lines. What was written goes out before more of it is waited for."""

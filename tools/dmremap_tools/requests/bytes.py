@@ -5,7 +5,7 @@ Has lines `R DEVICE OFFSET LENGTH` or `W ..`, in bytes. Gets requests, in sector
 
 from argparse import ArgumentParser, Namespace
 
-from dmremap_tools.base import names, quoting, requests, streams
+from dmremap_tools.base import names, requests, streams
 
 EXAMPLE = "echo 'R vg0-lv0 1000 3000' | dmremap-tools bytes | dmremap map lvm vg0.backup"
 
@@ -18,10 +18,6 @@ def add_words(parser: ArgumentParser) -> None:
 
 def run(words: Namespace) -> None:
     """Converts them as they come."""
-    known, source = names.Names(words.ls), streams.Lines(words.file)
-    for line in source:
-        fields = line.split()
-        if len(fields) != 4 or fields[0] not in ("R", "W"):
-            source.refuse("not R or W, a device, an offset and a length: " + quoting.shown(line))
-        name = known.device(fields[1], source)
-        requests.write_bytes(source, line, fields[0], name, source.whole(fields[2]), source.whole(fields[3]))
+    source = streams.Lines(words.file)
+    for asked in requests.read(source, names.Names(words.ls), "not R or W, a device, an offset and a length"):
+        requests.write_bytes(source, *asked)

@@ -6,7 +6,7 @@ Has requests of any length, `R DEVICE START LEN` or `W ..`, in sectors. Gets the
 
 from argparse import ArgumentParser, Namespace
 
-from dmremap_tools.base import names, quoting, requests, streams
+from dmremap_tools.base import names, requests, streams
 
 EXAMPLE = "echo 'R vg0-lv0 8000 2500000' | dmremap-tools cut | dmremap map lvm vg0.backup"
 
@@ -19,10 +19,6 @@ def add_words(parser: ArgumentParser) -> None:
 
 def run(words: Namespace) -> None:
     """Cuts them as they come."""
-    known, source = names.Names(words.ls), streams.Lines(words.file)
-    for line in source:
-        fields = line.split()
-        if len(fields) != 4 or fields[0] not in ("R", "W"):
-            source.refuse("not a request: " + quoting.shown(line))
-        name = known.device(fields[1], source)
-        requests.write(source, line, fields[0], name, source.whole(fields[2]), source.whole(fields[3]))
+    source = streams.Lines(words.file)
+    for asked in requests.read(source, names.Names(words.ls), "not a request"):
+        requests.write(source, *asked)

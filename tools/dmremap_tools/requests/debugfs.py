@@ -119,6 +119,6 @@ class Reader:
             streams.tell("unwritten, so that it reads as zeros: " + quoting.shown(line))
             return
         sectors = sectors_of(self.source, self.block)
-        requests.write(self.source, line, "R", self.name, start * sectors, length * sectors)
+        requests.write(self.source, "R", self.name, start * sectors, length * sectors)
         if self.places:
             write_places(self.places, first * sectors, length * sectors)

@@ -11,7 +11,7 @@ part of XFS has its extents on another device.
 
 import re
 from argparse import ArgumentParser, Namespace
-from typing import Match, Optional
+from typing import List, Match, NoReturn, Optional
 
 from dmremap_tools.base import names, numbers, quoting, requests, streams
 
@@ -21,7 +21,7 @@ TYPE = re.compile(r"Filesystem type is: ([^ :.]*).*")
 GROUPS = re.compile(r"Filesystem cylinder groups approximately [0-9]+")
 SIZE = re.compile(r"File size of .* is ([0-9]+) \(([0-9]+) blocks? of ([0-9]+) bytes\)")
 HEAD = re.compile(r" ext: +logical_offset: +physical_offset: length: +expected: flags:")
-EXTENT = re.compile(r" *([0-9]+): +([0-9]+)\.\. *([0-9]+): +([0-9]+)\.\. *([0-9]+): +([0-9]+):(?: +[0-9]+:)? *([a-z_0-9,]*)")
+EXTENT = re.compile(r"^ *{0}: +{0}\.\. *{0}: +{0}\.\. *{0}: +{0}:(?: +[0-9]+:)? *([a-z_0-9,]*)$".format(r"([0-9]{1,18})"), re.M)
 FOUND = re.compile(r": [0-9]+ extents? found")
 NONE_FOUND = re.compile(r": 0 extents found")
 KNOWN = {"ef53", "58465342"}
@@ -42,8 +42,11 @@ def run(words: Namespace) -> None:
     places = streams.beside(words.places) if words.places is not None else None
     name = names.Names(words.ls).device(words.volume, names.Word("VOLUME"))
     reader = Reader(streams.Lines(words.file), name, places)
-    for line in reader.source:
-        reader.take(line)
+    for fields in reader.source.rows(EXTENT):
+        if isinstance(fields, tuple) and reader.opened:
+            reader.take_extent(*map(int, fields[:6]), fields[6].split(","))
+        else:
+            reader.take_other(reader.source.line)
     reader.end()
 
 
@@ -56,25 +59,41 @@ class Reader:
         self.files = self.size = self.block = self.count = self.after = 0
         self.is_known = self.is_last = False
 
-    def take(self, line: str) -> None:
-        """Takes the next line."""
-        extent = EXTENT.fullmatch(line) if self.opened else None
-        size = None if extent else SIZE.fullmatch(line)
-        kind = None if extent or size else TYPE.fullmatch(line)
-        if extent:
-            self._extent(extent, line)
-        elif size:
-            self._file(size, line)
+    def take_other(self, line: str) -> None:
+        """Takes a line that is no extent."""
+        size, kind = SIZE.fullmatch(line), TYPE.fullmatch(line)
+        if size:
+            self._take_file(size, line)
         elif kind:
             if kind[1] not in KNOWN:
-                self.source.refuse("neither ext2, ext3, ext4 nor XFS: " + quoting.shown(line))
+                self.source.refuse_line("neither ext2, ext3, ext4 nor XFS")
             self.is_known = True
         elif self.opened and FOUND.search(line):
             if not self.is_last and (self.count or not NONE_FOUND.search(line)):
-                self.source.refuse("an extent is missing before: " + quoting.shown(line))
+                self.source.refuse_line("an extent is missing before")
             self.opened = ""
         elif not GROUPS.fullmatch(line) and not (self.opened and HEAD.fullmatch(line)):
-            self.source.refuse("not a line of filefrag -v: " + quoting.shown(line))
+            self.source.refuse_line("not a line of filefrag -v")
+
+    def take_extent(self, number: int, first: int, last: int, start: int, end: int, length: int, flags: List[str]) -> None:
+        """Takes an extent: from the block `first` to `last` of the file, from `start` to `end` of the device."""
+        if not PLACED.issuperset(flags):
+            self._refuse("an extent whose place is not known")
+        if number != self.count or first < self.after or self.is_last:
+            self._refuse("an extent is missing")
+        self.count += 1
+        self.is_last, self.after = "last" in flags, last + 1
+        if self.after - first != length or end + 1 - start != length:
+            self._refuse("ends and length differ")
+        if "eof" in flags and self.after * self.block < self.size:
+            self._refuse("the file ends elsewhere")
+        if "unwritten" in flags:
+            streams.tell("unwritten, so that it reads as zeros: " + quoting.shown(self.source.line.lstrip(" ")))
+            return
+        sectors = sectors_of(self.source, self.block)
+        requests.write(self.source, "R", self.name, start * sectors, length * sectors)
+        if self.places:
+            write_places(self.places, first * sectors, length * sectors)
 
     def end(self) -> None:
         """Refuses what isn't whole."""
@@ -83,12 +102,12 @@ class Reader:
         if not self.files:
             self.source.refuse("no file")
 
-    def _file(self, found: Match[str], line: str) -> None:
+    def _take_file(self, found: Match[str], line: str) -> None:
         if not self.is_known or self.opened:
-            self.source.refuse("the line comes too early: " + quoting.shown(line))
+            self.source.refuse_line("the line comes too early")
         self.size, blocks, self.block = map(self.source.whole, found.groups())
         if not 0 <= blocks * self.block - self.size < MOST_SPARE:
-            self.source.refuse("bytes and blocks differ: " + quoting.shown(line))
+            self.source.refuse_line("bytes and blocks differ")
         if self.places:
             if self.files:
                 self.source.refuse("PLACES is of one file")
@@ -98,30 +117,8 @@ class Reader:
         self.is_last = False
         self.files += 1
 
-    def _extent(self, found: Match[str], line: str) -> None:
-        line = line.lstrip(" ")
-        flags = found[7].split(",")
-        if not PLACED.issuperset(flags):
-            self.source.refuse("an extent whose place is not known: " + quoting.shown(line))
-        number, first, last, start, end, length = map(self.source.whole, found.groups()[:6])
-        if number != self.count or first < self.after or self.is_last:
-            self.source.refuse("an extent is missing: " + quoting.shown(line))
-        self.count += 1
-        self.is_last, self.after = "last" in flags, last + 1
-        if self.after - first != length or end + 1 - start != length:
-            self.source.refuse("ends and length differ: " + quoting.shown(line))
-        if "eof" in flags and self.after * self.block < self.size:
-            self.source.refuse("the file ends elsewhere: " + quoting.shown(line))
-        if "unwritten" in flags:
-            streams.tell("unwritten, so that it reads as zeros: " + quoting.shown(line))
-            return
-        self._request(line, first, start, length)
-
-    def _request(self, line: str, first: int, start: int, length: int) -> None:
-        sectors = sectors_of(self.source, self.block)
-        requests.write(self.source, line, "R", self.name, start * sectors, length * sectors)
-        if self.places:
-            write_places(self.places, first * sectors, length * sectors)
+    def _refuse(self, reason: str) -> NoReturn:
+        self.source.refuse("%s: %s" % (reason, quoting.shown(self.source.line.lstrip(" "))))
 
 
 def sectors_of(source: streams.Lines, block: int) -> int:

@@ -7,14 +7,15 @@ counted. Refuses what is no such log.
 
 import re
 from argparse import ArgumentParser, Namespace
-from typing import List
+from typing import NoReturn
 
-from dmremap_tools.base import names, quoting, requests, streams
+from dmremap_tools.base import names, numbers, requests, streams
 from dmremap_tools.requests.kept import Kept
 
 EXAMPLE = "dmremap-tools fio vg0.table fio.log | dmremap map lvm vg0.backup"
 
 FIRST = re.compile(r"fio version ([23]) iolog")
+LINE = re.compile(r"^([0-9]+ )?(\S+) (read|write) %s %s$" % (numbers.SHORT, numbers.SHORT), re.M)
 OPERATIONS = {"read": "R", "write": "W"}
 
 
@@ -27,45 +28,63 @@ def add_words(parser: ArgumentParser) -> None:
 
 def run(words: Namespace) -> None:
     """Prints the requests as they come."""
-    kept, known, source = Kept(words.tables), names.Names(words.ls), streams.Lines(words.file)
-    place, trims = -1, 0
-    for line in source:
-        if place < 0:
-            place = _place_of_name(source, line)
-            continue
-        fields = line.split()[place:]
+    reader = Reader(streams.Lines(words.file), Kept(words.tables), names.Names(words.ls))
+    for fields in reader.source.rows(LINE):
+        if isinstance(fields, str):
+            reader.take_other(fields)
+        else:
+            reader.take(*fields)
+    reader.end()
+
+
+class Reader:
+    """Makes requests of the lines of a log; version 3 has a time first in each. Before the first line it is none."""
+
+    def __init__(self, source: streams.Lines, kept: Kept, known: names.Names) -> None:
+        self.source, self.kept, self.known = source, kept, known
+        self.version = self.trims = 0
+
+    def take(self, time: str, path: str, what: str, begin: str, count: str) -> None:
+        """Takes a read or a write of the usual form, with a time or without one."""
+        if not self.version or bool(time) != (self.version == 3):
+            self._refuse_line()
+        name = self.known.known(path, self.source)
+        if name in self.kept.names:
+            requests.write_bytes(self.source, OPERATIONS[what], name, int(begin), int(count))
+        else:
+            self.kept.leave("%s, which the tables have not" % path)
+
+    def take_other(self, line: str) -> None:
+        """Takes another line."""
+        if not self.version:
+            first = FIRST.fullmatch(line)
+            if not first:
+                self._refuse_line()
+            self.version = int(first[1])
+            return
+        fields = line.split()[self.version - 2:]
         what = fields[1] if len(fields) > 1 else ""
         if what in OPERATIONS and len(fields) == 4:
-            _request(source, line, fields, kept, known)
+            begin, count = self.source.whole(fields[2]), self.source.whole(fields[3])
+            self.take("-" * (self.version - 2), fields[0], what, str(begin), str(count))
         elif what == "trim" and len(fields) == 4:
-            trims += 1
+            self.trims += 1
         elif not _is_passed_over(what, len(fields)):
-            source.refuse("not a line of a log: " + quoting.shown(line))
-    if place < 0:
-        source.refuse("the log is empty")
-    kept.tell()
-    if trims:
-        streams.tell("left out: %d trims" % trims)
+            self._refuse_line()
 
+    def end(self) -> None:
+        """Refuses an empty log, and tells what was left out."""
+        if not self.version:
+            self.source.refuse("the log is empty")
+        self.kept.tell()
+        if self.trims:
+            streams.tell("left out: %d trims" % self.trims)
 
-def _place_of_name(source: streams.Lines, line: str) -> int:
-    """Where the file's name stands in a line: version 3 has a time first."""
-    match = FIRST.fullmatch(line)
-    if not match:
-        source.refuse("not the first line of a log: " + quoting.shown(line))
-    return int(match[1]) - 2
+    def _refuse_line(self) -> NoReturn:
+        self.source.refuse_line("not a line of a log" if self.version else "not the first line of a log")
 
 
 def _is_passed_over(what: str, count: int) -> bool:
     if what in ("add", "open", "close"):
         return count == 2
     return what in ("sync", "datasync", "wait") and count in (2, 4)
-
-
-def _request(source: streams.Lines, line: str, fields: List[str], kept: Kept, known: names.Names) -> None:
-    name = known.known(fields[0], source)
-    if name in kept:
-        begin, count = source.whole(fields[2]), source.whole(fields[3])
-        requests.write_bytes(source, line, OPERATIONS[fields[1]], name, begin, count)
-    else:
-        kept.leave("%s, which the tables have not" % fields[0])

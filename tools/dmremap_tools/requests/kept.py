@@ -10,13 +10,10 @@ class Kept:
     """The devices of some tables, and how many requests went to each other one."""
 
     def __init__(self, path: str) -> None:
-        self._names = {it.name for it in tables.read(path)[0]}
+        self.names = {it.name for it in tables.read(path)[0]}
         self._left: Dict[str, int] = {}
-        if not self._names:
+        if not self.names:
             raise Refusal(path, "no device in it")
-
-    def __contains__(self, name: str) -> bool:
-        return name in self._names
 
     def leave(self, to: str) -> None:
         """Counts a request that is left out."""

@@ -11,17 +11,21 @@ Trace top devices only: a request to a device on another one shows up at both, a
 
 import re
 from argparse import ArgumentParser, Namespace
+from functools import lru_cache
 from typing import Dict, Optional
 
-from dmremap_tools.base import listings, quoting, requests, streams
+from dmremap_tools.base import listings, numbers, requests, streams
 from dmremap_tools.requests.kept import Kept
 
 EXAMPLE = "btrace /dev/dm-0 | dmremap-tools trace ls.txt vg0.table | dmremap map lvm vg0.backup | dmremap-tools totals"
 
+# A line of blkparse, up to the action. Those of the action Q, a request that comes, are read whole where they are of the
+# usual form; of other actions there is nothing to read.
+PARSED = r" *([0-9]+,[0-9]+) +[0-9]+ +[0-9]+ +([0-9.]+) +[0-9]+ +"
+LINE = re.compile(r"^%s(?:Q +(\S+) %s \+ %s .*|[A-PR-Za-z][A-Za-z]* .*)$" % (PARSED, numbers.SHORT, numbers.SHORT), re.M)
+ANY_QUEUED = re.compile(PARSED + r"Q (.*)")
 EVENT = "block_bio_queue:"
 LOST = re.compile(r"CPU:? ?[0-9]+ \[.*(?:LOST|DROPPED).*| *Skips: +0*[1-9].*")
-QUEUED = re.compile(r" *([0-9]+,[0-9]+) +[0-9]+ +[0-9]+ +([0-9.]+) +[0-9]+ +Q +(\S+) +(\S+) \+ (\S+)(?: .*)?")
-PARSED = re.compile(r" *[0-9]+,[0-9]+ +[0-9]+ +[0-9]+ +[0-9.]+ +[0-9]+ +([A-Za-z]+) (?: *\S+ +(\S+))?")
 TIME = re.compile(r"[0-9.]+:?")
 DEVICE = re.compile(r"[0-9]+,[0-9]+")
 # Discards and flushes alone, and reads and writes, with what else a kernel says of them.
@@ -42,34 +46,58 @@ def run(words: Namespace) -> None:
     times = streams.beside(words.times) if words.times is not None else None
     names = {number.replace(":", ","): name for name, number in listings.read_ls(words.ls)}
     reader = Reader(streams.Lines(words.file), names, Kept(words.tables), times)
-    for line in reader.source:
-        reader.take(line)
+    for fields in reader.source.rows(LINE):
+        if isinstance(fields, str):
+            reader.take_other(fields)
+        else:
+            reader.events += 1
+            number, time, what, first, count = fields
+            if what:
+                reader.take(number, what, int(first), int(count), time)
     reader.end()
 
 
 class Reader:
-    """Reads a trace line by line."""
+    """Makes requests of the events of a trace."""
 
     def __init__(self, source: streams.Lines, names: Dict[str, str], kept: Kept, times: Optional[streams.Output]) -> None:
         self.source, self.names, self.kept, self.times = source, names, kept, times
         self.events = self.dropped = 0
 
-    def take(self, line: str) -> None:
-        """Takes the next line."""
-        queued = QUEUED.fullmatch(line)
-        if queued and EVENT not in line:
+    def take(self, number: str, what: str, first: int, count: int, time: str) -> None:
+        """Takes a request: the device's number, what is done, and with which sectors."""
+        name = self.names.get(number)
+        if name is None:
+            self.kept.leave("%s, which dmsetup ls has not" % number)
+            return
+        if name not in self.kept.names:
+            self.kept.leave("%s (%s), which the tables have not" % (name, number))
+            return
+        operation = _operation_of(what)
+        if operation is None:
+            self.source.refuse_line("neither a read nor a write")
+        if not operation:
+            self.dropped += 1
+            return
+        made = requests.write(self.source, operation, name, first, count)
+        if self.times:
+            self.times.write((time + "\n") * made)
+
+    def take_other(self, line: str) -> None:
+        """Takes a line that isn't of the usual form of blkparse."""
+        if LOST.fullmatch(line):
+            self.source.refuse_line("events were lost")
+        if EVENT in line:
+            self._take_event(*line.split(EVENT, 1))
+            return
+        queued = ANY_QUEUED.fullmatch(line)
+        if queued:
             self.events += 1
-            number, time, what, first, count = queued.groups()
-            self._request(line, number, what, first, count, time)
-        elif LOST.fullmatch(line):
-            self.source.refuse("events were lost: " + quoting.shown(line))
-        elif EVENT in line:
-            self._event(line)
-        else:
-            parsed = PARSED.match(line)
-            self.events += parsed is not None
-            if parsed and parsed[1] == "Q" and not (parsed[2] or "").startswith("["):
-                self._refuse_form(line)
+            fields = queued[3].split()
+            if len(fields) > 3 and fields[2] == "+":
+                self.take(queued[1], fields[0], self.source.whole(fields[1]), self.source.whole(fields[3]), queued[2])
+            elif len(fields) < 2 or not fields[1].startswith("["):
+                self.source.refuse_line("not a form of the event")
 
     def end(self) -> None:
         """Refuses a text without events, and tells what was left out."""
@@ -79,34 +107,22 @@ class Reader:
         if self.dropped:
             streams.tell("left out: %d requests that are neither reads nor writes" % self.dropped)
 
-    def _event(self, line: str) -> None:
+    def _take_event(self, head: str, rest: str) -> None:
         self.events += 1
-        head, _, rest = line.partition(EVENT)
         before, fields = head.split(), rest.split()
         if before and before[-1].endswith(":") and not TIME.fullmatch(before[-1]):
             del before[-1]
-        if len(fields) < 5 or not DEVICE.fullmatch(fields[0]) or fields[3] != "+":
-            self._refuse_form(line)
-        if not before or not TIME.fullmatch(before[-1]):
-            self._refuse_form(line)
+        is_whole = len(fields) > 4 and DEVICE.fullmatch(fields[0]) and fields[3] == "+"
+        if not is_whole or not before or not TIME.fullmatch(before[-1]):
+            self.source.refuse_line("not a form of the event")
         if fields[4] != "0":
-            self._request(line, fields[0], fields[1], fields[2], fields[4], before[-1].rstrip(":"))
+            first, count = self.source.whole(fields[2]), self.source.whole(fields[4])
+            self.take(fields[0], fields[1], first, count, before[-1].rstrip(":"))
 
-    def _request(self, line: str, number: str, what: str, first: str, count: str, time: str) -> None:
-        name = self.names.get(number)
-        if name is None:
-            self.kept.leave("%s, which dmsetup ls has not" % number)
-        elif name not in self.kept:
-            self.kept.leave("%s (%s), which the tables have not" % (name, number))
-        elif EITHER.fullmatch(what):
-            operation = "W" if "W" in what else "R"
-            made = requests.write(self.source, line, operation, name, self.source.whole(first), self.source.whole(count))
-            if self.times:
-                self.times.write((time + "\n") * made)
-        elif NEITHER.fullmatch(what):
-            self.dropped += 1
-        else:
-            self.source.refuse("neither a read nor a write: " + quoting.shown(line))
 
-    def _refuse_form(self, line: str) -> None:
-        self.source.refuse("not a form of the event: " + quoting.shown(line))
+@lru_cache(maxsize=1024)
+def _operation_of(what: str) -> Optional[str]:
+    """R or W by what a kernel calls an operation, nothing for what is left out, and None for what isn't known."""
+    if EITHER.fullmatch(what):
+        return "W" if "W" in what else "R"
+    return "" if NEITHER.fullmatch(what) else None
