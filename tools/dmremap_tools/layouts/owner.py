@@ -14,7 +14,7 @@ A kernel's log counts in 512 bytes. Other tools count in the sectors of the disk
 
 import argparse
 import itertools
-from typing import Iterator, Tuple
+from typing import Dict, Iterator, Optional
 
 from dmremap_tools.base import listings, quoting, streams, tables
 from dmremap_tools.base.refusal import Refusal
@@ -40,12 +40,13 @@ def run(words: argparse.Namespace) -> None:
     """Prints the ways up from each of the sectors that are asked for."""
     minors = {number.partition(":")[2]: name for name, number in listings.read_ls(words.ls)} if words.ls else {}
     uses = Uses(tables.read(words.file)[0], minors)
-    unknown = set()
+    known: Dict[str, Optional[str]] = {}
     for query in queries(words, uses):
-        on = uses.named(query.disk)
-        if on is None and query.disk not in unknown:
-            unknown.add(query.disk)
-            streams.tell("no line names %s, so nothing is said of its sectors" % query.disk)
+        if query.disk not in known:
+            known[query.disk] = uses.named(query.disk)
+            if known[query.disk] is None:
+                streams.tell("no line names %s, so nothing is said of its sectors" % query.disk)
+        on = known[query.disk]
         end = query.first + (query.count or 1)
         ways = uses.ways(on, query.first, end, (Step(query.disk, query.first),))
         for way, count in itertools.islice(ways, MOST_WAYS):
@@ -64,7 +65,7 @@ def queries(words: argparse.Namespace, uses: Uses) -> Iterator[sectors_asked.Que
     return sectors_asked.lost_in(words.sectors, words.disk, words.areas, unit)
 
 
-def text_of(way: Way, count: "int | None") -> str:
+def text_of(way: Way, count: Optional[int]) -> str:
     """The line for a way. How many sectors it is of is said where somebody asked for a number of them."""
     steps = [it.name if it.sector is None else "%s %d%s" % (it.name, it.sector, it.note) for it in way]
     if count is not None:

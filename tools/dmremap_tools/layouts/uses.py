@@ -65,7 +65,8 @@ class Uses:
         if len(way) > DEEPEST + 1:
             raise Refusal(quoting.shown(way[0].name), "devices stand on themselves, or on too many others")
         at = first
-        for use in self._uses[on].meeting(first, end) if on in self._uses else ():
+        uses = self._uses.get(on)
+        for use in uses.meeting(first, end) if uses else ():
             begin, stop = max(use.first, first), min(use.end, end)
             if at < begin:
                 yield moved(way, at - first), begin - at
@@ -90,7 +91,7 @@ def end_of(line: tables.Line, place: int, first: int, count: Optional[int]) -> i
 
 def moved(way: Way, by: int) -> Way:
     """The way of sectors that lie further on by this many."""
-    return tuple(Step(it.name, it.sector + by, it.note) for it in way if it.sector is not None) if by else way
+    return tuple([Step(it.name, it.sector + by, it.note) for it in way if it.sector is not None]) if by else way
 
 
 def minor_of(path: str) -> Optional[str]:
