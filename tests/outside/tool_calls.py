@@ -28,7 +28,8 @@ def good(command, words, inputs, output, message=""):
 
 
 def bad(command, words, inputs, message, output=""):
-    """A row of a refusal: the message is told in the tool's form. `output` is what stands before the line `refused`."""
+    """A row of a refusal, whose message has the reason as its last line; lines before it are told as they stand. `output` is
+    what stands before the line `refused`."""
     return command, words, inputs, output + "refused\n", message, 1
 
 
@@ -48,7 +49,8 @@ def check_rows(tally, program, top, rows):
         named = {part for it in words for part in (it, it.rpartition("=")[2])}
         files = [str(place) for place in range(1, len(inputs) + 1) if str(place) not in named]
         got = call(top, [command, *words, *files], folder=folder)
-        wanted = "%s %s: %s\n" % (TOOL, command, message) if status == 1 else message
+        told, _, reason = message.rpartition("\n")
+        wanted = message if status != 1 else "%s%s %s: %s\n" % (told + "\n" * bool(told), TOOL, command, reason)
         tally.same("%s %s over %r" % (command, " ".join(words), inputs[-1][:40] if inputs else ""), got, status, output, wanted)
 
 

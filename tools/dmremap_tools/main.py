@@ -1,6 +1,7 @@
 """Finds the command, runs it, and gives each way to end its status."""
 
 import argparse
+import gc
 import importlib
 import os
 from types import ModuleType
@@ -31,7 +32,8 @@ class Parser(argparse.ArgumentParser):
 
 
 def main(words: List[str]) -> NoReturn:
-    """Runs the tool and ends the process."""
+    """Runs the tool and ends the process, so that nothing has to be collected."""
+    gc.disable()
     streams.hold_descriptors()
     os._exit(run(words))
 
@@ -68,12 +70,20 @@ def _run(command: "commands.Command | None", name: str, words: List[str]) -> int
     if command:
         module = importlib.import_module("dmremap_tools." + command.module)
         parser = parser_of(command, module, name)
-        return module.run(parser.parse_args(words[1:])) or 0
+        return module.run(_parsed(parser, words[1:])) or 0
     if words and words[0] in ("-h", "--help"):
         streams.out.write(commands.overview())
         return 0
     usage = "usage: %s COMMAND ..\n" % TOOL
     raise WrongWords(usage + ("no command '%s'; --help lists them" % words[0] if words else "--help lists the commands"))
+
+
+def _parsed(parser: Parser, words: List[str]) -> argparse.Namespace:
+    """The words of a command, with options in any place, unless they end in those of another program."""
+    try:
+        return parser.parse_intermixed_args(words)
+    except TypeError:
+        return parser.parse_args(words)
 
 
 def parser_of(command: "commands.Command", module: ModuleType, name: str) -> Parser:

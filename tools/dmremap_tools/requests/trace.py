@@ -19,12 +19,13 @@ from dmremap_tools.requests.kept import Kept
 
 EXAMPLE = "btrace /dev/dm-0 | dmremap-tools trace ls.txt vg0.table | dmremap map lvm vg0.backup | dmremap-tools totals"
 
-# A line of blkparse, up to the action. Those of the action Q, a request that comes, are read whole where they are of the
-# usual form; of other actions there is nothing to read.
-PARSED = r" *([0-9]+,[0-9]+) +[0-9]+ +[0-9]+ +([0-9.]+) +[0-9]+ +"
-LINE = re.compile(r"^%s(?:Q +(\S+) %s \+ %s .*|[A-PR-Za-z][A-Za-z]* .*)$" % (PARSED, numbers.SHORT, numbers.SHORT), re.M)
-ANY_QUEUED = re.compile(PARSED + r"Q (.*)")
 EVENT = "block_bio_queue:"
+# A line of blkparse, up to the action. Those of the action Q, a request that comes, are read whole where they are of the
+# usual form; of other actions there is nothing to read. A process may have a name that looks like such a line.
+PARSED = r" *([0-9]+,[0-9]+) +[0-9]+ +[0-9]+ +([0-9.]+) +[0-9]+ +"
+LINE = re.compile(r"^%s(?:Q +(\S+) %s \+ %s .*|[A-PR-Za-z][A-Za-z]* (?!.*%s).*)$"
+                  % (PARSED, numbers.SHORT, numbers.SHORT, EVENT), re.M)
+ANY_QUEUED = re.compile(PARSED + r"Q (.*)")
 LOST = re.compile(r"CPU:? ?[0-9]+ \[.*(?:LOST|DROPPED).*| *Skips: +0*[1-9].*")
 TIME = re.compile(r"[0-9.]+:?")
 DEVICE = re.compile(r"[0-9]+,[0-9]+")
