@@ -30,6 +30,7 @@ COMMANDS: List[Command] = [
     Command("fio", REQUESTS, "from a log of fio", True),
     Command("cut", REQUESTS, "from requests that are longer than dmremap takes", True),
     Command("whole", REQUESTS, "for the whole of a device", True),
+    Command("machine", MACHINES, "of a machine with device-mapper devices", True),
     Command("metadata", METADATA, "the text of a group, from the head of a physical volume"),
     Command("lvm2-text", METADATA, "a copy of lvm2's metadata that dmremap reads"),
     Command("totals", ANSWERS, "what is done on each disk"),
@@ -53,6 +54,7 @@ COMMANDS: List[Command] = [
     Command("store-full", LAYOUTS, "the request that fills a snapshot's store"),
     Command("store-size", LAYOUTS, "how much of a snapshot's store writes fill"),
     Command("used", LAYERS, "answers from the state that the stores of snapshots hold"),
+    Command("md", LAYERS, "the table of an md array, or answers followed on through one", True),
 ]
 
 
