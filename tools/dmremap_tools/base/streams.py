@@ -230,10 +230,13 @@ def flush() -> None:
 
 
 def spoil(is_fed: bool) -> None:
-    """Spoils what stands beside standard output, and that itself if dmremap reads it. What fails is left."""
-    for each in [*_besides, out] if is_fed else _besides:
+    """Spoils what stands beside standard output, and that itself if dmremap reads it. Else what was written there stays."""
+    for each in [*_besides, out]:
         try:
-            each.spoil()
+            if is_fed or each is not out:
+                each.spoil()
+            else:
+                each.flush()
         except ReaderGone:
             pass
 
