@@ -53,6 +53,8 @@ import sector_files
 import snapshot_rows
 import snapshots
 import streams
+import tool_answers
+import tool_requests
 import words
 from harness import Program, Tally
 
@@ -81,6 +83,8 @@ def main():
         completions.check(tally, program, TOP)
         reading_list.check(tally, TOP)
         recipes.check(tally, program, TOP)
+        tool_requests.check(tally, program, TOP)
+        tool_answers.check(tally, program, TOP)
         layouts.check(tally, program, TOP)
         sector_files.check(tally, program, TOP)
         metadata_areas.check(tally, program, TOP)
