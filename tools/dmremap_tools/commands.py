@@ -55,6 +55,7 @@ COMMANDS: List[Command] = [
     Command("store-size", LAYOUTS, "how much of a snapshot's store writes fill"),
     Command("used", LAYERS, "answers from the state that the stores of snapshots hold"),
     Command("md", LAYERS, "the table of an md array, or answers followed on through one", True),
+    Command("under", LAYERS, "the tables of a disk under a stack that names it", True),
 ]
 
 

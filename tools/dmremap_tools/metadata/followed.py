@@ -3,11 +3,12 @@
 from collections import deque
 from typing import Dict, List, Optional
 
+from dmremap_tools.base import store_places
 from dmremap_tools.base.config_text import shown
 from dmremap_tools.metadata.volume_group import NO_STORE, STRIPED, TYPES, Group, Record, Segment, Volume
 
-# Limits of dmremap: bytes of a name, columns of stripes, and places for chunks in all stores together.
-NAME, COLUMNS, PLACES = 127, 128, 4194304
+# Limits of dmremap: bytes of a name, and columns of stripes.
+NAME, COLUMNS = 127, 128
 
 
 def judge(group: Group) -> None:
@@ -105,21 +106,13 @@ def judge_places(group: Group) -> List[bytes]:
     for record in group.records:
         if not record.volume.why:
             records.setdefault(record.store, []).append(record)
-    left, gone = PLACES, []
+    left, gone = store_places.MOST, []
     for volume in group.volumes.values():
         for record in records.get(volume.name, ()):
-            wanted = places(record.chunk, volume.extents * (group.extent_size or 0))
+            wanted = store_places.places(record.chunk, volume.extents * (group.extent_size or 0))
             if wanted <= left:
                 left -= wanted
                 continue
             gone += leave_snapshot(record, volume, "it is a snapshot of %s with places for %d chunks, and dmremap counts %d in all"
-                                   % (shown(record.origin or b""), wanted, PLACES))
+                                   % (shown(record.origin or b""), wanted, store_places.MOST))
     return gone
-
-
-def places(chunk: Optional[int], length: int) -> int:
-    """How many chunks a store has a place for, as docs/FORMATS.md counts them."""
-    if not chunk or chunk < 0:
-        return 0
-    count = max(0, length // chunk - 2)
-    return count - count // (32 * chunk + 1)

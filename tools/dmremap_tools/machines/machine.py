@@ -1,0 +1,71 @@
+"""FILE and DISKS of a machine that has device-mapper devices of any kind.
+
+Have: four texts, which root can make on that machine:
+
+    dmsetup ls > ls.txt
+    dmsetup status > status.txt
+    lsblk -brno MAJ:MIN,SIZE,KNAME,PKNAME > lsblk.txt
+    dmsetup table --concise > concise.txt
+
+Get: FILE in the form of the last text, which may be what `dmsetup table` prints instead, and DISKS with the disks that
+FILE names. Numbers of devices become their names, numbers of disks their paths, and lines of `crypt` linear ones: what
+lies there is encrypted, so compare nothing with it. A device that dmremap can't follow (other targets, snapshots that
+were written to, no length that fits) is told and left out; to the devices above it, it is a disk. `dmsetup table`
+doesn't say which devices are read-only, so all count as writable.
+
+Refuses a text that isn't what one of these commands prints, and a machine of which nothing is left.
+"""
+
+import argparse
+from typing import Dict, List
+
+from dmremap_tools.base import listings, quoting, streams, tables
+from dmremap_tools.base.refusal import Refusal
+from dmremap_tools.machines.found import Found, leave_unknown, read_status, read_tables
+from dmremap_tools.machines.stack import Stack
+
+EXAMPLE = "dmremap-tools machine --disks disks ls.txt status.txt lsblk.txt concise.txt > tables"
+
+
+def add_words(parser: argparse.ArgumentParser) -> None:
+    """Adds the four texts, and DISKS."""
+    parser.add_argument("--disks", metavar="DISKS", required=True, help="the file to write DISKS to")
+    for name, command in (("ls", "dmsetup ls"), ("status", "dmsetup status"), ("lsblk", listings.LSBLK_COMMAND), ("table", "dmsetup table --concise")):
+        parser.add_argument(name, metavar=name.upper(), help="what `%s` prints" % command)
+
+
+def run(words: argparse.Namespace) -> None:
+    """Reads the four texts, leaves out what dmremap would refuse, and writes the rest."""
+    beside = streams.beside(words.disks)
+    devices = {number: Found(name, number) for name, number in listings.read_ls(words.ls)}
+    is_fresh = read_status(words.status)
+    stack = Stack(devices, *listings.read_lsblk(words.lsblk))
+    is_concise = read_tables(words.table, devices)
+    leave_unknown(devices, is_fresh)
+    stack.settle()
+    kept, disks = stack.with_names()
+    say_left_out(stack, disks)
+    if not kept:
+        raise Refusal(words.table, "no device is left that dmremap can follow")
+    beside.write("".join("%s %d\n" % it for it in disks.items()))
+    streams.out.write(tables.text_of(kept, is_concise))
+
+
+def say_left_out(stack: Stack, disks: Dict[str, int]) -> None:
+    """Says what is left out, what is encrypted, and which copies answers lack."""
+    for device in stack.devices.values():
+        path = stack.lower(device.number)
+        if device.why:
+            streams.tell("left out: %s (%s)%s" % (quoting.shown(device.name), device.why, ", the disk " + path if path in disks else ""))
+        elif device.is_encrypted:
+            streams.tell("encrypted: the sectors below %s, whose lines of crypt are linear here" % device.name)
+    left_out = [it for it in stack.devices.values() if it.why]
+    unknown = [it for it in left_out if not it.is_described]
+    snapshots: Dict[str, List[Found]] = {}
+    for other in left_out:
+        for origin in dict.fromkeys(other.origins):
+            snapshots.setdefault(origin, []).append(other)
+    for device in (it for it in stack.kept() if it.has("snapshot-origin")):
+        for other in snapshots.get(device.lowers()[0], []) + unknown:
+            streams.tell("kept: %s, without %s, which %s a snapshot of it: on the machine, a write to it also copies what it overwrites, "
+                         "which the answers don't show" % (device.name, quoting.shown(other.name), "is" if other.origins else "may be"))
