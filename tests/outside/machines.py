@@ -5,6 +5,7 @@ import os
 import re
 
 import machine_rows
+import partition_rows
 import tool_calls
 from tool_calls import TOOL
 
@@ -13,7 +14,7 @@ SAMPLES = ("ls", "status", "lsblk")
 
 def check(tally, program, top):
     """Each row, the samples, files that aren't there, and large machines."""
-    for row in machine_rows.ROWS:
+    for row in machine_rows.ROWS + partition_rows.ROWS:
         check_row(tally, program, top, *row)
     check_samples(tally, program, top)
     check_missing(tally, program, top)

@@ -31,6 +31,7 @@ COMMANDS: List[Command] = [
     Command("cut", REQUESTS, "from requests that are longer than dmremap takes", True),
     Command("whole", REQUESTS, "for the whole of a device", True),
     Command("machine", MACHINES, "of a machine with device-mapper devices", True),
+    Command("partitions", MACHINES, "of whole disks, from tables that end at partitions", True),
     Command("metadata", METADATA, "the text of a group, from the head of a physical volume"),
     Command("lvm2-text", METADATA, "a copy of lvm2's metadata that dmremap reads"),
     Command("totals", ANSWERS, "what is done on each disk"),
@@ -56,6 +57,10 @@ COMMANDS: List[Command] = [
     Command("used", LAYERS, "answers from the state that the stores of snapshots hold"),
     Command("md", LAYERS, "the table of an md array, or answers followed on through one", True),
     Command("under", LAYERS, "the tables of a disk under a stack that names it", True),
+    Command("thin", LAYERS, "thin devices, from what thin_dump prints", True),
+    Command("cache", LAYERS, "a cached device, from what cache_dump prints", True),
+    Command("btrfs", LAYERS, "the addresses of a btrfs file system as a device", True),
+    Command("file-device", LAYERS, "a file as a device", True),
 ]
 
 

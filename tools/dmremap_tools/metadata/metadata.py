@@ -14,7 +14,7 @@ group's id and the time, as a group that was removed may have had the same name,
 
 import argparse
 
-from dmremap_tools.base import streams
+from dmremap_tools.base import numbers, streams
 from dmremap_tools.base.disk_image import open_image
 from dmremap_tools.metadata.chosen_part import chosen_part
 from dmremap_tools.metadata.older_texts import text_at, text_with, texts_in
@@ -25,12 +25,12 @@ EXAMPLE = "dmremap-tools metadata vg0-head.img > vg0.backup && dmremap table lvm
 
 def add_words(parser: argparse.ArgumentParser) -> None:
     """Adds HEAD, and what is to be had of it."""
-    parser.add_argument("--partition", type=int, metavar="N", help="the partition of a whole disk, or 0 for the disk itself")
+    parser.add_argument("--partition", type=numbers.word, metavar="N", help="the partition of a whole disk, or 0 for the disk itself")
     which = parser.add_mutually_exclusive_group()
     which.add_argument("--area", metavar="FILE", help="a metadata area that HEAD lacks, fetched as a message said")
     which.add_argument("--list", action="store_true", help="list the texts that are left in the first MiB")
-    which.add_argument("--seqno", type=int, metavar="N", help="print the text with this number, which is one of the list")
-    which.add_argument("--at", type=int, metavar="BYTE", help="print the text at this place, which is one of the list")
+    which.add_argument("--seqno", type=numbers.word, metavar="N", help="print the text with this number, which is one of the list")
+    which.add_argument("--at", type=numbers.word, metavar="BYTE", help="print the text at this place, which is one of the list")
     parser.add_argument("head", metavar="HEAD", help="the physical volume, or an image of its beginning")
 
 

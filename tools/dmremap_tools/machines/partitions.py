@@ -1,0 +1,135 @@
+"""Tables that end at whole disks, from tables that end at partitions: each partition becomes a device.
+
+Have: FILE, table text or concise text, of a machine or of a volume group; and SFDISK, what `sfdisk -d DISK` prints of
+each disk. With --image DISK=IMAGE answers name the image, and where no SFDISK is of it, its partition table is read from
+it. A disk may be a device of FILE, as /dev/mapper/vg0-lv0, whose partitions then become devices on it.
+
+Get: FILE with a device for each partition. LSBLK says which path a number is, and how long the disks are that DISKS then
+has; an image says its own length.
+
+Refuses a text of sfdisk in other units, lengths on which it and lsblk don't agree, and tables that name no partition of
+these disks. Extended partitions are left out, since they hold others.
+"""
+
+import argparse
+from typing import Dict, Iterator, List, Optional, Tuple
+
+from dmremap_tools.base import disk_image, listings, names, numbers, partition_table, quoting, streams, tables
+from dmremap_tools.base.refusal import Refusal, WrongWords
+from dmremap_tools.machines.sfdisk_text import Partition, partitions_in, path_of
+
+EXAMPLE = "dmremap-tools partitions --lsblk lsblk.txt --disks whole.disks sfdisk.txt tables > whole"
+NO_LINE = "no line names one of these partitions; --lsblk says what numbers are, --image what is an image"
+
+
+class Lowers:
+    """What stands in the new text for what FILE names, and how long each disk is."""
+
+    def __init__(self, sizes: Dict[str, Optional[int]], paths: Dict[str, str], images: Dict[str, str]) -> None:
+        self._paths, self._images, self._named = paths, images, dict(images)
+        self._lengths = {path: sizes[number] for number, path in paths.items()}
+        for disk, image in images.items():
+            self._lengths[image] = self._lengths.get(disk)
+
+    def measure(self, image: str, length: int) -> None:
+        """Knows how long an image is."""
+        if self._lengths.get(image) not in (None, length):
+            raise Refusal(image, "lsblk and the image differ in its length")
+        self._lengths[image] = length
+
+    def add(self, partition: Partition, name: str) -> None:
+        """Knows a partition by its own path, and by that on the disk that it is the image of."""
+        paths = [partition.path] + [path_of(disk, partition.number) for disk, image in self._images.items() if image == partition.disk]
+        for path in paths:
+            if self._lengths.get(path) not in (None, partition.length):
+                raise Refusal(path, "lsblk and sfdisk differ in its length")
+            self._named[path] = names.MAPPER + name
+
+    def new(self, lower: str) -> str:
+        """What stands for a disk or a device."""
+        path = self._paths.get(lower, lower)
+        return self._named.get(path, path)
+
+    def disks_of(self, devices: List[tables.Device], lsblk: Optional[str]) -> Iterator[Tuple[str, int]]:
+        """The disks below these devices, each once, with their lengths."""
+        lowers = [lower for device in devices for lower in device.lowers() if not lower.startswith(names.MAPPER)]
+        for disk in dict.fromkeys(lowers):
+            length = self._lengths.get(disk)
+            if not length:
+                raise Refusal(lsblk or "--lsblk", "no length of " + disk)
+            yield disk, length
+
+
+def add_words(parser: argparse.ArgumentParser) -> None:
+    """Adds SFDISK, FILE and what goes with them."""
+    parser.add_argument("--lsblk", metavar="LSBLK", help="what `%s` prints" % listings.LSBLK_COMMAND)
+    parser.add_argument("--disks", metavar="DISKS", help="the file to write DISKS to")
+    parser.add_argument("--image", action="append", default=[], metavar="DISK=IMAGE", help="an image, and the disk that FILE names")
+    parser.add_argument("--sector-size", type=numbers.word, metavar="BYTES", help="how many bytes a sector has, for texts of an old sfdisk")
+    parser.add_argument("sfdisk", nargs="*", metavar="SFDISK", help="what `sfdisk -d` prints of a disk")
+    parser.add_argument("file", metavar="FILE", help="table text or concise text")
+
+
+def run(words: argparse.Namespace) -> None:
+    """Puts the devices of the partitions before those of FILE, which then name these and the disks."""
+    beside = streams.beside(words.disks) if words.disks else None
+    images = images_in(words.image)
+    lowers = Lowers(*(listings.read_lsblk(words.lsblk) if words.lsblk else ({}, {})), images)
+    partitions = [it for path in words.sfdisk for it in partitions_in(path, words.sector_size)]
+    for image in dict.fromkeys(images.values()):
+        if image not in [it.disk for it in partitions]:
+            partitions += partitions_of(image, lowers)
+    devices, is_concise = tables.read(words.file)
+    made = devices_of(partitions, devices, lowers, images, is_concise)
+    for device in devices:
+        device.lines = [line.with_lowers(lowers.new) for line in device.lines]
+    below = [it for it, volume in made if volume is None]
+    above = [it for it, volume in made if volume is not None]
+    named = {lower for device in devices for lower in device.lowers()}
+    if not above and not any(names.MAPPER + it.name in named for it in below):
+        raise Refusal(words.file, NO_LINE)
+    if beside:
+        beside.write("".join("%s %d\n" % it for it in lowers.disks_of(below + devices, words.lsblk)))
+    streams.out.write(tables.text_of(below + devices + above, is_concise))
+
+
+def images_in(words: List[str]) -> Dict[str, str]:
+    """The image of each disk."""
+    for word in words:
+        if "=" not in word or not names.DISK.fullmatch(word.partition("=")[2]):
+            raise WrongWords("--image has no DISK=IMAGE: " + quoting.shown(word))
+    return {disk: image for disk, _, image in (it.partition("=") for it in words)}
+
+
+def partitions_of(path: str, lowers: Lowers) -> List[Partition]:
+    """The partitions that an image itself has."""
+    image = disk_image.open_image(path)
+    lowers.measure(path, image.size // numbers.SECTOR)
+    table = partition_table.table_of(image)
+    if table is None:
+        raise Refusal(path, "it has no partition table, and no text of `sfdisk -d` is of this image")
+    return [Partition(path, path_of(path, str(it.number)), it.start // numbers.SECTOR, it.size // numbers.SECTOR) for it in table.partitions]
+
+
+def devices_of(partitions: List[Partition], devices: List[tables.Device], lowers: Lowers, images: Dict[str, str],
+               is_concise: bool) -> List[Tuple[tables.Device, Optional[tables.Device]]]:
+    """The device that each partition becomes, and the device of FILE that it lies on, if it does."""
+    of, made = {it.name: it for it in devices}, []
+    taken = set(of)
+    volumes = {image: of[names.of_path(disk)] for disk, image in images.items() if names.of_path(disk) in of}
+    for partition in partitions:
+        volume = of.get(names.of_path(partition.disk)) or volumes.get(partition.disk)
+        if not volume and not names.DISK.fullmatch(partition.disk):
+            raise Refusal(partition.path, "%s is neither a disk nor a device of FILE" % quoting.shown(partition.disk))
+        name = path_of(volume.name, partition.number) if volume else partition.path.rpartition("/")[2]
+        if name in taken or not names.FORM.fullmatch(name):
+            raise Refusal(quoting.shown(partition.path), "its name is taken, or none of a device")
+        if volume and partition.start + partition.length > volume.end():
+            raise Refusal(quoting.shown(partition.path), "it goes past the end of " + volume.name)
+        taken.add(name)
+        lowers.add(partition, name)
+        device = tables.Device(name, (volume.flags if volume else "rw") if is_concise else "")
+        lower = names.MAPPER + volume.name if volume else partition.disk
+        device.lines = [tables.Line(0, partition.length, "linear", [lower, str(partition.start)])]
+        made.append((device, volume))
+    return made
