@@ -72,12 +72,14 @@ def follow(array: arrays.Array, disk: str, copy: "int | None", source: pieces.An
         array.refuse("it has %d copies, counted from 0" % (near * far))
     for piece in source:
         if disk not in (piece.disk, piece.to):
-            streams.out.write(source.line + "\n")
+            is_move = piece.what in ("R", "W")
+            streams.out.write(("%d %s %s %d %d" % (piece.request, piece.what, piece.disk, piece.start, piece.count) if is_move
+                               else source.line) + "\n")
             continue
         if piece.what not in ("R", "W") or piece.what == "W" and array.level in arrays.PARITY:
-            source.refuse("on %s only reads are followed: %s" % (quoting.shown(disk), quoting.shown(source.line)))
+            source.refuse_line("on %s only reads are followed" % quoting.shown(disk))
         if piece.start + piece.count > array.sectors:
-            source.refuse("%s has %d sectors: %s" % (quoting.shown(disk), array.sectors, quoting.shown(source.line)))
+            source.refuse_line("%s has %d sectors" % (quoting.shown(disk), array.sectors))
         for name, start, count in _joined(_read(array, piece, copy or 0) if piece.what == "R" else _written(array, piece)):
             streams.out.write("%d %s %s %d %d\n" % (piece.request, piece.what, name, start, count))
 
