@@ -6,6 +6,7 @@ the files `1`, `2` and so on, which follow the words, if none of these names the
 
 import importlib
 import os
+import resource
 import shutil
 import signal
 import sys
@@ -54,16 +55,21 @@ def check_rows(tally, program, top, rows):
         tally.same("%s %s over %r" % (command, " ".join(words), inputs[-1][:40] if inputs else ""), got, status, output, wanted)
 
 
-def call(top, words, given=b"", folder=None):
-    """Runs the tool with these words."""
+def call(top, words, given=b"", folder=None, stdout=None, stderr=None, memory=None):
+    """Runs the tool with these words, perhaps with other outputs, and with so many bytes of memory."""
     main = _main(top)
+    command = main.commands.find(words[0]) if words else None
+    if command:
+        # Once, and not in each fork.
+        importlib.import_module("dmremap_tools." + command.module)
     with tempfile.TemporaryFile() as inward, tempfile.TemporaryFile() as out, tempfile.TemporaryFile() as err:
         inward.write(as_bytes(given))
         inward.seek(0)
         sys.stdout.flush()
         child = os.fork()
         if child == 0:
-            _become(main, words, [inward.fileno(), out.fileno(), err.fileno()], folder)
+            outputs = [out.fileno() if stdout is None else stdout, err.fileno() if stderr is None else stderr]
+            _become(main, words, [inward.fileno(), *outputs], folder, memory)
         status = _status(os.waitpid(child, 0)[1])
         out.seek(0)
         err.seek(0)
@@ -81,13 +87,15 @@ def _main(top):
     return importlib.import_module("dmremap_tools.main")
 
 
-def _become(main, words, descriptors, folder):
+def _become(main, words, descriptors, folder, memory):
     """Does in the new process what a shell does in one, and ends it."""
     try:
         for place, descriptor in enumerate(descriptors):
             os.dup2(descriptor, place)
         if folder:
             os.chdir(folder)
+        if memory:
+            resource.setrlimit(resource.RLIMIT_AS, (memory, memory))
         sys.argv[0] = os.path.join(os.path.dirname(os.path.dirname(os.path.dirname(main.__file__))), TOOL)
         signal.signal(signal.SIGALRM, signal.SIG_DFL)
         signal.alarm(SECONDS)

@@ -33,6 +33,7 @@ class Output:
     def __init__(self, descriptor: int, name: str) -> None:
         self._descriptor, self._name = descriptor, name
         self._parts: List[str] = []
+        self._is_open = True
 
     def write(self, text: str) -> None:
         """Writes text, now or later."""
@@ -59,6 +60,7 @@ class Output:
     def close(self) -> None:
         """Flushes, and closes it, as some file systems say only then that they are full."""
         self.flush()
+        self._is_open = False
         try:
             os.close(self._descriptor)
         except OSError as fault:
@@ -66,8 +68,9 @@ class Output:
 
     def spoil(self) -> None:
         """Ends it with the line `refused`, which dmremap takes for nothing, wherever it reads it."""
-        self.write(SPOILED)
-        self.flush()
+        if self._is_open:
+            self.write(SPOILED)
+            self.flush()
 
     def _fail(self, fault: OSError) -> NoReturn:
         self._parts = []
@@ -219,7 +222,8 @@ def _show(text: str) -> None:
 def finish() -> None:
     """Writes what is left to all outputs, and closes them."""
     _clear_progress()
-    for each in [*_besides, out]:
+    flush()
+    for each in [out, *_besides]:
         each.close()
 
 
