@@ -4,6 +4,7 @@ is made of it by the program."""
 import os
 import re
 
+import elsewhere_rows
 import machine_rows
 import partition_rows
 import tool_calls
@@ -16,8 +17,10 @@ def check(tally, program, top):
     """Each row, the samples, files that aren't there, and large machines."""
     for row in machine_rows.ROWS + partition_rows.ROWS:
         check_row(tally, program, top, *row)
+    tool_calls.check_rows(tally, program, top, elsewhere_rows.ROWS)
     check_samples(tally, program, top)
     check_missing(tally, program, top)
+    check_images(tally, program, top)
     check_large(tally, program, top)
 
 
@@ -69,6 +72,18 @@ def check_missing(tally, program, top):
     tally.same("DISKS that can't be written", got, 1, "refused\n", TOOL + " machine: no/where: No such file or directory\n")
 
 
+def check_images(tally, program, top):
+    """Lengths of images, in whole sectors."""
+    for name, size in (("one", 1100), ("two", 512)):
+        program.file("machines/" + name, bytes(size))
+    program.file("machines/paths", "/dev/sda one\nb two\n")
+    folder = os.path.join(program.room, "machines")
+    tally.same("DISKS of images", tool_calls.call(top, ["disks", "--paths", "paths"], folder=folder), 0, "/dev/sda 2\nb 1\n")
+    for words in ([], ["text", "--paths", "paths"]):
+        got = tool_calls.call(top, ["disks", *words], folder=folder)
+        tally.holds("disks with the words %s" % words, got.status == 2 and got.err.decode().endswith("give TEXT or --paths PATHS\n"), got.err)
+
+
 def check_large(tally, program, top):
     """Devices on each other, a thousand of them, from the top down and from the bottom up."""
     count = 1000
@@ -81,3 +96,10 @@ def check_large(tally, program, top):
         found = {int(it) for it in re.findall(r"left out: d(\d+) \(it stands on itself, or on too many others\), the disk", got.err.decode())}
         is_so = got.status == 0 and found == left and got.out.count(b"\n") == count - len(left)
         tally.holds("a thousand devices on each other", is_so, "status %s, %s" % (got.status, sorted(found ^ left)[:5]))
+    # Each device lies on two of the level below, so that there are more ways down than can be counted.
+    levels = 200
+    rows = "".join("%d:%d 8 d%d.%d d%d.%d\n" % (level, it, level, it, level - 1, below) if level else "0:%d 8 d0.%d \n" % (it, it)
+                   for level in range(levels) for it in range(2) for below in range(2))
+    disks = "d%d.0 8\nd0.0 8\n" % (levels - 1)
+    got = tool_calls.call(top, ["aliases", program.file("machines/lsblk", rows), program.file("machines/listed", disks)])
+    tally.same("a lattice of devices", got, 0, "d%d.0 lies on d0.0\n" % (levels - 1))

@@ -32,6 +32,9 @@ COMMANDS: List[Command] = [
     Command("whole", REQUESTS, "for the whole of a device", True),
     Command("machine", MACHINES, "of a machine with device-mapper devices", True),
     Command("partitions", MACHINES, "of whole disks, from tables that end at partitions", True),
+    Command("disks", MACHINES, "DISKS of a volume group, or of images", True),
+    Command("elsewhere", MACHINES, "for dmsetup, where disks have other paths, with all devices read-only", True),
+    Command("aliases", MACHINES, "disks that are one disk, or lie on each other"),
     Command("metadata", METADATA, "the text of a group, from the head of a physical volume"),
     Command("lvm2-text", METADATA, "a copy of lvm2's metadata that dmremap reads"),
     Command("totals", ANSWERS, "what is done on each disk"),
@@ -61,6 +64,7 @@ COMMANDS: List[Command] = [
     Command("cache", LAYERS, "a cached device, from what cache_dump prints", True),
     Command("btrfs", LAYERS, "the addresses of a btrfs file system as a device", True),
     Command("file-device", LAYERS, "a file as a device", True),
+    Command("nbd-plugin", LAYERS, "the path of a plugin by which nbdkit serves a device as a disk"),
 ]
 
 

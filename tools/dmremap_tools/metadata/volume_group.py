@@ -1,7 +1,9 @@
 """The volumes of a group as its metadata says them."""
 
+import collections
 from typing import Dict, List, NamedTuple, Optional, Set, Tuple
 
+from dmremap_tools.base import names
 from dmremap_tools.base.config_text import Node, Value
 
 # The types of segments that dmremap reads, and what lvm2 calls the first of them as well.
@@ -74,6 +76,19 @@ def sections_in(node: Node, key: bytes) -> List[Node]:
     """The sections inside the one of this key."""
     found = node.child(key)
     return found.sections() if found else []
+
+
+def disk_names(physicals: List[Node]) -> List[str]:
+    """The names that dmremap has for the disks of these physical volumes: the paths, where they are names of disks and no
+    two are the same, and otherwise the keys."""
+    found = [it.value(b"device", bytes) for it in physicals]
+    count = collections.Counter(found)
+    named = []
+    for node, path in zip(physicals, found):
+        text = path.decode("utf-8", "surrogateescape") if isinstance(path, bytes) else ""
+        is_name = text.startswith("/") and names.DISK.fullmatch(text) and count[path] == 1
+        named.append(text if is_name else node.key.decode("utf-8", "surrogateescape"))
+    return named
 
 
 def segment_of(node: Node) -> Segment:
