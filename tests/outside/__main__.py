@@ -36,6 +36,7 @@ import limits
 import loads
 import lookers
 import lvm2_texts
+import machines
 import manual
 import metadata_areas
 import origins
@@ -87,6 +88,7 @@ def main():
         tool_answers.check(tally, program, TOP)
         layouts.check(tally, program, TOP)
         sector_files.check(tally, program, TOP)
+        machines.check(tally, program, TOP)
         metadata_areas.check(tally, program, TOP)
         lvm2_texts.check(tally, program, TOP)
         lookers.check(tally, TOP)
