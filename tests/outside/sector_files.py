@@ -1,7 +1,8 @@
-"""The command `files`: of the sample, of what is no file system, of names that look like lines of debugfs, and of a file
-system that is made here, each of whose files leads back to its name."""
+"""The command `files`: of the sample, of what is no file system, of names that look like lines of debugfs, and of file
+systems that are made here, whole ones and such as lost the sectors that are asked for."""
 
 import os
+import re
 import shutil
 
 import tool_calls
@@ -20,6 +21,9 @@ def check(tally, program, top):
     check_refusals(tally, program, top)
     check_odd_names(tally, program, top)
     check_made_files(tally, program, top)
+    check_whole(tally, program, top)
+    check_lost(tally, program, top)
+    check_xfs(tally, program, top)
 
 
 def found(name):
@@ -76,12 +80,13 @@ def check_refusals(tally, program, top):
         tally.holds("files of " + os.path.basename(image), (got.status, got.out) == (1, b"") and got.err.startswith(begins), got.err)
 
 
-def made(tally, program, name, contents):
+def made(tally, program, name, contents, *words, size="8M"):
     """A file system with these files, or None."""
     for path, content in contents.items():
         program.file("%s/%s" % (name, path), content)
     image = os.path.join(program.room, name + ".img")
-    ran = run([found("mke2fs"), "-q", "-t", "ext4", "-b", "1024", "-d", os.path.join(program.room, name), image, "8M"])
+    words = words or ("-t", "ext4", "-b", "1024")
+    ran = run([found("mke2fs"), "-q", *words, "-d", os.path.join(program.room, name), image, size])
     return image if tally.holds("the file system %s is made" % name, ran.status == 0, ran.err) else None
 
 
@@ -102,7 +107,7 @@ def check_odd_names(tally, program, top):
     got, said = all_files(program, top, image)
     wanted = {"/plain": 6, "/sp ace ": 6, '"/two\\nlines"': 6, '"/esc\\x1b[2Jape"': 6, '/q"uote \\back': 6, '"/bad\\xff"': 6}
     wanted.update({'"/d\\n%d\\t/victim%d"' % (inode, inode): 2 for inode in range(11, 30)})
-    named = {name: count for name, count in said.items() if "/" in name and count != 2 or "victim" in name}
+    named = {name: count for name, count in said.items() if ("/" in name and count != 2 or "victim" in name) and "inode table" not in name}
     named.pop("/lost+found", None)
     tally.holds("odd names", (got.status, got.err, named) == (0, b"", wanted), "%r, %r" % (got.err, said))
 
@@ -124,3 +129,98 @@ def check_made_files(tally, program, top):
         got = files(program, top, owned, "v", image)
         wanted = "".join("v %d 2 /%s\n" % (2 * int(it), name) for it in blocks)
         tally.holds("the blocks of %s" % name, blocks and got.status == 0 and got.out.decode() == wanted, "%r, %r" % (got.out[:200], got.err))
+
+
+def asked_of(image, request):
+    """What debugfs answers."""
+    return run([found("debugfs"), "-R", request, image]).out.decode()
+
+
+KINDS = [("-t", "ext2", "-b", "1024"), ("-t", "ext3", "-b", "2048"), ("-t", "ext4", "-b", "4096"),
+         ("-t", "ext4", "-b", "1024", "-g", "1024"), ("-t", "ext4", "-O", "^sparse_super,^resize_inode", "-b", "1024", "-g", "2048"),
+         ("-t", "ext4", "-O", "sparse_super2,^resize_inode", "-b", "1024", "-g", "2048"), ("-t", "ext4", "-O", "bigalloc", "-b", "1024"),
+         ("-t", "ext4", "-O", "meta_bg,^resize_inode", "-b", "1024", "-g", "1024"), ("-t", "ext4", "-I", "1024", "-N", "64")]
+
+
+def check_whole(tally, program, top):
+    """In whole file systems of many kinds each block in use is a file's or the system's, and each file has its blocks."""
+    for number, words in enumerate(KINDS):
+        image = made(tally, program, "whole%d" % number, {"a": os.urandom(9), "d/e": os.urandom(400000), "d/f": os.urandom(3000)}, *words)
+        if not image:
+            continue
+        got, said = all_files(program, top, image)
+        size = int(re.search(r"^Block size: +(\d+)$", asked_of(image, "stats -h"), re.M)[1]) // 512
+        wanted = {name: size * len(asked_of(image, "blocks " + name).split()) for name in ("/a", "/d", "/d/e", "/d/f")}
+        is_so = got.status == 0 and not got.err and "no inode" not in said and all(said.get(name, 0) >= count for name, count in wanted.items())
+        tally.holds("the whole file system of %s" % " ".join(words), is_so, "%r, %r, %r" % (got.err, said, wanted))
+
+
+def check_lost(tally, program, top):
+    """File systems whose sectors read as zeros, as ddrescue leaves them: the files of what was lost there are named."""
+    names = ["/d/f%d" % it for it in range(6)]
+    image = made(tally, program, "lost", {**{it[1:]: os.urandom(3000) for it in names}, "big": os.urandom(200000)}, size="24M")
+    if not image:
+        return
+    stats = asked_of(image, "stats")
+    table, bitmap = (int(re.search(form, stats)[1]) for form in (r"inode table at (\d+)", r"block bitmap at (\d+)"))
+    inodes = {it: int(re.search(r"Inode (\d+) is part", asked_of(image, "imap " + it))[1]) for it in names}
+    # Two inodes of 256 bytes lie in a sector.
+    place = 2 * table + (inodes[names[-1]] - 1) // 2
+    mates = "".join("v %d 1 inode table: %s\n" % (place, it) for it in names if 2 * table + (inodes[it] - 1) // 2 == place)
+    inode = inodes[names[-1]]
+    directory, data = (int(asked_of(image, "blocks " + it).split()[0]) for it in ("/d", names[-1]))
+    rows = [
+        ("an inode", [(place, 1)], "v %d 1\nv %d 2\n" % (place, 2 * data), [], mates + "v %d 2 no inode\n" % (2 * data), None),
+        ("a directory", [(2 * directory, 2)], "v %d 2\nv %d 2\n" % (2 * directory, 2 * data), [],
+         "v %d 2 /d\nv %d 2 inode %d\n" % (2 * directory, 2 * data, inode), "debugfs: ncheck: "),
+        ("the superblock", [(2, 2)], "v 2 2\nv %d 2\n" % (2 * data), [], "v 2 2 in use\nv %d 2 %s\n" % (2 * data, names[-1]), "debugfs: Bad magic number"),
+        ("the superblock, with a copy", [(2, 2)], "v %d 2\n" % (2 * data), ["--superblock", "8193"], "v %d 2 %s\n" % (2 * data, names[-1]), ""),
+        ("the descriptors", [(4, 2)], "v 4 2\nv %d 2\n" % (2 * data), [], "v 4 2 in use\nv %d 2 %s\n" % (2 * data, names[-1]), "debugfs: "),
+        ("a bitmap", [(2 * bitmap, 2)], "v %d 2\nv %d 2\n" % (2 * bitmap, 2 * data), [], "v %d 2 in use\nv %d 2 %s\n" % (2 * bitmap, 2 * data, names[-1]),
+         "debugfs: "),
+    ]
+    for name, lost, owners, words, output, message in rows:
+        damaged = program.file("lost.damaged", read(image))
+        with open(damaged, "r+b") as file:
+            for at, count in lost:
+                file.seek(512 * at)
+                file.write(bytes(512 * count))
+        got = files(program, top, owners, "v", damaged, *words)
+        is_so = (got.status, got.out) == (0, output.encode()) and (got.err == b"" if not message else got.err.startswith(message.encode()))
+        tally.holds("files where %s is lost" % name, is_so, "%r and not %r; %r" % (got.out, output, got.err))
+
+
+def read(path):
+    with open(path, "rb") as it:
+        return it.read()
+
+
+def check_xfs(tally, program, top):
+    """An XFS file system: its files, the files of its inodes, and data whose inode is lost. btrfs is named."""
+    image = program.file("btrfs.img", bytes(65536 + 64) + b"_BHRfS_M")
+    got = files(program, top, "v 0 1\n", "v", image)
+    tally.same("files of btrfs", got, 1, "", "dmremap-tools files: %s: it is btrfs, whose files have no places on a device that debugfs "
+               "or xfs_db tells\n" % image)
+    lost = [it for it in ("mkfs.xfs", "xfs_db") if not found(it)]
+    if lost:
+        tally.skip("files of XFS", "there is no " + lost[0])
+        return
+    image = os.path.join(program.room, "xfs.img")
+    big, small = program.file("xfs/big", os.urandom(50000)), program.file("xfs/small", b"x")
+    proto = program.file("xfs/proto", "/none\n0 0\nd--755 0 0\nd d--755 0 0\nf ---644 0 0 %s\n$\ng ---644 0 0 %s\n$\n" % (big, small))
+    ran = run([found("mkfs.xfs"), "-q", "-f", "-d", "file,name=%s,size=300m" % image, "-p", proto])
+    if not tally.holds("an XFS file system is made", ran.status == 0, ran.err):
+        return
+    got = files(program, top, "v 0 614400\nv 614400 8\n", "v", image)
+    lines = got.out.decode().splitlines()
+    place = {it.split(" ", 3)[3]: it.split(" ", 3)[1:3] for it in lines}
+    wanted = {"/g": "8", "/d/f": "104", "inode table: /d": "8", "inode table: /g": "8", "past its end": "8"}
+    is_so = (got.status, got.err) == (0, b"") and all(place.get(name, "")[1:] == [count] for name, count in wanted.items())
+    tally.holds("files of XFS", is_so and "no inode" not in place, "%r, %r" % (got.err, place))
+    with open(image, "r+b") as file:
+        file.seek(512 * int(place["inode table: /g"][0]))
+        file.write(bytes(4096))
+    got = files(program, top, "v %s 8\n" % place["/g"][0], "v", image)
+    tally.holds("data of a file of XFS whose inode is lost", (got.status, got.out) == (0, ("v %s 8 no inode\n" % place["/g"][0]).encode()), "%r, %r" % (got.out, got.err))
+    tally.same("files of XFS within a file", files(program, top, "v 0 8\n", "v", program.file("in.img", bytes(512) + b"XFSB") + "?offset=512"), 1, "",
+               "dmremap-tools files: %s?offset=512: it is XFS, and xfs_db reads no file system within a file: `losetup -r -o 512`\n" % program.file("in.img", bytes(512) + b"XFSB"))

@@ -31,6 +31,13 @@ def on_terminal(text: str) -> str:
     return "".join(it if it in "\n\t" else _escape(it) for it in text)
 
 
+def printable(text: str) -> str:
+    """The text as it is, or in quotes and with escapes where it has letters that don't print."""
+    if text.isprintable():
+        return text
+    return '"%s"' % escaped(text.replace("\\", "\\\\").replace('"', '\\"'))
+
+
 def for_shell(text: str) -> str:
     """The text as one word of a shell's command."""
     return "'" + text.replace("'", "'\\''") + "'"

@@ -7,20 +7,21 @@ told here is only what was asked for, and leads to its inode where it is looked 
 import re
 from typing import Dict, List, Optional, Sequence, Set
 
-from dmremap_tools.base import quoting, streams
-from dmremap_tools.layouts.debugfs import MOST_COMPLAINTS, Debugfs, quoted
+from dmremap_tools.layouts.debugfs import Debugfs, quoted, tell
 
 NAMED = re.compile(r"([1-9][0-9]{0,9})\t(/.*)")
 FOUND = re.compile(r"Inode ([1-9][0-9]{0,9}) is part of ")
 ROOT = 2
+# debugfs ends its search once it has as many names as the inodes have, so it would miss those of an inode that is lost.
+# The root is asked for as well, as it has no name.
+NCHECK = "ncheck %d" % ROOT
 
 
 def names_of(debugfs: Debugfs, inodes: Sequence[int]) -> Dict[int, List[str]]:
     """The paths of each of these inodes, which may be none."""
     found: Dict[int, List[str]] = {it: [] for it in inodes}
-    for _, printed, complaints in debugfs.ask_for("ncheck", inodes):
-        for complaint in complaints[:MOST_COMPLAINTS]:
-            streams.tell("debugfs: " + quoting.shown(complaint))
+    for _, printed, complaints in debugfs.ask_for(NCHECK, inodes):
+        tell(complaints)
         for match in map(NAMED.fullmatch, printed.split("\n")):
             if match and int(match[1]) in found:
                 found[int(match[1])].append(with_one_slash(match[2]))
@@ -41,7 +42,7 @@ def unsure(debugfs: Debugfs, found: Dict[int, List[str]]) -> Set[int]:
 def names_alone(debugfs: Debugfs, inode: int) -> List[str]:
     """The paths of an inode that is asked for alone. A path that leads elsewhere goes on the name before it."""
     begin = "\n%d\t" % inode
-    printed = ("\n" + debugfs.ask("ncheck %d" % inode)[0]).partition(begin)[2]
+    printed = ("\n" + debugfs.ask("%s %d" % (NCHECK, inode))[0]).partition(begin)[2]
     paths: List[str] = []
     for path in map(with_one_slash, printed[:-1].split(begin)):
         if paths and inode_in(debugfs.ask("imap " + quoted(path))[0]) != inode:
