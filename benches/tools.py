@@ -1,0 +1,115 @@
+#!/usr/bin/env python3
+"""Time and memory of the commands of dmremap-tools, for a number of lines and for a tenth of them.
+
+Usage: benches/tools.py [MOST]
+
+Each line tells a command and its input of MOST lines (1000000 if not said), the least seconds of processor time of three
+runs, how much longer they are than those of a tenth, and the greatest memory in MiB. Time that is linear grows by a factor
+of up to 10.
+"""
+
+import os
+import random
+import subprocess
+import sys
+import tempfile
+
+TOOL = os.path.join(os.path.dirname(os.path.dirname(os.path.realpath(__file__))), "dmremap-tools")
+RUNS = 3
+EXTENTS = ("Filesystem type is: ef53\nFile size of /f is %d (%d blocks of 512 bytes)\n"
+           " ext:     logical_offset:        physical_offset: length:   expected: flags:\n")
+
+
+def pieces(count, dice):
+    for it in range(1, count + 1):
+        yield "%d %s /dev/sd%s %d %d\n" % (it, dice.choice("RW"), dice.choice("abcd"), dice.randrange(1 << 31), dice.choice((8, 16, 256)))
+
+
+def snapshot_pieces(count, dice):
+    for it in range(1, count // 2 + 1):
+        yield "%d copy sda %d 8 sdb %d\n%d W sdb %d 8\n" % (it, dice.randrange(1 << 31), 16 * it, it, 16 * it)
+
+
+def in_bytes(count, dice):
+    for _ in range(count):
+        yield "%s a %d %d\n" % (dice.choice("RW"), dice.randrange(1 << 40), dice.choice((4096, 512, 1000)))
+
+
+def queued(count, dice):
+    for it in range(count):
+        yield ("253,0  %3d %8d %5d.%09d  4101  Q %3s %d + 8 [fio]\n"
+               % (it % 4, it, it // 1000, it % 1000 * 1000000, dice.choice(("R", "WS")), dice.randrange(1 << 31)))
+
+
+def logged(count, dice):
+    yield "fio version 2 iolog\n/dev/mapper/a add\n/dev/mapper/a open\n"
+    for _ in range(count):
+        yield "/dev/mapper/a %s %d 4096\n" % (dice.choice(("read", "write")), dice.randrange(1 << 31) * 512)
+
+
+def extents(count, dice):
+    yield EXTENTS % (count * 4096, count * 8)
+    after = 0
+    for it in range(count):
+        at = dice.randrange(1 << 31) * 8
+        yield ("%4d: %8d..%8d: %10d..%10d: %6d: %10d:%s\n"
+               % (it, 8 * it, 8 * it + 7, at, at + 7, 8, after, " last,eof" if it == count - 1 else ""))
+        after = at + 8
+    yield "/f: %d extents found\n" % count
+
+
+def spans(count, _):
+    for it in range(count):
+        yield "d %d %d a 0 linear\n" % (8 * it, 8 * it + 8)
+
+
+def places(count, dice):
+    for _ in range(count):
+        yield "sda %d 8\n" % dice.randrange(1 << 20)
+
+
+SMALL = {"ls": "a\t(253:0)\n", "table": "a: 0 1048576 linear sda 0\n"}
+ROWS = [
+    (["bytes"], in_bytes), (["cut"], in_bytes), (["trace", "ls", "table"], queued), (["fio", "table"], logged),
+    (["filefrag", "a"], extents), (["totals"], pieces), (["totals"], snapshot_pieces), (["histogram"], pieces),
+    (["splits"], pieces), (["seeks"], pieces), (["json"], pieces), (["to-fio"], pieces), (["dd", "--image", "x"], pieces),
+    (["free"], spans), (["clashes"], spans), (["owner", "table", "-"], places),
+]
+
+
+def main():
+    most = int(sys.argv[1]) if len(sys.argv) > 1 else 1000000
+    with tempfile.TemporaryDirectory() as room:
+        for name, text in SMALL.items():
+            write(os.path.join(room, name), [text])
+        for words, lines in ROWS:
+            seconds, memory = least(words, lines, most, room)
+            tenth, _ = least(words, lines, most // 10, room)
+            print("%-22s %-16s %6.2f s %5.1f %5d MiB" % (" ".join(words), lines.__name__, seconds, seconds / tenth, memory), flush=True)
+
+
+def least(words, lines, count, room):
+    """The least seconds of some runs, and the greatest memory."""
+    path = os.path.join(room, "input")
+    write(path, lines(count, random.Random(1)))
+    ran = [measured(words, path, room) for _ in range(RUNS)]
+    return min(it[0] for it in ran), max(it[1] for it in ran)
+
+
+def write(path, parts):
+    with open(path, "w") as it:
+        it.writelines(parts)
+
+
+def measured(words, path, room):
+    """The seconds of processor time that a run takes, and its memory in MiB."""
+    with open(path, "rb") as given:
+        child = subprocess.Popen([TOOL, *words], stdin=given, stdout=subprocess.DEVNULL, stderr=subprocess.DEVNULL, cwd=room)
+        _, status, used = os.wait4(child.pid, 0)
+    if status:
+        sys.exit("%s: it ended with %d" % (" ".join(words), status))
+    return used.ru_utime + used.ru_stime, used.ru_maxrss >> 10
+
+
+if __name__ == "__main__":
+    main()
