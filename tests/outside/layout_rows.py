@@ -72,8 +72,9 @@ PICTURES = [
          "|    |    b\n|    |    +- 0 8 linear d 0\n"),
     good("tree", [], ["a,,,ro,0 8 linear d 0\n"], "a\n+- 0 8 linear d 0\n"),
     lost("tree", [], ["a: 0 8 linear /dev/mapper/b 0\nb: 0 8 linear /dev/mapper/a 0\n"], "1: devices stand on themselves: a"),
-    lost("tree", [], ["t: 0 8 zero\na: 0 8 linear /dev/mapper/a 0\n"], "1: devices stand on themselves: a"),
-    lost("tree", [], [CHAIN], "c0: devices stand on themselves, or on too many others"),
+    lost("tree", [], ["t: 0 8 zero\na: 0 8 linear /dev/mapper/a 0\n"], "1: devices stand on themselves: a", "t\n+- 0 8 zero\n"),
+    lost("tree", [], [CHAIN], "c0: devices stand on themselves, or on too many others", "c0\n" + "".join(
+        "%s+- 0 8 linear /dev/mapper/c%d 0\n%s|    c%d\n" % ("|    " * it, it + 1, "|    " * it, it + 1) for it in range(32))),
     good("dot", [], ["s: 0 8 snapshot a\"b P P 8\nz: 0 8 zero\nt: 0 8 striped 2 4 d 0 d 4\n"],
          'digraph stack {\n  "disk a\\"b" [shape=box]\n  "s" -> "disk a\\"b" [label="origin 0+8"]\n  "disk P" [shape=box]\n'
          '  "s" -> "disk P" [label="store 0+8"]\n  "s"\n  "z"\n  "disk d" [shape=box]\n  "t" -> "disk d" [label="striped 0+8"]\n  "t"\n}\n'),
