@@ -65,6 +65,8 @@ COMMANDS: List[Command] = [
     Command("btrfs", LAYERS, "the addresses of a btrfs file system as a device", True),
     Command("file-device", LAYERS, "a file as a device", True),
     Command("nbd-plugin", LAYERS, "the path of a plugin by which nbdkit serves a device as a disk"),
+    Command("picture", LAYERS, "the disks and what lies on them, as a picture"),
+    Command("plot", LAYERS, "where answers read and write over their course, as a picture"),
 ]
 
 

@@ -8,6 +8,7 @@ from dmremap_tools.base.refusal import WrongWords
 from dmremap_tools.metadata.volume_group import sections_in
 
 MOST_TEXT = 1 << 20
+FORMATS = ("table", "concise", "lvm")
 
 
 class Given(NamedTuple):
@@ -41,7 +42,7 @@ def given_in(words: List[str], usage: str) -> Given:
     """What the words `map FORMAT FILE [DISKS] [--status]` give."""
     plain = [it for it in words if it != "--status"]
     form = plain[1] if len(plain) > 1 else ""
-    if form not in ("table", "concise", "lvm") or plain[0] != "map" or len(plain) != (3 if form == "lvm" else 4) or len(words) > len(plain) + 1:
+    if form not in FORMATS or plain[0] != "map" or len(plain) != (3 if form == "lvm" else 4) or len(words) > len(plain) + 1:
         raise WrongWords(usage + "\nafter the options stand the words of a map: map FORMAT FILE [DISKS] [--status]")
     return Given(form, plain[2], plain[3] if form != "lvm" else None, len(words) > len(plain))
 

@@ -67,7 +67,7 @@ def prepare(asked: str, stack: Stack, wanted: Wanted, room: str) -> Prepared:
         if snapshot.kind == "N":
             snapshot.refuse("it isn't persistent, so no disk says what is in it; --fresh %s takes it as fresh" % snapshot.name)
     _look_into(asked, stack, wanted, look, room)
-    for it in found:
+    for it in look:
         streams.tell("%s: %s, %d chunks of its store taken" % (it.name, it.state, len(it.taken)))
     devices, renamed = _changed(stack.devices, found)
     source = Stack(devices, stack.sizes).write(room)

@@ -56,13 +56,11 @@ def _folder(path: str) -> str:
 
 
 def _map(prepared: state.Prepared, is_status: bool) -> None:
-    """Runs dmremap over standard input. Its answers are its own, but for the names in status lines."""
-    is_renamed = is_status and bool(prepared.renamed)
+    """Passes on what dmremap answers to standard input, as it comes."""
     streams.flush()
-    child = subprocess.Popen(prepared.words + ["--status"] * is_status, stdin=0, stdout=subprocess.PIPE if is_renamed else 1)
+    child = subprocess.Popen(prepared.words + ["--status"] * is_status, stdin=0, stdout=subprocess.PIPE)
     try:
-        if is_renamed:
-            _pass_on(child.stdout, prepared.renamed)
+        _pass_on(child.stdout, prepared.renamed if is_status else {})
         status = child.wait()
     finally:
         child.kill()
@@ -72,13 +70,14 @@ def _map(prepared: state.Prepared, is_status: bool) -> None:
 
 
 def _pass_on(answers: BinaryIO, renamed: Dict[str, str]) -> None:
-    """Passes answers on as they come, and the status lines, which end them, with the snapshots' own names."""
-    of_other = re.compile("^(?:%s)(?=: )" % "|".join(renamed), re.M)
+    """Passes answers on, and the status lines, which end them, with the snapshots' own names."""
+    of_other = re.compile("^(?:%s)(?=: )" % "|".join(renamed), re.M) if renamed else None
     left = b""
     while True:
         more = os.read(answers.fileno(), PIECE)
         whole, end, left = (left + more).rpartition(b"\n") if more else (left, b"", b"")
-        streams.out.write(of_other.sub(lambda it: renamed[it[0]], (whole + end).decode()))
+        text = (whole + end).decode("utf-8", "surrogateescape")
+        streams.out.write(of_other.sub(lambda it: renamed[it[0]], text) if of_other else text)
         if not more:
             break
         streams.flush()
