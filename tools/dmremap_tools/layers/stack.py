@@ -3,9 +3,9 @@
 import os
 from typing import Dict, Iterable, List, NamedTuple, Optional
 
-from dmremap_tools.base import config_text, disks, names, program, streams, tables
+from dmremap_tools.base import disks, names, program, streams, tables
 from dmremap_tools.base.refusal import WrongWords
-from dmremap_tools.metadata.volume_group import sections_in
+from dmremap_tools.machines.disks import of_group
 
 MOST_TEXT = 1 << 20
 FORMATS = ("table", "concise", "lvm")
@@ -58,7 +58,7 @@ def load(asked: str, given: Given, room: str) -> Stack:
     text = os.path.join(room, "given.concise")
     put(text, [program.ask([asked, "concise", *source])])
     devices = tables.read(text)[0]
-    return Stack(devices, _sizes_in_metadata(file) if given.disks is None else disks.read(listed))
+    return Stack(devices, dict(of_group(file)) if given.disks is None else disks.read(listed))
 
 
 def put(path: str, parts: Iterable[str]) -> None:
@@ -73,15 +73,3 @@ def put(path: str, parts: Iterable[str]) -> None:
 def _copy(path: str, to: str) -> None:
     put(to, [streams.read(path, MOST_TEXT)])
 
-
-def _sizes_in_metadata(path: str) -> Dict[str, int]:
-    """The disks of a group, which are its physical volumes, by the names that dmremap gives them."""
-    top = config_text.Document(path, streams.read_bytes(path)).top
-    found = {it.key.decode(): (it.value(b"device", bytes) or b"", it.value(b"dev_size", int) or 0)
-             for group in top.sections() for it in sections_in(group, b"physical_volumes")}
-    paths = [device for device, _ in found.values()]
-    sizes = {}
-    for key, (device, size) in found.items():
-        name = device.decode("utf-8", "surrogateescape")
-        sizes[name if name[:1] == "/" and names.DISK.fullmatch(name) and paths.count(device) == 1 else key] = size
-    return sizes

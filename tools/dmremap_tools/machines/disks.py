@@ -7,6 +7,7 @@ Refuses a text that is no metadata of a group, and physical volumes of which it 
 """
 
 import argparse
+from typing import Iterator, Tuple
 
 from dmremap_tools.base import disk_image, numbers, paths, streams
 from dmremap_tools.base.config_text import Document, shown
@@ -27,14 +28,15 @@ def run(words: argparse.Namespace) -> None:
     if (words.text is None) == (words.paths is None):
         raise WrongWords("give TEXT or --paths PATHS")
     if words.text is not None:
-        list_group(words.text)
+        for row in of_group(words.text):
+            streams.out.write("%s %d\n" % row)
         return
     for name, path in paths.read(words.paths).items():
         streams.out.write("%s %d\n" % (name, disk_image.open_image(path).size // numbers.SECTOR))
 
 
-def list_group(path: str) -> None:
-    """Prints the physical volumes of a group."""
+def of_group(path: str) -> Iterator[Tuple[str, int]]:
+    """The name and the length of each physical volume of a group."""
     document = Document("standard input" if path == "-" else path, streams.read_bytes(path))
     group = next(iter(document.top.sections()), None)
     physicals = sections_in(group, b"physical_volumes") if group else []
@@ -44,4 +46,4 @@ def list_group(path: str) -> None:
         size = node.value(b"dev_size", int)
         if not isinstance(size, int) or size <= 0:
             raise document.refused(node.start, "no dev_size of %s: take the copy that lvm2-text makes" % shown(node.key))
-        streams.out.write("%s %d\n" % (name, size))
+        yield name, size
