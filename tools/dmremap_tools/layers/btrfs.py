@@ -96,7 +96,7 @@ def run(words: Namespace) -> None:
 def read(path: str) -> List[Chunk]:
     """The chunks that a text has."""
     found: List[Chunk] = []
-    is_chunk = False
+    is_chunk = is_whole = False
     source = streams.Lines(path)
     for row in source:
         item = ITEM.fullmatch(row)
@@ -106,6 +106,9 @@ def read(path: str) -> List[Chunk]:
                 found.append(Chunk("%s:%d" % (source.name, source.number), int(item[3])))
         elif is_chunk:
             found[-1].take(row)
+        is_whole = is_whole or row.startswith("total bytes ")
+    if not is_whole:
+        source.refuse("its end is missing")
     return found
 
 

@@ -11,7 +11,7 @@ that isn't whole, and blocks that are past the end of the cache, or twice. Take 
 from argparse import ArgumentParser, Namespace
 from typing import Iterator, List, Tuple
 
-from dmremap_tools.base import numbers, streams, tables
+from dmremap_tools.base import numbers, quoting, streams, tables
 from dmremap_tools.base.refusal import Refusal
 from dmremap_tools.layers import dumps, parts
 
@@ -35,7 +35,7 @@ def run(words: Namespace) -> None:
     """Prints the device."""
     cache, origin = parts.disk_in(words.cache, "--cache"), parts.disk_in(words.origin, "--origin")
     block, pairs = read(words.dump, words.all)
-    lines = lines_of(sorted(pairs), block, words.sectors, cache, origin)
+    lines = lines_of(words.name, sorted(pairs), block, words.sectors, cache, origin)
     streams.out.write(tables.text_of([parts.device_of(words.name, "ro", lines, parts.part_of(words))], True))
 
 
@@ -56,12 +56,12 @@ def read(path: str, is_all: bool) -> Tuple[int, List[Tuple[int, int]]]:
     return block, pairs
 
 
-def lines_of(pairs: List[Tuple[int, int]], block: int, sectors: int, cache: str, origin: str) -> Iterator[tables.Line]:
+def lines_of(name: str, pairs: List[Tuple[int, int]], block: int, sectors: int, cache: str, origin: str) -> Iterator[tables.Line]:
     """The lines of the device: what follows each other on the cache, too, is one."""
     at, place = 0, 0
     while at < sectors:
         if place < len(pairs) and pairs[place][0] * block < at:
-            raise Refusal("DUMP", "block %d of the origin is there twice" % pairs[place][0])
+            raise Refusal(quoting.shown(name), "block %d of the origin is there twice" % pairs[place][0])
         if place == len(pairs) or pairs[place][0] * block > at:
             end = min(sectors, pairs[place][0] * block) if place < len(pairs) else sectors
             yield tables.Line(at, end - at, "linear", [origin, str(at)])

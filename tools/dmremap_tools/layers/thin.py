@@ -13,7 +13,7 @@ isn't active, or of `thin_dump --metadata-snap`.
 from argparse import ArgumentParser, Namespace
 from typing import Dict, Iterator, List, Optional, Tuple
 
-from dmremap_tools.base import numbers, quoting, streams, tables
+from dmremap_tools.base import quoting, streams, tables
 from dmremap_tools.base.refusal import Refusal
 from dmremap_tools.layers import dumps, parts
 
@@ -72,7 +72,7 @@ def run(words: Namespace) -> None:
     for number, name, sectors in wanted:
         if number not in found:
             raise Refusal(quoting.shown(words.dump), "it has no device %d" % number)
-        lines = lines_of(found[number], block, sectors, data, external.get(number))
+        lines = lines_of(name, found[number], block, sectors, data, external.get(number))
         made.append(parts.device_of(name, "ro", lines, parts.part_of(words)))
     streams.out.write(tables.text_of(made, True))
 
@@ -112,13 +112,13 @@ def _add(into: Optional[Runs], it: dumps.Element, first: int, where: int, count:
         into.add(it.source, first, where, count)
 
 
-def lines_of(runs: Runs, block: int, sectors: int, data: str, external: Optional[str]) -> Iterator[tables.Line]:
+def lines_of(name: str, runs: Runs, block: int, sectors: int, data: str, external: Optional[str]) -> Iterator[tables.Line]:
     """The lines of a device, from its first sector to its last."""
     at = 0
     for run in sorted(runs.found, key=lambda it: it.first):
         first, end = run.first * block, min((run.first + run.count) * block, sectors)
         if first < at:
-            raise Refusal("DUMP", "block %d of a device is there twice" % run.first)
+            raise Refusal(quoting.shown(name), "block %d of a device is there twice" % run.first)
         if first >= sectors:
             break
         if at < first:
