@@ -45,6 +45,7 @@ COMMANDS: List[Command] = [
     Command("json", ANSWERS, "an object for each piece"),
     Command("to-fio", ANSWERS, "a log of the disks' reads, which fio replays", True),
     Command("dd", ANSWERS, "a line for dd for each piece", True),
+    Command("save", ANSWERS, "a volume or a file of it, out of disks or images"),
     Command("read-back", ANSWERS, "a file, put together from the disks"),
     Command("spans", LAYOUTS, "which line uses which sectors of disks and devices, sorted", True),
     Command("free", LAYOUTS, "the same, with what no line names in between"),

@@ -11,8 +11,9 @@ image with ddrescue first.
 
 from argparse import ArgumentParser, Namespace
 from array import array
-from typing import Dict, Iterator, List, Optional, Tuple
+from typing import Dict, Iterable, Iterator, List, Optional, Tuple
 
+from dmremap_tools.answers.gaps import Gaps
 from dmremap_tools.answers.sources import Sources
 from dmremap_tools.answers.target import Target
 from dmremap_tools.base import numbers, paths, pieces, quoting, streams
@@ -52,7 +53,7 @@ def run(words: Namespace) -> Optional[int]:
     return INCOMPLETE if gaps.were_any else None
 
 
-def copy(sources: Sources, target: Target, gaps: "Gaps", at: int, name: str, start: int, count: int) -> None:
+def copy(sources: Sources, target: Target, gaps: Gaps, at: int, name: str, start: int, count: int) -> None:
     """Copies some sectors of a disk to a place, a sector of the file. Without a disk they can't be read."""
     if not name:
         gaps.add(at, count)
@@ -79,26 +80,24 @@ class Places:
         if self.size >= MOST_BYTES:
             self._source.refuse("no file is as long: " + size)
 
-    def next(self) -> Optional[Tuple[int, int]]:
-        """Those of the next request, or None if there is none."""
-        row = next(self._rows, None)
-        if row is None:
-            return None
-        first, _, length = row.partition(" ")
-        at, count = self._source.whole(first), self._source.whole(length)
-        if (at + count) * numbers.SECTOR >= MOST_BYTES:
-            self._source.refuse("no file is as long: " + row)
-        return at, count
+    def __iter__(self) -> Iterator[Tuple[int, int]]:
+        for row in self._rows:
+            first, _, length = row.partition(" ")
+            at, count = self._source.whole(first), self._source.whole(length)
+            if (at + count) * numbers.SECTOR >= MOST_BYTES:
+                self._source.refuse("no file is as long: " + row)
+            yield at, count
 
 
-def placed(places: Places, answers: pieces.Answers) -> Iterator[Tuple[int, pieces.Piece]]:
-    """Each piece with the sector of the file where it goes."""
+def placed(places: Iterable[Tuple[int, int]], answers: pieces.Answers) -> Iterator[Tuple[int, pieces.Piece]]:
+    """Each piece with the sector of the file where it goes. `places` has that of each request, and its length."""
+    rest = iter(places)
     request = at = left = 0
     for piece in answers:
         if piece.what not in READ:
             answers.refuse("not of a read: " + quoting.shown(answers.line))
         while request < piece.request and not left:
-            place = places.next()
+            place = next(rest, None)
             if place is None:
                 answers.refuse("not asked for by PLACES: " + quoting.shown(answers.line))
             request, (at, left) = request + 1, place
@@ -108,7 +107,7 @@ def placed(places: Places, answers: pieces.Answers) -> Iterator[Tuple[int, piece
             answers.refuse("not asked for by PLACES: " + quoting.shown(answers.line))
         yield at, piece
         at, left = at + piece.count, left - piece.count
-    if left or places.next():
+    if left or next(rest, None):
         answers.refuse("request %d is not answered in full" % (request + (not left)))
 
 
@@ -134,24 +133,3 @@ class Steps:
         for place in range(0, len(self._steps), 4):
             at, number, start, count = self._steps[place:place + 4]
             yield at, names[number], start, count
-
-
-class Gaps:
-    """The sectors of the file that can't be read, told in runs."""
-
-    def __init__(self) -> None:
-        self.were_any = False
-        self._first = self._end = 0
-
-    def add(self, first: int, count: int) -> None:
-        """Adds some that follow those before."""
-        if first != self._end:
-            self.tell()
-            self._first = first
-        self._end, self.were_any = first + count, True
-
-    def tell(self) -> None:
-        """Tells the last run."""
-        if self._first < self._end:
-            streams.tell("%d sectors of the file from %d on can't be read" % (self._end - self._first, self._first))
-            self._first = self._end

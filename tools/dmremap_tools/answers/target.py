@@ -1,30 +1,38 @@
-"""A file that is put together: it is made anew, and follows no link."""
+"""A file that is put together. It follows no link."""
 
 import os
+import stat
 from typing import NoReturn
 
-from dmremap_tools.base import streams
+from dmremap_tools.base import quoting, streams
 from dmremap_tools.base.refusal import Refusal
+
+ZEROS = bytes(1 << 20)
 
 
 class Target:
-    """A file of so many bytes, which are zeros without a place on its disk until they are written."""
+    """A file of so many bytes. One that is made anew has zeros without a place on its disk until others are written; one that
+    `is_begun` is there already, of this length."""
 
-    def __init__(self, path: str, size: int) -> None:
-        self._path, self._size = path, size
+    def __init__(self, path: str, size: int, is_begun: bool = False) -> None:
+        self._path, self._size, self._is_begun = path, size, is_begun
+        flags = 0 if is_begun else os.O_CREAT | os.O_EXCL
         try:
-            self._descriptor = os.open(path, os.O_WRONLY | os.O_CREAT | os.O_EXCL | os.O_NOFOLLOW, 0o666)
+            self._descriptor = os.open(path, os.O_WRONLY | os.O_NOFOLLOW | flags, 0o666)
+            found = os.fstat(self._descriptor)
+            if is_begun and (found.st_size != size or not stat.S_ISREG(found.st_mode)):
+                raise Refusal(quoting.shown(path), "it isn't the file that was begun: it has %d bytes and not %d" % (found.st_size, size))
             os.ftruncate(self._descriptor, size)
         except FileExistsError:
-            raise Refusal(path, "it is there already")
+            raise Refusal(quoting.shown(path), "it is there already")
         except (OSError, OverflowError) as fault:
             self._fail(fault)
 
     def write(self, at: int, content: bytes) -> None:
-        """Writes bytes at a place, as far as the file goes. Zeros are there already."""
-        left = memoryview(content)[:max(self._size - at, 0)]
-        if left.nbytes and content.count(0) == len(content):
+        """Writes bytes at a place, as far as the file goes. In a new file zeros are there already."""
+        if not self._is_begun and ZEROS.startswith(content):
             return
+        left = memoryview(content)[:max(self._size - at, 0)]
         try:
             while left:
                 written = os.pwrite(self._descriptor, left, at)
@@ -47,4 +55,4 @@ class Target:
             pass
 
     def _fail(self, fault: Exception) -> NoReturn:
-        raise streams.OutputFailed("%s: %s" % (self._path, getattr(fault, "strerror", None) or fault))
+        raise streams.OutputFailed("%s: %s" % (quoting.shown(self._path), getattr(fault, "strerror", None) or fault))

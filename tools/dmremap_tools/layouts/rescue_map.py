@@ -5,7 +5,7 @@ from typing import Iterator, NamedTuple
 
 from dmremap_tools.base import numbers, quoting, streams
 
-FINISHED, BAD = "+", "-"
+FINISHED, BAD, UNTRIED = "+", "-", "?"
 # A map says first where ddrescue stands. An area has a position, a size and a status.
 NUMBER = r"(0x[0-9A-Fa-f]{1,16}|0|[1-9][0-9]{0,19})"
 CURRENT = re.compile(NUMBER + r"\s+[?*/+FG-](?:\s+[0-9]{1,9})?")

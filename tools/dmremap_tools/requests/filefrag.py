@@ -41,13 +41,7 @@ def run(words: Namespace) -> None:
     """Prints the requests of each file as its extents come."""
     places = streams.beside(words.places) if words.places is not None else None
     name = names.Names(words.ls).device(words.volume, names.Word("VOLUME"))
-    reader = Reader(streams.Lines(words.file), name, places)
-    for fields in reader.source.rows(EXTENT):
-        if isinstance(fields, tuple) and reader.opened:
-            reader.take_extent(*map(int, fields[:6]), fields[6].split(","))
-        else:
-            reader.take_other(reader.source.line)
-    reader.end()
+    Reader(streams.Lines(words.file), name, places).read()
 
 
 class Reader:
@@ -58,6 +52,21 @@ class Reader:
         self.opened = ""
         self.files = self.size = self.block = self.count = self.after = 0
         self.is_known = self.is_last = False
+
+    def read(self) -> None:
+        """Reads all of it."""
+        for fields in self.source.rows(EXTENT):
+            if isinstance(fields, tuple) and self.opened:
+                self.take_extent(*map(int, fields[:6]), fields[6].split(","))
+            else:
+                self.take_other(self.source.line)
+        self.end()
+
+    def add(self, at: int, first: int, count: int) -> None:
+        """Adds an extent: the sector of the file, that of the device, and how many there are."""
+        requests.write(self.source, "R", self.name, first, count)
+        if self.places:
+            write_places(self.places, at, count)
 
     def take_other(self, line: str) -> None:
         """Takes a line that is no extent."""
@@ -91,9 +100,7 @@ class Reader:
             streams.tell("unwritten, so that it reads as zeros: " + quoting.shown(self.source.line.lstrip(" ")))
             return
         sectors = sectors_of(self.source, self.block)
-        requests.write(self.source, "R", self.name, start * sectors, length * sectors)
-        if self.places:
-            write_places(self.places, first * sectors, length * sectors)
+        self.add(first * sectors, start * sectors, length * sectors)
 
     def end(self) -> None:
         """Refuses what isn't whole."""
