@@ -8,7 +8,7 @@ import os
 
 import tool_calls
 from harness import NOBODY, run
-from physical_volumes import FIRST, MAGIC, SECTOR, area, gpt, label, mbr, text_of_area, volume
+from physical_volumes import FIRST, MAGIC, SECTOR, area, gpt, label, mbr, md_member, text_of_area, volume, with_backup
 
 # Where the sample has the text of a group that was removed, and where the valid one, which goes round the ring.
 OLD, VALID = 2048, 3840
@@ -23,7 +23,7 @@ NEWER = TEXT.replace(b"7", b"10")
 SEARCHED = "metadata areas were looked for in the first and last 4 MiB\n"
 NOT_FOUND = ", and no metadata area is in the first or last 4 MiB"
 FROM_FIRST = ": take the physical volume from its first byte on, or " + OTHER[2:]
-USAGE = "usage: dmremap-tools metadata [-h] [--partition N]"
+USAGE = "usage: dmremap-tools metadata [-h] [--partition N | --start SECTOR]\n"
 SAID = "dmremap-tools metadata: "
 
 
@@ -35,12 +35,14 @@ def check(tally, program, top):
     check_rings(command, group)
     check_flips(tally, group)
     check_lengths(tally, group)
-    for name, head, message in REFUSED:
-        command.refuses(name, head, message)
+    for name, head, *told, message in REFUSED:
+        command.refuses(name, head, message, told="".join(told))
     for name, head, text, message in TAKEN:
         command.takes(name, head, text, message)
     check_second(command)
     check_disks(command)
+    check_places(command)
+    check_heads(command)
     check_files(tally, program, command)
     check_texts(tally, command, group)
 
@@ -66,10 +68,10 @@ class Command:
         self.program.file("head", head)
         self.tally.same("the text of " + name, self.answer(words), 0, text.rstrip(b"\0"), message and "head: " + message)
 
-    def refuses(self, name, head, message, words=("head",), path="head"):
-        """It refuses an image, with this message."""
+    def refuses(self, name, head, message, words=("head",), path="head", told=""):
+        """It refuses an image, with this message, and tells something before."""
         self.program.file("head", head)
-        self.tally.same("the text of " + name, self.answer(words), 1, "", SAID + path + ": " + message + "\n")
+        self.tally.same("the text of " + name, self.answer(words), 1, "", told + SAID + path + ": " + message + "\n")
 
 
 def read(path):
@@ -175,9 +177,14 @@ TWO_AREAS = volume((FIRST, area(TEXT)), (SECOND, area(NEWER, start=SECOND)))
 NO_LABEL = with_bytes(ONE_AREA, SECTOR, bytes(SECTOR))
 OTHER_GROUP = TEXT.replace(b"AAAAAA", b"BBBBBB")
 
+SUMMARY = "vg0 seqno %d, volumes: none\n"
+OLDER = (ONE + "its text is older: " + SUMMARY % 7).join(["passed over: ", "head: taken: the metadata area at byte 65536: " + SUMMARY % 10])
+BOTH_TOLD = "head: " + ONE + SUMMARY % 7 + "head: the metadata area at byte 65536: " + SUMMARY % 7
+LABELLED = "; the label of one that begins at sector %d is sound: take it with --start %d"
+
 REFUSED = [
     ("zeros", bytes(8192), "there is no label in the first four sectors" + NOT_FOUND + FROM_FIRST),
-    ("no group", volume((FIRST, area(b"")), is_used=False), "the physical volume belongs to no group"),
+    ("no group", volume((FIRST, area(b"")), is_used=False), "the physical volume belongs to no group: see what is left of older texts with --list"),
     ("no text, of a group", volume((FIRST, area(b""))), ONE + "it has no text" + LISTED),
     ("no area", volume(), "this physical volume keeps no metadata" + OTHER),
     ("an area that is not used", volume((FIRST, area(TEXT, flags=1))), ONE + "lvm2 keeps no text in it" + LISTED),
@@ -203,9 +210,9 @@ REFUSED = [
      ONE + "the image ends before it does: fetch it, and run this again with --area area.img: "
      "dd if=DISK of=area.img bs=512 skip=8 count=8"),
     ("an image that ends in the label", ONE_AREA[:SECTOR + 100], "the label in sector 1 is cut off" + NOT_FOUND + FROM_FIRST),
-    ("two areas of different groups", volume((FIRST, area(TEXT)), (SECOND, area(OTHER_GROUP, start=SECOND))),
+    ("two areas of different groups", volume((FIRST, area(TEXT)), (SECOND, area(OTHER_GROUP, start=SECOND))), BOTH_TOLD,
      "the metadata areas at byte 4096 and 65536 have texts of different groups" + OTHER),
-    ("two texts with one seqno", volume((FIRST, area(TEXT)), (SECOND, area(TEXT.replace(b"}", b"x = 1\n}"), start=SECOND))),
+    ("two texts with one seqno", volume((FIRST, area(TEXT)), (SECOND, area(TEXT.replace(b"}", b"x = 1\n}"), start=SECOND))), BOTH_TOLD,
      "the metadata areas at byte 4096 and 65536 have different texts with one seqno" + OTHER),
     ("two areas that are damaged", with_flip(with_flip(TWO_AREAS, FIRST + 40), SECOND + SECTOR),
      ONE + "the sum of its header is wrong; the metadata area at byte 65536: the sum of its text is wrong" + LISTED),
@@ -214,7 +221,7 @@ REFUSED = [
     ("a volume without its first sector", ONE_AREA[SECTOR:], "the label in sector 0 says that it belongs in sector 1; "
      "the metadata area at byte 3584 belongs at byte 4096, so the image lacks its first 512 bytes" + NOT_FOUND + FROM_FIRST),
     ("a volume behind other sectors", bytes(8 * SECTOR) + ONE_AREA, "there is no label in the first four sectors; the metadata area "
-     "at byte 8192 belongs at byte 4096, so a physical volume begins at byte 4096 (sector 8)" + NOT_FOUND + FROM_FIRST),
+     "at byte 8192 belongs at byte 4096, so a physical volume begins at byte 4096 (sector 8)" + NOT_FOUND + LABELLED % (8, 8)),
     ("an image in another format", b"QFI\xfb" + bytes(8186), "there is no label in the first four sectors" + NOT_FOUND
      + ": it is an image of qcow2: convert it with qemu-img convert -O raw"),
     ("an encrypted disk", b"LUKS\xba\xbe" + bytes(8186), "there is no label in the first four sectors" + NOT_FOUND
@@ -234,7 +241,7 @@ TAKEN = [
     ("one with a volume of a guest on it", NO_LABEL.ljust(1 << 20, b"\0") + volume((FIRST, area(OTHER_GROUP))), TEXT,
      "there is no label in the first four sectors; the metadata area at byte 1052672 belongs at byte 4096, so a physical volume "
      "begins at byte 1048576 (sector 2048): " + SEARCHED),
-    ("two areas", TWO_AREAS, NEWER, "passed over: the metadata area at byte 4096: its text is older\n"),
+    ("two areas", TWO_AREAS, NEWER, OLDER),
     ("two areas, of which the first is damaged", with_flip(TWO_AREAS, FIRST + SECTOR), NEWER,
      "passed over: the metadata area at byte 4096: the sum of its text is wrong\n"),
     ("two areas, of which the second is damaged", with_flip(TWO_AREAS, SECOND + 40), TEXT,
@@ -246,7 +253,7 @@ TAKEN = [
     ("two areas with one text of different times", volume((FIRST, area(TEXT)), (SECOND, area(TEXT.replace(b"x", b"y"), start=SECOND))),
      TEXT, ""),
     ("two areas without a label", with_bytes(TWO_AREAS, SECTOR, bytes(SECTOR)), NEWER, "there is no label in the first four sectors: "
-     + SEARCHED + "head: passed over: the metadata area at byte 4096: its text is older\n"),
+     + SEARCHED + "head: " + OLDER),
     # The last bytes of a large image are searched too.
     ("a second area at the end, without a label", with_bytes(volume((9 << 20, area(TEXT, start=9 << 20))), SECTOR, bytes(SECTOR)),
      TEXT, "there is no label in the first four sectors: " + SEARCHED),
@@ -322,9 +329,9 @@ DISKS = [
     ("the beginning of a disk with a GPT", GPT_DISK[:50 * SECTOR], LACKS % ("GPT", "1 from sector 64 on, 3 from sector 128 on", 1, 64)),
     ("a disk whose GPT isn't all there", GPT_DISK[:20 * SECTOR],
      "the image of a whole disk, which ends before its partition table (GPT) does: take more of the disk"),
-    ("a GPT with a damaged header", with_flip(GPT_DISK, SECTOR + 72), DAMAGED_GPT),
-    ("a GPT with a damaged entry", with_flip(GPT_DISK, 2 * SECTOR + 32), DAMAGED_GPT),
-    ("a GPT whose header is gone", with_bytes(GPT_DISK, SECTOR, bytes(SECTOR)), DAMAGED_GPT),
+    ("a GPT with a damaged header", with_flip(GPT_DISK, SECTOR + 72), DAMAGED_GPT + LABELLED % (128, 128)),
+    ("a GPT with a damaged entry", with_flip(GPT_DISK, 2 * SECTOR + 32), DAMAGED_GPT + LABELLED % (128, 128)),
+    ("a GPT whose header is gone", with_bytes(GPT_DISK, SECTOR, bytes(SECTOR)), DAMAGED_GPT + LABELLED % (128, 128)),
     ("a partition table beside a label", BOTH, "there are both a partition table (MBR) and the label of a physical volume, which lvm2 "
      "doesn't take then: --partition N takes a partition, and --partition 0 the disk itself"),
 ]
@@ -354,6 +361,61 @@ NO_PARTITIONS = [
 ]
 
 
+def check_places(command):
+    """Volumes that begin elsewhere, by a label, a partition table's second copy, or an array's superblock."""
+    for name, disk, words, told in PLACES:
+        command.program.file("head", disk)
+        command.tally.same("the text of " + name, command.answer([*words, "head"]), 0, TEXT[:-1], told)
+    for name, disk, words, message in NO_PLACES:
+        command.refuses(name, disk, message, [*words, "head"])
+
+
+BACKUP = "head: the first copy of the partition table (GPT) is damaged: its backup at the end is read\n"
+WITH_BACKUP = with_backup(GPT_DISK.ljust(256 * SECTOR, b"\0"), (64, 71), None, (128, 255))
+LARGE_WITH_BACKUP = with_backup(LARGE_SECTORS.ljust(256 * SECTOR, b"\0"), (16, 31), sector=4096)
+ARRAY = "head: a member of an md array, whose data begins at sector %d: that is read as the physical volume\n"
+FAR = bytes(5 << 20) + ONE_AREA + bytes(5 << 20)
+PLACES = [
+    ("a volume that begins elsewhere", FAR, ["--start", str((5 << 20) // SECTOR)], ""),
+    ("a GPT whose header is damaged", with_flip(WITH_BACKUP, SECTOR + 72), ["--partition", "3"], BACKUP),
+    ("a GPT whose entries are damaged", with_flip(WITH_BACKUP, 2 * SECTOR + 32), ["--partition", "3"], BACKUP),
+    ("a GPT whose beginning is gone", bytes(34 * SECTOR) + WITH_BACKUP[34 * SECTOR:], ["--partition", "3"], BACKUP),
+    ("a GPT of large sectors whose beginning is gone", bytes(34 * SECTOR) + LARGE_WITH_BACKUP[34 * SECTOR:], ["--partition", "1"], BACKUP),
+    # A volume on the whole disk goes before what is left of a table.
+    ("a volume before a GPT that was", with_backup(ONE_AREA.ljust(256 * SECTOR, b"\0"), (128, 255)), [], ""),
+    ("a member of an array, version 1.1", md_member(ONE_AREA, 16), [], ARRAY % 16),
+    ("a member of an array, version 1.2", md_member(ONE_AREA, 2048, 4096), [], ARRAY % 2048),
+    ("a member of an array in a partition", disk_of(mbr((0xFD, 128, 256)), (128, md_member(ONE_AREA, 16))), ["--partition", "1"], ARRAY % 16),
+]
+NO_PLACES = [
+    ("a label in the middle of an image", FAR, [], "there is no label in the first four sectors" + NOT_FOUND + LABELLED % (10240, 10240)),
+    ("two labels", FAR + FAR, [], "there is no label in the first four sectors" + NOT_FOUND
+     + "; labels of some that begin at the sectors 10240, %d are sound: take one with --start SECTOR" % ((len(FAR) + (5 << 20)) // SECTOR)),
+    ("a start after the end", ONE_AREA, ["--start", "16"], "it ends before sector 16"),
+    ("a GPT whose copies are both damaged", with_flip(with_flip(WITH_BACKUP, SECTOR + 72), len(WITH_BACKUP) - SECTOR + 72), [],
+     DAMAGED_GPT + LABELLED % (128, 128)),
+    ("a GPT whose copies are both gone", bytes(34 * SECTOR) + WITH_BACKUP[34 * SECTOR:-SECTOR], ["--partition", "3"],
+     "there is no partition table: leave --partition out"),
+    ("a member of an array without a volume", md_member(bytes(8192), 16), [], "there is no label in the first four sectors" + NOT_FOUND + FROM_FIRST),
+    ("a partition of an array", disk_of(mbr((0xFD, 128, 256)), (128, md_member(ONE_AREA, 16))), [],
+     "the image of a whole disk (MBR), whose partition 1 is a physical volume: take --partition 1, or cut it out"),
+]
+
+
+def check_heads(command):
+    """Heads of several volumes of a group."""
+    volumes = "}\nlogical_volumes {\nhome {\n}\nroot {\n}\n}"
+    apart = TEXT.replace(b"7\n}", ("6\n" + volumes[2:] + "\n}").encode())
+    texts = {"a": TEXT, "b": TEXT.replace(b'"x"', b'"y"'), "c": apart, "d": apart.replace(b"home", b"e\x1b")}
+    for name, text in texts.items():
+        command.program.file(name, volume((FIRST, area(text))))
+    command.tally.same("two heads that agree", command.answer(["a", "b"]), 0, TEXT[:-1])
+    said = "a: vg0 seqno 7, volumes: none\n"
+    differ = SAID + "a: the texts differ: look at what each has, and take the HEAD that is right alone\n"
+    command.tally.same("two heads that differ", command.answer(["a", "c"]), 1, "", said + "c: vg0 seqno 6, volumes: home, root\n" + differ)
+    command.tally.same("heads with an escape", command.answer(["a", "d"]), 1, "", said + "d: vg0 seqno 6, volumes: e\\x1b, root\n" + differ)
+
+
 def check_files(tally, program, command):
     """What can't be read: one line, status 1, and nothing of Python."""
     for name, message in (("nowhere", "No such file or directory"), (".", "Is a directory")):
@@ -374,10 +436,14 @@ def check_files(tally, program, command):
     with open("/dev/full", "wb") as full:
         got = command.run("head", stdout=full)
     tally.same("the text on a full disk", got, 5, "", SAID + "standard output: No space left on device\n")
-    for words in ([], ["head", "head"], ["--partition", "x", "head"], ["--part"], ["--list", "--seqno", "3", "head"]):
+    for words in ([], ["--partition", "x", "head"], ["--part"], ["--list", "--seqno", "3", "head"]):
         got = command.run(*words)
         tally.holds("the words %s" % words, got.status == 2 and got.out == b"" and got.err.decode().startswith(USAGE),
                     "status %s, %r" % (got.status, got.err))
+
+
+    got = command.run("--list", "head", "head")
+    tally.same("the list of two heads", got, 2, "", SAID + "--area, --list, --seqno and --at take one HEAD\n")
 
 
 def refusal_of(path):
@@ -399,21 +465,26 @@ def refusal_of(path):
 
 def check_texts(tally, command, group):
     """The texts that are left where the header is lost; one that the end of the area cuts is not printed."""
-    head, old, _ = sample(group)
+    head, old, valid = sample(group)
 
     def texts(image, *words):
         command.program.file("head", image)
         return command.answer([*words, "head"])
 
     lost = head.replace(MAGIC, bytes(len(MAGIC)))
-    listed = "%d vg0 AAAAAA seqno 13 - Tue Nov 14 22:13:20 2023\n%d vg0 BBBBBB seqno 2 - cut\n" % (FIRST + OLD, FIRST + VALID)
+    listed = "%d vg0 AAAAAA seqno 13 - Tue Nov 14 22:13:20 2023\n%d vg0 BBBBBB seqno 2 - Tue Nov 14 22:13:20 2023\n" % (FIRST + OLD, FIRST + VALID)
     tally.same("the texts of an area", texts(lost, "--list"), 0, listed)
     tally.same("one of them", texts(lost, "--at", str(FIRST + OLD)), 0, old)
     tally.same("one of them by its number", texts(lost, "--seqno", "13"), 0, old)
+    tally.same("one that goes round the ring", texts(lost, "--seqno", "2"), 0, valid)
+    tally.same("the texts of a group that was removed", texts(no_group(head), "--list"), 0, listed)
+    nowhere = with_bytes(lost, SECTOR, bytes(SECTOR))
+    cut = listed.replace("2 - Tue Nov 14 22:13:20 2023", "2 - cut")
+    tally.same("the texts of an area that nothing tells of", texts(nowhere, "--list"), 0, cut)
     rows = [("--at", FIRST + VALID, "the text at that place is cut"), ("--at", FIRST + OLD + 1, "there is no text at that place"),
             ("--seqno", 2, "the text with the seqno 2 is cut"), ("--seqno", 3, "there is no text with the seqno 3")]
     for word, place, message in rows:
-        tally.same("the text with %s %d" % (word, place), texts(lost, word, str(place)), 1, "", SAID + "head: %s\n" % message)
+        tally.same("the text with %s %d" % (word, place), texts(nowhere, word, str(place)), 1, "", SAID + "head: %s\n" % message)
     twice = with_bytes(lost, FIRST + SECTOR, old.replace(b"AAAAAA", b"CCCCCC"))
     tally.same("two texts with one number", texts(twice, "--seqno", "13"), 1, "", SAID + "head: there are several texts with the "
                "seqno 13, at the bytes %d, %d: take one with --at BYTE\n" % (FIRST + SECTOR, FIRST + OLD))
@@ -426,9 +497,15 @@ def check_texts(tally, command, group):
     taken = with_bytes(lost, FIRST + OLD + SECTOR, old)
     lines = texts(taken, "--list").out.decode().splitlines()
     tally.holds("a text that another one cuts", [it.split(" - ")[1] for it in lines] == [
-        "cut", "Tue Nov 14 22:13:20 2023", "cut"], "the list is %r" % lines)
+        "cut", "Tue Nov 14 22:13:20 2023", "Tue Nov 14 22:13:20 2023"], "the list is %r" % lines)
     for name, filler in HOSTILE:
         tally.same("the texts of " + name, texts(bytes(FIRST) + filler, "--list"), 1, "", SAID + "head: there is no text of a group\n")
+
+
+def no_group(head):
+    """The sample after its group was removed: label and header say so."""
+    emptied = with_bytes(head, FIRST, area(b"", size=SIZE)[:SECTOR])
+    return with_bytes(emptied, SECTOR, label([(FIRST, SIZE)], is_used=False))
 
 
 # Half a MiB on which a search may take too long.

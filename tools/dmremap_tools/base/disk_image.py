@@ -1,5 +1,7 @@
 """The image of a disk, or the disk itself, as bytes at their places."""
 
+import errno
+import os
 from typing import BinaryIO, Optional, Tuple
 
 from dmremap_tools.base import streams
@@ -35,6 +37,13 @@ class Image:
         except OSError as fault:
             raise Refusal(self.path, "byte %d and those after it can't be read: %s" % (self.base + at, streams.why(fault)))
         return b"".join(parts)
+
+    def next_data(self, at: int) -> int:
+        """The next byte from `at` on that isn't in a hole of a file, where the file system tells of holes."""
+        try:
+            return os.lseek(self.file.fileno(), self.base + at, os.SEEK_DATA) - self.base
+        except OSError as fault:
+            return self.size if fault.errno == errno.ENXIO else at
 
     def part(self, start: int, size: int) -> "Image":
         """The image of a part of this one."""

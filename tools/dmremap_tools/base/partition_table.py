@@ -4,6 +4,7 @@ import struct
 import zlib
 from typing import List, NamedTuple, Optional, Tuple
 
+from dmremap_tools.base import streams
 from dmremap_tools.base.disk_image import Image
 from dmremap_tools.base.numbers import SECTOR
 from dmremap_tools.base.refusal import Refusal
@@ -37,6 +38,10 @@ FIRST_LOGICAL = 5
 MOST_ENTRIES, MOST_LOGICAL = 1 << 20, 256
 
 
+class DamagedTable(Refusal):
+    """There is a GPT, of which no copy is sound."""
+
+
 def table_of(image: Image) -> Optional[Table]:
     """The partition table of a disk, or None where it has none. As with Linux, an MBR that doesn't say that
     there is a GPT goes before what is left of one."""
@@ -45,41 +50,53 @@ def table_of(image: Image) -> Optional[Table]:
     if entries and not is_protective:
         return Table("MBR", mbr_partitions(image, entries))
     for sector in GPT_SECTORS:
-        header = image.read(sector, sector)
-        if header[:len(GPT)] == GPT:
-            return Table("GPT", gpt_partitions(image, header, sector))
-    if is_protective:
-        raise damaged(image)
+        partitions = gpt_partitions(image, sector, sector)
+        if partitions is not None:
+            return Table("GPT", partitions)
+    if is_protective or any(image.read(it, len(GPT)) == GPT for it in GPT_SECTORS):
+        backup = backup_of(image)
+        if backup is None:
+            raise DamagedTable(image.path, "the image of a whole disk, whose partition table (GPT) is damaged: repair it in a copy with "
+                               "gdisk, or cut the partition out with dd")
+        return backup
     return None
 
 
-def damaged(image: Image) -> Refusal:
-    """What is said of a GPT that its sums don't confirm."""
-    return Refusal(image.path, "the image of a whole disk, whose partition table (GPT) is damaged: repair it in a copy with gdisk, "
-                   "or cut the partition out with dd")
+def backup_of(image: Image) -> Optional[Table]:
+    """The second copy of a GPT, which lies in the last sectors of a disk, or None where it isn't sound."""
+    for sector in GPT_SECTORS:
+        place = image.size // sector * sector - sector
+        partitions = gpt_partitions(image, place, sector) if place > sector else None
+        if partitions is not None:
+            streams.tell("%s: the first copy of the partition table (GPT) is damaged: its backup at the end is read" % image.path)
+            return Table("GPT", partitions)
+    return None
 
 
-def gpt_partitions(image: Image, header: bytes, sector: int) -> List[Partition]:
-    """The partitions of a GPT, whose header and entries have a CRC-32 each."""
+def gpt_partitions(image: Image, place: int, sector: int) -> Optional[List[Partition]]:
+    """The partitions of a GPT whose header is at this byte, or None where it isn't sound: header and entries have a CRC-32
+    each, and the header says where it is."""
+    header = image.read(place, sector)
+    if header[:len(GPT)] != GPT:
+        return None
     if len(header) < sector:
         raise cut_off(image)
     size = number(header, 12)
     if not 92 <= size <= sector or zlib.crc32(header[:16] + bytes(4) + header[20:size]) != number(header, 16):
-        raise damaged(image)
-    start, count, length, checksum = struct.unpack_from("<QLLL", header, 72)
-    if length < 128 or count * length > MOST_ENTRIES:
-        raise damaged(image)
+        return None
+    belongs, start, count, length, checksum = struct.unpack_from("<Q40xQLLL", header, 24)
+    if belongs * sector != place or length < 128 or count * length > MOST_ENTRIES:
+        return None
     entries = image.read(start * sector, count * length)
     if len(entries) < count * length:
         raise cut_off(image)
     if zlib.crc32(entries) != checksum:
-        raise damaged(image)
+        return None
     found = []
-    for place in range(count):
-        entry = entries[place * length:(place + 1) * length]
-        first, last = struct.unpack_from("<QQ", entry, 32)
-        if any(entry[:16]) and first <= last:
-            found.append(Partition(place + 1, first * sector, (last - first + 1) * sector))
+    for at in range(0, count * length, length):
+        first, last = struct.unpack_from("<QQ", entries, at + 32)
+        if any(entries[at:at + 16]) and first <= last:
+            found.append(Partition(at // length + 1, first * sector, (last - first + 1) * sector))
     return found
 
 

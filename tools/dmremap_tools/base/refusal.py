@@ -10,6 +10,7 @@ class Refusal(Exception):
 
     def __init__(self, where: str, why: str) -> None:
         super().__init__("%s: %s" % (where, why))
+        self.why = why
 
 
 class WrongWords(Exception):

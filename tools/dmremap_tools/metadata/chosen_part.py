@@ -4,9 +4,10 @@ from typing import List, Optional
 
 from dmremap_tools.base.disk_image import Image, dd
 from dmremap_tools.base.numbers import SECTOR
-from dmremap_tools.base.partition_table import Partition, Table, table_of
+from dmremap_tools.base.partition_table import DamagedTable, Partition, Table, backup_of, table_of
 from dmremap_tools.base.refusal import Refusal
 from dmremap_tools.metadata.physical_volume import label_of
+from dmremap_tools.metadata.volumes_within import array_data, where_volumes_begin
 
 # How much of a partition is to be fetched: its label, and most areas.
 HEAD = 1 << 20
@@ -18,7 +19,10 @@ def chosen_part(disk: Image, number: Optional[int]) -> Image:
     """The physical volume: the image itself, or a partition of it."""
     if number == 0:
         return disk
-    table = table_of(disk)
+    try:
+        table = table_of(disk) or (backup_of(disk) if label_of(disk)[0] is None else None)
+    except DamagedTable as damaged:
+        raise Refusal(disk.path, damaged.why + where_volumes_begin(disk))
     if number is None and table is None:
         return disk
     if number is None:
@@ -41,7 +45,7 @@ def whole_disk(disk: Image, table: Table) -> str:
                 "--partition N takes a partition, and --partition 0 the disk itself" % table.kind)
     found = "the image of a whole disk (%s)" % table.kind
     there = [it for it in table.partitions if it.start < disk.size]
-    volumes = [it for it in there if label_of(disk.part(it.start, it.size))[0]]
+    volumes = [it for it in there if has_volume(disk.part(it.start, it.size))]
     if len(volumes) == 1:
         return "%s, whose partition %s is a physical volume: take --partition %s, or cut it out" % ((found,) + 2 * (numbers(volumes),))
     if volumes:
@@ -51,8 +55,13 @@ def whole_disk(disk: Image, table: Table) -> str:
         others = ["%d from sector %d on" % (it.number, it.start // SECTOR) for it in table.partitions]
         return ("%s, which ends before its partitions do (%s): fetch the head of the one that you want, and take that as HEAD; "
                 "for %d it is %s" % (found, some(others), first.number, dd(disk, "head.img", first.start, HEAD)))
-    return ("%s, none of whose partitions (%s) has a sound label: take --partition N for one, or cut it out"
-            % (found, numbers(table.partitions) or "-"))
+    return ("%s, none of whose partitions (%s) has a sound label: take --partition N for one, or cut it out%s"
+            % (found, numbers(table.partitions) or "-", where_volumes_begin(disk)))
+
+
+def has_volume(part: Image) -> bool:
+    """Whether a partition is a physical volume, or has one in a member of an md array."""
+    return label_of(part)[0] is not None or array_data(part) is not None
 
 
 def numbers(partitions: List[Partition]) -> str:

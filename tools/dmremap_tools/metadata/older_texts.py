@@ -1,19 +1,17 @@
 """The texts that are left in an image, whole or cut by others that were written over them. No sum confirms them."""
 
-import re
-from typing import Iterator, List, NamedTuple, Optional
+from typing import Iterator, List, NamedTuple, Optional, Tuple
 
 from dmremap_tools.base import quoting
 from dmremap_tools.base.disk_image import Image
+from dmremap_tools.base.numbers import SECTOR
 from dmremap_tools.base.refusal import Refusal
-from dmremap_tools.metadata.group_text import Beginning, beginning_at
+from dmremap_tools.metadata.group_text import Beginning, beginning_at, time_of
+from dmremap_tools.metadata.physical_volume import MOST_AREA, header_fault, label_of, place_in, search
 
-# How much of an image is looked through.
+# How much of an image is looked through where it isn't known where the areas are.
 HEAD = 1 << 20
 BRACE = b' {\nid = "'
-# What a whole text has at its end. Volumes have times of their own.
-CONTENTS = b'\ncontents = "Text Format Volume Group"\n'
-TIME = re.compile(rb"creation_time = [0-9]+(?:\t# ([^\n]*))?")
 
 
 class Text(NamedTuple):
@@ -35,33 +33,49 @@ def foreign(content: bytes) -> str:
 
 
 def texts_in(image: Image) -> List[Text]:
-    """The texts in the first bytes of an image, which is no empty list. The time is linear in these bytes."""
-    head = image.read(0, HEAD)
-    beginnings = list(beginnings_in(head))
-    ends = [it.at for it in beginnings[1:]] + [len(head)]
-    found = [text_from(it._replace(at=image.base + it.at), head[it.at:end].split(b"\0", 1)[0]) for it, end in zip(beginnings, ends)]
+    """The texts that are left in the metadata areas of an image, or in its first bytes where it isn't known where these
+    are; no empty list. The time is linear in the bytes of these."""
+    found = []
+    for start, size in areas_in(image):
+        found += texts_of_ring(image.base + start + SECTOR, image.read(start + SECTOR, size - SECTOR))
+    found = found or texts_of_ring(image.base, image.read(0, HEAD), False)
     if not found:
         raise Refusal(image.path, "there is no text of a group")
     return found
 
 
-def beginnings_in(head: bytes) -> Iterator[Beginning]:
+def areas_in(image: Image) -> List[Tuple[int, int]]:
+    """Where the metadata areas are and how many bytes they have, by the label, or else by their headers."""
+    label, _ = label_of(image)
+    if label:
+        return [it for it in label.areas if SECTOR < it[1] <= MOST_AREA]
+    headers = [place_in(header) for at, header in sorted(set(search(image))) if not header_fault(header, at)]
+    return [it for it in headers if SECTOR < it[1] <= MOST_AREA]
+
+
+def texts_of_ring(start: int, ring: bytes, is_ring: bool = True) -> List[Text]:
+    """The texts in these bytes, of which the last may go on at the beginning of a ring."""
+    beginnings = list(beginnings_in(ring))
+    ends = [it.at for it in beginnings[1:]] + [len(ring)]
+    found = []
+    for it, end in zip(beginnings, ends):
+        content = ring[it.at:end]
+        if is_ring and end == len(ring):
+            content += ring[:beginnings[0].at]
+        content = content.split(b"\0", 1)[0]
+        time = time_of(content)
+        found.append(Text(it._replace(at=start + it.at), content if time else None, time or b"cut"))
+    return found
+
+
+def beginnings_in(content: bytes) -> Iterator[Beginning]:
     """Where texts begin."""
-    brace = head.find(BRACE)
+    brace = content.find(BRACE)
     while brace >= 0:
-        found = beginning_at(head, brace)
+        found = beginning_at(content, brace)
         if found:
             yield found
-        brace = head.find(BRACE, brace + 1)
-
-
-def text_from(beginning: Beginning, content: bytes) -> Text:
-    """The text that these bytes are, or as much of it as they have."""
-    lines = content.rstrip(b"\n")
-    last = lines.rfind(b"\n")
-    time = TIME.fullmatch(lines, last + 1)
-    is_whole = time and len(lines) < len(content) and content.find(CONTENTS, 0, last + 1) >= 0
-    return Text(beginning, content, time[1] or b"no time") if time and is_whole else Text(beginning, None, b"cut")
+        brace = content.find(BRACE, brace + 1)
 
 
 def text_at(image: Image, place: int) -> bytes:

@@ -7,8 +7,9 @@ from dmremap_tools.base.disk_image import Image, dd
 from dmremap_tools.base.numbers import SECTOR
 from dmremap_tools.base.refusal import Refusal
 from dmremap_tools.metadata import physical_volume
-from dmremap_tools.metadata.group_text import beginning_of, without_time
+from dmremap_tools.metadata.group_text import beginning_of, summary, without_time
 from dmremap_tools.metadata.physical_volume import EMPTY, MISSING, SEARCHED, Area, area_at, header_fault, label_of, listed_area
+from dmremap_tools.metadata.volumes_within import where_volumes_begin
 
 OTHER = "try another physical volume of the group, or a file in /etc/lvm/backup"
 # What else a disk or an image may begin with, and what to do then.
@@ -27,7 +28,7 @@ def areas_of(image: Image) -> List[Area]:
         raise Refusal(image.path, "this physical volume keeps no metadata: %s" % OTHER)
     areas = [listed_area(image, label, start, size) for start, size in label.areas]
     if all(it.fault == EMPTY for it in areas if it.fault != MISSING) and label.is_used is False:
-        raise Refusal(image.path, "the physical volume belongs to no group")
+        raise Refusal(image.path, "the physical volume belongs to no group: see what is left of older texts with --list")
     return areas
 
 
@@ -45,8 +46,8 @@ def searched_areas(image: Image, faults: List[str]) -> List[Area]:
         else:
             areas.append(area_at(image, at, size))
     if not areas:
-        raise Refusal(image.path, "%s, and no metadata area is in the first or last %d MiB: %s"
-                      % ("; ".join(why), SEARCHED >> 20, what_else(image)))
+        raise Refusal(image.path, "%s, and no metadata area is in the first or last %d MiB%s"
+                      % ("; ".join(why), SEARCHED >> 20, where_volumes_begin(image) or ": " + what_else(image)))
     streams.tell("%s: %s: metadata areas were looked for in the first and last %d MiB" % (image.path, "; ".join(why), SEARCHED >> 20))
     return areas
 
@@ -85,19 +86,31 @@ def valid_text(image: Image, areas: List[Area]) -> bytes:
     sound = [it for it in areas if it.text is not None]
     if not sound:
         raise Refusal(image.path, none_sound(image, areas))
-    found = [beginning_of(it.text or b"") for it in sound]
-    if len(sound) > 1 and (not all(found) or len({it.identity for it in found if it}) > 1):
-        raise Refusal(image.path, "%s have texts of different groups: %s" % (places(sound), OTHER))
+    check_agreement(image, sound)
     chosen = max(sound, key=seqno)
-    equal = {without_time(it.text or b"") for it in sound if seqno(it) == seqno(chosen)}
-    if len(equal) > 1:
-        raise Refusal(image.path, "%s have different texts with one seqno: %s" % (places(sound), OTHER))
     for it in areas:
         if it.fault:
             streams.tell("%s: passed over: %s: %s" % (image.path, places([it]), it.fault))
         elif seqno(it) != seqno(chosen):
-            streams.tell("%s: passed over: %s: its text is older" % (image.path, places([it])))
+            streams.tell("%s: passed over: %s: its text is older: %s" % (image.path, places([it]), summary(it.text or b"")))
+            streams.tell("%s: taken: %s: %s" % (image.path, places([chosen]), summary(chosen.text or b"")))
     return chosen.text or b""
+
+
+def check_agreement(image: Image, sound: List[Area]) -> None:
+    """Refuses texts of different groups, and different texts with the highest number."""
+    found = [beginning_of(it.text or b"") for it in sound]
+    highest = max(map(seqno, sound))
+    newest = {without_time(it.text or b"") for it in sound if seqno(it) == highest}
+    if len(sound) > 1 and (not all(found) or len({it.identity for it in found if it}) > 1):
+        why = "have texts of different groups"
+    elif len(newest) > 1:
+        why = "have different texts with one seqno"
+    else:
+        return
+    for it in sound:
+        streams.tell("%s: %s: %s" % (image.path, places([it]), summary(it.text or b"")))
+    raise Refusal(image.path, "%s %s: %s" % (places(sound), why, OTHER))
 
 
 def seqno(area: Area) -> int:
