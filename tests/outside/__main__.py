@@ -50,6 +50,7 @@ import refusals
 import replays
 import reports
 import request_lines
+import saves
 import sector_files
 import snapshot_rows
 import snapshots
@@ -88,6 +89,7 @@ def main():
         tool_answers.check(tally, program, TOP)
         layouts.check(tally, program, TOP)
         sector_files.check(tally, program, TOP)
+        saves.check(tally, program, TOP)
         machines.check(tally, program, TOP)
         metadata_areas.check(tally, program, TOP)
         lvm2_texts.check(tally, program, TOP)

@@ -1,8 +1,5 @@
-"""The commands about layouts, and read-back: rows, random stacks whose sectors are looked up one by one, files that are put
-together, and when stores are full."""
+"""The commands about layouts: rows, random stacks whose sectors are looked up one by one, and when stores are full."""
 
-import contextlib
-import errno
 import os
 import random
 import re
@@ -20,71 +17,10 @@ STACKS = 12
 
 def check(tally, program, top):
     tool_calls.check_rows(tally, program, top, layout_rows.ROWS + owner_rows.ROWS)
-    check_read_back(tally, program, top)
     check_full(tally, program, top)
     check_sizes(tally, program, top)
     for seed in range(STACKS):
         check_stack(tally, program, top, random.Random(seed))
-
-
-def check_read_back(tally, program, top):
-    """A file that is put together: of disks with odd names and of some with paths, of one that ends too early, over a file or
-    a link that is there, onto a full disk, and of sectors that can't be read."""
-    folder = os.path.dirname(program.file("back/room"))
-    sectors = [bytes([it]) * 512 for it in range(16)]
-    for name in ["it's", "$(id)", "a&b|c>d", '"`x`"', "elsewhere here"]:
-        program.file("back/" + name, b"".join(sectors))
-
-    def put_together(name, places, pieces, *words):
-        inputs = [program.file("back/places", places), program.file("back/pieces", pieces)]
-        return tool_calls.call(top, ["read-back", *words, *inputs, name], folder=folder)
-
-    def holds(name, got, status, content, message=""):
-        path = os.path.join(folder, name)
-        found = read(path) if os.path.exists(path) else None
-        tally.same("a file put together as " + name, got, status, "", message)
-        tally.holds("the content of " + name, found == content, "it is %r" % found)
-
-    places = "size 3000\n0 4\n6 1\n"
-    pieces = "1 R it's 3 1\n1 R $(id) 8 1\n1 zero 1\n1 R a&b|c>d 0 1\n2 R \"`x`\" 15 1\n"
-    whole = sectors[3] + sectors[8] + bytes(512) + sectors[0] + bytes(3000 - 2048)
-    holds("o'ut", put_together("o'ut", places, pieces), 0, whole)
-    holds("o'ut", put_together("o'ut", places, pieces), 1, whole, "dmremap-tools read-back: o'ut: it is there already\n")
-    os.symlink("behind", os.path.join(folder, "link"))
-    holds("behind", put_together("link", places, pieces), 1, None, "dmremap-tools read-back: link: it is there already\n")
-    holds("no/where", put_together("no/where", places, pieces), 5, None, "dmremap-tools read-back: no/where: No such file or directory\n")
-    program.file("back/paths", "/dev/sda elsewhere here\n")
-    holds("elsewhere", put_together("elsewhere", "size 900\n0 2\n", "1 R /dev/sda 2 2\n", "--paths", "paths"), 0, (sectors[2] + sectors[3])[:900])
-    places = "size 1024\n0 2\n"
-    holds("lost", put_together("lost", places, "1 error 1\n1 R it's 1 1\n"), 4, bytes(512) + sectors[1],
-          "1 sectors of the file from 0 on can't be read\n")
-    holds("gaps", put_together("gaps", "size 3072\n0 3\n3 3\n", "1 R it's 1 1\n1 error 2\n2 error 1\n2 zero 1\n2 error 1\n"), 4,
-          sectors[1] + bytes(2560), "3 sectors of the file from 1 on can't be read\n1 sectors of the file from 5 on can't be read\n")
-    holds("short", put_together("short", places, "1 R it's 15 2\n"), 1, None, "dmremap-tools read-back: it's: it ends before sector 17\n")
-    with unreadable(range(5, 6), range(9, 12)):
-        holds("damaged", put_together("damaged", "size 8192\n0 16\n", "1 R it's 0 16\n"), 4,
-              b"".join(bytes(512) if it in (5, 9, 10, 11) else sectors[it] for it in range(16)),
-              "1 sectors of the file from 5 on can't be read\n3 sectors of the file from 9 on can't be read\n")
-    got = put_together("sparse", "size 4294967296\n8388607 1\n", "1 R it's 5 1\n")
-    found = os.stat(os.path.join(folder, "sparse"))
-    tally.holds("a file with a hole", got.status == 0 and found.st_size == 1 << 32 and found.st_blocks < 1024, "it has %d blocks" % found.st_blocks)
-
-
-@contextlib.contextmanager
-def unreadable(*bad):
-    """Lets no read of these sectors of a disk succeed, as where the disk is damaged."""
-    read_at = os.pread
-
-    def fails(descriptor, size, at):
-        if any(at < 512 * it.stop and 512 * it.start < at + size for it in bad):
-            raise OSError(errno.EIO, os.strerror(errno.EIO))
-        return read_at(descriptor, size, at)
-
-    os.pread = fails
-    try:
-        yield
-    finally:
-        os.pread = read_at
 
 
 def check_full(tally, program, top):
@@ -177,11 +113,6 @@ def check_stack(tally, program, top, dice):
         found = tool("extents", given=answers).out.decode()
         wanted = extents([stack.read("/dev/mapper/" + name, at) for at in range(stack.length("/dev/mapper/" + name))])
         tally.holds("the extents of %s" % name, found == wanted, "%r and not %r" % (found, wanted))
-
-
-def read(path):
-    with open(path, "rb") as it:
-        return it.read()
 
 
 def clashes(stack):

@@ -66,6 +66,8 @@ MADE = {
 DERIVED = [("spans", "spans", ["stack.disks", "stack.table"]),
            ("owners", "owner", ["--disk", "sda", "stack.table", "sda.map"]),
            ("machine.tables", "machine", ["--disks", "machine.disks", "ls.txt", "status.txt", "lsblk.txt", "concise.txt"])]
+# Commands that need the program, or make a file in place of printing. They are tried in `layouts` and `saves`.
+UNPRINTED = {"store-full", "read-back", "save"}
 # What a command needs that may not be there.
 NEEDED = {"files": "debugfs"}
 CUTS, MUTATIONS, MEMORY = 12, 600, 1 << 30
@@ -79,7 +81,7 @@ BITS = [b"0", b"18446744073709551615", b"18446744073709551616", b"9" * 40, b"-1"
 def check(tally, program, top):
     folder = make_room(program, top)
     commands = importlib.import_module("dmremap_tools.commands").COMMANDS
-    lost = {it.name for it in commands} ^ set(CALLS)
+    lost = {it.name for it in commands} ^ (set(CALLS) | UNPRINTED)
     tally.holds("commands whose streams are tried", not lost, "others are %s" % sorted(lost))
     tried = [it for it in commands if it.name in CALLS and shutil.which(NEEDED.get(it.name, "sh"))]
     for command in tried:

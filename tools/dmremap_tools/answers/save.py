@@ -59,23 +59,32 @@ def run(words: Namespace) -> Optional[int]:
     areas = [(it.at * numbers.SECTOR, (it.at + it.count) * numbers.SECTOR) for it in extents]
     saved = SavedMap(words.map, size, areas)
     target = Target(words.target, size, saved.is_begun)
+    is_kept = saved.is_begun
     try:
         saved.write()
-        saver = Saver(sources, target, saved, size)
-        todo = list(left(extents, saved))
-        with Mapped(command, ("R %s %d %d\n" % (volume, it.first, it.count) for it in todo)) as mapped:
-            for at, piece in placed(((it.at, it.count) for it in todo), mapped.answers):
-                saver.save(at, piece)
-        saver.gaps.tell()
+        is_kept = words.map is not None
+        gaps = fill(command, volume, list(left(extents, saved)), Saver(sources, target, saved, size))
+        if is_kept:
+            target.sync()
         target.close()
     except BaseException:
-        if words.map is None:
+        if not is_kept:
             target.discard()
-        else:
-            saved.write()
         raise
-    saved.write()
-    return INCOMPLETE if saver.gaps.were_any and not words.allow_missing else None
+    finally:
+        if is_kept:
+            saved.write()
+    return INCOMPLETE if gaps.were_any and not words.allow_missing else None
+
+
+def fill(command: List[str], volume: str, todo: List[Extent], saver: "Saver") -> Gaps:
+    """Saves what is left to do, and returns what is missing of it."""
+    asked = ("R %s %d %d\n" % (volume, it.first, it.count) for it in todo)
+    with Mapped(command, asked) as mapped:
+        for at, piece in placed(((it.at, it.count) for it in todo), mapped.answers):
+            saver.save(at, piece)
+    saver.gaps.tell()
+    return saver.gaps
 
 
 def whole(command: List[str], volume: str) -> Tuple[int, List[Extent]]:
@@ -150,5 +159,6 @@ class Saver:
         self._saved.mark(begin, begin + size, status)
         streams.show_progress("%d of %d MiB" % ((begin + size) >> 20, self._size >> 20))
         if time.monotonic() - self._written > SECONDS:
+            self._target.sync()
             self._saved.write()
             self._written = time.monotonic()

@@ -40,6 +40,13 @@ class Target:
         except OSError as fault:
             self._fail(fault)
 
+    def sync(self) -> None:
+        """Waits until its disk has what was written."""
+        try:
+            os.fdatasync(self._descriptor)
+        except OSError as fault:
+            self._fail(fault)
+
     def close(self) -> None:
         """Closes the file, as some file systems say only then that they are full."""
         try:
