@@ -247,6 +247,7 @@ LOGS = [
     bad("bytes", [], ["R a 010 8\n"], "1:1: not a whole number below 2^64: '010'"),
     bad("bytes", [], ["R a 8\n"], "1:1: not R or W, a device, an offset and a length: R a 8"),
     good("cut", [], ["R a 0 1048576\nW b 5 1048577\n"], "R a 0 1048576\nW b 5 1048576\nW b 1048581 1\n"),
+    bad("cut", [], ["R a 0 4398046511105\n"], "1:1: longer than 2 PiB: R a 0 4398046511105"),
     bad("cut", [], ["R a 0 1\nR a 0 0\n"], "1:2: no sectors: R a 0 0", "R a 0 1\n"),
     bad("cut", [], ["r a 0 1\n"], "1:1: not a request: r a 0 1"),
     bad("cut", [], ["R a,b 0 1\n"], "1:1: no name of a device: 'a,b'"),
@@ -260,6 +261,7 @@ OTHERS = [
     good("whole", ["a"], ["b,,,rw,0 8 zero;a,,,ro,0 9 zero\n"], "R a 0 9\n"),
     good("whole", ["a"], ["a: 0 8 zero\nb: 0 9 zero\na: 8 2000000 zero\n"], "R a 0 1048576\nR a 1048576 951432\n"),
     bad("whole", ["c"], ["a: 0 8 zero\n"], "1: no device c"),
+    bad("whole", ["a"], ["a: 0 4398046511105 zero\n"], "1: a is longer than 2 PiB"),
     bad("whole", ["/dev/sda"], ["a: 0 8 zero\n"], "VOLUME: no name of a device: '/dev/sda'"),
     bad("whole", ["a"], ["a 0 8 zero\n"], "1:1: not table text: a 0 8 zero"),
 ]

@@ -6,6 +6,9 @@ from typing import Iterator, Tuple
 from dmremap_tools.base import names, numbers, streams
 
 MOST = 1 << 20
+# What is longer than 2 PiB is no length of anything: it would be cut into more than four million requests.
+LONGEST = 1 << 42
+TOO_LONG = "longer than 2 PiB"
 # What to do, a device, and two numbers, as they mostly are.
 _MOST_LINES = re.compile(r"^([RW]) (\S+) %s %s$" % (numbers.SHORT, numbers.SHORT), re.M)
 
@@ -38,6 +41,8 @@ def write(source: streams.Lines, operation: str, name: str, first: int, count: i
         source.refuse_line("no sectors")
     if first + count > numbers.LIMIT:
         source.refuse_line("it goes past sector 2^64")
+    if count > LONGEST:
+        source.refuse_line(TOO_LONG)
     for at, part in parts(first, count):
         streams.out.write("%s %s %d %d\n" % (operation, name, at, part))
     return -(-count // MOST)

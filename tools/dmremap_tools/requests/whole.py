@@ -25,5 +25,7 @@ def run(words: Namespace) -> None:
     ends = [device.end() for device in tables.read(words.tables)[0] if device.name == name]
     if not ends:
         raise Refusal(words.tables, "no device " + name)
+    if ends[-1] > requests.LONGEST:
+        raise Refusal(words.tables, "%s is %s" % (name, requests.TOO_LONG))
     for at, part in requests.parts(0, ends[-1]):
         streams.out.write("R %s %d %d\n" % (name, at, part))
