@@ -51,7 +51,7 @@ def wanted_in(words: argparse.Namespace) -> Wanted:
     for word in words.store:
         name, is_given, image = word.partition("=")
         if not image or name in images or name in words.fresh:
-            raise WrongWords("--store\n%s: --store SNAPSHOT=IMAGE, once for each snapshot that isn't --fresh" % quoting.shown(word))
+            raise WrongWords("usage: --store SNAPSHOT=IMAGE\nnot SNAPSHOT=IMAGE, or of one that was given before: " + quoting.shown(word))
         images[name] = image
     return Wanted(images, words.fresh, paths.read(words.paths) if words.paths is not None else {})
 
@@ -74,9 +74,7 @@ def prepare(asked: str, stack: Stack, wanted: Wanted, room: str) -> Prepared:
     if renamed:
         _check_loads(asked, source)
     before = os.path.join(room, "BEFORE")
-    # What lies below is brought to its state first, so that copies from there can be read.
-    depths = _depths(stack)
-    put(before, (block for it in sorted(found, key=lambda it: depths[it.device.name]) for block in _writes_of(it)))
+    put(before, (block for it in found for block in _writes_of(it)))
     if any(line.target == "error" for it in devices for line in it.lines):
         _check_origins([asked, "map", *source], before, renamed)
     return Prepared([asked, "map", *source, "--before", before], renamed)
@@ -129,18 +127,6 @@ def _check_loads(asked: str, source: List[str]) -> None:
     if said:
         raise Refusal("FILE", "with another device below each read-only snapshot that is used, it has more devices, or more on each other, "
                       "than dmremap takes: " + quoting.shown(said.strip()))
-
-
-def _depths(stack: Stack) -> Dict[str, int]:
-    """How many devices stand on each other up to each device."""
-    lower: Dict[str, tables.Device] = stack.by_path()
-    depths: Dict[str, int] = {}
-
-    def depth(path: str) -> int:
-        if path not in depths:
-            depths[path] = 1 + max(map(depth, lower[path].lowers()), default=0) if path in lower else 0
-        return depths[path]
-    return {it.name: depth(path) for path, it in lower.items()}
 
 
 def _writes_of(snapshot: Snapshot) -> Iterator[str]:
