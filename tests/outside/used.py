@@ -85,8 +85,8 @@ def check_states(case):
     case.put("many.table", "s: 0 80 snapshot base cow P 1\n")
     case.put("many.disks", "base 80\ncow 80\n")
     case.put("many", store(many, chunk=1, chunks=80))
-    case.same("three areas", "1 R cow 3 1\n2 R cow 36 1\n3 R cow 72 1\n4 R base 70 10\n", "s: used, 70 chunks of its store taken\n",
-              ["--store", "s=many"], ("table", "many.table", "many.disks"), "R s 0 1\nR s 33 1\nR s 69 1\nR s 70 10\n".replace("69", "68"))
+    case.same("three areas", "1 R cow 3 1\n2 R cow 35 1\n3 R cow 73 1\n4 R base 70 10\n", "s: used, 70 chunks of its store taken\n",
+              ["--store", "s=many"], ("table", "many.table", "many.disks"), "R s 0 1\nR s 33 1\nR s 68 1\nR s 70 10\n")
 
 
 def check_stores_refused(case):
@@ -154,7 +154,7 @@ def check_changes(case):
     """Read-only snapshots, origins that fail, and snapshots of snapshots."""
     case.put("ro", "used-0,,,rw,0 8 zero;s,,,ro,0 64 snapshot base cow P 8;o,,,rw,0 64 snapshot-origin base\n")
     source = ("concise", "ro", "disks")
-    case.same("a read-only one", "1 error 1\n2 copy base 8 8 cow 32\n2 W base 9 1\n3 R cow 24 8\n3 R cow 32 8\n3 R base 16 8\n3 R cow 16 8\n3 R base 32 32\n"
+    case.same("a read-only one", "1 error 1\n2 copy base 8 8 cow 32\n2 W base 9 1\n3 R cow 24 16\n3 R base 16 8\n3 R cow 16 8\n3 R base 32 32\n"
               "s: 0 64 snapshot 40/160 16\n", TOLD, source=source, given="W s 0 1\nW o 9 1\n" + READ, more=["--status"])
     case.put("error", "z: 0 40 linear base 0\nz: 40 24 error\ns: 0 64 snapshot /dev/mapper/z cow P 8\n")
     source = ("table", "error", "disks")

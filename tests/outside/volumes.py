@@ -168,8 +168,8 @@ def check_refusals(case):
             ("half an image", plain + ["image=c"], "image: not image=NAME=PATH, or twice: c"),
             ("an image that isn't there", plain + ["image=c=nothing"], os.path.join(case.folder, "nothing") + ": No such file or directory"),
             ("a source that isn't there", [it.replace("striped", "nothing") for it in plain], os.path.join(case.folder, "nothing") + ": No such file or directory"),
-            ("a store that is none", ["format=lvm", "source=group", "device=vg0-snap", "image=/dev/sda1=sda1.img", "store=vg0-snap=paths"],
-             "the store of vg0-snap: it begins with 0x772f2063 and not 'SnAp', which a kernel refuses")):
+            ("a store that is none", ["format=lvm", "source=group", "device=vg0-snap", "image=/dev/sda1=sda1.img", "store=vg0-snap=root/file"],
+             "the store of vg0-snap: it begins with 0x2265b1f5 and not 'SnAp', which a kernel refuses")):
         got = case.serve(words, "true")
         case.tally.same("a server with " + name, got, 1, "", "%s nbd-plugin: %s\n" % (TOOL, why))
     left = os.listdir(case.env["TMPDIR"])

@@ -77,7 +77,7 @@ def prepare(asked: str, stack: Stack, wanted: Wanted, room: str) -> Prepared:
     put(before, (block for it in found for block in _writes_of(it)))
     if any(line.target == "error" for it in devices for line in it.lines):
         _check_origins([asked, "map", *source], before, renamed)
-    return Prepared([asked, "map", *source, "--before", before], renamed)
+    return Prepared([asked, "map", *source] + ["--before", before] * (os.path.getsize(before) > 0), renamed)
 
 
 def _look_into(asked: str, stack: Stack, wanted: Wanted, look: List[Snapshot], room: str) -> None:

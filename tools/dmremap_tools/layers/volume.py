@@ -18,7 +18,7 @@ from dmremap_tools.base.refusal import Refusal
 from dmremap_tools.layers import stack, state
 from dmremap_tools.layers.mapper import READ, ZERO, Mapper, Part
 
-__all__ = ["API_VERSION", "thread_model", "config", "config_complete", "get_ready", "unload", "open", "get_size", "can_multi_conn",
+__all__ = ["API_VERSION", "thread_model", "config", "config_complete", "get_ready", "cleanup", "open", "get_size", "can_multi_conn",
            "can_extents", "pread", "extents"]
 
 API_VERSION = 2
@@ -91,7 +91,7 @@ def _in_words(call: Call) -> Call:
             return call(*given)
         except Refusal as refusal:
             streams.tell("dmremap-tools nbd-plugin: %s" % refusal)
-            unload()
+            cleanup()
             os._exit(1)
     return run  # type: ignore
 
@@ -179,7 +179,7 @@ def _below(loaded: stack.Stack, top: str) -> "Tuple[set[str], set[str]]":
     return found & set(lower), found - set(lower)
 
 
-def unload() -> None:
+def cleanup() -> None:
     """Takes the files away that were made."""
     if _room:
         shutil.rmtree(_room, ignore_errors=True)
