@@ -1,7 +1,7 @@
 """Commands with their output, as the documents show them, are run in a shell and compared.
 
 In a folder of their own the program is `dmremap`, which is also found as a command, and beside it are
-the repository's examples, and power_cut where the gate leaves it. The commands of one document run one after
+the tool, the repository's examples, and power_cut where the gate leaves it. The commands of one document run one after
 the other, so that a later one finds the files that an earlier one made.
 """
 
@@ -60,7 +60,8 @@ def check(tally, program, top, name, shown):
     folder = os.path.join(program.room, "shown-in-" + name.replace(os.sep, "-"))
     os.mkdir(folder)
     os.symlink(program.path, os.path.join(folder, "dmremap"))
-    os.symlink(os.path.join(top, "examples"), os.path.join(folder, "examples"))
+    for it in ("dmremap-tools", "examples"):
+        os.symlink(os.path.join(top, it), os.path.join(folder, it))
     os.makedirs(os.path.join(folder, os.path.dirname(POWER_CUT)))
     os.symlink(os.path.join(top, POWER_CUT), os.path.join(folder, POWER_CUT))
     env = dict(os.environ, PATH=folder + os.pathsep + os.environ["PATH"])
