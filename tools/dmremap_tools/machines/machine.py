@@ -9,9 +9,18 @@ Have: four texts, which root can make on that machine:
 
 Get: FILE in the form of the last text, which may be what `dmsetup table` prints instead, and DISKS with the disks that
 FILE names. Numbers of devices become their names, numbers of disks their paths, and lines of `crypt` linear ones: what
-lies there is encrypted, so compare nothing with it. A device that dmremap can't follow (other targets, snapshots that
-were written to, no length that fits) is told and left out; to the devices above it, it is a disk. `dmsetup table`
-doesn't say which devices are read-only, so all count as writable.
+lies there is encrypted, so compare nothing with it. `dmsetup table` doesn't say which devices are read-only, so all count
+as writable then. One device alone: `dmsetup table NAME | sed 's/^/NAME: /'`.
+
+A device that dmremap can't follow is told and left out; to the devices above it, it is a disk. Such are
+
+    devices of other targets, as thin, raid, mirror, cache, multipath, verity, integrity and snapshot-merge;
+    those without a table, or with a name that dmremap doesn't take (`dmsetup rename` gives another);
+    those that aren't as long as lsblk says, or go past the end of what lies below, or lie on a disk without a length;
+    snapshots whose status isn't as `16/1048576 16`, with two equal figures, so that their stores have copies;
+    those of kind PO or with features, not as long as their origin, or with a store that is read-only or not plain.
+
+An origin stays where a snapshot of it is left out, and it is said that copies for that one are missing in answers.
 
 Refuses a text that isn't what one of these commands prints, and a machine of which nothing is left.
 """

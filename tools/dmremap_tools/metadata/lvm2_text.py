@@ -3,8 +3,18 @@
 Have: TEXT, as `vgcfgbackup` writes it or a metadata area has it, of which dmremap says `field`, `syntax`, `extents`,
 `snapshot`, `store` or `limit`: one raid, mirror, cache or thin volume is enough, or one disk after `pvresize`.
 
-Get: the text without what dmremap can't follow, with what lies on it and what belongs to its snapshots. Each line keeps
-its number, and a text that needs no change comes out as it is. Whatever is left out or changed is told with its line.
+Get: the text without what dmremap can't follow. Each line keeps its number, and a text that needs no change comes out as
+it is. Whatever is left out or changed is told with its line. Left out are
+
+    volumes of other types than striped, linear, zero and error, and what lies on them or is a snapshot of them;
+    volumes on another volume, as while they are moved; stripes that don't divide one; names that no device can have;
+    snapshots that are being merged, or aren't as long as their origin, or whose store has zero or error or is left out,
+    or has more places for chunks than dmremap counts in all: the origin stays, and what answers lack is said;
+    fields that don't matter, with negative numbers, fractions, words without quotes or several lines.
+
+Changed are a disk that is shorter than its extents, as after pvresize, one without a name or a length, parts of raid
+volumes that are read-only, and what lvm2 reads and dmremap doesn't: octal numbers, single quotes, `linear`, a string in
+place of a list, commas too many or too few, fields that are there twice, other white space, bytes that are no UTF-8.
 
 Refuses a text of which no volume would be left, one that is no metadata of a group, and forms that lvm2 never writes.
 Nothing about the copy is proved. The text can't say whether it is the newest.

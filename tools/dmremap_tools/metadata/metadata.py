@@ -9,9 +9,13 @@ Each of the three has a sum. If the first area is damaged, the second is taken, 
 the text with the higher seqno. With --list, what is left of older texts: the place of each in HEAD, its group, the
 group's id, the seqno and the time; `cut` is a text that isn't there to its end. --seqno and --at print one of these.
 
+Without a sound label, areas are looked for in the first and the last 4 MiB, and then labels in the whole image. A GPT
+whose first copy is damaged is read by its second one.
+
 Refuses whatever no sum confirms, and a volume that belongs to no group. Of HEADs that differ each is told with its
-volumes. Older texts have no sum: choose one by the group's id and the time, as a group that was removed may have had the
-same name, and higher numbers.
+volumes. A text that lvm2 was about to make the valid one isn't taken; nor does lvm2 take it. Older texts have no sum:
+choose one by the group's id and the time, as a group that was removed may have had the same name, and higher numbers.
+No sum tells whether another physical volume has a later text, or whether the disks still hold what it says.
 """
 
 import argparse
