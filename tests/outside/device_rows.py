@@ -134,6 +134,13 @@ TREES = [
     bad("btrfs", BTRFS, [(CHUNKS % "").replace("CHUNK_ITEM 262144", "CHUNK_ITEM 131584")], "1:14: it begins before the end of another"),
 ]
 
+FOUND = "Filesystem type is: %s\nFile size of /f is 4096 (8 blocks of 512 bytes)\n ext:     logical_offset:        physical_offset: length:   expected: flags:\n" \
+        "   0:        0..       7:     124928..    124935:      8:             last,eof\n/f: 1 extent found\n"
+ADDRESSES = [
+    good("filefrag", ["--addresses", "b"], [FOUND % "9123683e"], "R b 124928 8\n"),
+    bad("filefrag", ["--addresses", "b"], [FOUND % "ef53"], "1:1: not btrfs: Filesystem type is: ef53"),
+]
+
 ASKED = "R v-home 1000 8\nR v-home 5000 16\n"
 FILES = [
     good("file-device", ["--name", "i"], ["size 10000\n0 8\n8 16\n", ASKED], "i: 0 8 linear /dev/mapper/v-home 1000\ni: 8 16 linear /dev/mapper/v-home 5000\n"),
@@ -155,4 +162,4 @@ FILES = [
     bad("file-device", ["--name", "i", "--on", "d"], ["size 0\n" + "".join("%d 1\n" % (2 * it) for it in range(40000)), "R v 0 1\n" * 40000],
         "i: it has more than 65536 lines, or 1048576 bytes of them, which is all that dmremap takes: ask for a part, with --part START SECTORS"),
 ]
-ROWS = POOLS + CACHES + TREES + FILES
+ROWS = POOLS + CACHES + TREES + ADDRESSES + FILES

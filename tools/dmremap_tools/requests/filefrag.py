@@ -2,8 +2,9 @@
 
 Has the extents of one file or of several, in blocks of any size. Gets requests that read them, in the file's order, and
 with --places what `read-back` needs to put a single file together. Unwritten extents are told and left out: they read as
-zeros. Refuses file systems other than ext2, ext3, ext4 and XFS, since the extents of btrfs are no places on its device;
-extents without a place, as `delalloc`, `inline` and `encoded`; and a text that isn't whole.
+zeros. Refuses file systems other than ext2, ext3, ext4 and XFS, as the extents of btrfs are no places on its device:
+with --addresses, VOLUME is the device that `btrfs` makes of it. Refuses extents without a place, as `delalloc`, `inline` and
+`encoded`, and a text that isn't whole.
 
 It can't see two things: the numbers of `filefrag -X` are hexadecimal and may look decimal, and a file in the realtime
 part of XFS has its extents on another device.
@@ -11,7 +12,7 @@ part of XFS has its extents on another device.
 
 import re
 from argparse import ArgumentParser, Namespace
-from typing import List, Match, NoReturn, Optional
+from typing import List, Match, NoReturn, Optional, Set
 
 from dmremap_tools.base import names, numbers, quoting, requests, streams
 
@@ -25,6 +26,7 @@ EXTENT = re.compile(r"^ *{0}: +{0}\.\. *{0}: +{0}\.\. *{0}: +{0}:(?: +[0-9]+:)? 
 FOUND = re.compile(r": [0-9]+ extents? found")
 NONE_FOUND = re.compile(r": 0 extents found")
 KNOWN = {"ef53", "58465342"}
+BTRFS = {"9123683e"}
 PLACED = {"", "last", "eof", "merged", "shared", "unwritten"}
 MOST_SPARE = 1 << 24
 
@@ -34,6 +36,7 @@ def add_words(parser: ArgumentParser) -> None:
     parser.add_argument("volume", metavar="VOLUME", help="the device that the file system lies on, by its name or path")
     parser.add_argument("file", metavar="FILE", nargs="?", default="-", help="what filefrag printed; else standard input")
     parser.add_argument("--places", metavar="PLACES", help="a file to write, for read-back")
+    parser.add_argument("--addresses", action="store_true", help="files of btrfs; VOLUME is the device of its addresses")
     names.add_words(parser)
 
 
@@ -41,14 +44,14 @@ def run(words: Namespace) -> None:
     """Prints the requests of each file as its extents come."""
     places = streams.beside(words.places) if words.places is not None else None
     name = names.Names(words.ls).device(words.volume, names.Word("VOLUME"))
-    Reader(streams.Lines(words.file), name, places).read()
+    Reader(streams.Lines(words.file), name, places, BTRFS if words.addresses else KNOWN).read()
 
 
 class Reader:
     """Reads the text line by line; `opened` is the line that the list of a file began with."""
 
-    def __init__(self, source: streams.Lines, name: str, places: Optional[streams.Output]) -> None:
-        self.source, self.name, self.places = source, name, places
+    def __init__(self, source: streams.Lines, name: str, places: Optional[streams.Output], known: Set[str]) -> None:
+        self.source, self.name, self.places, self.known = source, name, places, known
         self.opened = ""
         self.files = self.size = self.block = self.count = self.after = 0
         self.is_known = self.is_last = False
@@ -74,8 +77,8 @@ class Reader:
         if size:
             self._take_file(size, line)
         elif kind:
-            if kind[1] not in KNOWN:
-                self.source.refuse_line("neither ext2, ext3, ext4 nor XFS")
+            if kind[1] not in self.known:
+                self.source.refuse_line("not btrfs" if self.known is BTRFS else "neither ext2, ext3, ext4 nor XFS")
             self.is_known = True
         elif self.opened and FOUND.search(line):
             if not self.is_last and (self.count or not NONE_FOUND.search(line)):
