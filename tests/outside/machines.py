@@ -4,9 +4,11 @@ is made of it by the program."""
 import os
 import re
 
+import containers
 import elsewhere_rows
 import machine_rows
 import partition_rows
+import physical_volumes
 import tool_calls
 from tool_calls import TOOL
 
@@ -21,6 +23,8 @@ def check(tally, program, top):
     check_samples(tally, program, top)
     check_missing(tally, program, top)
     check_images(tally, program, top)
+    check_bound_images(tally, program, top)
+    check_containers(tally, program, top)
     check_large(tally, program, top)
 
 
@@ -79,9 +83,70 @@ def check_images(tally, program, top):
     program.file("machines/paths", "/dev/sda one\nb two\n")
     folder = os.path.join(program.room, "machines")
     tally.same("DISKS of images", tool_calls.call(top, ["disks", "--paths", "paths"], folder=folder), 0, "/dev/sda 2\nb 1\n")
-    for words in ([], ["text", "--paths", "paths"]):
+    for words in ([], ["text", "--paths", "paths"], ["--paths", "paths", "--image", "one"]):
         got = tool_calls.call(top, ["disks", *words], folder=folder)
-        tally.holds("disks with the words %s" % words, got.status == 2 and got.err.decode().endswith("give TEXT or --paths PATHS\n"), got.err)
+        tally.same("disks with the words %s" % words, got, 2, "refused\n", TOOL + " disks: give TEXT, TEXT and --image, or --paths PATHS\n")
+
+
+def check_bound_images(tally, program, top):
+    """Which physical volume an image is, by the id in its label."""
+    first, second, other = (physical_volumes.volume(identity=it.ljust(32, b"x")) for it in (b"first", b"second", b"other"))
+    images = {"a": first, "b": physical_volumes.md_member(second, 16), "c": other, "d": bytes(4096)}
+    for name, image in images.items():
+        program.file("machines/" + name, image)
+    identity = "%s-xxxx-xxxx-xxxx-xxxx-xxxx-xxxxxx"
+    physical = '\t\tpv%d {\n\t\t\tid = "' + identity + '"\n\t\t\tdevice = "%s"\n\t\t}\n'
+    program.file("machines/text", "g {\n\tphysical_volumes {\n%s\t}\n}\n" % (physical % (0, "second", "[unknown]") + physical % (1, "firstx", "/dev/sdb")))
+    folder = os.path.join(program.room, "machines")
+    array = "b: a member of an md array, whose data begins at sector 16: that is read as the physical volume\n"
+    missing = "missing: pv0, with the id " + identity % "second" + "\n"
+    for names, output, message, status in [
+        ("ab", "/dev/sdb a\npv0 b\n", array, 0),
+        ("a", "/dev/sdb a\n", missing, 0),
+        ("ac", "/dev/sdb a\nrefused\n", "c: its id is " + identity % "otherx" + ", which the text has not", 1),
+        ("aa", "/dev/sdb a\nrefused\n", "a: its id is " + identity % "firstx" + ", as that of a", 1),
+        ("d", "refused\n", "d: there is no label in the first four sectors: it is no physical volume", 1),
+    ]:
+        got = tool_calls.call(top, ["disks", "text", *("--image=" + it for it in names)], folder=folder)
+        tally.same("the images " + names, got, status, output, "%s disks: %s\n" % (TOOL, message) if status else message)
+
+
+def check_containers(tally, program, top):
+    """Containers of LUKS: by their headers, the second one of version 2, and the text of luksDump."""
+    def device(name, content, *words):
+        return tool_calls.call(top, ["luks", *words, "/dev/sda2", program.file("machines/" + name, content)], folder=os.path.join(program.room, "machines"))
+
+    disk = 8192 * 512
+    first, second = containers.version_1(64).ljust(disk, b"\0"), containers.version_2().ljust(disk, b"\0")
+    line = "luks-%s: 0 %%d linear /dev/sda2 %%d\n" % containers.UUID
+    for name, content, words, output in [
+        ("version 1", first, [], line % (8128, 64)),
+        ("version 2", second, [], line % (7936, 256)),
+        ("version 2 of a fixed size", containers.version_2(size="4096").ljust(disk, b"\0"), [], line % (8, 256)),
+        ("a second header", bytes(4096) + second[4096:], ["--name", "home"], "home: 0 7936 linear /dev/sda2 256\n"),
+        ("a header alone", containers.version_2(), ["--length", "8192"], line % (7936, 256)),
+        ("a text of version 1", containers.DUMP_1, ["--length", "8192"], line % (4096, 4096)),
+        ("a text of version 2", containers.DUMP_2 % "(whole device)", ["--length", "65536"], line % (32768, 32768)),
+        ("a text of a fixed size", containers.DUMP_2 % "4096 [bytes]", [], line % (8, 32768)),
+    ]:
+        tally.same("a container of " + name, device("container", content, *words), 0, output)
+    damaged = "its header of LUKS is damaged"
+    for name, content, words, message in [
+        ("nothing", bytes(4096), [], "no header of LUKS, and no text of luksDump"),
+        ("a header that is cut off", second[:8000], [], damaged),
+        ("two headers that are damaged", containers.flipped(containers.flipped(second, 300), containers.SIZE + 300), [], damaged),
+        ("a header alone", containers.version_2(), [], "how long is the disk? Its data begins at sector 256: give --length"),
+        ("a text alone", containers.DUMP_1, [], "how long is the disk? Its data begins at sector 4096: give --length"),
+        ("data after the disk", containers.version_2(size="8388608"), ["--length", "8192"], "the data ends at sector 16640, and the disk at sector 8192"),
+        ("a container that is encrypted anew", containers.version_2(segments=2), [], "it has 2 segments, as while it is being encrypted anew: crypt, crypt"),
+        ("no segments", containers.version_2(json=b"{}"), [], "its header of LUKS doesn't say where the data is"),
+        ("an odd offset", containers.version_2(size="511"), [], "its header of LUKS doesn't say where the data is"),
+        ("a text of something else", b"LUKS header information\n", [], "no text of luksDump that says where the data is"),
+    ]:
+        got = device("container", content, *words)
+        tally.same("a container of " + name, got, 1, "refused\n", "%s luks: %s: %s\n" % (TOOL, os.path.join(program.room, "machines", "container"), message))
+    got = device("container", second, "--name", "a b")
+    tally.same("a container with such a name", got, 1, "refused\n", TOOL + " luks: NAME: no name of a device: 'a b'\n")
 
 
 def check_large(tally, program, top):

@@ -28,10 +28,10 @@ def text_of_area(group, identity, number):
     return b'vg0 {\nid = "%s"\nseqno = %d\n' % (identity, number) + body + head + TIME + b"\0"
 
 
-def label(areas, place=1, size=64 << 20, is_used=True):
+def label(areas, place=1, size=64 << 20, is_used=True, identity=b"anidentityof32bytesforthislabel0"):
     """The sector with the label, which lists metadata areas."""
     lists = struct.pack("<4Q", 1 << 20, 0, 0, 0) + b"".join(struct.pack("<QQ", *it) for it in areas) + bytes(16)
-    body = struct.pack("<L8s32sQ", 32, b"LVM2 001", b"anidentityof32bytesforthislabel0", size)
+    body = struct.pack("<L8s32sQ", 32, b"LVM2 001", identity, size)
     body = (body + lists + struct.pack("<LL", 2, is_used)).ljust(SECTOR - 20, b"\0")
     return b"LABELONE" + struct.pack("<QL", place, checksum(body)) + body
 

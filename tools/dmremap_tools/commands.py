@@ -34,6 +34,7 @@ COMMANDS: List[Command] = [
     Command("partitions", MACHINES, "of whole disks, from tables that end at partitions", True),
     Command("disks", MACHINES, "DISKS of a volume group, or of images", True),
     Command("elsewhere", MACHINES, "for dmsetup, where disks have other paths, with all devices read-only", True),
+    Command("luks", MACHINES, "a container of LUKS as a device, by its header", True),
     Command("aliases", MACHINES, "disks that are one disk, or lie on each other"),
     Command("metadata", METADATA, "the text of a group, from the head of a physical volume"),
     Command("lvm2-text", METADATA, "a copy of lvm2's metadata that dmremap reads"),

@@ -21,14 +21,18 @@ MOST_AREA = 64 << 20
 # Where the areas are looked for without a label: so many bytes at the beginning and at the end.
 SEARCHED = 4 << 20
 
+# How the letters of an id are grouped in a text.
+GROUPS = ((0, 6), (6, 10), (10, 14), (14, 18), (18, 22), (22, 26), (26, 32))
+
 MISSING, EMPTY = "the image ends before it does", "it has no text"
 
 
 class Label(NamedTuple):
-    """A label: its sector, the bytes of the volume, the places of the areas, and whether the volume belongs to a group;
-    labels of old versions don't say that, so that it is None."""
+    """A label: its sector, the id and the bytes of the volume, the places of the areas, and whether the volume belongs to a
+    group; labels of old versions don't say that, so that it is None."""
 
     sector: int
+    identity: bytes
     size: int
     areas: List[Tuple[int, int]]
     is_used: Optional[bool]
@@ -79,11 +83,11 @@ def label_fault(sector: bytes, place: int) -> Optional[str]:
 def label_in(sector: bytes, place: int) -> Label:
     """What a label says. Behind the volume's id and size are the places of its data, those of its areas, and an extension."""
     at, = struct.unpack_from("<L", sector, 20)
-    size, = struct.unpack_from("<Q", sector, at + 32)
+    letters, size = struct.unpack_from("<32sQ", sector, at)
     _, at = places_in(sector, at + 40)
     areas, at = places_in(sector, at)
     version, flags = struct.unpack_from("<LL", sector, at) if at + 8 <= SECTOR else (0, 0)
-    return Label(place, size, areas, bool(flags & IN_USE) if version >= 2 else None)
+    return Label(place, b"-".join(letters[begin:end] for begin, end in GROUPS), size, areas, bool(flags & IN_USE) if version >= 2 else None)
 
 
 def places_in(sector: bytes, at: int) -> Tuple[List[Tuple[int, int]], int]:
