@@ -99,7 +99,7 @@ def whole(command: List[str], volume: str) -> Tuple[int, List[Extent]]:
 
 def extents_of(path: str, volume: str) -> Tuple[int, List[Extent]]:
     """The length of a file in bytes, and its extents, of what filefrag printed."""
-    reader = Gathered(streams.Lines(path), volume, None)
+    reader = Gathered(streams.Lines(path), volume)
     reader.read()
     if reader.files > 1:
         raise Refusal(reader.source.name, "more than one file")
@@ -109,8 +109,8 @@ def extents_of(path: str, volume: str) -> Tuple[int, List[Extent]]:
 class Gathered(filefrag.Reader):
     """Keeps the extents of a file, in its order."""
 
-    def __init__(self, source: streams.Lines, name: str, places: Optional[streams.Output]) -> None:
-        super().__init__(source, name, places)
+    def __init__(self, source: streams.Lines, name: str) -> None:
+        super().__init__(source, name, None, filefrag.KNOWN)
         self.extents: List[Extent] = []
 
     def add(self, at: int, first: int, count: int) -> None:

@@ -23,8 +23,11 @@ def dmremap(given: Optional[str]) -> str:
     """The path of dmremap: the one that was given, or that beside this tool, or that on the path."""
     if given is not None:
         return given
-    beside = os.path.join(os.path.dirname(os.path.realpath(sys.argv[0])), "dmremap")
-    return beside if os.access(beside, os.X_OK) else shutil.which("dmremap") or "dmremap"
+    for tool in (sys.argv[0], os.path.realpath(sys.argv[0])):
+        beside = os.path.join(os.path.dirname(os.path.abspath(tool)), "dmremap")
+        if os.access(beside, os.X_OK):
+            return beside
+    return shutil.which("dmremap") or "dmremap"
 
 
 def ask(words: Sequence[str], most: int = streams.MOST_TEXT, given: Optional[int] = None) -> str:
