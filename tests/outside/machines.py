@@ -88,6 +88,17 @@ def check_images(tally, program, top):
         tally.same("disks with the words %s" % words, got, 2, "refused\n", TOOL + " disks: give TEXT, TEXT and --image, or --paths PATHS\n")
 
 
+    program.file("machines/sda1.img", bytes(2048 * 512))
+    program.file("machines/paths", "8:1 sda1.img\n")
+    for name, text in (("ls", machine_rows.NUMBERS), ("status", machine_rows.FRESH), ("table", machine_rows.ALL)):
+        program.file("machines/" + name, text)
+    got = tool_calls.call(top, ["machine", "--disks", "disks", "--paths", "paths", "ls", "status", "table"], folder=folder)
+    tally.same("a machine without lsblk", got, 0, machine_rows.ALL.replace("253:0", "/dev/mapper/base").replace("253:1", "/dev/mapper/cow"))
+    tally.holds("DISKS without lsblk", read(os.path.join(folder, "disks")) == b"8:1 2048\n", "it is another")
+    got = tool_calls.call(top, ["machine", "--disks", "disks", "ls", "status", "table"], folder=folder)
+    tally.same("a machine without lengths", got, 2, "refused\n", TOOL + " machine: give LSBLK or --paths PATHS\n")
+
+
 def check_bound_images(tally, program, top):
     """Which physical volume an image is, by the id in its label."""
     first, second, other = (physical_volumes.volume(identity=it.ljust(32, b"x")) for it in (b"first", b"second", b"other"))

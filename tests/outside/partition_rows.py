@@ -117,8 +117,8 @@ ROWS += [
 DISK = gpt((64, 71), None, (128, 255)).ljust(256 * 512, b"\0")
 
 
-def pictured(disk, tables, output, disks):
-    return "partitions", ["--image", "/dev/sda=1", "--disks", "disks"], [disk, tables], output, "", 0, disks
+def pictured(disk, tables, output, disks, words=()):
+    return "partitions", ["--image", "/dev/sda=1", "--disks", "disks", *words], [disk, tables], output, "", 0, disks
 
 
 def not_pictured(disk, message):
@@ -130,6 +130,7 @@ ROWS += [
     pictured(gpt((16, 31), sector=4096).ljust(1 << 17, b"\0"), ON, "1p1: 0 128 linear 1 128\na: 0 8 linear /dev/mapper/1p1 4\n", "1 256\n"),
     pictured((mbr((0x83, 8, 8), (5, 16, 100)) + bytes(512 * 15) + mbr((0x8E, 4, 16))).ljust(1 << 15, b"\0"), ON.replace("sda1", "sda5"),
              "1p1: 0 8 linear 1 8\n1p5: 0 16 linear 1 20\na: 0 8 linear /dev/mapper/1p5 4\n", "1 64\n"),
+    pictured(mbr((0x83, 2, 8)).ljust(1 << 17, b"\0"), ON, "1p1: 0 64 linear 1 16\na: 0 8 linear /dev/mapper/1p1 4\n", "1 256\n", ["--sector-size", "4096"]),
     not_pictured(bytes(8192), "1: it has no partition table, and no text of `sfdisk -d` is of this image"),
     not_pictured(b"", "1: it is empty"),
     ("partitions", ["--disks", "disks"], [PART, ON], "refused\n", "--lsblk: no length of /dev/sda", 1, "refused\n"),

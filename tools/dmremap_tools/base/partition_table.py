@@ -42,15 +42,15 @@ class DamagedTable(Refusal):
     """There is a GPT, of which no copy is sound."""
 
 
-def table_of(image: Image) -> Optional[Table]:
+def table_of(image: Image, sector: int = SECTOR) -> Optional[Table]:
     """The partition table of a disk, or None where it has none. As with Linux, an MBR that doesn't say that
-    there is a GPT goes before what is left of one."""
+    there is a GPT goes before what is left of one. It counts in sectors of so many bytes; where a GPT lies says that."""
     entries = mbr_entries(image.read(0, SECTOR))
     is_protective = any(kind == PROTECTIVE for kind, _, _ in entries)
     if entries and not is_protective:
-        return Table("MBR", mbr_partitions(image, entries))
-    for sector in GPT_SECTORS:
-        partitions = gpt_partitions(image, sector, sector)
+        return Table("MBR", mbr_partitions(image, entries, sector))
+    for size in GPT_SECTORS:
+        partitions = gpt_partitions(image, size, size)
         if partitions is not None:
             return Table("GPT", partitions)
     if is_protective or any(image.read(it, len(GPT)) == GPT for it in GPT_SECTORS):
@@ -122,30 +122,30 @@ def mbr_entries(sector: bytes) -> List[Entry]:
     return [(kind, start, size) for _, kind, start, size in entries]
 
 
-def mbr_partitions(image: Image, entries: List[Entry]) -> List[Partition]:
+def mbr_partitions(image: Image, entries: List[Entry], sector: int) -> List[Partition]:
     """The partitions of an MBR, those inside extended ones included."""
     found = []
     for place, (kind, start, size) in enumerate(entries, 1):
         if size and kind and kind not in EXTENDED:
-            found.append(Partition(place, start * SECTOR, size * SECTOR))
+            found.append(Partition(place, start * sector, size * sector))
     for kind, start, size in entries:
         if size and kind in EXTENDED:
-            return found + logical_partitions(image, start)
+            return found + logical_partitions(image, start, sector)
     return found
 
 
-def logical_partitions(image: Image, extended: int) -> List[Partition]:
+def logical_partitions(image: Image, extended: int, sector: int) -> List[Partition]:
     """The partitions inside an extended one, as far as the image goes: a chain of tables, each with two entries."""
     found: List[Partition] = []
     at, seen = extended, set()
     while at not in seen and len(seen) < MOST_LOGICAL:
         seen.add(at)
-        entries = mbr_entries(image.read(at * SECTOR, SECTOR))
+        entries = mbr_entries(image.read(at * sector, SECTOR))
         if not entries:
             break
         (kind, start, size), (_, following, more) = entries[:2]
         if size and kind:
-            found.append(Partition(FIRST_LOGICAL + len(found), (at + start) * SECTOR, size * SECTOR))
+            found.append(Partition(FIRST_LOGICAL + len(found), (at + start) * sector, size * sector))
         if not more:
             break
         at = extended + following

@@ -7,6 +7,8 @@ Have: four texts, which root can make on that machine:
     lsblk -brno MAJ:MIN,SIZE,KNAME,PKNAME > lsblk.txt
     dmsetup table --concise > concise.txt
 
+Without LSBLK the lengths are those of the disks or images in PATHS, whose lines begin with numbers, as `8:1 sda1.img`.
+
 Get: FILE in the form of the last text, which may be what `dmsetup table` prints instead, and DISKS with the disks that
 FILE names. Numbers of devices become their names, numbers of disks their paths, and lines of `crypt` linear ones: what
 lies there is encrypted, so compare nothing with it. `dmsetup table` doesn't say which devices are read-only, so all count
@@ -26,10 +28,10 @@ Refuses a text that isn't what one of these commands prints, and a machine of wh
 """
 
 import argparse
-from typing import Dict, List
+from typing import Dict, List, Optional, Tuple
 
-from dmremap_tools.base import listings, quoting, streams, tables
-from dmremap_tools.base.refusal import Refusal
+from dmremap_tools.base import disk_image, listings, numbers, paths, quoting, streams, tables
+from dmremap_tools.base.refusal import Refusal, WrongWords
 from dmremap_tools.machines.found import Found, leave_unknown, read_status, read_tables
 from dmremap_tools.machines.stack import Stack
 
@@ -39,8 +41,9 @@ EXAMPLE = "dmremap-tools machine --disks disks ls.txt status.txt lsblk.txt conci
 def add_words(parser: argparse.ArgumentParser) -> None:
     """Adds the four texts, and DISKS."""
     parser.add_argument("--disks", metavar="DISKS", required=True, help="the file to write DISKS to")
+    paths.add_words(parser)
     for name, command in (("ls", "dmsetup ls"), ("status", "dmsetup status"), ("lsblk", listings.LSBLK_COMMAND), ("table", "dmsetup table --concise")):
-        parser.add_argument(name, metavar=name.upper(), help="what `%s` prints" % command)
+        parser.add_argument(name, metavar=name.upper(), nargs="?" if name == "lsblk" else None, help="what `%s` prints" % command)
 
 
 def run(words: argparse.Namespace) -> None:
@@ -48,7 +51,7 @@ def run(words: argparse.Namespace) -> None:
     beside = streams.beside(words.disks)
     devices = {number: Found(name, number) for name, number in listings.read_ls(words.ls)}
     is_fresh = read_status(words.status)
-    stack = Stack(devices, *listings.read_lsblk(words.lsblk))
+    stack = Stack(devices, *lengths_of(words))
     is_concise = read_tables(words.table, devices)
     leave_unknown(devices, is_fresh)
     stack.settle()
@@ -58,6 +61,17 @@ def run(words: argparse.Namespace) -> None:
         raise Refusal(words.table, "no device is left that dmremap can follow")
     beside.write("".join("%s %d\n" % it for it in disks.items()))
     streams.out.write(tables.text_of(kept, is_concise))
+
+
+def lengths_of(words: argparse.Namespace) -> Tuple[Dict[str, Optional[int]], Dict[str, str]]:
+    """By number, the length of each device and disk, and its path. What PATHS has is as long as it is there."""
+    if words.lsblk is None and words.paths is None:
+        raise WrongWords("give LSBLK or --paths PATHS")
+    sizes, of = listings.read_lsblk(words.lsblk) if words.lsblk is not None else ({}, {})
+    numbers_of = {path: number for number, path in of.items()}
+    for name, path in (paths.read(words.paths) if words.paths is not None else {}).items():
+        sizes[numbers_of.get(name, name)] = disk_image.open_image(path).size // numbers.SECTOR
+    return sizes, of
 
 
 def say_left_out(stack: Stack, disks: Dict[str, int]) -> None:

@@ -65,7 +65,7 @@ def add_words(parser: argparse.ArgumentParser) -> None:
     parser.add_argument("--lsblk", metavar="LSBLK", help="what `%s` prints" % listings.LSBLK_COMMAND)
     parser.add_argument("--disks", metavar="DISKS", help="the file to write DISKS to")
     parser.add_argument("--image", action="append", default=[], metavar="DISK=IMAGE", help="an image, and the disk that FILE names")
-    parser.add_argument("--sector-size", type=numbers.word, metavar="BYTES", help="how many bytes a sector has, for texts of an old sfdisk")
+    parser.add_argument("--sector-size", type=numbers.word, metavar="BYTES", help="how many bytes a sector has, for texts of an old sfdisk, and an MBR in an image")
     parser.add_argument("sfdisk", nargs="*", metavar="SFDISK", help="what `sfdisk -d` prints of a disk")
     parser.add_argument("file", metavar="FILE", help="table text or concise text")
 
@@ -78,7 +78,7 @@ def run(words: argparse.Namespace) -> None:
     partitions = [it for path in words.sfdisk for it in partitions_in(path, words.sector_size)]
     for image in dict.fromkeys(images.values()):
         if image not in [it.disk for it in partitions]:
-            partitions += partitions_of(image, lowers)
+            partitions += partitions_of(image, lowers, words.sector_size or numbers.SECTOR)
     devices, is_concise = tables.read(words.file)
     made = devices_of(partitions, devices, lowers, images, is_concise)
     for device in devices:
@@ -101,11 +101,11 @@ def images_in(words: List[str]) -> Dict[str, str]:
     return {disk: image for disk, _, image in (it.partition("=") for it in words)}
 
 
-def partitions_of(path: str, lowers: Lowers) -> List[Partition]:
+def partitions_of(path: str, lowers: Lowers, sector: int) -> List[Partition]:
     """The partitions that an image itself has."""
     image = disk_image.open_image(path)
     lowers.measure(path, image.size // numbers.SECTOR)
-    table = partition_table.table_of(image)
+    table = partition_table.table_of(image, sector)
     if table is None:
         raise Refusal(path, "it has no partition table, and no text of `sfdisk -d` is of this image")
     return [Partition(path, path_of(path, str(it.number)), it.start // numbers.SECTOR, it.size // numbers.SECTOR) for it in table.partitions]
