@@ -400,6 +400,17 @@ BYTES = [
 
 ROWS = VOLUMES + SNAPSHOTS + PLACES + DISKS + RAID_PARTS + LANGUAGE + BYTES
 
+# Texts of which some volumes are asked for: these, the text, the changes, the messages and the table.
+
+ONLY = [
+    (["home"], GROUP % (HOME + APART), [gone(APART)], (), LINES),
+    (["snap"], GROUP % (HOME + APART + SNAP + GOOD), [gone(APART)], (), "".join(SHOWN)),
+    (["home"], GROUP % (HOME + SNAP + GOOD), [gone(SNAP + GOOD)], [("home {", KEPT % ("home", "snap"))], LINES),
+    (["home", "apart"], GROUP % (HOME + RAID + APART), [gone(RAID)], (), LINES + APART_LINES),
+    (["two"], GROUP % (HOME + SNAP + GOOD + SECOND + OF_SECOND), [gone(SNAP + GOOD)], [("home {", KEPT % ("home", "snap"))],
+     "".join(snapshot("home", "two", 4, 0, 2, 23))),
+]
+
 # Texts that are refused, each with its messages from the name of the text on. What is put behind the text is in line `AFTER`.
 
 AFTER = TEXT.count("\n") + 1

@@ -10,11 +10,11 @@ import re
 
 import tool_calls
 from harness import run
-from lvm2_rows import BARE, GROUP, REFUSED, ROWS, other
+from lvm2_rows import BARE, GROUP, ONLY, REFUSED, ROWS, other
 
 PLAIN = ("vg0.backup", "vg0-snapshot.backup")
 SEEDS = 20
-USAGE = "usage: dmremap-tools lvm2-text [-h] TEXT\ndmremap-tools lvm2-text: "
+USAGE = "usage: dmremap-tools lvm2-text [-h] [--only NAME] TEXT\ndmremap-tools lvm2-text: "
 
 
 def check(tally, program, top):
@@ -23,6 +23,10 @@ def check(tally, program, top):
         check_row(tally, program, top, name, text, changes, messages, table)
     for name, text, message in REFUSED:
         tally.same("the text of " + name, copied(program, top, text), 1, "", refused(message))
+    for names, text, changes, messages, table in ONLY:
+        check_row(tally, program, top, "only " + " ".join(names), text, changes, messages, table, ["--only=" + it for it in names])
+    got = tool_calls.call(top, ["lvm2-text", "--only", "x", program.file("lvm2/text", BARE)])
+    tally.same("only a volume that isn't there", got, 1, "", "dmremap-tools lvm2-text: %s: no volume x\n" % program.file("lvm2/text", BARE))
     for name in PLAIN:
         check_same(tally, program, top, name, read(os.path.join(top, "examples", name)))
         for seed in range(SEEDS):
@@ -36,9 +40,9 @@ def read(path):
         return it.read()
 
 
-def copied(program, top, text):
+def copied(program, top, text, words=()):
     """What is made of a text, which is the file `text` of the folder that the command is called in."""
-    return tool_calls.call(top, ["lvm2-text", "text"], folder=os.path.dirname(program.file("lvm2/text", text)))
+    return tool_calls.call(top, ["lvm2-text", *words, "text"], folder=os.path.dirname(program.file("lvm2/text", text)))
 
 
 def refused(message):
@@ -51,13 +55,13 @@ def as_bytes(text):
     return text.encode() if isinstance(text, str) else text
 
 
-def check_row(tally, program, top, name, text, changes, messages, table):
+def check_row(tally, program, top, name, text, changes, messages, table, words=()):
     wanted = text = as_bytes(text)
     for old, new in changes:
         old, new = as_bytes(old), as_bytes(new)
         tally.holds("a change in the text of " + name, wanted.count(old) == 1, "%r is there %d times" % (old, wanted.count(old)))
         wanted = wanted.replace(old, new)
-    got = copied(program, top, text)
+    got = copied(program, top, text, words)
     tally.same("the text of " + name, got, 0, wanted, "".join("text:%d: %s\n" % (line_of(text, at), what) for at, what in messages))
     tally.holds("the lines of the text of " + name, got.out.count(b"\n") == text.split(b"\0")[0].count(b"\n"), "there are others")
     made = program.run(["table", "lvm", program.file("lvm2/copy", got.out)])

@@ -19,8 +19,8 @@ NO_STORE = "its store is read-only, or not made of linear and striped lines"
 WORDS = ["--disks", "disks"]
 
 
-def machine(tables, output, message="", disks=SDA1, names=NUMBERS, status=FRESH, sizes=SIZES):
-    return "machine", WORDS, [names, status, sizes, tables], output, message, 0, disks
+def machine(tables, output, message="", disks=SDA1, names=NUMBERS, status=FRESH, sizes=SIZES, only=()):
+    return "machine", WORDS + ["--only=" + it for it in only], [names, status, sizes, tables], output, message, 0, disks
 
 
 def no_machine(tables, message, names=NUMBERS, status=FRESH, sizes=SIZES):
@@ -175,6 +175,16 @@ LENGTHS = [
     left("0 8 linear 8:2 0", "lsblk has no length of 8:2", sizes=DISK + "8:2 4097 sda2 sda\n", odd="8:2"),
 ]
 
+ONLY = [
+    machine(ALL, LOWER_OUT + SNAP_OUT, only=["snap"]),
+    machine(ALL, LOWER_OUT, only=["base", "cow"]),
+    machine(ALL, LOWER_OUT[:LOWER_OUT.index("cow")] + ORIG_OUT, NO_COPIES % "is", only=["orig"]),
+    machine(ALL.replace("cow: 0 64 linear", "cow: 0 64 thin"), LOWER_OUT[:LOWER_OUT.index("cow")], only=["base"]),
+    machine(ALL.replace("cow: 0 64 linear 8:1 16", "cow: 0 64 thin 8:1 16"), LOWER_OUT[:LOWER_OUT.index("cow")] + SNAP_OUT.replace("mapper/cow", "dm-1"),
+            "left out: cow (thin), the disk /dev/dm-1\n", SDA1 + "/dev/dm-1 64\n", only=["snap"]),
+    ("machine", WORDS + ["--only", "x"], [NUMBERS, FRESH, SIZES, ALL], "refused\n", "--only: no device x", 1, "refused\n"),
+]
+
 REFUSED = [
     no_machine(ALL, "1: not what `dmsetup ls` prints of devices", names="No devices found\n"),
     no_machine(ALL, "1: not what `dmsetup ls` prints of devices", names=""),
@@ -190,4 +200,4 @@ REFUSED = [
                "\\nb,,2,rw,0 8 zero \nleft out: a (no table)\n4: no device is left that dmremap can follow", names=names_of("a")),
 ]
 
-ROWS = SNAPSHOTS + TARGETS + NAMES + LENGTHS + REFUSED
+ROWS = SNAPSHOTS + TARGETS + NAMES + LENGTHS + ONLY + REFUSED

@@ -4,6 +4,7 @@ import re
 from typing import Dict, List, Optional
 
 from dmremap_tools.base import listings, names, numbers, quoting, streams, tables
+from dmremap_tools.base.refusal import Refusal
 
 # A row of `dmsetup table` or `dmsetup status`: a device, and a line of it if it has a table.
 ROW = re.compile(r"(.+?):(?: ?| (\d+ \d+ \S.*))")
@@ -11,6 +12,8 @@ ROW = re.compile(r"(.+?):(?: ?| (\d+ \d+ \S.*))")
 DEVICE = re.compile(r"((?:[^,\\]|\\.)*),(?:[^,\\]|\\.)*,(\d+),(r[ow])(?:,(.*))?")
 IS_CONCISE = re.compile(r",\d+,r[ow](?:[,;]|$)")
 MAJOR_MINOR = re.compile(r"\d+:\d+")
+# Why a device is left out that isn't asked for, which is not told.
+NOT_ASKED = "not asked for"
 # The greatest sector that dmremap takes the end of a device for.
 LONGEST = 1 << 50
 
@@ -114,3 +117,21 @@ def leave_unknown(devices: Dict[str, Found], is_fresh: Dict[str, bool]) -> None:
             device.leave("`dmsetup status` says nothing of it")
         elif device.origins and not is_fresh[device.name]:
             device.leave("its store has copies, and nothing says of which chunks")
+
+
+def leave_others(devices: Dict[str, Found], wanted: List[str]) -> None:
+    """Leaves out all but the devices of these names, and what they stand on."""
+    of = {it.name: it for it in devices.values()}
+    waiting, asked = [], set()
+    for name in wanted:
+        if name not in of:
+            raise Refusal("--only", "no device %s" % quoting.shown(name))
+        waiting.append(of[name].number)
+    while waiting:
+        number = waiting.pop()
+        if number in devices and number not in asked:
+            asked.add(number)
+            waiting += devices[number].lowers()
+    for device in devices.values():
+        if device.number not in asked:
+            device.why = NOT_ASKED

@@ -24,6 +24,8 @@ A device that dmremap can't follow is told and left out; to the devices above it
 
 An origin stays where a snapshot of it is left out, and it is said that copies for that one are missing in answers.
 
+With --only, which may be given several times, FILE has that device and all that it stands on.
+
 Refuses a text that isn't what one of these commands prints, and a machine of which nothing is left.
 """
 
@@ -32,7 +34,7 @@ from typing import Dict, List, Optional, Tuple
 
 from dmremap_tools.base import disk_image, listings, numbers, paths, quoting, streams, tables
 from dmremap_tools.base.refusal import Refusal, WrongWords
-from dmremap_tools.machines.found import Found, leave_unknown, read_status, read_tables
+from dmremap_tools.machines.found import NOT_ASKED, Found, leave_others, leave_unknown, read_status, read_tables
 from dmremap_tools.machines.stack import Stack
 
 EXAMPLE = "dmremap-tools machine --disks disks ls.txt status.txt lsblk.txt concise.txt > tables"
@@ -41,6 +43,7 @@ EXAMPLE = "dmremap-tools machine --disks disks ls.txt status.txt lsblk.txt conci
 def add_words(parser: argparse.ArgumentParser) -> None:
     """Adds the four texts, and DISKS."""
     parser.add_argument("--disks", metavar="DISKS", required=True, help="the file to write DISKS to")
+    parser.add_argument("--only", metavar="NAME", action="append", default=[], help="a device that is asked for, with all that it stands on")
     paths.add_words(parser)
     for name, command in (("ls", "dmsetup ls"), ("status", "dmsetup status"), ("lsblk", listings.LSBLK_COMMAND), ("table", "dmsetup table --concise")):
         parser.add_argument(name, metavar=name.upper(), nargs="?" if name == "lsblk" else None, help="what `%s` prints" % command)
@@ -54,6 +57,8 @@ def run(words: argparse.Namespace) -> None:
     stack = Stack(devices, *lengths_of(words))
     is_concise = read_tables(words.table, devices)
     leave_unknown(devices, is_fresh)
+    if words.only:
+        leave_others(devices, words.only)
     stack.settle()
     kept, disks = stack.with_names()
     say_left_out(stack, disks)
@@ -78,9 +83,9 @@ def say_left_out(stack: Stack, disks: Dict[str, int]) -> None:
     """Says what is left out, what is encrypted, and which copies answers lack."""
     for device in stack.devices.values():
         path = stack.lower(device.number)
-        if device.why:
+        if device.why and device.why != NOT_ASKED:
             streams.tell("left out: %s (%s)%s" % (quoting.shown(device.name), device.why, ", the disk " + path if path in disks else ""))
-        elif device.is_encrypted:
+        elif device.is_encrypted and not device.why:
             streams.tell("encrypted: the sectors below %s, whose lines of crypt are linear here" % device.name)
     left_out = [it for it in stack.devices.values() if it.why]
     unknown = [it for it in left_out if not it.is_described]

@@ -7,6 +7,8 @@ from dmremap_tools.base import store_places
 from dmremap_tools.base.config_text import shown
 from dmremap_tools.metadata.volume_group import NO_STORE, STRIPED, TYPES, Group, Record, Segment, Volume
 
+# Why a volume is left out that isn't asked for, which is not told.
+NOT_ASKED = "not asked for"
 # Limits of dmremap: bytes of a name, and columns of stripes.
 NAME, COLUMNS = 127, 128
 
@@ -15,7 +17,7 @@ def judge(group: Group) -> None:
     """Says of each volume that can't stay why: first those of other types, then what stands on them, and what belongs
     to their snapshots."""
     for volume in group.volumes.values():
-        volume.why = own_fault(group, volume)
+        volume.why = volume.why or own_fault(group, volume)
     merging = {it.origin: it.store for it in group.records if it.is_merging}
     users: Dict[Optional[bytes], List[Record]] = {}
     for record in group.records:
@@ -27,6 +29,22 @@ def judge(group: Group) -> None:
             for name in judge_record(group, waiting.popleft(), merging):
                 waiting += users.get(name, ())
         waiting += [record for name in judge_places(group) for record in users.get(name, ())]
+
+
+def leave_others(group: Group, wanted: List[bytes]) -> None:
+    """Leaves out all but the volumes of these names, and the origins of those that are snapshots."""
+    records = {it.store: it for it in group.records}
+    waiting: List[Optional[bytes]] = [*wanted]
+    asked = set()
+    while waiting:
+        name = waiting.pop()
+        if name not in asked:
+            asked.add(name)
+            record = records.get(name)
+            waiting += [record.volume.name, record.origin] if record else []
+    for volume in group.volumes.values():
+        if volume.name not in asked:
+            volume.why = NOT_ASKED
 
 
 def own_fault(group: Group, volume: Volume) -> Optional[str]:

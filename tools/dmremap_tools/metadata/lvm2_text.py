@@ -16,18 +16,21 @@ Changed are a disk that is shorter than its extents, as after pvresize, one with
 volumes that are read-only, and what lvm2 reads and dmremap doesn't: octal numbers, single quotes, `linear`, a string in
 place of a list, commas too many or too few, fields that are there twice, other white space, bytes that are no UTF-8.
 
+With --only, which may be given several times, the copy has that volume, and its origin if it is a snapshot.
+
 Refuses a text of which no volume would be left, one that is no metadata of a group, and forms that lvm2 never writes.
 Nothing about the copy is proved. The text can't say whether it is the newest.
 """
 
 import argparse
+import os
 import re
 from typing import Dict, List
 
-from dmremap_tools.base import streams
+from dmremap_tools.base import quoting, streams
 from dmremap_tools.base.config_text import Document, Node, is_word_between, shown
 from dmremap_tools.base.refusal import Refusal
-from dmremap_tools.metadata.followed import judge
+from dmremap_tools.metadata.followed import NOT_ASKED, judge, leave_others
 from dmremap_tools.metadata.mending import LIST, ONE, Mending, mend_section
 from dmremap_tools.metadata.text_copy import is_readable
 from dmremap_tools.metadata.volume_group import LINEAR, STRIPED, Group, Volume
@@ -51,7 +54,8 @@ WRITE, WRITE_LOCKED = b"WRITE", b"WRITE_LOCKED"
 
 
 def add_words(parser: argparse.ArgumentParser) -> None:
-    """Adds TEXT."""
+    """Adds TEXT and --only."""
+    parser.add_argument("--only", metavar="NAME", action="append", default=[], help="a volume that is asked for, with its origin")
     parser.add_argument("text", metavar="TEXT", help="the metadata, as vgcfgbackup writes it")
 
 
@@ -62,6 +66,11 @@ def run(words: argparse.Namespace) -> None:
     copy = Mending(Document(name, content[len(MARK):] if content.startswith(MARK) else content))
     drop_twice(copy)
     group = Group(group_of(copy))
+    for name in words.only:
+        if os.fsencode(name) not in group.volumes:
+            raise Refusal(copy.document.path, "no volume %s" % quoting.shown(name))
+    if words.only:
+        leave_others(group, [os.fsencode(it) for it in words.only])
     drop_volumes(copy, group)
     mend_group(copy, group)
     mend_bytes(copy, content)
@@ -113,7 +122,9 @@ def drop_volumes(copy: Mending, group: Group) -> None:
                                         % (shown(volume.name), len(volume.segments)))
     judge(group)
     for volume in group.volumes.values():
-        if volume.why:
+        if volume.why == NOT_ASKED:
+            copy.leave_out(volume.node)
+        elif volume.why:
             copy.drop(volume.node, shown(volume.name), volume.why)
     say_kept(copy, group)
     if group.volumes and all(it.why for it in group.volumes.values()):
