@@ -1,9 +1,9 @@
 """What isn't aligned, and lengths that stripes divide.
 
-Have: SPANS, what `spans` printed, or `-`. Get: the lines of devices that begin at a sector which is no multiple of 2048,
-which is 1 MiB, or of --to SECTORS.
+Has SPANS, what `spans` printed; else standard input. Gets the lines of devices that begin at a sector which is no multiple of
+2048, which is 1 MiB, or of --to SECTORS.
 
-With --stripes COUNT CHUNK LENGTH, get the greatest length of a striped line that is at most LENGTH: it has to be a
+With --stripes COUNT CHUNK LENGTH, gets the greatest length of a striped line that is at most LENGTH: it has to be a
 multiple of COUNT times CHUNK.
 """
 

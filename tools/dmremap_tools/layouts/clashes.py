@@ -1,7 +1,7 @@
 """Every two lines of a stack that have sectors in common, and which.
 
-Have: SPANS, what `spans` printed, or `-`. Get: on what, the first and the last sector that two lines have in common,
-and their devices. `dmremap check` prints the first clash alone. Snapshots may share an origin, also with the line
+Has SPANS, what `spans` printed; else standard input. Gets on what, the first and the last sector that two lines have in
+common, and their devices. `dmremap check` prints the first clash alone. Snapshots may share an origin, also with the line
 `snapshot-origin` that serves them.
 """
 

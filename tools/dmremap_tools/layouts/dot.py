@@ -1,7 +1,7 @@
 """A stack as a picture: a graph for Graphviz.
 
-Have: FILE, table text or concise text, or `-`. Get: devices, and the disks in boxes, with an edge for each line from its
-device to what it lies on. `dot -Tsvg` draws it.
+Has FILE, table text or concise text. Gets devices, and the disks in boxes, with an edge for each line from its device to what
+it lies on. `dot -Tsvg` draws it.
 """
 
 import argparse

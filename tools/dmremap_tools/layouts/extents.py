@@ -1,14 +1,14 @@
 """Where a whole device lies, through all levels, from the answers to the requests of `whole`.
 
-Have: PIECES, the answers to reads, or `-`. Get: a line for each extent: the sector of the device, the number of sectors,
-and the disk with the sector there, `zero` or `error`.
+Has PIECES, the answers to reads; else standard input. Gets a line for each extent: the sector of the device, the number of
+sectors, and the disk with the sector there, `zero` or `error`.
 """
 
 import argparse
 
 from dmremap_tools.base import pieces, quoting, streams
 
-EXAMPLE = "dmremap-tools whole --volume home t | dmremap map table t d | dmremap-tools extents"
+EXAMPLE = "dmremap-tools whole home t | dmremap map table t d | dmremap-tools extents"
 READ = ("R", "zero", "error")
 
 

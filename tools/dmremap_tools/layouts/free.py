@@ -1,7 +1,7 @@
 """The ranges of disks and devices that no line names, among those that `spans` prints.
 
-Have: SPANS, what `spans` printed, or `-`. Get: the same, with a line `unnamed` for each range in between. That needn't
-be free: a file system may lie there without a device-mapper device, or a partition table, swap space, a volume that
+Has SPANS, what `spans` printed; else standard input. Gets the same, with a line `unnamed` for each range in between. That
+needn't be free: a file system may lie there without a device-mapper device, or a partition table, swap space, a volume that
 isn't active or was left out.
 """
 

@@ -1,11 +1,10 @@
 """The devices that sectors of a disk belong to, up to those that nothing lies on.
 
-Have: a bad sector of a disk, as smartctl or a kernel's log tells it, or what biosnoop prints. FILE is table text or
-concise text. SECTORS has lines DISK SECTOR or DISK SECTOR COUNT, or lines of a kernel's log, of which those with
-`dev DISK, sector N` are taken. With --disk it is a map of ddrescue, of which the areas that couldn't be read are asked
-for, or a list of badblocks.
+Has FILE, table text or concise text, and SECTORS; else standard input: lines DISK SECTOR or DISK SECTOR COUNT, a kernel's log,
+of which the lines with `dev DISK, sector N` are taken, or what biosnoop prints. With --disk it is a map of ddrescue, of
+which the areas that couldn't be read are asked for, or a list of badblocks.
 
-Get: a line for each run of sectors that goes one way up, and that way. A sector of an origin belongs to its snapshots
+Gets a line for each run of sectors that goes one way up, and that way. A sector of an origin belongs to its snapshots
 `until it is copied`; of the store of a snapshot only that is said.
 
 A kernel's log counts in 512 bytes. Other tools count in the sectors of the disk, as smartctl, or in bytes:

@@ -1,6 +1,6 @@
 """A stack as a tree: each device that nothing lies on, and what is below it.
 
-Have: FILE, table text or concise text, or `-`. What was shown is not shown again. Refuses devices that stand on
+Has FILE, table text or concise text. Gets a tree in which what was shown is not shown again. Refuses devices that stand on
 themselves, or lie on each other more than 32 deep, neither of which dmremap loads.
 """
 
