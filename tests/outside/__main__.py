@@ -56,7 +56,9 @@ import snapshot_rows
 import snapshots
 import streams
 import tool_answers
+import tool_documents
 import tool_requests
+import tool_streams
 import words
 from harness import Program, Tally
 
@@ -87,6 +89,8 @@ def main():
         recipes.check(tally, program, TOP)
         tool_requests.check(tally, program, TOP)
         tool_answers.check(tally, program, TOP)
+        tool_documents.check(tally, program, TOP)
+        tool_streams.check(tally, program, TOP)
         layouts.check(tally, program, TOP)
         sector_files.check(tally, program, TOP)
         saves.check(tally, program, TOP)

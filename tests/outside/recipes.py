@@ -8,7 +8,7 @@ import shutil
 from harness import run
 
 # What a block of the document needs, if it has this word.
-NEEDED = [("jq", "jq")]
+NEEDED = [("dmremap-tools files", "debugfs")]
 BLOCK = re.compile(r"^```(\w*)\n(.*?)^```$", re.M | re.S)
 
 
@@ -22,7 +22,8 @@ def check_document(tally, program, top):
     """Runs each block of shell in one folder, and compares the block without a language that follows it."""
     folder = os.path.dirname(program.file("recipes/room"))
     shutil.copy(program.path, os.path.join(folder, "dmremap"))
-    os.symlink(os.path.join(top, "examples"), os.path.join(folder, "examples"))
+    for it in ("dmremap-tools", "examples"):
+        os.symlink(os.path.join(top, it), os.path.join(folder, it))
     with open(os.path.join(top, "docs", "RECIPES.md"), encoding="utf-8") as it:
         blocks = BLOCK.findall(it.read())
     for (language, commands), (after, output) in zip(blocks, blocks[1:] + [("end", "")]):
@@ -33,7 +34,7 @@ def check_document(tally, program, top):
         if lost:
             tally.skip(name, "there is no " + lost[0])
             continue
-        got = run(["sh", "-c", commands], folder=folder, env=dict(os.environ, r="examples/recipes"))
+        got = run(["sh", "-c", commands], folder=folder)
         shown = (got.err + got.out).decode()
         wanted = output if after == "" else ""
         tally.holds(name, got.status == 0 and shown == wanted, "status %s, and it prints %r" % (got.status, shown))

@@ -20,7 +20,7 @@ BROKEN = 99
 
 def samples(top):
     """The folder of the samples."""
-    return os.path.join(top, "examples", "recipes", "samples")
+    return os.path.join(top, "examples", "samples")
 
 
 def good(command, words, inputs, output, message=""):
