@@ -1,7 +1,7 @@
 """What `partitions` makes of tables that end at partitions: its words, its inputs, what it prints, what it says on standard
 error, its status, and DISKS, or None where that isn't written."""
 
-from physical_volumes import gpt, mbr
+from physical_volumes import gpt, mbr, volume
 
 LSBLK = "8:0 10485760 sda \n8:1 8388608 sda1 sda\n253:0 4096 dm-0 sda1\n253:7 8192 dm-7 \n"
 WITH_LSBLK = ["--lsblk", "1", "--disks", "disks"]
@@ -131,9 +131,35 @@ ROWS += [
     pictured((mbr((0x83, 8, 8), (5, 16, 100)) + bytes(512 * 15) + mbr((0x8E, 4, 16))).ljust(1 << 15, b"\0"), ON.replace("sda1", "sda5"),
              "1p1: 0 8 linear 1 8\n1p5: 0 16 linear 1 20\na: 0 8 linear /dev/mapper/1p5 4\n", "1 64\n"),
     pictured(mbr((0x83, 2, 8)).ljust(1 << 17, b"\0"), ON, "1p1: 0 64 linear 1 16\na: 0 8 linear /dev/mapper/1p1 4\n", "1 256\n", ["--sector-size", "4096"]),
-    not_pictured(bytes(8192), "1: it has no partition table, and no text of `sfdisk -d` is of this image"),
+    # An image of a disk without a partition table stands for that, if a line names it.
+    pictured(bytes(1 << 15), ON.replace("sda1", "sda"), "a: 0 8 linear 1 4\n", "1 64\n"),
+    not_pictured(bytes(8192), "2: " + NO_LINE),
     not_pictured(b"", "1: it is empty"),
     ("partitions", ["--disks", "disks"], [PART, ON], "refused\n", "--lsblk: no length of /dev/sda", 1, "refused\n"),
+]
+# Images that are bound to the physical volumes of a group by their ids; the images are the files 1 and 2.
+IDS = [it.ljust(32, b"x") for it in (b"first", b"second")]
+FIRST, SECOND = (volume(length=1 << 16, identity=it) for it in IDS)
+PARTED = gpt((64, 71), (128, 255)).ljust(128 * 512, b"\0") + FIRST
+GROUP = "g {\n\tphysical_volumes {\n%s\t}\n}\n" % "".join(
+    '\t\t%s {\n\t\t\tid = "%s-xxxx-xxxx-xxxx-xxxx-xxxx-xxxxxx"\n\t\t\tdevice = "%s"\n\t\t}\n' % it
+    for it in (("pv0", "firstx", "/dev/sdb1"), ("pv1", "second", "[unknown]")))
+BOUND = "a: 0 8 linear /dev/sdb1 4\na: 8 8 linear pv1 4\n"
+
+
+def bound(images, group, tables, output, message="", disks=None, words=()):
+    """Images with a group: what they are called begins with the number of the file."""
+    return ("partitions", [*words, *("--image=" + str(it) for it in range(1, len(images) + 1)), "--group", str(len(images) + 1), "--disks", "disks"],
+            [*images, group, tables], output if disks else "refused\n", message, 0 if disks else 1, disks or "refused\n")
+
+
+ROWS += [
+    bound([PARTED, SECOND], GROUP, BOUND, "1p1: 0 8 linear 1 64\n1p2: 0 128 linear 1 128\na: 0 8 linear /dev/mapper/1p2 4\na: 8 8 linear 2 4\n",
+          disks="1 256\n2 128\n"),
+    bound([SECOND, FIRST], GROUP, BOUND, "a: 0 8 linear 2 4\na: 8 8 linear 1 4\n", disks="2 128\n1 128\n"),
+    bound([FIRST, FIRST], GROUP, BOUND, "", "2: 1 is the same physical volume, /dev/sdb1"),
+    bound([volume(identity=b"y" * 32)], GROUP, BOUND, "", "1: no physical volume of the group is in it: none of its labels has such an id"),
+    bound([FIRST], "g {\n}\n", BOUND, "", "2: no physical volumes of a group"),
 ]
 # Tables that can't be read: each with its message.
 ROWS += [no_parts(PART, "2:1: " + message, tables) for tables, message in [

@@ -11,7 +11,7 @@ Refuses a text that is no metadata of a group, physical volumes of which it has 
 import argparse
 from typing import Dict, Iterator, List, Tuple
 
-from dmremap_tools.base import disk_image, numbers, paths, quoting, streams
+from dmremap_tools.base import disk_image, numbers, paths, streams
 from dmremap_tools.base.config_text import Document, Node, shown
 from dmremap_tools.base.refusal import Refusal, WrongWords
 from dmremap_tools.metadata.physical_volume import label_of
@@ -56,22 +56,27 @@ def of_group(path: str) -> Iterator[Tuple[str, int]]:
 
 def found_images(text: str, images: List[str]) -> Iterator[Tuple[str, str]]:
     """The name of the physical volume that each image is, and its path. Those without an image are told."""
-    _, physicals = _read(text)
-    of = {node.value(b"id", bytes): name for name, node in physicals}
+    of = names_by_id(text)
     found: Dict[str, str] = {}
     for path in images:
         image = taken_from_array(disk_image.open_image(path))
         label, _ = label_of(image)
         if label is None:
             raise Refusal(image.path, "there is no label in the first four sectors: it is no physical volume")
-        identity, name = quoting.shown(label.identity.decode("ascii", "replace")), of.get(label.identity)
+        name = of.get(label.identity)
         if name is None or name in found:
-            raise Refusal(image.path, "its id is %s, %s" % (identity, "as that of " + found[name] if name else "which the text has not"))
+            raise Refusal(image.path, "its id is %s, %s" % (shown(label.identity), "as that of " + found[name] if name else "which the text has not"))
         found[name] = image.path
         yield name, image.path
-    for name, node in physicals:
+    for identity, name in of.items():
         if name not in found:
-            streams.tell("missing: %s, with the id %s" % (name, shown(node.value(b"id", bytes) or b"-")))
+            streams.tell("missing: %s, with the id %s" % (name, shown(identity)))
+
+
+def names_by_id(text: str) -> Dict[bytes, str]:
+    """The name of each physical volume that has an id, by that."""
+    ids = [(node.value(b"id", bytes), name) for name, node in _read(text)[1]]
+    return {identity: name for identity, name in ids if isinstance(identity, bytes)}
 
 
 def _read(path: str) -> Tuple[Document, List[Tuple[str, Node]]]:

@@ -1,8 +1,10 @@
 """Tables that end at whole disks, from tables that end at partitions: each partition becomes a device.
 
 Have: FILE, table text or concise text, of a machine or of a volume group; and SFDISK, what `sfdisk -d DISK` prints of
-each disk. With --image DISK=IMAGE answers name the image, and where no SFDISK is of it, its partition table is read from
-it. A disk may be a device of FILE, as /dev/mapper/vg0-lv0, whose partitions then become devices on it.
+each disk. With --image DISK=IMAGE answers name the image, and where no SFDISK is of it, its own partition table is read.
+With --group TEXT, the metadata that FILE was made of, IMAGE alone does: the ids in labels say which physical volume an
+image or a partition of it is. A disk may be a device of FILE, as /dev/mapper/vg0-lv0, whose partitions then become devices
+on it.
 
 Get: FILE with a device for each partition. LSBLK says which path a number is, and how long the disks are that DISKS then
 has; an image says its own length.
@@ -14,8 +16,10 @@ these disks. Extended partitions are left out, since they hold others.
 import argparse
 from typing import Dict, Iterator, List, Optional, Tuple
 
-from dmremap_tools.base import disk_image, listings, names, numbers, partition_table, quoting, streams, tables
+from dmremap_tools.base import listings, names, numbers, quoting, streams, tables
 from dmremap_tools.base.refusal import Refusal, WrongWords
+from dmremap_tools.machines.disks import names_by_id
+from dmremap_tools.machines.pictured import pictured
 from dmremap_tools.machines.sfdisk_text import Partition, partitions_in, path_of
 
 EXAMPLE = "dmremap-tools partitions --lsblk lsblk.txt --disks whole.disks sfdisk.txt tables > whole"
@@ -27,6 +31,8 @@ class Lowers:
 
     def __init__(self, sizes: Dict[str, Optional[int]], paths: Dict[str, str], images: Dict[str, str]) -> None:
         self._paths, self._images, self._named = paths, images, dict(images)
+        # The path of the image or of the partition that is a physical volume of this name.
+        self._bound: Dict[str, str] = {}
         self._lengths = {path: sizes[number] for number, path in paths.items()}
         for disk, image in images.items():
             self._lengths[image] = self._lengths.get(disk)
@@ -36,6 +42,11 @@ class Lowers:
         if self._lengths.get(image) not in (None, length):
             raise Refusal(image, "lsblk and the image differ in its length")
         self._lengths[image] = length
+
+    def bind(self, name: str, path: str) -> None:
+        """Knows that a physical volume is this image, or this partition of one."""
+        if self._bound.setdefault(name, path) != path:
+            raise Refusal(path, "%s is the same physical volume, %s" % (self._bound[name], name))
 
     def add(self, partition: Partition, name: str) -> None:
         """Knows a partition by its own path, and by that on the disk that it is the image of."""
@@ -47,7 +58,7 @@ class Lowers:
 
     def new(self, lower: str) -> str:
         """What stands for a disk or a device."""
-        path = self._paths.get(lower, lower)
+        path = self._bound.get(lower) or self._paths.get(lower, lower)
         return self._named.get(path, path)
 
     def disks_of(self, devices: List[tables.Device], lsblk: Optional[str]) -> Iterator[Tuple[str, int]]:
@@ -64,7 +75,8 @@ def add_words(parser: argparse.ArgumentParser) -> None:
     """Adds SFDISK, FILE and what goes with them."""
     parser.add_argument("--lsblk", metavar="LSBLK", help="what `%s` prints" % listings.LSBLK_COMMAND)
     parser.add_argument("--disks", metavar="DISKS", help="the file to write DISKS to")
-    parser.add_argument("--image", action="append", default=[], metavar="DISK=IMAGE", help="an image, and the disk that FILE names")
+    parser.add_argument("--image", action="append", default=[], metavar="[DISK=]IMAGE", help="an image, and the disk that FILE names")
+    parser.add_argument("--group", metavar="TEXT", help="the metadata of the group, for images without DISK")
     parser.add_argument("--sector-size", type=numbers.word, metavar="BYTES", help="how many bytes a sector has, for texts of an old sfdisk, and an MBR in an image")
     parser.add_argument("sfdisk", nargs="*", metavar="SFDISK", help="what `sfdisk -d` prints of a disk")
     parser.add_argument("file", metavar="FILE", help="table text or concise text")
@@ -73,12 +85,14 @@ def add_words(parser: argparse.ArgumentParser) -> None:
 def run(words: argparse.Namespace) -> None:
     """Puts the devices of the partitions before those of FILE, which then name these and the disks."""
     beside = streams.beside(words.disks) if words.disks else None
-    images = images_in(words.image)
+    images, bare = images_in(words.image, words.group)
     lowers = Lowers(*(listings.read_lsblk(words.lsblk) if words.lsblk else ({}, {})), images)
     partitions = [it for path in words.sfdisk for it in partitions_in(path, words.sector_size)]
-    for image in dict.fromkeys(images.values()):
-        if image not in [it.disk for it in partitions]:
-            partitions += partitions_of(image, lowers, words.sector_size or numbers.SECTOR)
+    listed = {it.disk for it in partitions}
+    names_of = names_by_id(words.group) if words.group is not None else {}
+    for image in dict.fromkeys([*images.values(), *bare]):
+        if image not in listed:
+            partitions += partitions_of(image, lowers, words.sector_size or numbers.SECTOR, names_of, image in bare)
     devices, is_concise = tables.read(words.file)
     made = devices_of(partitions, devices, lowers, images, is_concise)
     for device in devices:
@@ -86,29 +100,31 @@ def run(words: argparse.Namespace) -> None:
     below = [it for it, volume in made if volume is None]
     above = [it for it, volume in made if volume is not None]
     named = {lower for device in devices for lower in device.lowers()}
-    if not above and not any(names.MAPPER + it.name in named for it in below):
+    if not above and not named & {*(names.MAPPER + it.name for it in below), *images.values(), *bare}:
         raise Refusal(words.file, NO_LINE)
     if beside:
         beside.write("".join("%s %d\n" % it for it in lowers.disks_of(below + devices, words.lsblk)))
     streams.out.write(tables.text_of(below + devices + above, is_concise))
 
 
-def images_in(words: List[str]) -> Dict[str, str]:
-    """The image of each disk."""
+def images_in(words: List[str], group: Optional[str]) -> Tuple[Dict[str, str], List[str]]:
+    """The image of each disk, and the images whose disks their labels tell."""
     for word in words:
-        if "=" not in word or not names.DISK.fullmatch(word.partition("=")[2]):
+        if not names.DISK.fullmatch(word.rpartition("=")[2]) or ("=" not in word and group is None):
             raise WrongWords("--image has no DISK=IMAGE: " + quoting.shown(word))
-    return {disk: image for disk, _, image in (it.partition("=") for it in words)}
+    return {disk: image for disk, _, image in (it.partition("=") for it in words if "=" in it)}, [it for it in words if "=" not in it]
 
 
-def partitions_of(path: str, lowers: Lowers, sector: int) -> List[Partition]:
-    """The partitions that an image itself has."""
-    image = disk_image.open_image(path)
-    lowers.measure(path, image.size // numbers.SECTOR)
-    table = partition_table.table_of(image, sector)
-    if table is None:
-        raise Refusal(path, "it has no partition table, and no text of `sfdisk -d` is of this image")
-    return [Partition(path, path_of(path, str(it.number)), it.start // numbers.SECTOR, it.size // numbers.SECTOR) for it in table.partitions]
+def partitions_of(path: str, lowers: Lowers, sector: int, names_of: Dict[bytes, str], is_bare: bool) -> List[Partition]:
+    """The partitions that an image itself has, of which some are physical volumes."""
+    image = pictured(path, sector)
+    lowers.measure(path, image.length)
+    bound = {place: names_of[identity] for place, identity in image.identities.items() if identity in names_of}
+    for place, name in bound.items():
+        lowers.bind(name, place)
+    if is_bare and not bound:
+        raise Refusal(path, "no physical volume of the group is in it: none of its labels has such an id")
+    return image.partitions
 
 
 def devices_of(partitions: List[Partition], devices: List[tables.Device], lowers: Lowers, images: Dict[str, str],
