@@ -47,6 +47,35 @@ SPANS = [
     bad("spans", [], ["d 64k\n", ""], "1:1: not a line of DISKS: d 64k"),
 ]
 
+# A group with volumes that FILE has and such as it hasn't, and what follows the extents of its disk.
+INACTIVE = """\
+g {
+\textent_size = 8
+\tphysical_volumes {
+\t\tpv0 {\n\t\t\tdevice = "d"\n\t\t\tdev_size = 100\n\t\t\tpe_start = 16\n\t\t\tpe_count = 9\n\t\t}
+\t\tpv1 {\n\t\t\tdevice = "e"\n\t\t\tdev_size = 88\n\t\t\tpe_start = 16\n\t\t\tpe_count = 9\n\t\t}
+\t}
+\tlogical_volumes {
+\t\ta {\n\t\t\tsegment1 {\n\t\t\t\tstart_extent = 0\n\t\t\t\textent_count = 1\n\t\t\t\ttype = "striped"\n\t\t\t\tstripes = ["pv0", 0]\n\t\t\t}\n\t\t}
+\t\tb-c {\n\t\t\tsegment1 {\n\t\t\t\tstart_extent = 0\n\t\t\t\textent_count = 2\n\t\t\t\ttype = "striped"\n\t\t\t\tstripes = ["pv0", 1]\n\t\t\t}
+\t\t\tsegment2 {\n\t\t\t\tstart_extent = 2\n\t\t\t\textent_count = 4\n\t\t\t\ttype = "striped"\n\t\t\t\tstripes = ["pv0", 5, "pv1", 0]\n\t\t\t}\n\t\t}
+\t\tlvol0_pmspare {\n\t\t\tsegment1 {\n\t\t\t\tstart_extent = 0\n\t\t\t\textent_count = 1\n\t\t\t\ttype = "striped"\n\t\t\t\tstripes = ["pv1", 8]\n\t\t\t}\n\t\t}
+\t\tr {\n\t\t\tsegment1 {\n\t\t\t\tstart_extent = 0\n\t\t\t\textent_count = 1\n\t\t\t\ttype = "raid1"\n\t\t\t\traids = ["a", "b"]\n\t\t\t}\n\t\t}
+\t}
+}
+"""
+SPANS += [
+    spanned(["d 100\ne 88\n", "g-a: 0 8 linear d 16\n", INACTIVE],
+            "d 0 16 g - label+metadata\nd 16 24 g-a 0 linear\nd 24 40 g-b--c 0 allocated\nd 56 72 g-b--c 16 allocated\n"
+            "d 88 100 end-of-g - allocated\nd 100 100 - - end\ne 0 16 g - label+metadata\ne 16 32 g-b--c 16 allocated\n"
+            "e 80 88 g-lvol0_pmspare 0 allocated\ne 88 88 - - end\n"),
+    # Figures that make no sense.
+    spanned(["d 100\ne 88\n", "g-a: 0 8 linear d 16\n", INACTIVE.replace('"pv0", 1]', '"pv0", -1]').replace("extent_count = 4", "extent_count = -4")
+             .replace('"pv1", 8]', '8, "pv1"]')],
+            "d 0 16 g - label+metadata\nd 16 24 g-a 0 linear\nd 88 100 end-of-g - allocated\nd 100 100 - - end\ne 0 16 g - label+metadata\n"
+            "e 88 88 - - end\n"),
+]
+
 READERS = [
     good("free", [], ["d 4 8 a 0 linear\nd 6 7 b 0 linear\nd 9 9 - - end\ne 5 5 - - end\n"],
          "d 0 4 unnamed\nd 4 8 a 0 linear\nd 6 7 b 0 linear\nd 8 9 unnamed\ne 0 5 unnamed\n"),
