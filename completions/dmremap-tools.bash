@@ -16,7 +16,7 @@ _dmremap_tools() {
             cut) offered="--help --ls" ;;
             whole) offered="--help --ls" ;;
             machine) offered="--help --disks --only --paths" ;;
-            partitions) offered="--help --lsblk --disks --image --sector-size" ;;
+            partitions) offered="--help --lsblk --disks --image --group --sector-size" ;;
             disks) offered="--help --image --paths" ;;
             elsewhere) offered="--help --paths --prefix --missing --losetup" ;;
             luks) offered="--help --name --length" ;;
@@ -33,7 +33,7 @@ _dmremap_tools() {
             dd) offered="--help --image --paths" ;;
             save) offered="--help --extents --map --allow-missing --paths --ls --program" ;;
             read-back) offered="--help --paths" ;;
-            spans) offered="--help" ;;
+            spans) offered="--help --paths" ;;
             free) offered="--help" ;;
             clashes) offered="--help" ;;
             align) offered="--help --to --stripes" ;;
