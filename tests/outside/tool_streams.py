@@ -52,6 +52,16 @@ CALLS = {
     "dot": ["stack.table"],
     "extents": ["read.pieces"],
     "store-size": ["writes"],
+    "store-full": ["--program", "./dmremap", "writes", "table", "snap.table", "snap.disks"],
+    "md": ["--name", "md0", "raid1.txt"],
+    "under": ["--disk", "/dev/sda1", "sda1", "vg0.table", "sda1.table"],
+    "thin": ["--data", "tdata", "--device", "1", "vg0-thin1", "4000", "thin.xml"],
+    "cache": ["--cache", "cdata", "--origin", "corig", "--name", "home", "--sectors", "1000", "cache.xml"],
+    "btrfs": ["--name", "fs", "--device", "1", "/dev/sda", "--device", "2", "/dev/sdb", "chunks.txt"],
+    "file-device": ["--name", "disk.img", "file.places", "file.requests"],
+    "nbd-plugin": [],
+    "picture": ["spans"],
+    "plot": ["--times", "times", "stack.disks", "pieces.txt"],
 }
 # What is made beside the samples.
 MADE = {
@@ -63,16 +73,27 @@ MADE = {
     "times": "0.5\n0.6\n0.75\n1.0\n12.5\n",
     "paths.pieces": "1 R /dev/sda1 10048 16\n2 R /dev/sda1 43008 8\n",
     "read.pieces": "1 R sda 4096 1048576\n2 zero 8\n",
+    "md.pieces": "1 R /dev/md1 100 200\n2 R sda 0 8\n3 zero 8\n",
+    "sda1.table": "sda1: 0 1050624 linear /dev/sda 2048\n",
+    "places": "size 20001\n0 16\n32 8\n",
+    "places.requests": "R vg0-lv0 8000 16\nR vg0-lv0 40960 8\n",
     "writes": "W snap 0 8\nW snap 4096 8\nR snap 0 8\n",
+    "snap.table": "snap: 0 819200 snapshot base cow P 8\n",
+    "snap.disks": "base 819200\ncow 32\n",
+    "sda1.table": "sda1: 0 1050624 linear /dev/sda 2048\n",
+    "file.places": "size 20000\n0 16\n16 8\n32 8\n",
+    "file.requests": "R vg0-lv0 8000 16\nR vg0-lv0 40960 8\nR vg0-lv0 40968 8\n",
 }
 DERIVED = [("spans", "spans", ["stack.disks", "stack.table"]),
            ("owners", "owner", ["--disk", "sda", "stack.table", "sda.map"]),
            ("machine.tables", "machine", ["--disks", "machine.disks", "ls.txt", "status.txt", "lsblk.txt", "concise.txt"])]
-# Commands that need the program, or make a file in place of printing. They are tried in `layouts` and `saves`.
-UNPRINTED = {"store-full", "read-back", "save"}
+# Commands that make a file in place of printing, or pass on what dmremap prints. They are tried in `layouts`, `saves` and `used`.
+UNPRINTED = {"read-back", "save", "used"}
+# Words of these calls that name files, but none that a text is put into.
+NO_INPUTS = ("beside", "image", "./dmremap")
 # What a command needs that may not be there.
 NEEDED = {"files": "debugfs"}
-CUTS, MUTATIONS, MEMORY = 12, 600, 1 << 30
+CUTS, MUTATIONS, MEMORY = 8, 500, 1 << 30
 FULL, GONE, INTERRUPTED = 5, 141, 130
 ANSWERED, REFUSED, INCOMPLETE = 0, 1, 4
 # What is put into a text in place of something else.
@@ -101,6 +122,7 @@ def make_room(program, top):
     folder = os.path.join(program.room, "streams")
     shutil.copytree(samples(top), folder)
     shutil.copy(os.path.join(top, "examples", "vg0.backup"), folder)
+    os.symlink(program.path, os.path.join(folder, "dmremap"))
     for name, text in MADE.items():
         program.file(os.path.join("streams", name), text)
     for name, command, words in DERIVED:
@@ -156,7 +178,7 @@ def check_cuts(tally, top, folder, command):
 def inputs_of(name, folder):
     """Which words of a call are files that are read."""
     words = CALLS[name]
-    return [(at, it) for at, it in enumerate(words) if it not in ("beside", "image") and os.path.isfile(os.path.join(folder, it))]
+    return [(at, it) for at, it in enumerate(words) if it not in NO_INPUTS and os.path.isfile(os.path.join(folder, it))]
 
 
 def with_input(top, folder, command, place, content):
