@@ -31,6 +31,7 @@ import hostile
 import installs
 import kinds
 import launcher
+import layers
 import layouts
 import limits
 import loads
@@ -40,6 +41,7 @@ import machines
 import manual
 import metadata_areas
 import origins
+import pictures
 import power_cuts
 import printing
 import ranges
@@ -59,6 +61,9 @@ import tool_answers
 import tool_documents
 import tool_requests
 import tool_streams
+import used
+import volumes
+import walks
 import words
 from harness import Program, Tally
 
@@ -92,11 +97,16 @@ def main():
         tool_documents.check(tally, program, TOP)
         tool_streams.check(tally, program, TOP)
         layouts.check(tally, program, TOP)
+        layers.check(tally, program, TOP)
+        used.check(tally, program, TOP)
+        volumes.check(tally, program, TOP)
+        pictures.check(tally, program, TOP)
         sector_files.check(tally, program, TOP)
         saves.check(tally, program, TOP)
         machines.check(tally, program, TOP)
         metadata_areas.check(tally, program, TOP)
         lvm2_texts.check(tally, program, TOP)
+        walks.check(tally, program, TOP)
         lookers.check(tally, TOP)
         refusals.check(tally, TOP)
         halts.check(tally, program, TOP)

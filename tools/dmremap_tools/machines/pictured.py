@@ -2,8 +2,9 @@
 
 from typing import Dict, List, NamedTuple
 
-from dmremap_tools.base import disk_image, numbers, partition_table
+from dmremap_tools.base import disk_image, numbers
 from dmremap_tools.machines.sfdisk_text import Partition, path_of
+from dmremap_tools.metadata.chosen_part import table_in
 from dmremap_tools.metadata.physical_volume import label_of
 
 
@@ -19,7 +20,7 @@ class Pictured(NamedTuple):
 def pictured(path: str, sector: int) -> Pictured:
     """What an image has, whose MBR counts in sectors of so many bytes."""
     image = disk_image.open_image(path)
-    table = partition_table.table_of(image, sector)
+    table = table_in(image, sector)
     made, identities = [], {}
     for name, part in [(path_of(path, str(it.number)), it) for it in table.partitions] if table else []:
         made.append(Partition(path, name, part.start // numbers.SECTOR, part.size // numbers.SECTOR))

@@ -20,7 +20,7 @@ def chosen_part(disk: Image, number: Optional[int]) -> Image:
     if number == 0:
         return disk
     try:
-        table = table_of(disk) or (backup_of(disk) if label_of(disk)[0] is None else None)
+        table = table_in(disk)
     except DamagedTable as damaged:
         raise Refusal(disk.path, damaged.why + where_volumes_begin(disk))
     if number is None and table is None:
@@ -36,6 +36,12 @@ def chosen_part(disk: Image, number: Optional[int]) -> Image:
         raise Refusal(disk.path, "partition %d begins after the end of this image: fetch its head, and take that as HEAD: %s"
                       % (number, dd(disk, "head.img", chosen[0].start, HEAD)))
     return disk.part(chosen[0].start, chosen[0].size)
+
+
+def table_in(disk: Image, sector: int = SECTOR) -> Optional[Table]:
+    """The partition table of a disk. Where its beginning is lost, the second copy of a GPT is read, unless the disk itself is
+    a physical volume, before whose time there may have been one."""
+    return table_of(disk, sector) or (backup_of(disk) if label_of(disk)[0] is None else None)
 
 
 def whole_disk(disk: Image, table: Table) -> str:
