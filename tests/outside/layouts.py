@@ -3,7 +3,6 @@
 import os
 import random
 import re
-import shutil
 
 import containers
 import layout_rows

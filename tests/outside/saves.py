@@ -51,14 +51,13 @@ def check_read_back(tally, program, top):
     os.symlink("behind", os.path.join(folder, "link"))
     holds("behind", put_together("link", places, pieces), 1, None, "dmremap-tools read-back: link: it is there already\n")
     holds("no/where", put_together("no/where", places, pieces), 5, None, "dmremap-tools read-back: no/where: No such file or directory\n")
-    program.file("back/paths", "/dev/sda elsewhere here\n")
-    holds("elsewhere", put_together("elsewhere", "size 900\n0 2\n", "1 R /dev/sda 2 2\n", "--paths", "paths"), 0, (sectors[2] + sectors[3])[:900])
-    places = "size 1024\n0 2\n"
-    holds("lost", put_together("lost", places, "1 error 1\n1 R it's 1 1\n"), 4, bytes(512) + sectors[1],
+    found = program.file("back/paths", "/dev/sda elsewhere here\n")
+    holds("elsewhere", put_together("elsewhere", "size 900\n0 2\n", "1 R /dev/sda 2 2\n", "--paths", found), 0, (sectors[2] + sectors[3])[:900])
+    holds("lost", put_together("lost", "size 1024\n0 2\n", "1 error 1\n1 R it's 1 1\n"), 4, bytes(512) + sectors[1],
           "1 sectors of the file from 0 on can't be read\n")
     holds("gaps", put_together("gaps", "size 3072\n0 3\n3 3\n", "1 R it's 1 1\n1 error 2\n2 error 1\n2 zero 1\n2 error 1\n"), 4,
           sectors[1] + bytes(2560), "3 sectors of the file from 1 on can't be read\n1 sectors of the file from 5 on can't be read\n")
-    holds("short", put_together("short", places, "1 R it's 15 2\n"), 1, None, "dmremap-tools read-back: it's: it ends before sector 17\n")
+    holds("short", put_together("short", "size 1024\n0 2\n", "1 R it's 15 2\n"), 1, None, "dmremap-tools read-back: it's: it ends before sector 17\n")
     with unreadable(range(5, 6), range(9, 12)):
         holds("damaged", put_together("damaged", "size 8192\n0 16\n", "1 R it's 0 16\n"), 4,
               b"".join(bytes(512) if it in (5, 9, 10, 11) else sectors[it] for it in range(16)),

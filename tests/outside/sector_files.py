@@ -221,6 +221,8 @@ def check_xfs(tally, program, top):
         file.seek(512 * int(place["inode table: /g"][0]))
         file.write(bytes(4096))
     got = files(program, top, "v %s 8\n" % place["/g"][0], "v", image)
-    tally.holds("data of a file of XFS whose inode is lost", (got.status, got.out) == (0, ("v %s 8 no inode\n" % place["/g"][0]).encode()), "%r, %r" % (got.out, got.err))
-    tally.same("files of XFS within a file", files(program, top, "v 0 8\n", "v", program.file("in.img", bytes(512) + b"XFSB") + "?offset=512"), 1, "",
-               "dmremap-tools files: %s?offset=512: it is XFS, and xfs_db reads no file system within a file: `losetup -r -o 512`\n" % program.file("in.img", bytes(512) + b"XFSB"))
+    wanted = ("v %s 8 no inode\n" % place["/g"][0]).encode()
+    tally.holds("data of a file of XFS whose inode is lost", (got.status, got.out) == (0, wanted), "%r, %r" % (got.out, got.err))
+    image = program.file("in.img", bytes(512) + b"XFSB") + "?offset=512"
+    tally.same("files of XFS within a file", files(program, top, "v 0 8\n", "v", image), 1, "",
+               "dmremap-tools files: %s: it is XFS, and xfs_db reads no file system within a file: `losetup -r -o 512`\n" % image)

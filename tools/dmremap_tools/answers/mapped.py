@@ -1,6 +1,5 @@
 """dmremap map, with the requests of a generator."""
 
-import os
 import subprocess
 import threading
 from types import TracebackType
@@ -8,8 +7,6 @@ from typing import Iterable, List, Optional, Sequence, Type
 
 from dmremap_tools.base import pieces, program, streams
 from dmremap_tools.base.refusal import Refusal
-
-CHUNK = 1 << 16
 
 
 class Mapped:

@@ -17,7 +17,7 @@ from dmremap_tools.answers.gaps import Gaps
 from dmremap_tools.answers.sources import Sources
 from dmremap_tools.answers.target import Target
 from dmremap_tools.base import numbers, paths, pieces, quoting, streams
-from dmremap_tools.base.refusal import INCOMPLETE, Refusal
+from dmremap_tools.base.refusal import INCOMPLETE
 
 EXAMPLE = "dmremap-tools read-back places pieces report.odt"
 READ = ("R", "zero", "error")

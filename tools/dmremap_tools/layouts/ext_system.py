@@ -5,7 +5,7 @@ superblock. What it answers is taken.
 """
 
 import re
-from typing import Dict, Iterator, List, NoReturn, Optional, Pattern, Sequence, Set, Tuple
+from typing import Dict, Iterator, List, Optional, Pattern, Sequence, Set, Tuple
 
 from dmremap_tools.base import quoting, streams
 from dmremap_tools.base.refusal import Refusal

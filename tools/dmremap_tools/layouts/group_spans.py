@@ -1,7 +1,7 @@
 """What the metadata of a volume group says of physical volumes: what they have for themselves, and which extents belong to
 volumes that no line names."""
 
-from typing import Collection, Dict, Iterator, List, NamedTuple, Optional
+from typing import Collection, Dict, Iterator, List, NamedTuple
 
 from dmremap_tools.base import config_text, quoting, streams
 from dmremap_tools.base.config_text import Node
