@@ -1,10 +1,13 @@
 """Snapshots that were written to: the command `used` over stores that are made here. What a kernel finds in such stores is
 compared by tests/kernel."""
 
+import importlib
 import os
+import random
 import struct
 import subprocess
 
+import tool_streams
 from harness import run
 from tool_calls import TOOL, call
 
@@ -17,6 +20,7 @@ TOLD = "s: used, 2 chunks of its store taken\n"
 PAIRS = [(3, 2), (0, 3)]
 FRESH = "1 R base 0 64\n"
 STORE = ["--store", "s=image"]
+CHANGES = 80
 
 
 def check(tally, program, top):
@@ -29,6 +33,7 @@ def check(tally, program, top):
     check_words(case)
     check_kept(case)
     check_streams(case)
+    check_changed(case)
 
 
 def store(pairs, chunk=CHUNK, chunks=20, magic=MAGIC, valid=1, version=1, said=None):
@@ -254,3 +259,20 @@ def check_streams(case):
     os.close(here)
     case.tally.same("used to a pipe that nobody reads", call(case.top, words[1:], READ, case.folder, stdout=there), 141, "", TOLD)
     os.close(there)
+
+
+def check_changed(case):
+    """Random changes of the image of a store: an answer, or a refusal in words."""
+    command = importlib.import_module("dmremap_tools.commands").find("used")
+    dice, content = random.Random(7), store(PAIRS)
+    # The header and the list, where nearly all else is zeros.
+    spots = [it for at in (0, CHUNK * SECTOR) for it in range(at, at + 40)]
+    for number in range(CHANGES):
+        changed = bytearray(content)
+        for _ in range(dice.choice((1, 1, 2, 5))):
+            changed[dice.choice(spots)] = dice.choice((0, 1, 2, 3, 8, 16, 255))
+        case.put("image", bytes(changed[:dice.choice((len(content), len(content), dice.randrange(len(content))))]))
+        got = case.call([*STORE, "map", "table", "table", "disks", "--status"])
+        why = tool_streams.fault_of(command, got)
+        case.tally.holds("used with change %d of an image" % number, not why, why)
+    case.put("image", content)
