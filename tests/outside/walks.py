@@ -160,7 +160,7 @@ def read(path):
 
 def file_system(program, dice):
     """The image of a file system, and the content of each of its files."""
-    files = {"f%d" % it: dice.randbytes(dice.choice([100, 5000, 70000])) for it in range(12)}
+    files = {"f%d" % it: os.urandom(dice.choice([100, 5000, 70000])) for it in range(12)}
     for name, content in files.items():
         program.file("walk/files/" + name, content)
     path = os.path.join(program.room, "walk", "system")

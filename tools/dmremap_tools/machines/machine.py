@@ -45,7 +45,8 @@ def add_words(parser: argparse.ArgumentParser) -> None:
     parser.add_argument("--disks", metavar="DISKS", required=True, help="the file to write DISKS to")
     parser.add_argument("--only", metavar="NAME", action="append", default=[], help="a device that is asked for, with all that it stands on")
     paths.add_words(parser)
-    for name, command in (("ls", "dmsetup ls"), ("status", "dmsetup status"), ("lsblk", listings.LSBLK_COMMAND), ("table", "dmsetup table --concise")):
+    for name, command in (("ls", "dmsetup ls"), ("status", "dmsetup status"), ("lsblk", listings.LSBLK_COMMAND),
+                          ("table", "dmsetup table --concise")):
         parser.add_argument(name, metavar=name.upper(), nargs="?" if name == "lsblk" else None, help="what `%s` prints" % command)
 
 

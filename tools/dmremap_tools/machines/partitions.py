@@ -77,7 +77,8 @@ def add_words(parser: argparse.ArgumentParser) -> None:
     parser.add_argument("--disks", metavar="DISKS", help="the file to write DISKS to")
     parser.add_argument("--image", action="append", default=[], metavar="[DISK=]IMAGE", help="an image, and the disk that FILE names")
     parser.add_argument("--group", metavar="TEXT", help="the metadata of the group, for images without DISK")
-    parser.add_argument("--sector-size", type=numbers.word, metavar="BYTES", help="how many bytes a sector has, for texts of an old sfdisk, and an MBR in an image")
+    parser.add_argument("--sector-size", type=numbers.word, metavar="BYTES",
+                        help="how many bytes a sector has, for texts of an old sfdisk, and an MBR in an image")
     parser.add_argument("sfdisk", nargs="*", metavar="SFDISK", help="what `sfdisk -d` prints of a disk")
     parser.add_argument("file", metavar="FILE", help="table text or concise text")
 

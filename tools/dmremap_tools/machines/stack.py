@@ -2,7 +2,7 @@
 
 from typing import Dict, List, Optional, Set, Tuple
 
-from dmremap_tools.base import names, streams, tables
+from dmremap_tools.base import names, tables
 from dmremap_tools.base.store_places import MOST, places
 from dmremap_tools.machines.found import LONGEST, Found
 
