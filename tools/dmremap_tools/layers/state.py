@@ -136,7 +136,11 @@ def _writes_of(snapshot: Snapshot) -> Iterator[str]:
     most = MOST_SECTORS // chunk
     for at in range(0, len(taken), BLOCK):
         block = taken[at:at + BLOCK]
-        cuts = [it for it, step in enumerate(map(operator.sub, block[1:], block), 1) if step != 1]
+        steps = list(map(operator.sub, block[1:], block))
+        if 1 not in steps:
+            yield "W %s %%d 1\n" % snapshot.name * len(block) % tuple([it * chunk for it in block])
+            continue
+        cuts = [it for it, step in enumerate(steps, 1) if step != 1]
         figures: List[int] = []
         for first, end in zip([0] + cuts, cuts + [len(block)]):
             for it in range(first, end, most):
