@@ -37,7 +37,7 @@ _dmremap_tools() {
             free) offered="--help" ;;
             clashes) offered="--help" ;;
             align) offered="--help --to --stripes" ;;
-            owner) offered="--help --disk --areas --ls --bytes --sector-size" ;;
+            owner) offered="--help --disk --areas --trace --ls --bytes --sector-size" ;;
             files) offered="--help --ls --bytes --sector-size --damaged --superblock" ;;
             tree) offered="--help" ;;
             dot) offered="--help" ;;

@@ -95,5 +95,34 @@ TRACES = [
     no_owner(LINEAR, BIOSNOOP + "0.1 fio 4101 sda R x 8192 0.2\n", "2:2: not a whole number below 2^64: 'x'"),
     no_owner(LINEAR, BIOSNOOP + "0.1 fio sda R 4 8192 0.2\n", "2:2: not a line of biosnoop: 0.1 fio sda R 4 8192 0.2"),
 ]
+DISKS = "8:0 1000448 sda \n8:16 1000448 sdb \n"
+QUEUED = "%s    0        7     0.000000000  4101  Q   %s %d + %d [fio]\n"
 
-ROWS = OWNERS + MAPS + UNITS + TRACES
+
+def traced(trace, output, message=""):
+    return good("owner", ["--trace", "1"], [DISKS, LINEAR, trace], output, message)
+
+
+DISK_TRACES = [
+    # Requests of any kind; other events, and flushes, say nothing.
+    traced(QUEUED % ("8,0", "R", 4, 2) + QUEUED.replace("Q", "C") % ("8,0", "R", 5, 2) + QUEUED % ("8,0", "D", 6, 1) + QUEUED % ("8,0", "FN", 0, 0),
+           "/dev/sda 4 2 = a 0\n/dev/sda 6 1 = a 2\n"),
+    traced("  fio-1 [002] ..... 12.5: block_bio_queue: 8,0 WS 7 + 1 [x]\n", "/dev/sda 7 1 = a 3\n"),
+    traced(QUEUED % ("8,16", "R", 4, 2), "/dev/sdb 4 2\n", "no line names /dev/sdb, so nothing is said of its sectors\n"),
+    traced(QUEUED % ("9,0", "R", 4, 2), "9:0 4 2\n", "no line names 9:0, so nothing is said of its sectors\n"),
+    bad("owner", ["--trace", "1"], [DISKS, LINEAR, "hello\n"], "3:1: no request in the trace"),
+    bad("owner", ["--trace", "1"], [DISKS, LINEAR, "CPU:3 [LOST 12 EVENTS]\n"], "3:1: events were lost: CPU:3 [LOST 12 EVENTS]"),
+]
+# Many chunks of a striped line are one run, if nothing lies on them, but for the parts of chunks at both ends.
+STRIPES = "a: 0 2048 striped 2 4 d 0 d 2000\n"
+LONG = [
+    owned(STRIPES, "d 0 1024\n", "d 0 1024 = a 0, 4 of every 8\n"),
+    owned(STRIPES, "d 2001 1000\n", "d 2001 3 = a 5\nd 2004 996 = a 12, 4 of every 8\nd 3000 1 = a 2004\n"),
+    owned(STRIPES + "b: 0 8 linear /dev/mapper/a 2016\n", "d 2000 1000\n", "d 2000 1000 = a 4, 4 of every 8\n"),
+    owned(STRIPES + "b: 0 8 linear /dev/mapper/a 8\n", "d 0 1024\n", "".join(
+        "d %d 4 = a %d%s\n" % (4 * it, 8 * it, " = b 0" if it == 1 else "") for it in range(256))),
+    owned("p: 0 1100 linear d 50\na: 0 2048 striped 2 4 /dev/mapper/p 2 e 0\n", "d 0 900\n",
+          "d 0 50\nd 50 2 = p 0\nd 52 848 = p 2 = a 0, 4 of every 8\n"),
+]
+
+ROWS = OWNERS + MAPS + UNITS + TRACES + DISK_TRACES + LONG

@@ -53,6 +53,7 @@ def check_sample(tally, program, top):
         ("home 27\n", "home", ["--sector-size", "1024"], "home 54 2 /old/copy.txt\nhome 54 2 /old/list.txt\n", ""),
         ("[ 1.5] I/O error, dev dm-4, sector 58 op 0x0:(READ)\n[ 1.5] I/O error, dev dm-5, sector 5 op 0x0:(READ)\n[ 1.6] x\n", "home",
          ["--ls", ls], "home 58 1 /report.odt\n", "left out: 1 sectors that are not of home\n"),
+        ("d 0 4 = home 46, 2 of every 8\n", "home", [], "home 46 2 /numbers.txt\nhome 54 2 /old/copy.txt\nhome 54 2 /old/list.txt\n", ""),
         ("home 119 3\n", "home", [], "home 119 1 unused\nhome 120 2 past its end\n", ""),
     ]
     for asked, volume, words, output, message in rows:

@@ -9,7 +9,7 @@ from dmremap_tools.base.refusal import Refusal
 from dmremap_tools.layouts import sectors_asked
 
 OWNED = re.compile(r"\S+ [0-9]+(?: ([0-9]+))? = .*")
-STEP = re.compile(r" = (\S+) ([0-9]+)(?: until it is copied)?(?= = |$)")
+STEP = re.compile(r" = (\S+) ([0-9]+)(?: until it is copied)?(?:, ([0-9]+) of every ([0-9]+))?(?= = |$)")
 MOST_BLOCKS = 1000000
 
 
@@ -68,9 +68,21 @@ class AskedRuns:
         if not match:
             self._source.refuse("not a line of owner: " + quoting.shown(row))
         count = self._source.whole(match[1] or "1")
-        here = [Run(self._source.whole(sector), count) for name, sector in STEP.findall(row) if name == self.volume]
+        here = [run for name, sector, chunk, every in STEP.findall(row) if name == self.volume
+                for run in self._runs(self._source.whole(sector), count, chunk, every)]
         self._others += 0 if here else count
         return here
+
+    def _runs(self, first: int, count: int, chunk: str, every: str) -> Iterator[Run]:
+        """Sectors of the volume, in one run or, of stripes, in many."""
+        if not chunk:
+            yield Run(first, count)
+            return
+        size, step = self._source.whole(chunk), self._source.whole(every)
+        if not size or count // size > MOST_BLOCKS:
+            self._source.refuse("more than %d runs of sectors" % MOST_BLOCKS)
+        for number in range(count // size):
+            yield Run(first + number * step, size)
 
     def _asked(self, row: str) -> List[Run]:
         """Sectors of the volume that are asked for by its name."""

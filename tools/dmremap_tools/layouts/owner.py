@@ -2,10 +2,11 @@
 
 Has FILE, table text or concise text, and SECTORS; else standard input: lines DISK SECTOR or DISK SECTOR COUNT, a kernel's log,
 of which the lines with `dev DISK, sector N` are taken, or what biosnoop prints. With --disk it is a map of ddrescue, of
-which the areas that couldn't be read are asked for, or a list of badblocks.
+which the areas that couldn't be read are asked for, or a list of badblocks; with --trace it is a trace of disks.
 
 Gets a line for each run of sectors that goes one way up, and that way. A sector of an origin belongs to its snapshots
-`until it is copied`; of the store of a snapshot only that is said.
+`until it is copied`; of the store of a snapshot only that is said. Many chunks of a striped line, on which nothing lies, are
+one run: `= mail 0, 128 of every 256`.
 
 A kernel's log counts in 512 bytes. Other tools count in the sectors of the disk, as smartctl, or in bytes:
 --sector-size and --bytes say so.
@@ -29,6 +30,8 @@ def add_words(parser: argparse.ArgumentParser) -> None:
     parser.add_argument("--disk", help="the disk of which SECTORS is a map of ddrescue or a list of badblocks")
     parser.add_argument("--areas", default="-*/", metavar="STATUSES", help="the statuses in the map to ask for: bad-sector, "
                         "non-trimmed and non-scraped areas if nothing is given; --areas=-*/? has those that were not tried, too")
+    parser.add_argument("--trace", metavar="LSBLK", help="SECTORS is a trace of disks, by blktrace or the event block_bio_queue; LSBLK "
+                        "has what `%s` prints, for their numbers" % listings.LSBLK_COMMAND)
     parser.add_argument("--ls", metavar="LS", help="what `dmsetup ls` prints, where a device is given as /dev/dm-N")
     sectors_asked.add_words(parser)
     parser.add_argument("file", metavar="FILE")
@@ -57,6 +60,8 @@ def run(words: argparse.Namespace) -> None:
 def queries(words: argparse.Namespace, uses: Uses) -> Iterator[sectors_asked.Query]:
     """What SECTORS asks for."""
     unit = sectors_asked.unit_of(words)
+    if words.trace is not None:
+        return sectors_asked.traced_in(words.sectors, listings.read_lsblk(words.trace)[1])
     if words.disk is None:
         return sectors_asked.queries_in(words.sectors, unit)
     if not uses.named(words.disk):

@@ -2,11 +2,12 @@
 
 import argparse
 import re
-from typing import Iterator, NamedTuple, Optional
+from typing import Dict, Iterator, List, NamedTuple, Optional
 
 from dmremap_tools.base import numbers, quoting, streams
 from dmremap_tools.base.refusal import WrongWords
 from dmremap_tools.layouts import rescue_map
+from dmremap_tools.requests import trace
 
 DISK = re.compile(r"[!-~]{1,255}")
 QUERY = re.compile(r"([!-~]{1,255}) ([0-9]+)(?: ([0-9]+))?")
@@ -92,6 +93,32 @@ def traced(source: streams.Lines, row: str) -> Query:
     if len(fields) < 8 or not DISK.fullmatch(fields[-5]):
         source.refuse("not a line of biosnoop: " + quoting.shown(row))
     return Query(fields[-5], source.whole(fields[-3]), None)
+
+
+def traced_in(path: str, paths: Dict[str, str]) -> Iterator[Query]:
+    """What the requests of a trace of disks ask for, of which `paths` has that of each number."""
+    reader = DiskTrace(streams.Lines(path), paths)
+    for fields in reader.source.rows(trace.LINE):
+        reader.take_line(fields)
+        yield from reader.queries
+        reader.queries.clear()
+    if not reader.events:
+        reader.source.refuse("no request in the trace")
+
+
+class DiskTrace(trace.Reader):
+    """Makes questions of the requests of a trace, whatever they do."""
+
+    def __init__(self, source: streams.Lines, paths: Dict[str, str]) -> None:
+        super().__init__(source)
+        self._paths = paths
+        self.queries: List[Query] = []
+
+    def take(self, number: str, what: str, first: int, count: int, time: str) -> None:
+        """Takes a request."""
+        number = number.replace(",", ":")
+        if count:
+            self.queries.append(Query(self._paths.get(number, number), first, count))
 
 
 def lost_in(path: str, disk: str, statuses: str, unit: Unit) -> Iterator[Query]:

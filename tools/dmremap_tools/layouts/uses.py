@@ -7,6 +7,8 @@ from dmremap_tools.base.refusal import Refusal
 from dmremap_tools.layouts.overlaps import Overlaps
 
 DEEPEST = 32
+# More chunks than these of a striped line, with nothing above them, are told as one run.
+MOST_CHUNKS = 64
 
 
 class Step(NamedTuple):
@@ -32,14 +34,25 @@ class Use:
 
     def runs(self, first: int, end: int) -> Iterator[Tuple[int, int, int]]:
         """These sectors, in runs that follow each other on the device, too: sector below, length, sector there."""
-        columns, chunk = 1, self.end - self.first
-        if self.line.target == "striped" and self.line.words[0] != "1":
-            columns, chunk = int(self.line.words[0]), int(self.line.words[1])
+        columns, chunk = self.stripes()
         while first < end:
             number, rest = divmod(first - self.first, chunk)
             count = min(end - first, chunk - rest)
             yield first, count, self.line.start + (number * columns + self.place) * chunk + rest
             first += count
+
+    def stripes(self) -> Tuple[int, int]:
+        """How many columns the line has, and the sectors of a chunk."""
+        if self.line.target == "striped" and self.line.words[0] != "1":
+            return int(self.line.words[0]), int(self.line.words[1])
+        return 1, self.end - self.first
+
+    def whole_chunks(self, first: int, end: int) -> Tuple[int, int]:
+        """Those of these sectors that are whole chunks of several columns, if they are many; else none."""
+        columns, chunk = self.stripes()
+        begin = self.first - (self.first - first) // chunk * chunk
+        stop = self.first + (end - self.first) // chunk * chunk
+        return (begin, stop) if columns > 1 and stop - begin > MOST_CHUNKS * chunk else (first, first)
 
 
 class Uses:
@@ -70,16 +83,32 @@ class Uses:
             begin, stop = max(use.first, first), min(use.end, end)
             if at < begin:
                 yield moved(way, at - first), begin - at
-            for sector, count, to in use.runs(begin, stop):
-                below = moved(way, sector - first)
-                if use.is_store():
-                    yield below + (Step("in the store of " + use.device, None),), count
-                else:
-                    step = Step(use.device, to, " until it is copied" if use.line.target == "snapshot" else "")
-                    yield from self.ways(names.MAPPER + use.device, to, to + count, below + (step,))
+            whole, rest = use.whole_chunks(begin, stop)
+            if whole < rest and not self._is_any(use, whole, rest):
+                yield from self._through(use, begin, whole, moved(way, begin - first))
+                (_, _, to), (columns, chunk) = next(use.runs(whole, rest)), use.stripes()
+                step = Step(use.device, to, ", %d of every %d" % (chunk, columns * chunk))
+                yield moved(way, whole - first) + (step,), rest - whole
+                begin = rest
+            yield from self._through(use, begin, stop, moved(way, begin - first))
             at = max(at, stop)
         if at < end:
             yield moved(way, at - first), end - at
+
+    def _through(self, use: Use, first: int, end: int, way: Way) -> Iterator[Tuple[Way, int]]:
+        """Each way up that goes through a use, from these sectors, the first of which the way stands at."""
+        for sector, count, to in use.runs(first, end):
+            below = moved(way, sector - first)
+            if use.is_store():
+                yield below + (Step("in the store of " + use.device, None),), count
+            else:
+                step = Step(use.device, to, " until it is copied" if use.line.target == "snapshot" else "")
+                yield from self.ways(names.MAPPER + use.device, to, to + count, below + (step,))
+
+    def _is_any(self, use: Use, first: int, end: int) -> bool:
+        """Whether anything lies on the device of a use, from where the first to where the last of these sectors is on it."""
+        (_, _, begin), (_, count, last) = next(use.runs(first, end)), next(use.runs(end - use.stripes()[1], end))
+        return next(self._uses[names.MAPPER + use.device].meeting(begin, last + count), None) is not None
 
 
 def end_of(line: tables.Line, place: int, first: int, count: Optional[int]) -> int:

@@ -12,7 +12,7 @@ Trace top devices only: a request to a device on another one shows up at both, a
 import re
 from argparse import ArgumentParser, Namespace
 from functools import lru_cache
-from typing import Dict, Optional
+from typing import Dict, Optional, Tuple, Union
 
 from dmremap_tools.base import listings, numbers, requests, streams
 from dmremap_tools.requests.kept import Kept
@@ -46,43 +46,31 @@ def run(words: Namespace) -> None:
     """Prints the requests as they come."""
     times = streams.beside(words.times) if words.times is not None else None
     names = {number.replace(":", ","): name for name, number in listings.read_ls(words.ls)}
-    reader = Reader(streams.Lines(words.file), names, Kept(words.tables), times)
+    reader = RequestMaker(streams.Lines(words.file), names, Kept(words.tables), times)
     for fields in reader.source.rows(LINE):
-        if isinstance(fields, str):
-            reader.take_other(fields)
-        else:
-            reader.events += 1
-            number, time, what, first, count = fields
-            if what:
-                reader.take(number, what, int(first), int(count), time)
+        reader.take_line(fields)
     reader.end()
 
 
 class Reader:
-    """Makes requests of the events of a trace."""
+    """Reads the events of a trace. What takes its requests has a method `take`."""
 
-    def __init__(self, source: streams.Lines, names: Dict[str, str], kept: Kept, times: Optional[streams.Output]) -> None:
-        self.source, self.names, self.kept, self.times = source, names, kept, times
-        self.events = self.dropped = 0
+    def __init__(self, source: streams.Lines) -> None:
+        self.source, self.events = source, 0
 
     def take(self, number: str, what: str, first: int, count: int, time: str) -> None:
         """Takes a request: the device's number, what is done, and with which sectors."""
-        name = self.names.get(number)
-        if name is None:
-            self.kept.leave("%s, which dmsetup ls has not" % number)
+        raise NotImplementedError
+
+    def take_line(self, fields: Union[str, Tuple[str, ...]]) -> None:
+        """Takes what a line has, or the line itself."""
+        if isinstance(fields, str):
+            self.take_other(fields)
             return
-        if name not in self.kept.names:
-            self.kept.leave("%s (%s), which the tables have not" % (name, number))
-            return
-        operation = _operation_of(what)
-        if operation is None:
-            self.source.refuse_line("neither a read nor a write")
-        if not operation:
-            self.dropped += 1
-            return
-        made = requests.write(self.source, operation, name, first, count)
-        if self.times:
-            self.times.write((time + "\n") * made)
+        self.events += 1
+        number, time, what, first, count = fields
+        if what:
+            self.take(number, what, int(first), int(count), time)
 
     def take_other(self, line: str) -> None:
         """Takes a line that isn't of the usual form of blkparse."""
@@ -100,14 +88,6 @@ class Reader:
             elif len(fields) < 2 or not fields[1].startswith("["):
                 self.source.refuse_line("not a form of the event")
 
-    def end(self) -> None:
-        """Refuses a text without events, and tells what was left out."""
-        if not self.events:
-            self.source.refuse("no request in the trace")
-        self.kept.tell()
-        if self.dropped:
-            streams.tell("left out: %d requests that are neither reads nor writes" % self.dropped)
-
     def _take_event(self, head: str, rest: str) -> None:
         self.events += 1
         before, fields = head.split(), rest.split()
@@ -119,6 +99,42 @@ class Reader:
         if fields[4] != "0":
             first, count = self.source.whole(fields[2]), self.source.whole(fields[4])
             self.take(fields[0], fields[1], first, count, before[-1].rstrip(":"))
+
+
+class RequestMaker(Reader):
+    """Makes requests of the events of a trace."""
+
+    def __init__(self, source: streams.Lines, names: Dict[str, str], kept: Kept, times: Optional[streams.Output]) -> None:
+        super().__init__(source)
+        self.names, self.kept, self.times = names, kept, times
+        self.dropped = 0
+
+    def take(self, number: str, what: str, first: int, count: int, time: str) -> None:
+        """Prints a request, or leaves it out."""
+        name = self.names.get(number)
+        if name is None:
+            self.kept.leave("%s, which dmsetup ls has not" % number)
+            return
+        if name not in self.kept.names:
+            self.kept.leave("%s (%s), which the tables have not" % (name, number))
+            return
+        operation = _operation_of(what)
+        if operation is None:
+            self.source.refuse_line("neither a read nor a write")
+        if not operation:
+            self.dropped += 1
+            return
+        made = requests.write(self.source, operation, name, first, count)
+        if self.times:
+            self.times.write((time + "\n") * made)
+
+    def end(self) -> None:
+        """Refuses a text without events, and tells what was left out."""
+        if not self.events:
+            self.source.refuse("no request in the trace")
+        self.kept.tell()
+        if self.dropped:
+            streams.tell("left out: %d requests that are neither reads nor writes" % self.dropped)
 
 
 @lru_cache(maxsize=1024)
