@@ -5,7 +5,7 @@ Usage: benches/tools.py [MOST]
 
 Each line tells a command and its input of MOST lines (1000000 if not said), the least seconds of processor time of three
 runs, how much longer they are than those of a tenth, and the greatest memory in MiB. Time that is linear grows by a factor
-of up to 10.
+of up to 10. The last line saves a volume of 128 MiB that lies on two images in turn.
 """
 
 import os
@@ -68,13 +68,31 @@ def places(count, dice):
         yield "sda %d 8\n" % dice.randrange(1 << 20)
 
 
-SMALL = {"ls": "a\t(253:0)\n", "table": "a: 0 1048576 linear sda 0\n"}
+def origins(count, _):
+    for it in range(count):
+        yield "d 0 1000000 s%d 0 origin\n" % it
+
+
+def writes(count, dice):
+    for _ in range(count):
+        yield "W a %d 8\n" % dice.randrange(1 << 26)
+
+
+def wide():
+    """Many lines on one disk, with the store of a snapshot over all of it."""
+    return "".join("d%d: 0 16 linear sda %d\n" % (it, 16 * it) for it in range(60000)) + "s: 0 960000 snapshot base sda P 8\n"
+
+
+SMALL = {"ls": "a\t(253:0)\n", "table": "a: 0 1048576 linear sda 0\n", "wide": wide()}
 ROWS = [
     (["bytes"], in_bytes), (["cut"], in_bytes), (["trace", "ls", "table"], queued), (["fio", "table"], logged),
     (["filefrag", "a"], extents), (["totals"], pieces), (["totals"], snapshot_pieces), (["histogram"], pieces),
     (["splits"], pieces), (["seeks"], pieces), (["json"], pieces), (["to-fio"], pieces), (["dd", "--image", "x"], pieces),
-    (["free"], spans), (["clashes"], spans), (["owner", "table", "-"], places),
+    (["free"], spans), (["clashes"], spans), (["clashes"], origins), (["owner", "table", "-"], places),
+    (["owner", "wide", "-"], places), (["store-size"], writes),
 ]
+# A volume that is saved: so many chunks of 64 KiB, on two images in turn.
+CHUNKS, CHUNK = 2048, 1 << 16
 
 
 def main():
@@ -86,6 +104,23 @@ def main():
             seconds, memory = least(words, lines, most, room)
             tenth, _ = least(words, lines, most // 10, room)
             print("%-22s %-16s %6.2f s %5.1f %5d MiB" % (" ".join(words), lines.__name__, seconds, seconds / tenth, memory), flush=True)
+        seconds, memory = least_of_saves(room)
+        print("%-22s %-16s %6.2f s       %5d MiB" % ("save", "%d pieces" % CHUNKS, seconds, memory))
+
+
+def least_of_saves(room):
+    """The least seconds of some runs that save a volume, and the greatest memory."""
+    sectors = CHUNKS * CHUNK // 512
+    for name in ("left", "right"):
+        with open(os.path.join(room, name), "wb") as it:
+            it.write(os.urandom(CHUNKS * CHUNK // 2))
+    write(os.path.join(room, "volume"), ["v: 0 %d striped 2 %d left 0 right 0\n" % (sectors, CHUNK // 512)])
+    write(os.path.join(room, "disks"), ["left %d\nright %d\n" % (sectors // 2, sectors // 2)])
+    ran = []
+    for _ in range(RUNS):
+        ran.append(measured(["save", "v", "saved", "table", "volume", "disks"], os.devnull, room))
+        os.remove(os.path.join(room, "saved"))
+    return min(it[0] for it in ran), max(it[1] for it in ran)
 
 
 def least(words, lines, count, room):
