@@ -44,24 +44,32 @@ class Item(NamedTuple):
     kind: str
     start: int
     end: int
-    comma: int
+    comma: int = -1
 
 
 class Node:
     """A key with a value or a section: where it starts and ends, where its value or brace is, and how deep it lies.
     `is_plain` says that it has the form that lvm2 writes."""
 
-    __slots__ = ("_document", "key", "start", "value_at", "end", "level", "is_plain", "children")
+    __slots__ = ("_document", "key", "start", "value_at", "end", "level", "is_plain", "children", "_items")
 
     def __init__(self, document: "Document", key: bytes, start: int, value_at: int, end: int, level: int, is_plain: bool) -> None:
         self._document, self.key, self.start, self.value_at, self.end = document, key, start, value_at, end
         self.level, self.is_plain = level, is_plain
         self.children: Optional[List["Node"]] = None
+        self._items: Optional[List[Item]] = None
 
     @property
     def items(self) -> List[Item]:
         """Its values, of which there is one if it is no list; none of a section."""
-        return [] if self.children is not None else self._document.values_at(self.value_at)[0]
+        if self._items is None:
+            self._items = [] if self.children is not None else self._document.values_at(self.value_at)[0]
+        return self._items
+
+    def read_value(self) -> int:
+        """Reads its values, and returns where they end."""
+        self._items, end = self._document.values_at(self.value_at)
+        return end
 
     @property
     def is_list(self) -> bool:
@@ -159,7 +167,7 @@ class Document:
             opened.append(node)
         elif kind == "=":
             node.value_at = SPACE.match(self.content, node.end).end()
-            node.end = self.values_at(node.value_at)[1]
+            node.end = node.read_value()
             if is_word_between(self.content, node.end):
                 self.tight.append(node.end)
         else:
@@ -204,26 +212,26 @@ class Document:
         """The values of a value or a list at this byte, and where it ends."""
         kind, start, end = self._token(at, True)
         if kind != "[":
-            return [self._item(kind, start, end, -1)], end
-        items, last = [], end
+            return [self._item(kind, start, end)], end
+        items: List[Item] = []
         kind, start, end = self._token(end, True)
         while kind != "]":
-            self._item(kind, start, end, -1)
-            following = self._token(end, False)
-            comma = following[1] if following[0] == "," else -1
-            items.append(self._item(kind, start, end, comma))
-            kind, start, end = self._token(following[2], True) if comma >= 0 else following
+            items.append(self._item(kind, start, end))
+            kind, start, end = self._token(end, False)
+            if kind == ",":
+                items[-1] = items[-1]._replace(comma=start)
+                kind, start, end = self._token(end, True)
         return items, end
 
-    def _item(self, kind: str, start: int, end: int, comma: int) -> Item:
+    def _item(self, kind: str, start: int, end: int) -> Item:
         """The value that a token is."""
         text = self.content[start:end]
         if kind == NUMBER:
-            return Item(integer(text), kind, start, end, comma)
+            return Item(integer(text), kind, start, end)
         if kind == DECIMAL:
-            return Item(None, kind, start, end, comma)
+            return Item(None, kind, start, end)
         if kind in (DOUBLE, SINGLE, BARE):
-            return Item(unquoted(kind, text), kind, start, end, comma)
+            return Item(unquoted(kind, text), kind, start, end)
         raise self.refused(start, "no value: %s" % (shown(text) if kind != END else "the end"))
 
 
