@@ -19,8 +19,8 @@ NO_STORE = "its store is read-only, or not made of linear and striped lines"
 WORDS = ["--disks", "disks"]
 
 
-def machine(tables, output, message="", disks=SDA1, names=NUMBERS, status=FRESH, sizes=SIZES, only=()):
-    return "machine", WORDS + ["--only=" + it for it in only], [names, status, sizes, tables], output, message, 0, disks
+def machine(tables, output, message="", disks=SDA1, names=NUMBERS, status=FRESH, sizes=SIZES, only=(), more=()):
+    return "machine", WORDS + ["--only=" + it for it in only] + list(more), [names, status, sizes, tables], output, message, 0, disks
 
 
 def no_machine(tables, message, names=NUMBERS, status=FRESH, sizes=SIZES):
@@ -53,6 +53,7 @@ SNAPSHOTS = [
     machine(ALL.replace("P 8", "N 8"), LOWER_OUT + SNAP_OUT.replace("P 8", "N 8") + ORIG_OUT, status=FRESH.replace("16/64 16", "0/64 0")),
     without(COPIED, ALL, status=FRESH.replace("16/64 16", "24/64 16")),
     without(COPIED, ALL, status=FRESH.replace("16/64 16", "Invalid")),
+    machine(ALL, LOWER_OUT + SNAP_OUT + ORIG_OUT, status=FRESH.replace("16/64 16", "24/64 16"), more=["--store", "snap=cow.img"]),
     without("`dmsetup status` says nothing of it", ALL, status="base: 0 16 linear \n"),
     without("0 16 snapshot 253:0 253:1 PO 8", ALL.replace("P 8", "PO 8")),
     without("0 16 snapshot 253:0 253:1 P 8 1 discard_zeroes_cow", ALL.replace("P 8", "P 8 1 discard_zeroes_cow")),

@@ -108,14 +108,14 @@ def read_status(path: str) -> Dict[str, bool]:
     return is_fresh
 
 
-def leave_unknown(devices: Dict[str, Found], is_fresh: Dict[str, bool]) -> None:
+def leave_unknown(devices: Dict[str, Found], is_known: Dict[str, bool]) -> None:
     """Leaves out the devices without a table, and the snapshots of which nothing says what is in their stores."""
     for device in devices.values():
         if not device.lines:
             device.leave("no table")
-        if device.origins and device.name not in is_fresh:
+        if device.origins and device.name not in is_known:
             device.leave("`dmsetup status` says nothing of it")
-        elif device.origins and not is_fresh[device.name]:
+        elif device.origins and not is_known[device.name]:
             device.leave("its store has copies, and nothing says of which chunks")
 
 

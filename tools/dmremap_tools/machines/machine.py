@@ -19,7 +19,8 @@ A device that dmremap can't follow is told and left out; to the devices above it
     devices of other targets, as thin, raid, mirror, cache, multipath, verity, integrity and snapshot-merge;
     those without a table, or with a name that dmremap doesn't take (`dmsetup rename` gives another);
     those that aren't as long as lsblk says, or go past the end of what lies below, or lie on a disk without a length;
-    snapshots whose status isn't as `16/1048576 16`, with two equal figures, so that their stores have copies;
+    snapshots whose status isn't as `16/1048576 16`, with two equal figures, so that their stores have copies, unless --store
+    names them: ask `used` then, with the same words;
     those of kind PO or with features, not as long as their origin, or with a store that is read-only or not plain.
 
 An origin stays where a snapshot of it is left out, and it is said that copies for that one are missing in answers.
@@ -44,6 +45,7 @@ def add_words(parser: argparse.ArgumentParser) -> None:
     """Adds the four texts, and DISKS."""
     parser.add_argument("--disks", metavar="DISKS", required=True, help="the file to write DISKS to")
     parser.add_argument("--only", metavar="NAME", action="append", default=[], help="a device that is asked for, with all that it stands on")
+    parser.add_argument("--store", metavar="SNAPSHOT=IMAGE", action="append", default=[], help="a snapshot whose store `used` will read")
     paths.add_words(parser)
     for name, command in (("ls", "dmsetup ls"), ("status", "dmsetup status"), ("lsblk", listings.LSBLK_COMMAND),
                           ("table", "dmsetup table --concise")):
@@ -54,10 +56,10 @@ def run(words: argparse.Namespace) -> None:
     """Reads the four texts, leaves out what dmremap would refuse, and writes the rest."""
     beside = streams.beside(words.disks)
     devices = {number: Found(name, number) for name, number in listings.read_ls(words.ls)}
-    is_fresh = read_status(words.status)
+    is_known = {**read_status(words.status), **{it.partition("=")[0]: True for it in words.store}}
     stack = Stack(devices, *lengths_of(words))
     is_concise = read_tables(words.table, devices)
-    leave_unknown(devices, is_fresh)
+    leave_unknown(devices, is_known)
     if words.only:
         leave_others(devices, words.only)
     stack.settle()
