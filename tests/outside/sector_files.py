@@ -75,10 +75,14 @@ def check_refusals(tally, program, top):
     ]
     for owners, volume, message in rows:
         tally.same("files of %r" % owners, files(program, top, owners, volume, sample), 1, "", "dmremap-tools files: %s\n" % message)
-    for image in (program.file("files/none", bytes(100000)), os.path.join(program.room, "nowhere")):
-        got = files(program, top, "home 0\n", "home", image)
-        begins = ("dmremap-tools files: %s: debugfs says: " % image).encode()
-        tally.holds("files of " + os.path.basename(image), (got.status, got.out) == (1, b"") and got.err.startswith(begins), got.err)
+    image = program.file("files/none", bytes(100000))
+    got = files(program, top, "home 0\n", "home", image)
+    begins = ("dmremap-tools files: %s: debugfs says: " % image).encode()
+    tally.holds("files of no file system", (got.status, got.out) == (1, b"") and got.err.startswith(begins), got.err)
+    pipe = os.path.join(program.room, "files", "pipe")
+    os.mkfifo(pipe)
+    for image, why in ((os.path.join(program.room, "nowhere"), "No such file or directory"), (pipe, "neither a file nor a disk")):
+        tally.same("files of " + image, files(program, top, "home 0\n", "home", image), 1, "", "dmremap-tools files: %s: %s\n" % (image, why))
 
 
 def made(tally, program, name, contents, *words, size="8M"):

@@ -1,12 +1,14 @@
 """Questions to debugfs of e2fsprogs, which reads ext2, ext3 and ext4, and writes nothing here."""
 
+import itertools
 import tempfile
 from typing import Iterable, Iterator, List, Sequence, Tuple
 
 from dmremap_tools.base import program, quoting, streams
 
 # Bytes of one request, of which the system takes 131,071, and debugfs 8,191 where it reads many.
-LONGEST, LONGEST_OF_MANY = 100000, 8000
+LONGEST, LONGEST_OF_MANY, MOST_AT_ONCE = 100000, 8000, 4096
+NO_ANSWER = b"pwd"
 MOST_COMPLAINTS = 3
 ECHO, NOT_OPEN = "debugfs: ", ": Filesystem not open"
 
@@ -31,15 +33,18 @@ class Debugfs:
                 yield (some, *self.ask("%s %s" % (command, " ".join(map(str, some)))))
                 first, size = place + 1, 0
 
-    def ask_many(self, requests: Iterable[str]) -> List[str]:
+    def ask_many(self, requests: Iterable[str]) -> Iterator[str]:
         """What it answers to each of many requests, none of which has a line feed. One that is too long has no answer. What
         it complains of is not told. No answer may have a line that looks like a request."""
-        given = [it if len(it.encode("utf-8", "surrogateescape")) <= LONGEST_OF_MANY else "pwd" for it in requests]
-        with tempfile.TemporaryFile() as file:
-            file.write("".join(it + "\n" for it in given).encode("utf-8", "surrogateescape"))
-            file.seek(0)
-            printed, _ = self._asked(["-f", "-"], file.fileno())
-        return ("\n" + printed).split("\n" + ECHO)[1:]
+        rest = iter(requests)
+        for some in iter(lambda: list(itertools.islice(rest, MOST_AT_ONCE)), []):
+            with tempfile.TemporaryFile() as file:
+                for request in some:
+                    content = request.encode("utf-8", "surrogateescape")
+                    file.write((content if len(content) <= LONGEST_OF_MANY else NO_ANSWER) + b"\n")
+                file.seek(0)
+                printed, _ = self._asked(["-f", "-"], file.fileno())
+            yield from ("\n" + printed).split("\n" + ECHO)[1:]
 
     def _asked(self, request: List[str], given: "int | None") -> Tuple[str, List[str]]:
         words = [program.found("debugfs"), *self.options, *request, "--", self.image]

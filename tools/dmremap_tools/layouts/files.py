@@ -40,7 +40,7 @@ def add_words(parser: ArgumentParser) -> None:
 def run(words: Namespace) -> None:
     """Prints, for each run that is asked for, the runs of its sectors that the same files have."""
     asked = asked_runs.AskedRuns(words)
-    system = systems.opened(words.image, asked, words.damaged, words.superblock)
+    system = systems.system_in(words.image, asked, words.damaged, words.superblock)
     for each in asked.runs:
         parts = ((first, end, tuple(system.users(block, first, end)) if block < system.end else ("past its end",))
                  for block, first, end in each.parts(system.sectors))
