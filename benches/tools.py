@@ -5,7 +5,9 @@ Usage: benches/tools.py [MOST]
 
 Each line tells a command and its input of MOST lines (1000000 if not said), the least seconds of processor time of three
 runs, how much longer they are than those of a tenth, and the greatest memory in MiB. Time that is linear grows by a factor
-of up to 10. The last line saves a volume of 128 MiB that lies on two images in turn.
+of up to 10. `physicals` has a physical volume, and `chain` two volumes, for as many lines as the generator says. The lines
+after these are of single inputs: 3,000 devices of which each stands on the one before, 400 devices on two each, half a MiB of
+what looks like the beginning of a text, and a volume of 128 MiB, on two images in turn, that is saved.
 """
 
 import os
@@ -78,6 +80,29 @@ def writes(count, dice):
         yield "W a %d 8\n" % dice.randrange(1 << 26)
 
 
+GROUP = "contents = 1\nversion = 1\ng {\nextent_size = 8\nphysical_volumes {\n"
+PHYSICAL = 'pv%d {\nid = "x"\ndevice = "/dev/d%d"\nstatus = ["ALLOCATABLE"]\nflags = []\ndev_size = 4096\npe_start = 8\npe_count = 200\n}\n'
+VOLUME = '%s {\nstatus = ["READ", "WRITE"]\nsegment_count = 1\nsegment1 {\nstart_extent = 0\nextent_count = 4\ntype = "%s"\n%s}\n}\n'
+
+
+def physicals(count, _):
+    """A physical volume for 25 lines."""
+    yield GROUP
+    for it in range(count // 25):
+        yield PHYSICAL % (it, it)
+    yield "}\nlogical_volumes {\n" + VOLUME % ("v", "striped", 'stripe_count = 1\nstripes = ["pv0", 0]\n') + "}\n}\n"
+
+
+def chain(count, _):
+    """Volumes of which each is a snapshot of the next, up to one that dmremap can't follow, and one that it can."""
+    last = count // 400
+    yield GROUP + PHYSICAL % (0, 0) + "}\nlogical_volumes {\n" + VOLUME % ("v", "error", "")
+    for it in range(last):
+        yield VOLUME % ("v%d" % it, "striped", 'stripe_count = 1\nstripes = ["pv0", 0]\n')
+        yield VOLUME % ("snapshot%d" % it, "snapshot", 'chunk_size = 8\norigin = "v%d"\ncow_store = "v%d"\n' % (it + 1, it))
+    yield VOLUME % ("v%d" % last, "raid1", "") + "}\n}\n"
+
+
 def wide():
     """Many lines on one disk, with the store of a snapshot over all of it."""
     return "".join("d%d: 0 16 linear sda %d\n" % (it, 16 * it) for it in range(60000)) + "s: 0 960000 snapshot base sda P 8\n"
@@ -90,6 +115,21 @@ ROWS = [
     (["splits"], pieces), (["seeks"], pieces), (["json"], pieces), (["to-fio"], pieces), (["dd", "--image", "x"], pieces),
     (["free"], spans), (["clashes"], spans), (["clashes"], origins), (["owner", "table", "-"], places),
     (["owner", "wide", "-"], places), (["store-size"], writes),
+    (["lvm2-text", "-"], physicals), (["lvm2-text", "-"], chain),
+]
+# Single inputs: what a command is called, its words, and its files.
+DEVICES, LEVELS = 3000, 200
+SINGLE = [
+    ("%d devices" % DEVICES, ["machine", "--disks", "disks", "names", "state", "sizes", "lines"], {
+        "names": "".join("d%d\t(253:%d)\n" % (it, it) for it in range(DEVICES)), "state": "d0: 0 8 linear \n",
+        "sizes": "8:1 4096 sda1 \n" + "".join("253:%d 4096 dm-%d \n" % (it, it) for it in range(DEVICES)),
+        "lines": "".join("d%d: 0 8 linear %s 0\n" % (it, "253:%d" % (it - 1) if it else "8:1") for it in range(DEVICES))}),
+    ("%d devices" % (2 * LEVELS), ["aliases", "lattice", "listed"], {
+        "lattice": "".join("%d:%d 8 d%d.%d d%d.%d\n" % (at + 1, it, at + 1, it, at, below) for at in range(LEVELS) for it in range(2)
+                           for below in range(2)) + "0:0 8 d0.0 \n0:1 8 d0.1 \n",
+        "listed": "d%d.0 8\nd0.0 8\n" % LEVELS}),
+    ("braces", ["metadata", "--list", "head"], {
+        "head": 'a {\nid = "x"\nseqno = 1\n}\n' + 'aaaa {\nid = "' * (1 << 15)}),
 ]
 # A volume that is saved: so many chunks of 64 KiB, on two images in turn.
 CHUNKS, CHUNK = 2048, 1 << 16
@@ -104,6 +144,11 @@ def main():
             seconds, memory = least(words, lines, most, room)
             tenth, _ = least(words, lines, most // 10, room)
             print("%-22s %-16s %6.2f s %5.1f %5d MiB" % (" ".join(words), lines.__name__, seconds, seconds / tenth, memory), flush=True)
+        for name, words, files in SINGLE:
+            for file, text in files.items():
+                write(os.path.join(room, file), [text])
+            ran = [measured(words, os.devnull, room) for _ in range(RUNS)]
+            print("%-22s %-16s %6.2f s       %5d MiB" % (" ".join(words[:2]), name, min(it[0] for it in ran), max(it[1] for it in ran)), flush=True)
         seconds, memory = least_of_saves(room)
         print("%-22s %-16s %6.2f s       %5d MiB" % ("save", "%d pieces" % CHUNKS, seconds, memory))
 
