@@ -61,6 +61,7 @@ import tool_answers
 import tool_documents
 import tool_requests
 import tool_streams
+import trace_parts
 import used
 import volumes
 import walks
@@ -101,6 +102,7 @@ def main():
         used.check(tally, program, TOP)
         volumes.check(tally, program, TOP)
         pictures.check(tally, program, TOP)
+        trace_parts.check(tally, program, TOP)
         sector_files.check(tally, program, TOP)
         saves.check(tally, program, TOP)
         machines.check(tally, program, TOP)
