@@ -15,7 +15,7 @@ _dmremap_tools() {
             fio) offered="--help --ls" ;;
             cut) offered="--help --ls" ;;
             whole) offered="--help --ls" ;;
-            machine) offered="--help --disks --only --paths" ;;
+            machine) offered="--help --disks --only --store --paths" ;;
             partitions) offered="--help --lsblk --disks --image --group --sector-size" ;;
             disks) offered="--help --image --paths" ;;
             elsewhere) offered="--help --paths --prefix --missing --losetup" ;;
