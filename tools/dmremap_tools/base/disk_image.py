@@ -62,13 +62,18 @@ def open_image(path: str) -> Image:
     """The image of this path, which isn't empty; of standard input for `-`."""
     name = "standard input" if path == "-" else path
     try:
-        file = open(0 if path == "-" else path, "rb", buffering=0, closefd=path != "-")
+        file = open(0 if path == "-" else path, "rb", buffering=0, closefd=path != "-", opener=_open)
     except OSError as fault:
         raise Refusal(name, streams.why(fault))
     image = Image(file, name)
     if not image.size:
         raise Refusal(name, "it is empty")
     return image
+
+
+def _open(path: str, flags: int) -> int:
+    """Opens without waiting, as for one who writes to a pipe of this name."""
+    return os.open(path, flags | os.O_NONBLOCK)
 
 
 def dd(image: Image, output: str, start: int, size: int) -> str:
