@@ -156,6 +156,10 @@ def bound(images, group, tables, output, message="", disks=None, words=()):
 ROWS += [
     bound([PARTED, SECOND], GROUP, BOUND, "1p1: 0 8 linear 1 64\n1p2: 0 128 linear 1 128\na: 0 8 linear /dev/mapper/1p2 4\na: 8 8 linear 2 4\n",
           disks="1 256\n2 128\n"),
+    bound([FIRST], GROUP, BOUND, "", "--lsblk: no length of pv1"),
+    bound([FIRST], GROUP, BOUND, "missing0: 0 12 error\na: 0 8 linear 1 4\na: 8 8 linear /dev/mapper/missing0 4\n",
+          "missing: pv1, which reads as error: missing0\n", "1 128\n", ["--missing", "error"]),
+    bound([FIRST], GROUP, "s: 0 8 snapshot /dev/sdb1 pv1 P 8\n", "", "3: a snapshot needs the disk pv1: it can't be missing", words=["--missing", "zero"]),
     bound([SECOND, FIRST], GROUP, BOUND, "a: 0 8 linear 2 4\na: 8 8 linear 1 4\n", disks="2 128\n1 128\n"),
     bound([FIRST, FIRST], GROUP, BOUND, "", "2: 1 is the same physical volume, /dev/sdb1"),
     bound([volume(identity=b"y" * 32)], GROUP, BOUND, "", "1: no physical volume of the group is in it: none of its labels has such an id"),

@@ -10,12 +10,13 @@ Refuses a disk that has no path here, unless --missing is given.
 """
 
 import argparse
-import itertools
 import re
-from typing import Dict, List, Optional, Set
+from typing import Dict, List, Optional
 
 from dmremap_tools.base import names, numbers, paths, quoting, streams, tables
 from dmremap_tools.base.refusal import Refusal, WrongWords
+from dmremap_tools.machines import missing
+from dmremap_tools.machines.missing import StandIns
 
 EXAMPLE = "dmremap concise lvm vg0.backup | dmremap-tools elsewhere --paths paths.txt > here.concise"
 PATH = re.compile(r"/[^,;\\\s]*")
@@ -26,7 +27,7 @@ def add_words(parser: argparse.ArgumentParser) -> None:
     paths.add_words(parser)
     parser.add_argument("--prefix", metavar="PREFIX", default="", help="what the names of devices begin with here")
     which = parser.add_mutually_exclusive_group()
-    which.add_argument("--missing", choices=("error", "zero"), help="what a disk without a path reads as")
+    missing.add_words(which)
     which.add_argument("--losetup", action="store_true", help="print commands for losetup, which need no device-mapper")
     parser.add_argument("file", metavar="FILE", nargs="?", default="-", help="concise text; else standard input")
 
@@ -48,51 +49,39 @@ def run(words: argparse.Namespace) -> None:
     if words.losetup:
         streams.out.write("".join(losetup(name, it, path_of) for it in devices))
     else:
-        moved = Moved(name, path_of or {}, words.prefix, words.missing)
+        moved = Moved(name + ":1", path_of or {}, words.prefix, words.missing)
         streams.out.write(tables.text_of(moved.devices_of(devices), True))
 
 
 class Moved:
     """Devices with other names and paths, and those that stand for disks that are missing."""
 
-    def __init__(self, source: str, path_of: Dict[str, str], prefix: str, missing: Optional[str]) -> None:
-        self._source, self._path_of, self._prefix, self._missing = source, path_of, prefix, missing
-        self._lost: Dict[str, tables.Device] = {}
-        self._new_names = ("%smissing%d" % (prefix, it) for it in itertools.count())
+    def __init__(self, source: str, path_of: Dict[str, str], prefix: str, target: Optional[str]) -> None:
+        self._source, self._path_of, self._prefix, self._target = source, path_of, prefix, target
 
     def devices_of(self, devices: List[tables.Device]) -> List[tables.Device]:
         """The devices, in their order, after those that stand for disks."""
         moved, taken = [], {self._prefix + it.name for it in devices}
+        stand_ins = StandIns(self._source, self._target or "error", "ro", self._prefix, taken)
         for device in devices:
             made = tables.Device(self._prefix + device.name, "ro")
-            made.lines = [self._line(line, taken) for line in device.lines]
+            for line in device.lines:
+                stand_ins.add(line, self._is_missing)
+                made.lines.append(line.with_lowers(lambda it: self._lower(it, stand_ins)))
             moved.append(made)
-        return list(self._lost.values()) + moved
+        return stand_ins.devices() + moved
 
-    def _line(self, line: tables.Line, taken: Set[str]) -> tables.Line:
-        """A line of a device, moved."""
-        for lower, start, count in line.spans():
-            if not lower.startswith(names.MAPPER) and lower not in self._path_of:
-                self._lose(lower, start + count if count is not None else None, taken)
-        return line.with_lowers(self._lower)
+    def _is_missing(self, disk: str) -> bool:
+        """Whether a disk has no path, which may be refused."""
+        if disk not in self._path_of and not self._target:
+            raise Refusal(self._source, "no path of the disk " + quoting.shown(disk))
+        return disk not in self._path_of
 
-    def _lower(self, lower: str) -> str:
+    def _lower(self, lower: str, stand_ins: StandIns) -> str:
         """What stands for a disk or a device."""
         if lower.startswith(names.MAPPER):
             return names.MAPPER + self._prefix + lower[len(names.MAPPER):]
-        return names.MAPPER + self._lost[lower].name if lower in self._lost else self._path_of[lower]
-
-    def _lose(self, disk: str, end: Optional[int], taken: Set[str]) -> None:
-        """Puts a device in the place of a disk, as long as it is used."""
-        if not self._missing:
-            raise Refusal(self._source + ":1", "no path of the disk " + quoting.shown(disk))
-        if end is None:
-            raise Refusal(self._source + ":1", "a snapshot needs the disk %s: it can't be missing" % quoting.shown(disk))
-        device = self._lost.get(disk)
-        if not device:
-            device = self._lost[disk] = tables.Device(next(it for it in self._new_names if it not in taken), "ro")
-            streams.tell("missing: %s, which reads as %s: %s" % (quoting.shown(disk), self._missing, device.name))
-        device.lines = [tables.Line(0, max([end] + [it.length for it in device.lines]), self._missing, [])]
+        return self._path_of.get(lower) or stand_ins.lower(lower)
 
 
 def losetup(source: str, device: tables.Device, path_of: Optional[Dict[str, str]]) -> str:

@@ -7,7 +7,7 @@ image or a partition of it is. A disk may be a device of FILE, as /dev/mapper/vg
 on it.
 
 Get: FILE with a device for each partition. LSBLK says which path a number is, and how long the disks are that DISKS then
-has; an image says its own length.
+has; an image says its own length. --missing puts a device of `error` or `zero` in the place of a disk of which neither does.
 
 Refuses a text of sfdisk in other units, lengths on which it and lsblk don't agree, and tables that name no partition of
 these disks. Extended partitions are left out, since they hold others.
@@ -18,7 +18,9 @@ from typing import Dict, Iterator, List, Optional, Tuple
 
 from dmremap_tools.base import listings, names, numbers, quoting, streams, tables
 from dmremap_tools.base.refusal import Refusal, WrongWords
+from dmremap_tools.machines import missing
 from dmremap_tools.machines.disks import names_by_id
+from dmremap_tools.machines.missing import StandIns
 from dmremap_tools.machines.pictured import pictured
 from dmremap_tools.machines.sfdisk_text import Partition, partitions_in, path_of
 
@@ -61,6 +63,10 @@ class Lowers:
         path = self._bound.get(lower) or self._paths.get(lower, lower)
         return self._named.get(path, path)
 
+    def is_known(self, disk: str) -> bool:
+        """Whether it is known how long a disk is."""
+        return bool(self._lengths.get(disk))
+
     def disks_of(self, devices: List[tables.Device], lsblk: Optional[str]) -> Iterator[Tuple[str, int]]:
         """The disks below these devices, each once, with their lengths."""
         lowers = [lower for device in devices for lower in device.lowers() if not lower.startswith(names.MAPPER)]
@@ -77,6 +83,7 @@ def add_words(parser: argparse.ArgumentParser) -> None:
     parser.add_argument("--disks", metavar="DISKS", help="the file to write DISKS to")
     parser.add_argument("--image", action="append", default=[], metavar="[DISK=]IMAGE", help="an image, and the disk that FILE names")
     parser.add_argument("--group", metavar="TEXT", help="the metadata of the group, for images without DISK")
+    missing.add_words(parser)
     parser.add_argument("--sector-size", type=numbers.word, metavar="BYTES",
                         help="how many bytes a sector has, for texts of an old sfdisk, and an MBR in an image")
     parser.add_argument("sfdisk", nargs="*", metavar="SFDISK", help="what `sfdisk -d` prints of a disk")
@@ -98,6 +105,7 @@ def run(words: argparse.Namespace) -> None:
     made = devices_of(partitions, devices, lowers, images, is_concise)
     for device in devices:
         device.lines = [line.with_lowers(lowers.new) for line in device.lines]
+    lost = stand_ins_of(words, [it for it, _ in made], devices, lowers, is_concise) if words.missing else []
     below = [it for it, volume in made if volume is None]
     above = [it for it, volume in made if volume is not None]
     named = {lower for device in devices for lower in device.lowers()}
@@ -105,7 +113,19 @@ def run(words: argparse.Namespace) -> None:
         raise Refusal(words.file, NO_LINE)
     if beside:
         beside.write("".join("%s %d\n" % it for it in lowers.disks_of(below + devices, words.lsblk)))
-    streams.out.write(tables.text_of(below + devices + above, is_concise))
+    streams.out.write(tables.text_of(lost + below + devices + above, is_concise))
+
+
+def stand_ins_of(words: argparse.Namespace, made: List[tables.Device], devices: List[tables.Device], lowers: Lowers,
+                 is_concise: bool) -> List[tables.Device]:
+    """Puts devices in the place of the disks of which nothing says how long they are."""
+    taken = {it.name for it in made + devices}
+    lost = StandIns(words.file, words.missing, "rw" if is_concise else "", "", taken)
+    for device in devices:
+        for line in device.lines:
+            lost.add(line, lambda disk: not lowers.is_known(disk))
+        device.lines = [line.with_lowers(lost.lower) for line in device.lines]
+    return lost.devices()
 
 
 def images_in(words: List[str], group: Optional[str]) -> Tuple[Dict[str, str], List[str]]:
