@@ -3,6 +3,8 @@ is made of it by the program."""
 
 import os
 import re
+import shutil
+import tempfile
 
 import containers
 import elsewhere_rows
@@ -10,6 +12,7 @@ import machine_rows
 import partition_rows
 import physical_volumes
 import tool_calls
+from harness import run
 from tool_calls import TOOL
 
 SAMPLES = ("ls", "status", "lsblk")
@@ -156,8 +159,29 @@ def check_containers(tally, program, top):
     ]:
         got = device("container", content, *words)
         tally.same("a container of " + name, got, 1, "refused\n", "%s luks: %s: %s\n" % (TOOL, os.path.join(program.room, "machines", "container"), message))
+    check_real_containers(tally, device)
     got = device("container", second, "--name", "a b")
     tally.same("a container with such a name", got, 1, "refused\n", TOOL + " luks: NAME: no name of a device: 'a b'\n")
+
+
+def check_real_containers(tally, device):
+    """Containers that cryptsetup makes: their headers say what its luksDump does."""
+    cryptsetup = shutil.which("cryptsetup", path=os.environ["PATH"] + ":/sbin:/usr/sbin")
+    if not cryptsetup:
+        tally.skip("containers that cryptsetup makes", "it isn't there")
+        return
+    for kind in ("luks1", "luks2"):
+        with tempfile.NamedTemporaryFile() as disk:
+            disk.truncate(40 << 20)
+            made = run([cryptsetup, "luksFormat", "-q", "--type", kind, "--pbkdf", "pbkdf2", "--pbkdf-force-iterations", "1000", disk.name, "-"], given="word")
+            dumped = run([cryptsetup, "luksDump", disk.name])
+            if made.status or dumped.status:
+                tally.skip("a container of %s that cryptsetup makes" % kind, (made.err or dumped.err).decode().strip())
+                continue
+            by_header = device("container", disk.read())
+        by_text = device("container", dumped.out, "--length", str((40 << 20) // 512))
+        is_so = by_header.status == 0 and by_header.out == by_text.out and b" linear /dev/sda2 " in by_header.out
+        tally.holds("a container of %s that cryptsetup makes" % kind, is_so, "%r and %r, %r" % (by_header.out, by_text.out, by_header.err))
 
 
 def check_large(tally, program, top):
