@@ -16,7 +16,7 @@ _dmremap_tools() {
             cut) offered="--help --ls" ;;
             whole) offered="--help --ls" ;;
             machine) offered="--help --disks --only --store --paths" ;;
-            partitions) offered="--help --lsblk --disks --image --group --sector-size" ;;
+            partitions) offered="--help --lsblk --disks --image --group --missing --sector-size" ;;
             disks) offered="--help --image --paths" ;;
             elsewhere) offered="--help --paths --prefix --missing --losetup" ;;
             luks) offered="--help --name --length" ;;
@@ -44,7 +44,7 @@ _dmremap_tools() {
             extents) offered="--help" ;;
             store-full) offered="--help --program" ;;
             store-size) offered="--help --chunk --kind" ;;
-            used) offered="--help --program --paths --store --fresh --keep" ;;
+            used) offered="--help --program --paths --store --fresh --keep --status" ;;
             md) offered="--help --name --follow --copy --path --size" ;;
             under) offered="--help --disk" ;;
             thin) offered="--help --data --device --external --part" ;;
