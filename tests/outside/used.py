@@ -199,11 +199,14 @@ def check_limits(case):
 
 
 def check_words(case):
-    usage = "usage: dmremap-tools used [OPTION].. map FORMAT FILE [DISKS] [--status]\n"
-    for words in (["map", "table", "table"], ["map", "lvm", "a", "b"], ["map", "tables", "a", "b"], ["check", "table", "a", "b"], [], ["map"],
-                  ["map", "table", "a", "b", "--status", "--status"]):
-        case.tally.same("used " + " ".join(words), case.call(words), 2, "",
-                        usage + "%s used: after the options stand the words of a map: map FORMAT FILE [DISKS] [--status]\n" % TOOL)
+    for words in (["map", "table", "table"], ["map", "lvm", "a", "b"]):
+        case.tally.same("used " + " ".join(words), case.call(words), 2, "", "usage: map FORMAT FILE [DISKS] [--status]\n%s used: give DISKS, or leave it out with lvm\n" % TOOL)
+    for words, why in ((["map", "tables", "a", "b"], "argument FORMAT: invalid choice: 'tables'"),
+                       (["check", "table", "a", "b"], "argument map: invalid choice: 'check'"),
+                       (["map"], "the following arguments are required: FORMAT, FILE"), (["map", "table", "a", "b", "c"], "unrecognized arguments: c")):
+        got = case.call(words)
+        is_so = got.status == 2 and got.out == b"" and "\n%s used: %s" % (TOOL, why) in got.err.decode()
+        case.tally.holds("used " + " ".join(words), is_so, "%s, %r" % (got.status, got.err))
     for words, word in ((["--store", "s"], "s"), (["--store", "s="], "s="), (STORE + STORE, "s=image"), (STORE + ["--fresh", "s"], "s=image")):
         got = case.call([*words, "map", "table", "table", "disks"])
         case.tally.same("used " + " ".join(words), got, 2, "", "usage: --store SNAPSHOT=IMAGE\n%s used: not SNAPSHOT=IMAGE, or of one that was given before: %s\n" % (TOOL, word))

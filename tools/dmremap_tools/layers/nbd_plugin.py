@@ -3,12 +3,14 @@
 Gets the path of a small file: it lies where `./install` put it, or in the user's cache folder, if the tool was copied alone.
 nbdkit takes these parameters with it:
 
-    format=FORMAT source=FILE disks=DISKS   the stack, as after `dmremap map`; no disks with lvm
-    device=DEVICE                           what is served, by its name or path
-    image=NAME=PATH                         where a disk of the stack is read: a disk here, or an image; for each disk
-    paths=PATHS                             the same for all: lines NAME PATH
-    store=SNAPSHOT=IMAGE fresh=SNAPSHOT     what is in the stores of snapshots, as with `used`
-    program=PROGRAM                         which dmremap is asked; else that beside this tool, or on the path
+    format=FORMAT source=FILE   the stack, as after `dmremap map`
+    disks=DISKS                 its disks; not with lvm
+    device=DEVICE               what is served, by its name or path
+    image=NAME=PATH             where a disk of the stack is read
+    paths=PATHS                 the same for all: lines NAME PATH
+    store=SNAPSHOT=IMAGE        the store of a snapshot, as with `used`
+    fresh=SNAPSHOT              a snapshot with nothing in its store
+    program=PROGRAM             which dmremap is asked
 
 Then `qemu-img`, `nbdcopy`, `nbdfuse`, `e2fsck -n` and others read the device, and nbdkit's filters go over it, as `cow`, `cache`
 and `ddrescue`. Nothing is ever written to a disk or an image. A read that touches a sector that fails in the tables, lies on a

@@ -4,7 +4,6 @@ import os
 from typing import Dict, Iterable, List, NamedTuple, Optional
 
 from dmremap_tools.base import disks, names, program, streams, tables
-from dmremap_tools.base.refusal import WrongWords
 from dmremap_tools.machines.disks import of_group
 
 MOST_TEXT = 1 << 20
@@ -12,12 +11,17 @@ FORMATS = ("table", "concise", "lvm")
 
 
 class Given(NamedTuple):
-    """The words of a `dmremap map`: a format, FILE, DISKS unless it is metadata, and whether --status is among them."""
+    """What dmremap loads: a format, FILE, and DISKS unless it is metadata."""
 
     form: str
     file: str
     disks: Optional[str]
-    is_status: bool = False
+
+    def fault(self) -> Optional[str]:
+        """What is wrong with these words, or None."""
+        if self.form not in FORMATS:
+            return "a format is table, concise or lvm"
+        return "give DISKS, or leave it out with lvm" if (self.form == "lvm") == (self.disks is not None) else None
 
 
 class Stack(NamedTuple):
@@ -36,15 +40,6 @@ class Stack(NamedTuple):
         put(file, [tables.text_of(self.devices, True)])
         put(listed, ("%s %d\n" % it for it in self.sizes.items()))
         return ["concise", file, listed]
-
-
-def given_in(words: List[str], usage: str) -> Given:
-    """What the words `map FORMAT FILE [DISKS] [--status]` give."""
-    plain = [it for it in words if it != "--status"]
-    form = plain[1] if len(plain) > 1 else ""
-    if form not in FORMATS or plain[0] != "map" or len(plain) != (3 if form == "lvm" else 4) or len(words) > len(plain) + 1:
-        raise WrongWords(usage + "\nafter the options stand the words of a map: map FORMAT FILE [DISKS] [--status]")
-    return Given(form, plain[2], plain[3] if form != "lvm" else None, len(words) > len(plain))
 
 
 def load(asked: str, given: Given, room: str) -> Stack:

@@ -22,11 +22,10 @@ import tempfile
 from typing import BinaryIO, Dict
 
 from dmremap_tools.base import program, streams
-from dmremap_tools.base.refusal import Refusal
+from dmremap_tools.base.refusal import Refusal, WrongWords
 from dmremap_tools.layers import stack, state
 
 EXAMPLE = "echo 'R vg0-snap 8000 16' | dmremap-tools used --paths paths map lvm vg0-snapshot.backup"
-USAGE = "usage: dmremap-tools used [OPTION].. map FORMAT FILE [DISKS] [--status]"
 PIECE = 1 << 18
 
 
@@ -35,16 +34,23 @@ def add_words(parser: argparse.ArgumentParser) -> None:
     program.add_words(parser)
     state.add_words(parser)
     parser.add_argument("--keep", metavar="FOLDER", help="where FILE, DISKS and BEFORE are left")
-    parser.add_argument("map", metavar="map FORMAT FILE [DISKS] [--status]", nargs=argparse.REMAINDER)
+    parser.add_argument("map", choices=["map"], metavar="map", help="the words of a map begin here")
+    parser.add_argument("form", metavar="FORMAT", choices=stack.FORMATS, help="table, concise or lvm")
+    parser.add_argument("file", metavar="FILE")
+    parser.add_argument("disks", metavar="DISKS", nargs="?", help="with table and concise")
+    parser.add_argument("--status", action="store_true", help="how full the stores are, after the answers")
 
 
 def run(words: argparse.Namespace) -> None:
     """Maps from the state of the stores."""
-    given, wanted, asked = stack.given_in(words.map, USAGE), state.wanted_in(words), program.dmremap(words.program)
+    given, wanted, asked = stack.Given(words.form, words.file, words.disks), state.wanted_in(words), program.dmremap(words.program)
+    fault = given.fault()
+    if fault:
+        raise WrongWords("usage: map FORMAT FILE [DISKS] [--status]\n" + fault)
     with tempfile.TemporaryDirectory(prefix="dmremap-tools-") as room:
         loaded = stack.load(asked, given, room)
         prepared = state.prepare(asked, loaded, wanted, room if words.keep is None else _folder(words.keep))
-        _map(prepared, given.is_status)
+        _map(prepared, words.status)
 
 
 def _folder(path: str) -> str:

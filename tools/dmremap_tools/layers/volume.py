@@ -120,8 +120,9 @@ def config_complete() -> None:
     for key in ("format", "source", "device"):
         if key not in _given:
             raise Refusal(key, "it isn't given: %s=.." % key)
-    if _given["format"] not in stack.FORMATS or (_given["format"] == "lvm") == ("disks" in _given):
-        raise Refusal("format", "table and concise with disks=DISKS, or lvm without it")
+    fault = _stack().fault()
+    if fault:
+        raise Refusal("format", fault)
 
 
 @_in_words
@@ -129,9 +130,8 @@ def get_ready() -> None:
     """Loads the stack, and brings it to the state of its stores."""
     global _room, _volume
     _room = tempfile.mkdtemp(prefix="dmremap-nbd-")
-    given = stack.Given(_given["format"], _given["source"], _given.get("disks"))
     asked = os.path.abspath(shutil.which(program.dmremap(_given.get("program"))) or "dmremap")
-    loaded = stack.load(asked, given, _room)
+    loaded = stack.load(asked, _stack(), _room)
     name = names.of_path(_given["device"])
     device = loaded.by_path().get(names.MAPPER + name)
     if device is None:
@@ -146,6 +146,10 @@ def get_ready() -> None:
         _volume = Volume(name, device.end(), prepared.words, {disk: path for disk, path in images.items() if disk in disks})
     except OSError as fault:
         raise Refusal(quoting.shown(str(fault.filename)), streams.why(fault))
+
+
+def _stack() -> stack.Given:
+    return stack.Given(_given["format"], _given["source"], _given.get("disks"))
 
 
 def _images() -> Dict[str, str]:
