@@ -15,10 +15,11 @@ _MOST_LINES = re.compile(r"^([RW]) (\S+) %s %s$" % (numbers.SHORT, numbers.SHORT
 
 def read(source: streams.Lines, known: names.Names, form: str) -> Iterator[Tuple[str, str, int, int]]:
     """The lines that say R or W, a device, and two numbers. Others are refused as not of this form, which is in words."""
+    device = known.device
     for fields in source.rows(_MOST_LINES):
         if isinstance(fields, tuple):
             operation, name, first, count = fields
-            yield operation, known.device(name, source), int(first), int(count)
+            yield operation, device(name, source), int(first), int(count)
         else:
             words = fields.split()
             if len(words) != 4 or words[0] not in ("R", "W"):
