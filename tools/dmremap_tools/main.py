@@ -4,6 +4,7 @@ import argparse
 import gc
 import importlib
 import os
+import signal
 from types import ModuleType
 from typing import List, NoReturn
 
@@ -70,7 +71,10 @@ def _run(command: "commands.Command | None", name: str, words: List[str]) -> int
     if command:
         module = importlib.import_module("dmremap_tools." + command.module)
         parser = parser_of(command, module, name)
-        return module.run(_parsed(parser, words[1:])) or 0
+        typed = _parsed(parser, words[1:])
+        if signal.getsignal(signal.SIGINT) is signal.SIG_DFL:
+            signal.signal(signal.SIGINT, signal.default_int_handler)
+        return module.run(typed) or 0
     if words and words[0] in ("-h", "--help"):
         streams.out.write(commands.overview())
         return 0
