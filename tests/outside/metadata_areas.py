@@ -222,6 +222,10 @@ REFUSED = [
      "the metadata area at byte 3584 belongs at byte 4096, so the image lacks its first 512 bytes" + NOT_FOUND + FROM_FIRST),
     ("a volume behind other sectors", bytes(8 * SECTOR) + ONE_AREA, "there is no label in the first four sectors; the metadata area "
      "at byte 8192 belongs at byte 4096, so a physical volume begins at byte 4096 (sector 8)" + NOT_FOUND + LABELLED % (8, 8)),
+    ("five areas without a label", b"".join([bytes(SIZE)] + [area(TEXT, start=(1 + it) * SIZE) for it in range(5)]),
+     "more than 4 metadata areas are where they say that they begin" + OTHER),
+    ("many areas that are damaged", (bytes(4) + MAGIC).ljust(SECTOR, b"\0") * 20, "there is no label in the first four sectors; "
+     + "; ".join("the metadata area at byte %d: the sum of its header is wrong" % (it * SECTOR) for it in range(15)) + "; .." + NOT_FOUND + FROM_FIRST),
     ("an image in another format", b"QFI\xfb" + bytes(8186), "there is no label in the first four sectors" + NOT_FOUND
      + ": it is an image of qcow2: convert it with qemu-img convert -O raw"),
     ("an encrypted disk", b"LUKS\xba\xbe" + bytes(8186), "there is no label in the first four sectors" + NOT_FOUND

@@ -1,6 +1,10 @@
 """Foreign text, made fit to be shown: a name or a line may hold whatever somebody wrote to a disk."""
 
+from typing import List
+
 MOST_SHOWN = 100
+# How many things a message names.
+MOST_NAMED = 16
 
 
 def escaped(text: str) -> str:
@@ -22,6 +26,11 @@ def _escape(letter: str) -> str:
 def shown(text: str) -> str:
     """At most 100 characters of a text for a message, escaped, with two dots where there are more."""
     return escaped(text[:MOST_SHOWN]) + (".." if len(text) > MOST_SHOWN else "")
+
+
+def some(words: List[str], between: str = ", ") -> str:
+    """The first 16 of some words, and two dots where there are more."""
+    return between.join(words[:MOST_NAMED] + [".."] * (len(words) > MOST_NAMED))
 
 
 def on_terminal(text: str) -> str:

@@ -2,6 +2,7 @@
 
 from typing import List, Optional
 
+from dmremap_tools.base import quoting
 from dmremap_tools.base.disk_image import Image, dd
 from dmremap_tools.base.numbers import SECTOR
 from dmremap_tools.base.partition_table import DamagedTable, Partition, Table, backup_of, table_of
@@ -11,8 +12,6 @@ from dmremap_tools.metadata.volumes_within import array_data, where_volumes_begi
 
 # How much of a partition is to be fetched: its label, and most areas.
 HEAD = 1 << 20
-# How many partitions a message names.
-MOST_NAMED = 16
 
 
 def chosen_part(disk: Image, number: Optional[int]) -> Image:
@@ -60,7 +59,7 @@ def whole_disk(disk: Image, table: Table) -> str:
         first = next(it for it in table.partitions if it.start >= disk.size)
         others = ["%d from sector %d on" % (it.number, it.start // SECTOR) for it in table.partitions]
         return ("%s, which ends before its partitions do (%s): fetch the head of the one that you want, and take that as HEAD; "
-                "for %d it is %s" % (found, some(others), first.number, dd(disk, "head.img", first.start, HEAD)))
+                "for %d it is %s" % (found, quoting.some(others), first.number, dd(disk, "head.img", first.start, HEAD)))
     return ("%s, none of whose partitions (%s) has a sound label: take --partition N for one, or cut it out%s"
             % (found, numbers(table.partitions) or "-", where_volumes_begin(disk)))
 
@@ -72,9 +71,4 @@ def has_volume(part: Image) -> bool:
 
 def numbers(partitions: List[Partition]) -> str:
     """The numbers of some partitions, in words."""
-    return some([str(it.number) for it in partitions])
-
-
-def some(words: List[str]) -> str:
-    """The first of some words, and two dots for the rest."""
-    return ", ".join(words[:MOST_NAMED] + [".."] * (len(words) > MOST_NAMED))
+    return quoting.some([str(it.number) for it in partitions])

@@ -7,7 +7,7 @@ from dmremap_tools.base.disk_image import Image
 from dmremap_tools.base.numbers import SECTOR
 from dmremap_tools.base.refusal import Refusal
 from dmremap_tools.metadata.group_text import Beginning, beginning_at, time_of
-from dmremap_tools.metadata.physical_volume import MOST_AREA, header_fault, label_of, place_in, search
+from dmremap_tools.metadata.physical_volume import MOST_AREA, MOST_AREAS, header_fault, label_of, place_in, search
 
 # How much of an image is looked through where it isn't known where the areas are.
 HEAD = 1 << 20
@@ -50,7 +50,7 @@ def areas_in(image: Image) -> List[Tuple[int, int]]:
     if label:
         return [it for it in label.areas if SECTOR < it[1] <= MOST_AREA]
     headers = [place_in(header) for at, header in sorted(set(search(image))) if not header_fault(header, at)]
-    return [it for it in headers if SECTOR < it[1] <= MOST_AREA]
+    return [it for it in headers if SECTOR < it[1] <= MOST_AREA][:MOST_AREAS]
 
 
 def texts_of_ring(start: int, ring: bytes, is_ring: bool = True) -> List[Text]:

@@ -4,7 +4,7 @@ The label is one of the first four sectors. It lists the metadata areas, of whic
 second lies near the end of the disk. An area is a header of one sector and a ring of texts, and the header says
 where the valid text begins; that may go on at the beginning of the ring. Label, header and text have a sum each,
 a CRC-32 of zlib's polynomial that begins with another value and isn't inverted at the end. A sum is no bound, as
-whoever wrote the disk can make it: no area is larger than the label says, or than 64 MiB."""
+whoever wrote the disk can make it: no area is larger than the label says, or than 64 MiB, and no more than four are read."""
 
 import struct
 import zlib
@@ -18,6 +18,8 @@ MAGIC, VERSION = b" LVM2 x[5A%r0N*>", 1
 INITIAL = 0xF597A6CF
 IGNORED, IN_USE = 1, 1
 MOST_AREA = 64 << 20
+# lvm2 makes two at most; no more than these are read.
+MOST_AREAS = 4
 # Where the areas are looked for without a label: so many bytes at the beginning and at the end.
 SEARCHED = 4 << 20
 
@@ -87,7 +89,7 @@ def label_in(sector: bytes, place: int) -> Label:
     _, at = places_in(sector, at + 40)
     areas, at = places_in(sector, at)
     version, flags = struct.unpack_from("<LL", sector, at) if at + 8 <= SECTOR else (0, 0)
-    return Label(place, b"-".join(letters[begin:end] for begin, end in GROUPS), size, areas, bool(flags & IN_USE) if version >= 2 else None)
+    return Label(place, b"-".join(letters[begin:end] for begin, end in GROUPS), size, areas[:MOST_AREAS], bool(flags & IN_USE) if version >= 2 else None)
 
 
 def places_in(sector: bytes, at: int) -> Tuple[List[Tuple[int, int]], int]:

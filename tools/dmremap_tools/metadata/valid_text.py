@@ -2,13 +2,14 @@
 
 from typing import List
 
-from dmremap_tools.base import streams
+from dmremap_tools.base import quoting, streams
 from dmremap_tools.base.disk_image import Image, dd
 from dmremap_tools.base.numbers import SECTOR
 from dmremap_tools.base.refusal import Refusal
 from dmremap_tools.metadata import physical_volume
 from dmremap_tools.metadata.group_text import beginning_of, summary, without_time
-from dmremap_tools.metadata.physical_volume import EMPTY, MISSING, SEARCHED, Area, area_at, header_fault, label_of, listed_area
+from dmremap_tools.metadata.physical_volume import (EMPTY, MISSING, MOST_AREAS, SEARCHED, Area, area_at, header_fault, label_of,
+                                                    listed_area)
 from dmremap_tools.metadata.volumes_within import where_volumes_begin
 
 OTHER = "try another physical volume of the group, or a file in /etc/lvm/backup"
@@ -43,12 +44,15 @@ def searched_areas(image: Image, faults: List[str]) -> List[Area]:
             why.append("the metadata area at byte %d: %s" % (at, fault))
         elif belongs != at:
             why.append(misplaced(image, at, belongs))
+        elif len(areas) == MOST_AREAS:
+            raise Refusal(image.path, "more than %d metadata areas are where they say that they begin: %s" % (MOST_AREAS, OTHER))
         else:
             areas.append(area_at(image, at, size))
+    said = quoting.some(why, "; ")
     if not areas:
         raise Refusal(image.path, "%s, and no metadata area is in the first or last %d MiB%s"
-                      % ("; ".join(why), SEARCHED >> 20, where_volumes_begin(image) or ": " + what_else(image)))
-    streams.tell("%s: %s: metadata areas were looked for in the first and last %d MiB" % (image.path, "; ".join(why), SEARCHED >> 20))
+                      % (said, SEARCHED >> 20, where_volumes_begin(image) or ": " + what_else(image)))
+    streams.tell("%s: %s: metadata areas were looked for in the first and last %d MiB" % (image.path, said, SEARCHED >> 20))
     return areas
 
 

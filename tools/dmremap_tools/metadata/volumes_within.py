@@ -5,7 +5,7 @@ import itertools
 import struct
 from typing import Iterator, Optional
 
-from dmremap_tools.base import streams
+from dmremap_tools.base import quoting, streams
 from dmremap_tools.base.disk_image import Image
 from dmremap_tools.base.numbers import SECTOR
 from dmremap_tools.metadata.physical_volume import LABEL, LABEL_SECTORS, label_fault, label_of
@@ -14,8 +14,6 @@ from dmremap_tools.metadata.physical_volume import LABEL, LABEL_SECTORS, label_f
 MD_MAGIC, MD_PLACES, MD_DATA = b"\xfc\x4e\x2b\xa9\x01\0\0\0", (0, 4096), 128
 WINDOW = 4 << 20
 PROGRESS = 64
-# How many volumes a message names.
-MOST_NAMED = 16
 
 
 def array_data(image: Image) -> Optional[Image]:
@@ -60,10 +58,9 @@ def volumes_in(image: Image) -> Iterator[int]:
 
 def where_volumes_begin(image: Image) -> str:
     """What is said of the physical volumes that are found by their labels, or nothing."""
-    found = [str((image.base + it) // SECTOR) for it in itertools.islice(volumes_in(image), MOST_NAMED + 1)]
+    found = [str((image.base + it) // SECTOR) for it in itertools.islice(volumes_in(image), quoting.MOST_NAMED + 1)]
     if not found:
         return ""
     if len(found) == 1:
         return "; the label of one that begins at sector %s is sound: take it with --start %s" % (found[0], found[0])
-    return ("; labels of some that begin at the sectors %s are sound: take one with --start SECTOR"
-            % ", ".join(found[:MOST_NAMED] + [".."] * (len(found) > MOST_NAMED)))
+    return "; labels of some that begin at the sectors %s are sound: take one with --start SECTOR" % quoting.some(found)
