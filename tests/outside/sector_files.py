@@ -2,6 +2,7 @@
 systems that are made here, whole ones and such as lost the sectors that are asked for."""
 
 import os
+import random
 import re
 import shutil
 
@@ -186,10 +187,8 @@ def check_lost(tally, program, top):
     ]
     for name, lost, owners, words, output, message in rows:
         damaged = program.file("lost.damaged", read(image))
-        with open(damaged, "r+b") as file:
-            for at, count in lost:
-                file.seek(512 * at)
-                file.write(bytes(512 * count))
+        for at, count in lost:
+            write_at(damaged, 512 * at, bytes(512 * count))
         got = files(program, top, owners, "v", damaged, *words)
         is_so = (got.status, got.out) == (0, output.encode()) and (got.err == b"" if not message else got.err.startswith(message.encode()))
         tally.holds("files where %s is lost" % name, is_so, "%r and not %r; %r" % (got.out, output, got.err))
@@ -210,24 +209,57 @@ def check_xfs(tally, program, top):
     if lost:
         tally.skip("files of XFS", "there is no " + lost[0])
         return
+    image = made_xfs(tally, program)
+    if image:
+        place = check_whole_xfs(tally, program, top, image)
+        check_damaged_xfs(tally, program, top, image, place)
+
+
+def made_xfs(tally, program):
+    """An XFS file system with two files, or None."""
     image = os.path.join(program.room, "xfs.img")
     big, small = program.file("xfs/big", os.urandom(50000)), program.file("xfs/small", b"x")
-    proto = program.file("xfs/proto", "/none\n0 0\nd--755 0 0\nd d--755 0 0\nf ---644 0 0 %s\n$\ng ---644 0 0 %s\n$\n" % (big, small))
+    proto = program.file("xfs/proto", "/none\n0 0\nd--755 0 0\nd d--755 0 0\nf. ---644 0 0 %s\n$\ng ---644 0 0 %s\n$\n" % (big, small))
     ran = run([found("mkfs.xfs"), "-q", "-f", "-d", "file,name=%s,size=300m" % image, "-p", proto])
-    if not tally.holds("an XFS file system is made", ran.status == 0, ran.err):
-        return
+    return image if tally.holds("an XFS file system is made", ran.status == 0, ran.err) else None
+
+
+def check_whole_xfs(tally, program, top, image):
+    """Its files. Returns by what each line says its first sector and how many there are."""
     got = files(program, top, "v 0 614400\nv 614400 8\n", "v", image)
-    lines = got.out.decode().splitlines()
-    place = {it.split(" ", 3)[3]: it.split(" ", 3)[1:3] for it in lines}
-    wanted = {"/g": "8", "/d/f": "104", "inode table: /d": "8", "inode table: /g": "8", "past its end": "8"}
+    place = {it.split(" ", 3)[3]: it.split(" ", 3)[1:3] for it in got.out.decode().splitlines()}
+    wanted = {"/g": "8", "/d/f.": "104", "inode table: /d": "8", "inode table: /g": "8", "past its end": "8"}
     is_so = (got.status, got.err) == (0, b"") and all(place.get(name, "")[1:] == [count] for name, count in wanted.items())
     tally.holds("files of XFS", is_so and "no inode" not in place, "%r, %r" % (got.err, place))
-    with open(image, "r+b") as file:
-        file.seek(512 * int(place["inode table: /g"][0]))
-        file.write(bytes(4096))
+    return place
+
+
+def check_damaged_xfs(tally, program, top, image, place):
+    """One that lost an inode, one that is cut, and some with a changed superblock; and one that begins within a file."""
+    write_at(image, 512 * int(place["inode table: /g"][0]), bytes(4096))
     got = files(program, top, "v %s 8\n" % place["/g"][0], "v", image)
     wanted = ("v %s 8 no inode\n" % place["/g"][0]).encode()
     tally.holds("data of a file of XFS whose inode is lost", (got.status, got.out) == (0, wanted), "%r, %r" % (got.out, got.err))
-    image = program.file("in.img", bytes(512) + b"XFSB") + "?offset=512"
-    tally.same("files of XFS within a file", files(program, top, "v 0 8\n", "v", image), 1, "",
-               "dmremap-tools files: %s: it is XFS, and xfs_db reads no file system within a file: `losetup -r -o 512`\n" % image)
+    with open(image, "rb") as file:
+        head = file.read(4096)
+    cut = program.file("cut.img", head)
+    got = files(program, top, "v 0 8\n", "v", cut)
+    begins = ("dmremap-tools files: %s: xfs_db says: " % cut).encode()
+    tally.holds("files of an XFS that is cut", (got.status, got.out) == (1, b"") and got.err.startswith(begins), got.err)
+    dice = random.Random(1)
+    for _ in range(10):
+        changed = bytearray(head)
+        for _ in range(4):
+            changed[dice.randrange(4, 272)] = dice.choice([0, 1, 255, dice.randrange(256)])
+        write_at(image, 0, changed)
+        got = files(program, top, "v 0 800\n", "v", image)
+        tally.holds("files of a changed XFS", got.status in (0, 1) and b"Traceback" not in got.err, "%s, %r" % (got.status, got.err))
+    within = program.file("in.img", bytes(512) + b"XFSB") + "?offset=512"
+    tally.same("files of XFS within a file", files(program, top, "v 0 8\n", "v", within), 1, "",
+               "dmremap-tools files: %s: it is XFS, and xfs_db reads no file system within a file: `losetup -r -o 512`\n" % within)
+
+
+def write_at(path, at, content):
+    with open(path, "r+b") as file:
+        file.seek(at)
+        file.write(content)

@@ -12,7 +12,7 @@ from dmremap_tools.layouts.asked_runs import MOST_BLOCKS, AskedRuns
 
 FIGURE = re.compile(r"^(blocksize|dblocks|agblocks|agblklog|inopblog|inodesize) = ([0-9]{1,20})$", re.M)
 USE = re.compile(r"^block [0-9]{1,20} \(([0-9]{1,10})/([0-9]{1,10})\) type ([a-z0-9]+)(?: inode ([0-9]{1,20}))?$", re.M)
-MOST_COMPLAINTS = 3
+MOST_COMPLAINTS, MOST_BLOCK = 3, 1 << 16
 
 
 class Geometry(NamedTuple):
@@ -24,6 +24,11 @@ class Geometry(NamedTuple):
     agblklog: int
     inopblog: int
     inodesize: int
+
+    def is_sound(self) -> bool:
+        """Whether its figures can be computed with."""
+        is_block = numbers.SECTOR <= self.blocksize <= MOST_BLOCK and self.blocksize % numbers.SECTOR == 0
+        return is_block and self.agblocks > 0 and max(self.agblklog, self.inopblog) < 64 and 0 < self.inodesize <= self.blocksize
 
 
 class XfsSystem:
@@ -57,7 +62,7 @@ class XfsSystem:
     def _read_geometry(self) -> Geometry:
         printed, complaints = self._ask(["sb 0", "print " + " ".join(Geometry._fields)])
         figures = {name: int(figure) for name, figure in FIGURE.findall(printed)}
-        if len(figures) < len(Geometry._fields) or not figures["agblocks"] or figures["blocksize"] < numbers.SECTOR:
+        if len(figures) < len(Geometry._fields) or not Geometry(**figures).is_sound():
             self._refuse(complaints)
         return Geometry(**figures)
 
@@ -101,18 +106,19 @@ class XfsSystem:
         for inode, answer in zip(inodes, answers):
             number, _, path = answer.partition("\n")[2].lstrip(" ").partition(" ")
             if number == str(inode):
-                path = re.sub(r"/?\.$", "", path[:-1]) if path.endswith(".\n") else path[:-1]
+                # A folder has a dot at the end, and the root nothing else.
+                path = "" if path == ".\n" else path[:-3] if path.endswith("/.\n") else path[:-1]
                 found[inode] = quoting.printable(("?/" if said or complaints else "/") + path)
         return found
 
     def _ask(self, commands: Sequence[str]) -> "tuple[str, List[str]]":
         """What it answers to some commands, and what it complains of."""
         is_file = stat.S_ISREG(status(self._image).st_mode)
-        with tempfile.NamedTemporaryFile(prefix="dmremap-tools-") as file:
+        with tempfile.TemporaryFile() as file:
             file.write("".join(it + "\n" for it in commands).encode())
-            file.flush()
-            words = [program.found("xfs_db"), "-r", *(["-f"] if is_file else []), "-c", "source " + file.name, self._image]
-            printed, said = program.ask_quietly(words)
+            file.seek(0)
+            words = [program.found("xfs_db"), "-r", *(["-f"] if is_file else []), "-c", "source /dev/stdin", "--", self._image]
+            printed, said = program.ask_quietly(words, given=file.fileno())
         return printed, said.splitlines()
 
     def _refuse(self, complaints: Sequence[str]) -> NoReturn:
