@@ -98,5 +98,5 @@ def text_with(image: Image, seqno: int) -> bytes:
         raise Refusal(image.path, "the text with the seqno %d is cut" % seqno)
     if len(whole) > 1:
         raise Refusal(image.path, "there are several texts with the seqno %d, at the bytes %s: take one with --at BYTE"
-                      % (seqno, ", ".join(str(it.beginning.at) for it in found)))
+                      % (seqno, quoting.some([str(it.beginning.at) for it in found])))
     return whole.pop()
