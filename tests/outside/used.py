@@ -166,7 +166,7 @@ def check_changes(case):
     case.same("an origin that fails elsewhere", "1 R cow 24 8\n1 R base 8 16\n1 R cow 16 8\n1 R base 32 8\n1 error 24\n", TOLD, source=source)
     case.put("image", store(PAIRS + [(6, 4)]))
     case.refused("an origin that fails", "the store of s: it has what was written from sector 48 on, and the origin fails to be read there, so dmremap would take the snapshot "
-                 "for invalid. Let the origin be read from a disk of that name alone: in FILE write `linear lost 0` for `error`, and in DISKS `lost` and that line's length",
+                 "for invalid. Put a disk in the place of what is lost: in FILE write `linear lost 0` for `error`, and in DISKS `lost` with that line's length",
                  source=source, told="s: used, 3 chunks of its store taken\n")
     case.put("mended", "z: 0 40 linear base 0\nz: 40 24 linear lost 0\ns: 0 64 snapshot /dev/mapper/z cow P 8\n")
     case.same("the way out", "1 R lost 0 8\n2 R cow 32 8\n", "s: used, 3 chunks of its store taken\n", source=("table", "mended", "disks"),
@@ -181,7 +181,7 @@ def check_changes(case):
               "t: used, 1 chunks of its store taken\n" + TOLD, both, ("table", "two", "two.disks"), "R t 0 64\n")
     case.put("image", store(PAIRS, valid=0))
     case.refused("an origin that isn't valid", "the store of t: it has what was written from sector 8 on, and the origin fails to be read there, so dmremap would take the "
-                 "snapshot for invalid. Let the origin be read from a disk of that name alone: in FILE write `linear lost 0` for `error`, and in DISKS `lost` and "
+                 "snapshot for invalid. Put a disk in the place of what is lost: in FILE write `linear lost 0` for `error`, and in DISKS `lost` with "
                  "that line's length", both, ("table", "two", "two.disks"),
                  told="t: used, 1 chunks of its store taken\ns: invalid, 0 chunks of its store taken\n")
     case.put("image", store(PAIRS))

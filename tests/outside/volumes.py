@@ -48,6 +48,10 @@ def check_path(tally, program, top):
     tally.holds("nbd-plugin without a folder to write to", got.status == 1 and b"nbd_volume" in got.err and got.err.count(b"\n") == 1, got.err)
 
 
+def random_bytes(seed, count):
+    return random.Random(seed).getrandbits(8 * count).to_bytes(count, "little")
+
+
 class Case:
     """A folder with a file system, and disks that it is spread over."""
 
@@ -58,7 +62,7 @@ class Case:
         self.plugin = os.path.join(top, "tools", "nbd_volume.py")
         os.makedirs(os.path.join(self.folder, "root"))
         os.makedirs(self.env["TMPDIR"])
-        self.put("root/file", random.Random(1).randbytes(3 << 20))
+        self.put("root/file", random_bytes(1, 3 << 20))
         self.put("fs", b"")
         os.truncate(os.path.join(self.folder, "fs"), SIZE)
         made = run(["mke2fs", "-q", "-t", "ext4", "-d", "root", "fs"], folder=self.folder, env=self.env)
@@ -118,7 +122,7 @@ def check_group(case):
     with open(os.path.join(case.top, "examples", "vg0-snapshot.backup"), encoding="ascii") as it:
         case.put("group", it.read())
     content = case.content + bytes(204800 * SECTOR - SIZE)
-    new = random.Random(2).randbytes(8 * SECTOR)
+    new = random_bytes(2, 8 * SECTOR)
     store = bytearray(used.store([(1001, 2)], chunks=2048))
     store[16 * SECTOR:24 * SECTOR] = new
     with open(os.path.join(case.folder, "sda1.img"), "wb") as it:

@@ -13,8 +13,8 @@ from physical_volumes import FIRST, SECTOR, TIME, area, gpt, volume, with_backup
 
 # Sectors of an extent, those before the first, and the bytes of a metadata area, which ends there.
 EXTENT, BEFORE, AREA = 8, 24, 8192
-# Where the partition begins on the disk that has one.
-PARTITION = 40
+# Where the partition begins on the disk that has one, and the sectors of a partition table, which follow it.
+PARTITION, TABLE = 40, 32
 IDS = ("AAAAAAbbbbccccddddeeeeffffGGGGG1", "AAAAAAbbbbccccddddeeeeffffGGGGG2", "AAAAAAbbbbccccddddeeeeffffGGGGG3")
 HINTS = ("/dev/sda1", "/dev/sda", "/dev/sdc")
 NAMES = ("a.img", "b.img", "c.img")
@@ -114,7 +114,7 @@ def images(content):
             made[disk][to:to + EXTENT * SECTOR] = content[at:at + EXTENT * SECTOR]
             at += EXTENT * SECTOR
     entry = (PARTITION, PARTITION + sizes[0] - 1)
-    disk = gpt(entry).ljust(PARTITION * SECTOR, b"\0") + bytes(made[0])
+    disk = gpt(entry, last=PARTITION + sizes[0] + TABLE).ljust(PARTITION * SECTOR, b"\0") + bytes(made[0])
     return [with_backup(disk, entry), bytes(made[1]), bytes(made[2])]
 
 

@@ -77,7 +77,8 @@ class Chunk:
 def add_words(parser: ArgumentParser) -> None:
     """Adds the arguments."""
     parser.add_argument("--name", metavar="NAME", required=True, help="the device of the addresses")
-    parser.add_argument("--device", metavar=("NUMBER", "DISK"), nargs=2, action="append", required=True, help="a device of the file system")
+    parser.add_argument("--device", metavar=("NUMBER", "DISK"), nargs=2, action="append", required=True,
+                        help="a device of the file system")
     parser.add_argument("--copy", metavar="N", type=numbers.word, default=0, help="which copy, counted from 0")
     parts.add_words(parser)
     parser.add_argument("chunks", metavar="CHUNKS", help="what dump-tree printed")

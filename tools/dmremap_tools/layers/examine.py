@@ -82,7 +82,8 @@ class Member:
     def is_dropped(self, role: int) -> bool:
         """Whether it says that the array has this role no more."""
         if self.is_old():
-            return any(other == role and not state.startswith("active sync") for key, (other, state) in self.states.items() if key != "this")
+            others = [it for key, it in self.states.items() if key != "this"]
+            return any(other == role and not state.startswith("active sync") for other, state in others)
         state = self.fields.get("Array State", "").split(" ")[0]
         return role < len(state) and state[role] != "A"
 

@@ -1,5 +1,6 @@
 """A running `dmremap map` that is asked where sectors are read."""
 
+import contextlib
 import itertools
 import subprocess
 from typing import Iterable, Iterator, List, NamedTuple, Sequence, Tuple
@@ -45,9 +46,11 @@ class Mapper:
     def close(self) -> None:
         """Ends the child."""
         self._child.kill()
-        self._child.stdin.close()
-        self._child.stdout.close()
         self._child.wait()
+        for each in (self._child.stdin, self._child.stdout):
+            # A request that was not written is of no use any more.
+            with contextlib.suppress(OSError):
+                each.close()
 
     def _ask(self, text: str) -> None:
         try:

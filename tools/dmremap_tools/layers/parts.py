@@ -4,7 +4,7 @@ table, and 1 MiB of text."""
 from argparse import ArgumentParser, Namespace
 from typing import Iterable, Iterator, List, Optional, Tuple
 
-from dmremap_tools.base import names, numbers, quoting, streams, tables
+from dmremap_tools.base import names, numbers, quoting, tables
 from dmremap_tools.base.refusal import Refusal
 
 MOST_LINES, MOST_TEXT = 1 << 16, 1 << 20
@@ -34,8 +34,8 @@ def device_of(name: str, flags: str, lines: Iterable[tables.Line], part: Optiona
     for line in lines if part is None else _meeting(lines, *part):
         size += len(name) + len(str(line)) + 3
         if len(device.lines) == MOST_LINES or size > MOST_TEXT:
-            raise Refusal(device.name, "it has more than %d lines, or %d bytes of them, which is all that dmremap takes: ask for a part, "
-                          "with --part START SECTORS" % (MOST_LINES, MOST_TEXT))
+            raise Refusal(device.name, "it has more than %d lines, or %d bytes of them, which is all that dmremap takes: "
+                          "ask for a part, with --part START SECTORS" % (MOST_LINES, MOST_TEXT))
         device.lines.append(line)
     if not device.lines:
         raise Refusal(device.name, "it has no sectors")

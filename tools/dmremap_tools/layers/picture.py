@@ -112,7 +112,8 @@ def draw(bar: Bar, top: int, width: float, numbers: Dict[str, int]) -> None:
         span, x, y = it.span, MARGIN + width * it.span.first / bar.size, top + 7 + LANE * it.lane
         wide = max(0.5, width * (span.end - span.first) / bar.size)
         streams.out.write('<g><title>%s</title><rect x="%.2f" y="%d" width="%.2f" height="24" fill="%s" stroke="%s"/>\n' % (
-            svg.escaped("%s (%s): sectors %d to %d, %s" % (span.device, span.kind, span.first, span.end - 1, svg.size_of(span.end - span.first))),
+            svg.escaped("%s (%s): sectors %d to %d, %s" % (
+                span.device, span.kind, span.first, span.end - 1, svg.size_of(span.end - span.first))),
             x, y, wide, svg.colour(numbers[span.device]), "red" if it.is_clashing else "#555"))
         if wide > svg.LETTER * len(span.device) + 8:
             streams.out.write(svg.text(x + 4, y + 16, span.device))

@@ -9,10 +9,9 @@ requests that TIMES has not.
 
 import re
 from argparse import ArgumentParser, Namespace
-from typing import Dict, Iterator, List, Optional, Tuple
+from typing import Dict, Iterator, List, Optional
 
 from dmremap_tools.base import disks, pieces, quoting, streams
-from dmremap_tools.base.refusal import Refusal
 from dmremap_tools.layers import svg
 
 EXAMPLE = "dmremap-tools plot disks pieces > pieces.svg"
@@ -49,7 +48,8 @@ class Field:
     def pixels(self, columns: int) -> List[bytes]:
         """The rows of the picture, the last sectors above."""
         read, written = self._counts
-        return [b"".join(_pixel(read[it], written[it]) for it in range(row, columns * ROWS, ROWS)) for row in reversed(range(ROWS))]
+        return [b"".join(_pixel(read[it], written[it]) for it in range(row, columns * ROWS, ROWS))
+                for row in reversed(range(ROWS))]
 
 
 def _pixel(read: int, written: int) -> bytes:

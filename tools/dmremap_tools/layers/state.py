@@ -14,7 +14,7 @@ from dmremap_tools.base.refusal import Refusal, WrongWords
 from dmremap_tools.layers import stores
 from dmremap_tools.layers.mapper import Mapper
 from dmremap_tools.layers.stack import Stack, put
-from dmremap_tools.layers.stores import INVALID, USED, Snapshot
+from dmremap_tools.layers.stores import INVALID, Snapshot
 
 MOST_SECTORS = 1 << 20
 BLOCK = 1 << 16
@@ -41,8 +41,10 @@ class Prepared(NamedTuple):
 def add_words(parser: argparse.ArgumentParser) -> None:
     """Adds what is said of stores."""
     paths.add_words(parser)
-    parser.add_argument("--store", metavar="SNAPSHOT=IMAGE", action="append", default=[], help="the store of a snapshot, or an image of it")
-    parser.add_argument("--fresh", metavar="SNAPSHOT", action="append", default=[], help="a snapshot that is to have nothing in its store")
+    parser.add_argument("--store", metavar="SNAPSHOT=IMAGE", action="append", default=[],
+                        help="the store of a snapshot, or an image of it")
+    parser.add_argument("--fresh", metavar="SNAPSHOT", action="append", default=[],
+                        help="a snapshot that is to have nothing in its store")
 
 
 def wanted_in(words: argparse.Namespace) -> Wanted:
@@ -51,7 +53,8 @@ def wanted_in(words: argparse.Namespace) -> Wanted:
     for word in words.store:
         name, is_given, image = word.partition("=")
         if not image or name in images or name in words.fresh:
-            raise WrongWords("usage: --store SNAPSHOT=IMAGE\nnot SNAPSHOT=IMAGE, or of one that was given before: " + quoting.shown(word))
+            raise WrongWords("usage: --store SNAPSHOT=IMAGE\n"
+                             "not SNAPSHOT=IMAGE, or of one that was given before: " + quoting.shown(word))
         images[name] = image
     return Wanted(images, words.fresh, paths.read(words.paths) if words.paths is not None else {})
 
@@ -125,8 +128,8 @@ def _of_line(name: str, flags: str, line: tables.Line) -> tables.Device:
 def _check_loads(asked: str, source: List[str]) -> None:
     _, said = program.ask_quietly([asked, "concise", *source])
     if said:
-        raise Refusal("FILE", "with another device below each read-only snapshot that is used, it has more devices, or more on each other, "
-                      "than dmremap takes: " + quoting.shown(said.strip()))
+        raise Refusal("FILE", "with another device below each read-only snapshot that is used, it has more devices, or more on "
+                      "each other, than dmremap takes: " + quoting.shown(said.strip()))
 
 
 def _writes_of(snapshot: Snapshot) -> Iterator[str]:
@@ -156,9 +159,9 @@ def _check_origins(words: List[str], before: str, renamed: Dict[str, str]) -> No
         with open(before, encoding="ascii") as lines:
             _, name, start, _ = next(itertools.islice(lines, number - 1, None)).split()
         name = renamed.get(name, name)
-        raise Refusal("the store of " + name, "it has what was written from sector %s on, and the origin fails to be read there, so dmremap "
-                      "would take the snapshot for invalid. Let the origin be read from a disk of that name alone: in FILE write "
-                      "`linear lost 0` for `error`, and in DISKS `lost` and that line's length" % start)
+        raise Refusal("the store of " + name, "it has what was written from sector %s on, and the origin fails to be read there, so "
+                      "dmremap would take the snapshot for invalid. Put a disk in the place of what is lost: in FILE write "
+                      "`linear lost 0` for `error`, and in DISKS `lost` with that line's length" % start)
 
 
 def _first_error(words: List[str], given: int) -> int:

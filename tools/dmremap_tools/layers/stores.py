@@ -144,8 +144,8 @@ def _take_area(snapshot: Snapshot, block: bytes) -> bool:
     wanted = array("Q", range(first, first + count))
     if new[:count] != wanted:
         at = next(it for it in range(count) if new[it] != wanted[it])
-        snapshot.refuse("number %d of its list lies at chunk %d and not %d: a kernel goes by the list, and dmremap knows no other place"
-                        % (number + at, new[at], wanted[at]))
+        snapshot.refuse("number %d of its list lies at chunk %d and not %d: a kernel goes by the list, and dmremap knows no "
+                        "other place" % (number + at, new[at], wanted[at]))
     snapshot.taken.extend(pairs[0:2 * count:2])
     return count == len(new)
 

@@ -65,7 +65,8 @@ def add_words(parser: ArgumentParser) -> None:
 def run(words: Namespace) -> None:
     """Prints the devices."""
     data = parts.disk_in(words.data, "--data")
-    wanted = [(streams.whole("--device", number), name, streams.whole("--device", sectors)) for number, name, sectors in words.device]
+    wanted = [(streams.whole("--device", number), name, streams.whole("--device", sectors))
+              for number, name, sectors in words.device]
     external = {streams.whole("--external", number): parts.disk_in(disk, "--external") for number, disk in words.external}
     block, found = read(words.dump, {number for number, _, _ in wanted})
     made = []

@@ -31,7 +31,8 @@ def run(words: Namespace) -> None:
     lower, is_lower_concise = tables.read(words.lower)
     both = {it.name for it in upper} & {it.name for it in lower}
     if both:
-        raise Refusal(quoting.shown(words.lower), "%s has a device %s, too" % (quoting.shown(words.upper), quoting.shown(min(both))))
+        raise Refusal(quoting.shown(words.lower), "%s has a device %s, too"
+                      % (quoting.shown(words.upper), quoting.shown(min(both))))
     devices = {it.name: it for it in lower}
     for disk, word in words.disk:
         name = names.Names().device(word, names.Word("DEVICE"))

@@ -58,7 +58,11 @@ class Volume:
 
     @contextlib.contextmanager
     def _mapper(self) -> Iterator[Mapper]:
-        mapper = self._idle.pop() if self._idle else Mapper(self._words)
+        # Between a look at the list and a pop, another thread may have taken the last.
+        try:
+            mapper = self._idle.pop()
+        except IndexError:
+            mapper = Mapper(self._words)
         try:
             yield mapper
         except BaseException:
@@ -140,7 +144,9 @@ def get_ready() -> None:
     below, disks = _below(loaded, names.MAPPER + name)
     for disk in sorted(disks - set(images)):
         streams.tell("no image of %s: what lies there fails to be read" % disk)
-    fresh = _lists["fresh"] + [it.name for it in loaded.devices if names.MAPPER + it.name not in below and it.lines[0].target == "snapshot"]
+    # What isn't read may have stores that nobody has.
+    others = [it.name for it in loaded.devices if names.MAPPER + it.name not in below and it.lines[0].target == "snapshot"]
+    fresh = _lists["fresh"] + others
     prepared = state.prepare(asked, loaded, state.Wanted(_pairs("store"), fresh, images), _room)
     try:
         _volume = Volume(name, device.end(), prepared.words, {disk: path for disk, path in images.items() if disk in disks})
@@ -213,7 +219,7 @@ def pread(handle: int, buffer: bytearray, offset: int, flags: int) -> None:
     """Reads bytes."""
     try:
         _volume.read(memoryview(buffer), *divmod(offset, numbers.SECTOR))
-    except (OSError, Refusal) as fault:
+    except (OSError, Refusal, streams.OutputFailed) as fault:
         _fail(fault)
 
 
@@ -224,7 +230,7 @@ def extents(handle: int, count: int, offset: int, flags: int) -> List[Tuple[int,
     found, at = [], offset - skipped
     try:
         parts = _volume.parts(first, sectors)
-    except Refusal as fault:
+    except (Refusal, streams.OutputFailed) as fault:
         _fail(fault)
     for is_zero, run in itertools.groupby(parts, lambda it: it.what == ZERO):
         end = at + sum(it.count for it in run) * numbers.SECTOR
