@@ -21,7 +21,7 @@ class ExtLayout:
         self.size = figure["Block size"]
         self.sectors, self.first, self.end = self.size // numbers.SECTOR, figure["First block"], figure["Block count"]
         self._per_group, self._inodes = figure["Blocks per group"], figure["Inodes per group"]
-        self._inode_size, self._first_inode = figure.get("Inode size", 128), figure.get("First inode", 11)
+        self._inode_size, self._first_inode = figure.get("Inode size") or 128, figure.get("First inode", 11)
         self._features = set(figures.get("Filesystem features", "").split())
         self._table_blocks = -(-self._inodes * self._inode_size // self.size)
         self._tables = sorted((table, number) for number, _, _, table in groups)
