@@ -18,7 +18,7 @@ class Target:
         self._path, self._size, self._is_begun = path, size, is_begun
         flags = 0 if is_begun else os.O_CREAT | os.O_EXCL
         try:
-            self._descriptor = os.open(path, os.O_WRONLY | os.O_NOFOLLOW | flags, 0o666)
+            self._descriptor = os.open(path, os.O_RDWR | os.O_NOFOLLOW | flags, 0o666)
             found = os.fstat(self._descriptor)
             if is_begun and (found.st_size != size or not stat.S_ISREG(found.st_mode)):
                 raise Refusal(quoting.shown(path), "it isn't the file that was begun: it has %d bytes and not %d" % (found.st_size, size))
@@ -29,11 +29,11 @@ class Target:
             self._fail(fault)
 
     def write(self, at: int, content: bytes) -> None:
-        """Writes bytes at a place, as far as the file goes. In a new file zeros are there already."""
-        if not self._is_begun and ZEROS.startswith(content):
-            return
+        """Writes bytes at a place, as far as the file goes. Zeros that are there already stay a hole."""
         left = memoryview(content)[:max(self._size - at, 0)]
         try:
+            if ZEROS.startswith(content) and (not self._is_begun or ZEROS.startswith(os.pread(self._descriptor, len(left), at))):
+                return
             while left:
                 written = os.pwrite(self._descriptor, left, at)
                 left, at = left[written:], at + written
