@@ -35,6 +35,7 @@ import snapshot_runs
 import stores
 import tables
 import texts
+import used_snapshots
 import volume_groups
 from found import Found
 from harness import Program
@@ -43,8 +44,8 @@ BUILT = os.path.join(TOP, "crates", "dmremap", "out", "dmremap")
 VECTORS = os.path.join(HERE, "vectors")
 # How many failures are told.
 TOLD = 60
-KINDS = {"mappings": mappings, "snapshots": snapshot_runs, "stores": stores, "tables": tables, "volume groups": volume_groups,
-         "names": names, "texts": texts, "states of groups": lvm2_texts}
+KINDS = {"mappings": mappings, "snapshots": snapshot_runs, "used snapshots": used_snapshots, "stores": stores, "tables": tables,
+         "volume groups": volume_groups, "names": names, "texts": texts, "states of groups": lvm2_texts}
 
 
 def main():

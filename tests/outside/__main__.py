@@ -34,13 +34,17 @@ import hostile
 import installs
 import kinds
 import launcher
+import layers
+import layouts
 import limits
 import loads
 import lookers
 import lvm2_texts
+import machines
 import manual
 import metadata_areas
 import origins
+import pictures
 import power_cuts
 import printing
 import ranges
@@ -51,10 +55,20 @@ import refusals
 import replays
 import reports
 import request_lines
+import saves
+import sector_files
 import snapshot_rows
 import snapshots
 import streams
+import tool_answers
+import tool_documents
+import tool_requests
+import tool_streams
+import trace_parts
 import trying
+import used
+import volumes
+import walks
 import words
 from harness import Program, Tally
 
@@ -86,8 +100,22 @@ def main():
         completions.check(tally, program, TOP)
         reading_list.check(tally, TOP)
         recipes.check(tally, program, TOP)
+        tool_requests.check(tally, program, TOP)
+        tool_answers.check(tally, program, TOP)
+        tool_documents.check(tally, program, TOP)
+        tool_streams.check(tally, program, TOP)
+        layouts.check(tally, program, TOP)
+        layers.check(tally, program, TOP)
+        used.check(tally, program, TOP)
+        volumes.check(tally, program, TOP)
+        pictures.check(tally, program, TOP)
+        trace_parts.check(tally, program, TOP)
+        sector_files.check(tally, program, TOP)
+        saves.check(tally, program, TOP)
+        machines.check(tally, program, TOP)
         metadata_areas.check(tally, program, TOP)
         lvm2_texts.check(tally, program, TOP)
+        walks.check(tally, program, TOP)
         lookers.check(tally, TOP)
         refusals.check(tally, TOP)
         halts.check(tally, program, TOP)

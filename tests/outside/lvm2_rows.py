@@ -90,6 +90,8 @@ def snapshot(origin, store, count, at, store_count, store_at, chunk=1):
 OTHER = "left out: %s: its segment1 has the type %s"
 RECORD = "left out: snapshot%d: the record of the snapshot %s"
 KEPT = "kept: %s, without its snapshot %s: on a machine, a write to it also copies what it overwrites, which the answers don't show"
+MERGING_KEPT = ("kept: home, without its snapshot snap, which is being merged into it: on a machine, what isn't merged yet is read from "
+                "there, which the answers don't show")
 UNREAD = "left out: %s: %s, which dmremap doesn't read; it says nothing of sectors"
 HOME, LINES = plain("home", 4, 0), lines("home", 4, 0)
 RAID = other("r1", "raid1", "\t\t\t\tdevice_count = 1\n" + listed("raids", "r1_rmeta_0", "r1_rimage_0"))
@@ -152,7 +154,7 @@ VOLUMES = [
         [("u {", "left out: u: its segment1 isn't divided evenly by its stripes, so that no kernel takes it")], LINES),
     row("stripes that divide one", [HOME, EVEN], (), (), LINES + "g-u: 0 48 striped 3 16 /dev/sda 248 /dev/sda 328 /dev/sda 408\n"),
     row("a name that no device can have", [plain(LONG, 1, 8), plain(FULL, 1, 9)], [gone(plain(LONG, 1, 8))],
-        [(LONG + " {", "left out: %s: the name of its device has more than 127 bytes" % LONG)], lines(FULL, 1, 9)),
+        [(LONG + " {", "left out: %s..: the name of its device has more than 127 bytes" % LONG[:100])], lines(FULL, 1, 9)),
     row("a volume without segments", [HOME, volume("e")], [gone(volume("e"))], [("e {", "left out: e: it has no segments")], LINES),
     row("a hidden volume for locks, and one removed", [HOME, plain("lvmlock", 1, 9, status='["READ", "WRITE"]')], (), (),
         LINES + lines("lvmlock", 1, 9), (GROUP % (HOME + plain("lvmlock", 1, 9, status='["READ", "WRITE"]'))).replace(
@@ -169,8 +171,8 @@ NOTHING = other("none", "zero", count=2)
 OF_NOTHING = record("home", "none")
 SHOWN = snapshot("home", "snap", 4, 0, 2, 20)
 APART, APART_LINES = plain("apart", 1, 60), lines("apart", 1, 60)
-MERGED = [("home {", "left out: home: the snapshot snap is being merged into it"), ("snap {", "left out: snap: it is being merged into home"),
-          ("snapshot0 {", RECORD % (0, "snap"))]
+MERGED = [("home {", MERGING_KEPT), ("snap {", "left out: snap: it is being merged into home"), ("snapshot0 {", RECORD % (0, "snap"))]
+MERGING_GONE = "left out: snapshot0: the record of a snapshot that is being merged"
 RESIZED = [("home {", KEPT % ("home", "snap")),
            ("snap {", "left out: snap: it is a snapshot of home, but not as long, as that was resized since"), ("snapshot0 {", RECORD % (0, "snap"))]
 WIDE, FAR_GROUP = "l" * 121, "g" * 118
@@ -179,10 +181,21 @@ SNAPSHOTS = [
     row("a sparse volume", [SNAP, SPARSE, record("s_vorigin", "snap")], (), (),
         lines("snap", 2, 20, "snap-cow") + "g-snap: 0 32 snapshot /dev/mapper/g-s_vorigin-real /dev/mapper/g-snap-cow P 1\n"
         "g-s_vorigin-real: 0 32 zero\ng-s_vorigin: 0 32 snapshot-origin /dev/mapper/g-s_vorigin-real\n"),
-    row("a snapshot that is being merged", [HOME, SNAP, MERGING, APART], [gone(HOME + SNAP + MERGING)], MERGED, APART_LINES),
+    row("a snapshot that is being merged", [HOME, SNAP, MERGING, APART], [gone(SNAP + MERGING)], MERGED, LINES + APART_LINES),
     row("another snapshot of one that is being merged into", [APART, OF_SECOND, SECOND, HOME, SNAP, MERGING],
-        [gone(OF_SECOND + SECOND + HOME + SNAP + MERGING)],
-        [("snapshot1 {", RECORD % (1, "two")), ("two {", "left out: two: it is a snapshot of home, which is left out")] + MERGED, APART_LINES),
+        [gone(OF_SECOND + SECOND), gone(SNAP + MERGING)],
+        [("snapshot1 {", RECORD % (1, "two")), ("two {", "left out: two: it is a snapshot of home, into which snap is being merged"),
+         MERGED[0], ("home {", KEPT % ("home", "two"))] + MERGED[1:], APART_LINES + LINES),
+    row("a snapshot that is being merged, whose volume is gone", [HOME, MERGING], [gone(MERGING)],
+        [("home {", MERGING_KEPT), ("snapshot0 {", MERGING_GONE)], LINES),
+    row("a snapshot that is being merged into a volume that is gone", [SNAP, MERGING], [gone(MERGING)],
+        [("snapshot0 {", MERGING_GONE)], lines("snap", 2, 20)),
+    row("a snapshot that is being merged into a raid volume", [HOME, RAID, SNAP, record("r1", "snap", kind="merging_store")],
+        [gone(RAID + SNAP + record("r1", "snap", kind="merging_store"))],
+        [R1, ("snap {", "left out: snap: it is being merged into r1"), ("snapshot0 {", RECORD % (0, "snap"))], LINES),
+    row("a snapshot that is being merged into what a number names", [HOME, SNAP, MERGING.replace('= "snap"', "= 5")],
+        [gone(MERGING.replace('= "snap"', "= 5"))],
+        [("home {", MERGING_KEPT.replace("snap,", "snapshot0,")), ("snapshot0 {", MERGING_GONE)], LINES + lines("snap", 2, 20)),
     row("a snapshot of an origin that was extended", [HOME, SNAP, SHORT], [gone(SNAP + SHORT)], RESIZED, LINES),
     row("one snapshot that is as long as the origin, and one that isn't", [HOME, SNAP, SECOND, SHORT, OF_SECOND], [gone(SNAP), gone(SHORT)],
         RESIZED, "".join(snapshot("home", "two", 4, 0, 2, 23))),
@@ -199,8 +212,8 @@ SNAPSHOTS = [
         [("snap {", "left out: snap: it is a snapshot of b, which is left out"), ("snapshot0 {", RECORD % (0, "snap")),
          ("b {", "left out: b: it lies on the volume r1"), R1], LINES),
     row("a name that no layer can have", [plain(WIDE, 4, 0), SNAP, record(WIDE, "snap")], [gone(SNAP + record(WIDE, "snap"))],
-        [(WIDE + " {", KEPT % (WIDE, "snap")),
-         ("snap {", "left out: snap: it is a snapshot of %s, and the name of one of their devices has more than 127 bytes" % WIDE),
+        [(WIDE + " {", KEPT % (WIDE[:100] + "..", "snap")),
+         ("snap {", "left out: snap: it is a snapshot of %s.., and the name of one of their devices has more than 127 bytes" % WIDE[:100]),
          ("snapshot0 {", RECORD % (0, "snap"))], lines(WIDE, 4, 0)),
     # A record is no device, however long its name.
     row("a record whose name no device can have", (), (), (), "".join(snapshot("a", "b", 4, 0, 2, 20)).replace("g-", FAR_GROUP + "-"),
@@ -263,6 +276,7 @@ DISKS = [
 # Parts of raid volumes, which lvm2 loads as writable.
 
 PART = plain("r1_rimage_0", 4, 10, status='["READ"]')
+ODD = plain("r1_rimage_0", 4, 10, status='"READ"')
 EMPTY = plain("r1_rmeta_0", 1, 14, status="[]")
 LOCKED = plain("r1_rmeta_0", 1, 14, status='["READ"]', more='\t\t\tflags = ["WRITE_LOCKED"]\n')
 WRITABLE = "changed: status: %s is part of a raid volume, which lvm2 loads as writable"
@@ -270,6 +284,13 @@ RAID_PARTS = [
     row("parts of a raid volume that are read-only", [RAID, PART, EMPTY],
         [gone(RAID), ('["READ"]\n\t\t\tsegment_count', '["READ", "WRITE"]\n\t\t\tsegment_count'), ("status = []", 'status = ["WRITE"]')],
         [R1, ('status = ["READ"]', WRITABLE % "r1_rimage_0"), ("status = []", WRITABLE % "r1_rmeta_0")], PART_LINES),
+    row("a part whose status is no list", [RAID, ODD], [gone(RAID), ('status = "READ"', 'status = ["READ", "WRITE"]')],
+        [R1, ('status = "READ"', WRITABLE % "r1_rimage_0"), ('status = "READ"', "changed: status: one value in place of a list")],
+        lines("r1_rimage_0", 4, 10)),
+    row("a part whose status ends with a comma", [RAID, PART.replace('"READ"]', '"READ",]')],
+        [gone(RAID), ('["READ",]\n\t\t\tsegment_count', '["READ", "WRITE"]\n\t\t\tsegment_count')],
+        [R1, ('status = ["READ",]', WRITABLE % "r1_rimage_0"), ('status = ["READ",]', "changed: status: a comma too many")],
+        lines("r1_rimage_0", 4, 10)),
     row("a part whose right to write is locked", [RAID, LOCKED], [gone(RAID)], [R1], lines("r1_rmeta_0", 1, 14)),
 ]
 
@@ -378,6 +399,17 @@ BYTES = [
 ]
 
 ROWS = VOLUMES + SNAPSHOTS + PLACES + DISKS + RAID_PARTS + LANGUAGE + BYTES
+
+# Texts of which some volumes are asked for: these, the text, the changes, the messages and the table.
+
+ONLY = [
+    (["home"], GROUP % (HOME + APART), [gone(APART)], (), LINES),
+    (["snap"], GROUP % (HOME + APART + SNAP + GOOD), [gone(APART)], (), "".join(SHOWN)),
+    (["home"], GROUP % (HOME + SNAP + GOOD), [gone(SNAP + GOOD)], [("home {", KEPT % ("home", "snap"))], LINES),
+    (["home", "apart"], GROUP % (HOME + RAID + APART), [gone(RAID)], (), LINES + APART_LINES),
+    (["two"], GROUP % (HOME + SNAP + GOOD + SECOND + OF_SECOND), [gone(SNAP + GOOD)], [("home {", KEPT % ("home", "snap"))],
+     "".join(snapshot("home", "two", 4, 0, 2, 23))),
+]
 
 # Texts that are refused, each with its messages from the name of the text on. What is put behind the text is in line `AFTER`.
 

@@ -1,7 +1,5 @@
-"""What machine.py makes of the texts of a machine: rows as those of recipe_rows. As DISKS goes to standard error
-here, it is the end of the message."""
-
-from recipe_rows import bad, good
+"""What `machine` makes of the texts of a machine: its words, its inputs, what it prints, what it says on standard error,
+its status, and DISKS."""
 
 NUMBERS = "base\t(253:0)\ncow\t(253:1)\nsnap\t(253:2)\norig\t(253:3)\n"
 FRESH = "base: 0 16 linear \ncow: 0 64 linear \nsnap: 0 16 snapshot 16/64 16\norig: 0 16 snapshot-origin \n"
@@ -18,15 +16,15 @@ NO_COPIES = ("kept: orig, without snap, which %s a snapshot of it: on the machin
              "which the answers don't show\n")
 COPIED = "its store has copies, and nothing says of which chunks"
 NO_STORE = "its store is read-only, or not made of linear and striped lines"
-WORDS = ["--disks", "/dev/stderr"]
+WORDS = ["--disks", "disks"]
 
 
-def machine(tables, output, message="", disks=SDA1, names=NUMBERS, status=FRESH, sizes=SIZES):
-    return good("machine.py", WORDS, [names, status, sizes, tables], output, message + disks)
+def machine(tables, output, message="", disks=SDA1, names=NUMBERS, status=FRESH, sizes=SIZES, only=(), more=()):
+    return "machine", WORDS + ["--only=" + it for it in only] + list(more), [names, status, sizes, tables], output, message, 0, disks
 
 
 def no_machine(tables, message, names=NUMBERS, status=FRESH, sizes=SIZES):
-    return bad("machine.py", WORDS, [names, status, sizes, tables], message + "\nrefused")
+    return "machine", WORDS, [names, status, sizes, tables], "refused\n", message, 1, "refused\n"
 
 
 def without(why, tables, lower=LOWER_OUT, origin=ORIG_OUT, **how):
@@ -55,6 +53,7 @@ SNAPSHOTS = [
     machine(ALL.replace("P 8", "N 8"), LOWER_OUT + SNAP_OUT.replace("P 8", "N 8") + ORIG_OUT, status=FRESH.replace("16/64 16", "0/64 0")),
     without(COPIED, ALL, status=FRESH.replace("16/64 16", "24/64 16")),
     without(COPIED, ALL, status=FRESH.replace("16/64 16", "Invalid")),
+    machine(ALL, LOWER_OUT + SNAP_OUT + ORIG_OUT, status=FRESH.replace("16/64 16", "24/64 16"), more=["--store", "snap=cow.img"]),
     without("`dmsetup status` says nothing of it", ALL, status="base: 0 16 linear \n"),
     without("0 16 snapshot 253:0 253:1 PO 8", ALL.replace("P 8", "PO 8")),
     without("0 16 snapshot 253:0 253:1 P 8 1 discard_zeroes_cow", ALL.replace("P 8", "P 8 1 discard_zeroes_cow")),
@@ -177,6 +176,16 @@ LENGTHS = [
     left("0 8 linear 8:2 0", "lsblk has no length of 8:2", sizes=DISK + "8:2 4097 sda2 sda\n", odd="8:2"),
 ]
 
+ONLY = [
+    machine(ALL, LOWER_OUT + SNAP_OUT, only=["snap"]),
+    machine(ALL, LOWER_OUT, only=["base", "cow"]),
+    machine(ALL, LOWER_OUT[:LOWER_OUT.index("cow")] + ORIG_OUT, NO_COPIES % "is", only=["orig"]),
+    machine(ALL.replace("cow: 0 64 linear", "cow: 0 64 thin"), LOWER_OUT[:LOWER_OUT.index("cow")], only=["base"]),
+    machine(ALL.replace("cow: 0 64 linear 8:1 16", "cow: 0 64 thin 8:1 16"), LOWER_OUT[:LOWER_OUT.index("cow")] + SNAP_OUT.replace("mapper/cow", "dm-1"),
+            "left out: cow (thin), the disk /dev/dm-1\n", SDA1 + "/dev/dm-1 64\n", only=["snap"]),
+    ("machine", WORDS + ["--only", "x"], [NUMBERS, FRESH, SIZES, ALL], "refused\n", "--only: no device x", 1, "refused\n"),
+]
+
 REFUSED = [
     no_machine(ALL, "1: not what `dmsetup ls` prints of devices", names="No devices found\n"),
     no_machine(ALL, "1: not what `dmsetup ls` prints of devices", names=""),
@@ -188,8 +197,8 @@ REFUSED = [
     no_machine("0 16 linear 8:1 0\n", "4: not what `dmsetup table` prints of devices"),
     no_machine("base,,0,xx,0 16 linear 8:1 0\n", "4: not what `dmsetup table` prints of devices"),
     no_machine("a: 0 8 thin 8:1 0\n", "left out: a (thin)\n4: no device is left that dmremap can follow", names=names_of("a")),
-    no_machine("a,,1,rw,0 8 zero \nb,,2,rw,0 8 zero \n", "left out: device 1 of 4, which `dmsetup ls` has not: a,,1,rw,0 8 zero \n"
-               "b,,2,rw,0 8 zero \nleft out: a (no table)\n4: no device is left that dmremap can follow", names=names_of("a")),
+    no_machine("a,,1,rw,0 8 zero \nb,,2,rw,0 8 zero \n", "left out: device 1 of 4, which `dmsetup ls` has not: a,,1,rw,0 8 zero "
+               "\\nb,,2,rw,0 8 zero \nleft out: a (no table)\n4: no device is left that dmremap can follow", names=names_of("a")),
 ]
 
-ROWS = SNAPSHOTS + TARGETS + NAMES + LENGTHS + REFUSED
+ROWS = SNAPSHOTS + TARGETS + NAMES + LENGTHS + ONLY + REFUSED

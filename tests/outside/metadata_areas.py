@@ -1,20 +1,20 @@
-"""The scripts that find metadata at the head of a physical volume: over their sample, over heads that are damaged
-or easily taken wrong, and over each bit that may have been flipped where one of three sums is kept."""
+"""The command that finds metadata at the head of a physical volume: over its sample, over heads that are damaged or
+easily taken wrong, over each length of one, and over each bit that may have been flipped where one of three sums is kept."""
 
 import contextlib
+import importlib
 import io
 import os
-import sys
 
+import tool_calls
 from harness import NOBODY, run
-from physical_volumes import FIRST, MAGIC, SECTOR, area, gpt, label, mbr, text_of_area, volume
-from recipe_calls import answer
+from physical_volumes import FIRST, MAGIC, SECTOR, area, gpt, label, mbr, md_member, text_of_area, volume, with_backup
 
 # Where the sample has the text of a group that was removed, and where the valid one, which goes round the ring.
 OLD, VALID = 2048, 3840
 SIZE = 4096
 OTHER = ": try another physical volume of the group, or a file in /etc/lvm/backup"
-LISTED = OTHER + ", or list the texts that are left with metadata_texts.py"
+LISTED = OTHER + ", or see what is left of older texts with --list"
 ONE = "the metadata area at byte 4096: "
 # Where the second area of the images here begins.
 SECOND = 65536
@@ -23,51 +23,55 @@ NEWER = TEXT.replace(b"7", b"10")
 SEARCHED = "metadata areas were looked for in the first and last 4 MiB\n"
 NOT_FOUND = ", and no metadata area is in the first or last 4 MiB"
 FROM_FIRST = ": take the physical volume from its first byte on, or " + OTHER[2:]
-USAGE = "usage: metadata_area.py [-h] [--partition N] [--area FILE] HEAD\n"
+USAGE = "usage: dmremap-tools metadata [-h] [--partition N | --start SECTOR]\n"
+SAID = "dmremap-tools metadata: "
 
 
 def check(tally, program, top):
+    """All that the command is tried on."""
     group = read(os.path.join(top, "examples", "vg0.backup"))
-    script = Script(tally, program, top)
-    check_sample(tally, program, script, group)
-    check_rings(script, group)
+    command = Command(tally, program, top)
+    check_sample(tally, program, command, group)
+    check_rings(command, group)
     check_flips(tally, group)
-    for name, head, message in REFUSED:
-        script.refuses(name, head, message)
+    check_lengths(tally, group)
+    for name, head, *told, message in REFUSED:
+        command.refuses(name, head, message, told="".join(told))
     for name, head, text, message in TAKEN:
-        script.takes(name, head, text, message)
-    check_second(script)
-    check_disks(script)
-    check_files(tally, program, script)
-    check_texts(tally, program, script, group)
+        command.takes(name, head, text, message)
+    check_second(command)
+    check_disks(command)
+    check_places(command)
+    check_heads(command)
+    check_files(tally, program, command)
+    check_texts(tally, command, group)
 
 
-class Script:
-    """The scripts, and what is made of their answers. Those about files and about the sample are run as from a shell."""
+class Command:
+    """The command, and what is made of its answers. Those about files and about the sample are run as from a shell."""
 
     def __init__(self, tally, program, top):
-        self.tally, self.program = tally, program
-        self.scripts = os.path.join(top, "examples", "recipes")
+        self.tally, self.program, self.top = tally, program, top
         self.path = program.file("head", "")
         self.folder = os.path.dirname(self.path)
 
-    def run(self, *words, name="metadata_area", **how):
-        """Runs a script in the folder of the images."""
-        return run([sys.executable, "-B", os.path.join(self.scripts, name + ".py"), *words], folder=self.folder, **how)
+    def run(self, *words, **how):
+        """Runs it in the folder of the images."""
+        return run([os.path.join(self.top, tool_calls.TOOL), "metadata", *words], folder=self.folder, **how)
 
     def answer(self, words):
-        """What metadata_area.py answers to these words in that folder."""
-        return answer(self.scripts, "metadata_area", words, self.folder)
+        """What it answers to these words in that folder."""
+        return tool_calls.call(self.top, ["metadata", *words], folder=self.folder)
 
     def takes(self, name, head, text, message="", words=("head",)):
-        """The script prints this text, and says this of it."""
+        """It prints this text, and says this of it."""
         self.program.file("head", head)
         self.tally.same("the text of " + name, self.answer(words), 0, text.rstrip(b"\0"), message and "head: " + message)
 
-    def refuses(self, name, head, message, words=("head",), path="head"):
-        """The script refuses an image, with this message."""
+    def refuses(self, name, head, message, words=("head",), path="head", told=""):
+        """It refuses an image, with this message, and tells something before."""
         self.program.file("head", head)
-        self.tally.same("the text of " + name, self.answer(words), 1, "", path + ": " + message + "\n")
+        self.tally.same("the text of " + name, self.answer(words), 1, "", told + SAID + path + ": " + message + "\n")
 
 
 def read(path):
@@ -82,21 +86,21 @@ def sample(group):
     return volume((FIRST, area(valid, VALID, others=[(OLD, old)]))), old[:-1], valid[:-1]
 
 
-def check_sample(tally, program, script, group):
+def check_sample(tally, program, command, group):
     head, _, valid = sample(group)
-    path = os.path.join(script.scripts, "samples", "vg0-head.img")
+    path = os.path.join(tool_calls.samples(command.top), "vg0-head.img")
     tally.holds("the sample of a metadata area", read(path) == head, "it is not what this module makes")
-    got = script.run(path)
+    got = command.run(path)
     tally.same("the text of a metadata area", got, 0, valid)
-    wanted = program.run(["table", "lvm", os.path.join(os.path.dirname(os.path.dirname(script.scripts)), "examples", "vg0.backup")]).out
+    wanted = program.run(["table", "lvm", os.path.join(command.top, "examples", "vg0.backup")]).out
     tally.same("the table of that text", program.run(["table", "lvm", program.file("area", got.out)]), 0, wanted)
 
 
-def check_rings(script, group):
+def check_rings(command, group):
     whole = text_of_area(group, b"CCCCCC", 3)
     for size in (SECTOR + len(whole), SIZE, 1 << 21):
         for offset in (SECTOR, size - 1, size - len(whole)):
-            script.takes("one at %d of an area of %d bytes" % (offset, size), volume((FIRST, area(whole, offset, size=size))), whole)
+            command.takes("one at %d of an area of %d bytes" % (offset, size), volume((FIRST, area(whole, offset, size=size))), whole)
 
 
 def check_flips(tally, group):
@@ -116,18 +120,46 @@ def check_flips(tally, group):
 
 def flipped(head, place, bit):
     """The text with a bit flipped, or None where it is refused."""
-    import disk_image
-    import metadata_area
-    import refusal
     head[place] ^= 1 << bit
     try:
-        with contextlib.redirect_stderr(io.StringIO()):
-            image = metadata_area.chosen_part(disk_image.Image(io.BytesIO(head), "head"), None)
-            return metadata_area.valid_text(image, metadata_area.areas_of(image))
-    except refusal.Refused:
-        return None
+        return text_in(head)
     finally:
         head[place] ^= 1 << bit
+
+
+def text_in(head):
+    """The text of a head, or None where it is refused."""
+    disk_image, chosen_part, valid_text, refusal = (importlib.import_module("dmremap_tools." + it) for it in (
+        "base.disk_image", "metadata.chosen_part", "metadata.valid_text", "base.refusal"))
+    try:
+        with unsaid():
+            image = chosen_part.chosen_part(disk_image.Image(io.BytesIO(head), "head"), None)
+            return valid_text.valid_text(image, valid_text.areas_of(image))
+    except refusal.Refusal:
+        return None
+
+
+@contextlib.contextmanager
+def unsaid():
+    """What is told within isn't shown."""
+    streams = importlib.import_module("dmremap_tools.base.streams")
+    tell, streams.tell = streams.tell, lambda text: None
+    try:
+        yield
+    finally:
+        streams.tell = tell
+
+
+def check_lengths(tally, group):
+    """An image that ends anywhere is refused in words, with and without its label, or the text is right."""
+    whole = text_of_area(group, b"CCCCCC", 3)
+    head = volume((FIRST, area(whole)))
+    table = gpt((34, 63))
+    for name, image, at in (("a head", head, FIRST + SECTOR + len(whole)), ("one without a label", with_bytes(head, SECTOR, bytes(SECTOR)),
+                            FIRST + SECTOR + len(whole)), ("a disk with a GPT", table, len(table) + 1)):
+        found = [text_in(image[:length]) for length in range(len(image))]
+        wrong = [length for length, it in enumerate(found) if it != (whole[:-1] if length >= at else None)]
+        tally.holds("each length of " + name, not wrong, "other answers for the lengths %s" % wrong[:5])
 
 
 def with_bytes(head, place, content):
@@ -145,9 +177,14 @@ TWO_AREAS = volume((FIRST, area(TEXT)), (SECOND, area(NEWER, start=SECOND)))
 NO_LABEL = with_bytes(ONE_AREA, SECTOR, bytes(SECTOR))
 OTHER_GROUP = TEXT.replace(b"AAAAAA", b"BBBBBB")
 
+SUMMARY = "vg0 seqno %d, volumes: none\n"
+OLDER = (ONE + "its text is older: " + SUMMARY % 7).join(["passed over: ", "head: taken: the metadata area at byte 65536: " + SUMMARY % 10])
+BOTH_TOLD = "head: " + ONE + SUMMARY % 7 + "head: the metadata area at byte 65536: " + SUMMARY % 7
+LABELLED = "; the label of one that begins at sector %d is sound: take it with --start %d"
+
 REFUSED = [
     ("zeros", bytes(8192), "there is no label in the first four sectors" + NOT_FOUND + FROM_FIRST),
-    ("no group", volume((FIRST, area(b"")), is_used=False), "the physical volume belongs to no group"),
+    ("no group", volume((FIRST, area(b"")), is_used=False), "the physical volume belongs to no group: see what is left of older texts with --list"),
     ("no text, of a group", volume((FIRST, area(b""))), ONE + "it has no text" + LISTED),
     ("no area", volume(), "this physical volume keeps no metadata" + OTHER),
     ("an area that is not used", volume((FIRST, area(TEXT, flags=1))), ONE + "lvm2 keeps no text in it" + LISTED),
@@ -160,6 +197,12 @@ REFUSED = [
     ("a text in the header", volume((FIRST, area(TEXT, SECTOR - 1))), ONE + "its header names a place outside of it" + LISTED),
     ("a text after the area", volume((FIRST, area(TEXT[:1], SIZE))), ONE + "its header names a place outside of it" + LISTED),
     ("a text longer than the area", volume((FIRST, area(TEXT * 80))), ONE + "its header names a place outside of it" + LISTED),
+    ("an area after the volume", with_bytes(ONE_AREA, SECTOR, label([(FIRST, SIZE)], size=FIRST + SIZE - 1)),
+     ONE + "the label says that it ends after the volume" + LISTED),
+    ("an area of more than 64 MiB", with_bytes(ONE_AREA, SECTOR, label([(FIRST, 65 << 20)], size=1 << 40)),
+     ONE + "it has 68157440 bytes, and no more than 67108864 are read" + LISTED),
+    ("an area larger than the label says", with_bytes(ONE_AREA, SECTOR, label([(FIRST, SIZE - SECTOR)])),
+     ONE + "its header says that it has 4096 bytes, of which there are 3584" + LISTED),
     ("an image that ends in the text", ONE_AREA[:FIRST + SECTOR + 10],
      ONE + "the image ends before it does: fetch it, and run this again with --area area.img: "
      "dd if=DISK of=area.img bs=512 skip=8 count=8"),
@@ -167,9 +210,9 @@ REFUSED = [
      ONE + "the image ends before it does: fetch it, and run this again with --area area.img: "
      "dd if=DISK of=area.img bs=512 skip=8 count=8"),
     ("an image that ends in the label", ONE_AREA[:SECTOR + 100], "the label in sector 1 is cut off" + NOT_FOUND + FROM_FIRST),
-    ("two areas of different groups", volume((FIRST, area(TEXT)), (SECOND, area(OTHER_GROUP, start=SECOND))),
+    ("two areas of different groups", volume((FIRST, area(TEXT)), (SECOND, area(OTHER_GROUP, start=SECOND))), BOTH_TOLD,
      "the metadata areas at byte 4096 and 65536 have texts of different groups" + OTHER),
-    ("two texts with one seqno", volume((FIRST, area(TEXT)), (SECOND, area(TEXT.replace(b"}", b"x = 1\n}"), start=SECOND))),
+    ("two texts with one seqno", volume((FIRST, area(TEXT)), (SECOND, area(TEXT.replace(b"}", b"x = 1\n}"), start=SECOND))), BOTH_TOLD,
      "the metadata areas at byte 4096 and 65536 have different texts with one seqno" + OTHER),
     ("two areas that are damaged", with_flip(with_flip(TWO_AREAS, FIRST + 40), SECOND + SECTOR),
      ONE + "the sum of its header is wrong; the metadata area at byte 65536: the sum of its text is wrong" + LISTED),
@@ -178,7 +221,11 @@ REFUSED = [
     ("a volume without its first sector", ONE_AREA[SECTOR:], "the label in sector 0 says that it belongs in sector 1; "
      "the metadata area at byte 3584 belongs at byte 4096, so the image lacks its first 512 bytes" + NOT_FOUND + FROM_FIRST),
     ("a volume behind other sectors", bytes(8 * SECTOR) + ONE_AREA, "there is no label in the first four sectors; the metadata area "
-     "at byte 8192 belongs at byte 4096, so a physical volume begins at byte 4096 (sector 8)" + NOT_FOUND + FROM_FIRST),
+     "at byte 8192 belongs at byte 4096, so a physical volume begins at byte 4096 (sector 8)" + NOT_FOUND + LABELLED % (8, 8)),
+    ("five areas without a label", b"".join([bytes(SIZE)] + [area(TEXT, start=(1 + it) * SIZE) for it in range(5)]),
+     "more than 4 metadata areas are where they say that they begin" + OTHER),
+    ("many areas that are damaged", (bytes(4) + MAGIC).ljust(SECTOR, b"\0") * 20, "there is no label in the first four sectors; "
+     + "; ".join("the metadata area at byte %d: the sum of its header is wrong" % (it * SECTOR) for it in range(15)) + "; .." + NOT_FOUND + FROM_FIRST),
     ("an image in another format", b"QFI\xfb" + bytes(8186), "there is no label in the first four sectors" + NOT_FOUND
      + ": it is an image of qcow2: convert it with qemu-img convert -O raw"),
     ("an encrypted disk", b"LUKS\xba\xbe" + bytes(8186), "there is no label in the first four sectors" + NOT_FOUND
@@ -198,7 +245,7 @@ TAKEN = [
     ("one with a volume of a guest on it", NO_LABEL.ljust(1 << 20, b"\0") + volume((FIRST, area(OTHER_GROUP))), TEXT,
      "there is no label in the first four sectors; the metadata area at byte 1052672 belongs at byte 4096, so a physical volume "
      "begins at byte 1048576 (sector 2048): " + SEARCHED),
-    ("two areas", TWO_AREAS, NEWER, "passed over: the metadata area at byte 4096: its text is older\n"),
+    ("two areas", TWO_AREAS, NEWER, OLDER),
     ("two areas, of which the first is damaged", with_flip(TWO_AREAS, FIRST + SECTOR), NEWER,
      "passed over: the metadata area at byte 4096: the sum of its text is wrong\n"),
     ("two areas, of which the second is damaged", with_flip(TWO_AREAS, SECOND + 40), TEXT,
@@ -210,47 +257,47 @@ TAKEN = [
     ("two areas with one text of different times", volume((FIRST, area(TEXT)), (SECOND, area(TEXT.replace(b"x", b"y"), start=SECOND))),
      TEXT, ""),
     ("two areas without a label", with_bytes(TWO_AREAS, SECTOR, bytes(SECTOR)), NEWER, "there is no label in the first four sectors: "
-     + SEARCHED + "head: passed over: the metadata area at byte 4096: its text is older\n"),
+     + SEARCHED + "head: " + OLDER),
     # The last bytes of a large image are searched too.
     ("a second area at the end, without a label", with_bytes(volume((9 << 20, area(TEXT, start=9 << 20))), SECTOR, bytes(SECTOR)),
      TEXT, "there is no label in the first four sectors: " + SEARCHED),
 ]
 
 
-def check_second(script):
+def check_second(command):
     """The second area where HEAD ends before it, fetched as the message says."""
     head = with_flip(TWO_AREAS, FIRST + SECTOR)[:SECOND]
     fetch = "dd if=DISK of=area.img bs=512 skip=128 count=8"
-    script.refuses("a second area that HEAD lacks", head, ONE + "the sum of its text is wrong; the metadata area at byte 65536: "
+    command.refuses("a second area that HEAD lacks", head, ONE + "the sum of its text is wrong; the metadata area at byte 65536: "
                    "the image ends before it does: fetch it, and run this again with --area area.img: " + fetch)
     with_area = ("--area", "area.img", "head")
-    script.program.file("disk", TWO_AREAS)
-    fetched = run(["sh", "-c", fetch.replace("DISK", "disk") + " status=none"], folder=script.folder)
-    script.tally.same("the command that fetches it", fetched)
-    script.takes("that second area", head, NEWER, "passed over: the metadata area at byte 4096: the sum of its text is wrong\n", with_area)
-    script.refuses("an area that isn't missing", TWO_AREAS, "no metadata area is missing in head: leave --area out", with_area, "area.img")
-    script.takes("one of two areas that are missing", TWO_AREAS[:FIRST], NEWER,
+    command.program.file("disk", TWO_AREAS)
+    fetched = run(["sh", "-c", fetch.replace("DISK", "disk") + " status=none"], folder=command.folder)
+    command.tally.same("the command that fetches it", fetched)
+    command.takes("that second area", head, NEWER, "passed over: the metadata area at byte 4096: the sum of its text is wrong\n", with_area)
+    command.refuses("an area that isn't missing", TWO_AREAS, "no metadata area is missing in head: leave --area out", with_area, "area.img")
+    command.takes("one of two areas that are missing", TWO_AREAS[:FIRST], NEWER,
                  "passed over: the metadata area at byte 4096: the image ends before it does\n", with_area)
-    script.program.file("area.img", with_flip(area(NEWER, start=SECOND), 40))
-    script.refuses("a fetched area that is damaged", head, ONE + "the sum of its text is wrong; the metadata area at byte 65536: "
+    command.program.file("area.img", with_flip(area(NEWER, start=SECOND), 40))
+    command.refuses("a fetched area that is damaged", head, ONE + "the sum of its text is wrong; the metadata area at byte 65536: "
                    "the sum of its header is wrong" + LISTED, with_area)
-    script.refuses("one of two areas, which doesn't tell", TWO_AREAS[:FIRST],
+    command.refuses("one of two areas, which doesn't tell", TWO_AREAS[:FIRST],
                    "it isn't known which metadata area this is, as its header isn't sound" + OTHER, with_area, "area.img")
-    script.program.file("area.img", area(NEWER, start=SECOND)[:SECTOR + 5])
-    script.refuses("a fetched area that is cut off", head, ONE + "the sum of its text is wrong; the metadata area at byte 65536: "
+    command.program.file("area.img", area(NEWER, start=SECOND)[:SECTOR + 5])
+    command.refuses("a fetched area that is cut off", head, ONE + "the sum of its text is wrong; the metadata area at byte 65536: "
                    "the image ends before it does: fetch it, and run this again with --area area.img: " + fetch, with_area)
-    script.program.file("area.img", "")
-    script.refuses("a fetched area that is empty", head, "it is empty", with_area, "area.img")
+    command.program.file("area.img", "")
+    command.refuses("a fetched area that is empty", head, "it is empty", with_area, "area.img")
 
 
-def check_disks(script):
+def check_disks(command):
     """Images of whole disks, whose partitions have the physical volume."""
     for name, disk, message in DISKS:
-        script.refuses(name, disk, message)
+        command.refuses(name, disk, message)
     for name, disk, number, text in PARTITIONS:
-        script.takes(name, disk, text, "", ("--partition", str(number), "head"))
+        command.takes(name, disk, text, "", ("--partition", str(number), "head"))
     for name, disk, number, message in NO_PARTITIONS:
-        script.refuses(name, disk, message, ("--partition", str(number), "head"))
+        command.refuses(name, disk, message, ("--partition", str(number), "head"))
 
 
 def disk_of(head, *parts):
@@ -286,9 +333,9 @@ DISKS = [
     ("the beginning of a disk with a GPT", GPT_DISK[:50 * SECTOR], LACKS % ("GPT", "1 from sector 64 on, 3 from sector 128 on", 1, 64)),
     ("a disk whose GPT isn't all there", GPT_DISK[:20 * SECTOR],
      "the image of a whole disk, which ends before its partition table (GPT) does: take more of the disk"),
-    ("a GPT with a damaged header", with_flip(GPT_DISK, SECTOR + 72), DAMAGED_GPT),
-    ("a GPT with a damaged entry", with_flip(GPT_DISK, 2 * SECTOR + 32), DAMAGED_GPT),
-    ("a GPT whose header is gone", with_bytes(GPT_DISK, SECTOR, bytes(SECTOR)), DAMAGED_GPT),
+    ("a GPT with a damaged header", with_flip(GPT_DISK, SECTOR + 72), DAMAGED_GPT + LABELLED % (128, 128)),
+    ("a GPT with a damaged entry", with_flip(GPT_DISK, 2 * SECTOR + 32), DAMAGED_GPT + LABELLED % (128, 128)),
+    ("a GPT whose header is gone", with_bytes(GPT_DISK, SECTOR, bytes(SECTOR)), DAMAGED_GPT + LABELLED % (128, 128)),
     ("a partition table beside a label", BOTH, "there are both a partition table (MBR) and the label of a physical volume, which lvm2 "
      "doesn't take then: --partition N takes a partition, and --partition 0 the disk itself"),
 ]
@@ -318,42 +365,101 @@ NO_PARTITIONS = [
 ]
 
 
-def check_files(tally, program, script):
+def check_places(command):
+    """Volumes that begin elsewhere, by a label, a partition table's second copy, or an array's superblock."""
+    for name, disk, words, told in PLACES:
+        command.program.file("head", disk)
+        command.tally.same("the text of " + name, command.answer([*words, "head"]), 0, TEXT[:-1], told)
+    for name, disk, words, message in NO_PLACES:
+        command.refuses(name, disk, message, [*words, "head"])
+
+
+BACKUP = "head: the first copy of the partition table (GPT) is damaged: its backup at the end is read\n"
+WITH_BACKUP = with_backup(GPT_DISK.ljust(256 * SECTOR, b"\0"), (64, 71), None, (128, 255))
+LARGE_WITH_BACKUP = with_backup(LARGE_SECTORS.ljust(256 * SECTOR, b"\0"), (16, 31), sector=4096)
+ARRAY = "head: a member of an md array, whose data begins at sector %d: that is read as the physical volume\n"
+FAR = bytes(5 << 20) + ONE_AREA + bytes(5 << 20)
+PLACES = [
+    ("a volume that begins elsewhere", FAR, ["--start", str((5 << 20) // SECTOR)], ""),
+    ("a GPT whose header is damaged", with_flip(WITH_BACKUP, SECTOR + 72), ["--partition", "3"], BACKUP),
+    ("a GPT whose entries are damaged", with_flip(WITH_BACKUP, 2 * SECTOR + 32), ["--partition", "3"], BACKUP),
+    ("a GPT whose beginning is gone", bytes(34 * SECTOR) + WITH_BACKUP[34 * SECTOR:], ["--partition", "3"], BACKUP),
+    ("a GPT of large sectors whose beginning is gone", bytes(34 * SECTOR) + LARGE_WITH_BACKUP[34 * SECTOR:], ["--partition", "1"], BACKUP),
+    # A volume on the whole disk goes before what is left of a table.
+    ("a volume before a GPT that was", with_backup(ONE_AREA.ljust(256 * SECTOR, b"\0"), (128, 255)), [], ""),
+    ("a member of an array, version 1.1", md_member(ONE_AREA, 16), [], ARRAY % 16),
+    ("a member of an array, version 1.2", md_member(ONE_AREA, 2048, 4096), [], ARRAY % 2048),
+    ("a member of an array in a partition", disk_of(mbr((0xFD, 128, 256)), (128, md_member(ONE_AREA, 16))), ["--partition", "1"], ARRAY % 16),
+]
+NO_PLACES = [
+    ("a label in the middle of an image", FAR, [], "there is no label in the first four sectors" + NOT_FOUND + LABELLED % (10240, 10240)),
+    ("two labels", FAR + FAR, [], "there is no label in the first four sectors" + NOT_FOUND
+     + "; labels of some that begin at the sectors 10240, %d are sound: take one with --start SECTOR" % ((len(FAR) + (5 << 20)) // SECTOR)),
+    ("a start after the end", ONE_AREA, ["--start", "16"], "it ends before sector 16"),
+    ("a GPT whose copies are both damaged", with_flip(with_flip(WITH_BACKUP, SECTOR + 72), len(WITH_BACKUP) - SECTOR + 72), [],
+     DAMAGED_GPT + LABELLED % (128, 128)),
+    ("a GPT whose copies are both gone", bytes(34 * SECTOR) + WITH_BACKUP[34 * SECTOR:-SECTOR], ["--partition", "3"],
+     "there is no partition table: leave --partition out"),
+    ("a member of an array without a volume", md_member(bytes(8192), 16), [], "there is no label in the first four sectors" + NOT_FOUND + FROM_FIRST),
+    ("a partition of an array", disk_of(mbr((0xFD, 128, 256)), (128, md_member(ONE_AREA, 16))), [],
+     "the image of a whole disk (MBR), whose partition 1 is a physical volume: take --partition 1, or cut it out"),
+]
+
+
+def check_heads(command):
+    """Heads of several volumes of a group."""
+    volumes = "}\nlogical_volumes {\nhome {\n}\nroot {\n}\n}"
+    apart = TEXT.replace(b"7\n}", ("6\n" + volumes[2:] + "\n}").encode())
+    texts = {"a": TEXT, "b": TEXT.replace(b'"x"', b'"y"'), "c": apart, "d": apart.replace(b"home", b"e\x1b")}
+    for name, text in texts.items():
+        command.program.file(name, volume((FIRST, area(text))))
+    command.tally.same("two heads that agree", command.answer(["a", "b"]), 0, TEXT[:-1])
+    said = "a: vg0 seqno 7, volumes: none\n"
+    differ = SAID + "a: the texts differ: look at what each has, and take the HEAD that is right alone\n"
+    command.tally.same("two heads that differ", command.answer(["a", "c"]), 1, "", said + "c: vg0 seqno 6, volumes: home, root\n" + differ)
+    command.tally.same("heads with an escape", command.answer(["a", "d"]), 1, "", said + "d: vg0 seqno 6, volumes: e\\x1b, root\n" + differ)
+
+
+def check_files(tally, program, command):
     """What can't be read: one line, status 1, and nothing of Python."""
     for name, message in (("nowhere", "No such file or directory"), (".", "Is a directory")):
-        for script_name in ("metadata_area", "metadata_texts"):
-            tally.same("%s of %s" % (script_name, name), script.run(name, name=script_name), 1, "", "%s: %s\n" % (name, message))
+        for words in ([], ["--list"]):
+            tally.same("%s of %s" % (words, name), command.run(*words, name), 1, "", SAID + "%s: %s\n" % (name, message))
     program.file("head", "")
-    tally.same("the text of an empty file", script.run("head"), 1, "", "head: it is empty\n")
+    tally.same("the text of an empty file", command.run("head"), 1, "", SAID + "head: it is empty\n")
     program.file("head", with_flip(ONE_AREA, FIRST + SECTOR))
-    tally.same("a damaged text, as from a shell", script.run("head"), 1, "", "head: " + ONE + "the sum of its text is wrong" + LISTED + "\n")
+    tally.same("a damaged text, as from a shell", command.run("head"), 1, "", SAID + "head: " + ONE + "the sum of its text is wrong" + LISTED + "\n")
     program.file("head", ONE_AREA)
-    found = refusal_of(script.path)
-    tally.holds("the text of an unreadable file", found == script.path + ": Permission denied", "it is refused with %r" % found)
-    tally.same("the text of a pipe", script.run("/dev/stdin", given=ONE_AREA), 1, "",
-               "/dev/stdin: no file or disk, of which each byte can be read: a pipe, maybe\n")
-    tally.same("an area in a file that isn't there", script.run("--area", "nowhere", "head"), 1, "", "nowhere: No such file or directory\n")
+    found = refusal_of(command.path)
+    tally.holds("the text of an unreadable file", found == command.path + ": Permission denied", "it is refused with %r" % found)
+    tally.same("the text of a pipe", command.run("-", given=ONE_AREA), 1, "",
+               SAID + "standard input: no file or disk, of which each byte can be read: a pipe, maybe\n")
+    with open(command.path, "rb") as given:
+        tally.same("the text of standard input", command.run("-", stdin=given), 0, TEXT[:-1])
+    tally.same("an area in a file that isn't there", command.run("--area", "nowhere", "head"), 1, "", SAID + "nowhere: No such file or directory\n")
     with open("/dev/full", "wb") as full:
-        got = run(["sh", "-c", '%s -B "$0" head' % sys.executable, os.path.join(script.scripts, "metadata_area.py")], stdout=full,
-                  folder=script.folder)
-    tally.same("the text on a full disk", got, 1, "", "the output can't be written: No space left on device\n")
-    for words in ([], ["head", "head"], ["--partition", "x", "head"], ["--part"]):
-        got = script.run(*words)
+        got = command.run("head", stdout=full)
+    tally.same("the text on a full disk", got, 5, "", SAID + "standard output: No space left on device\n")
+    for words in ([], ["--partition", "x", "head"], ["--part"], ["--list", "--seqno", "3", "head"]):
+        got = command.run(*words)
         tally.holds("the words %s" % words, got.status == 2 and got.out == b"" and got.err.decode().startswith(USAGE),
                     "status %s, %r" % (got.status, got.err))
 
 
+    got = command.run("--list", "head", "head")
+    tally.same("the list of two heads", got, 2, "", SAID + "--area, --list, --seqno and --at take one HEAD\n")
+
+
 def refusal_of(path):
     """Why a file that nobody may read is refused. As root reads every file, this is asked as somebody else."""
-    import disk_image
-    import refusal
+    disk_image, refusal = (importlib.import_module("dmremap_tools.base." + it) for it in ("disk_image", "refusal"))
     os.chmod(path, 0)
     user = os.geteuid()
     if user == 0:
         os.seteuid(NOBODY)
     try:
         disk_image.open_image(path)
-    except refusal.Refused as refused:
+    except refusal.Refusal as refused:
         return str(refused)
     finally:
         os.seteuid(user)
@@ -361,24 +467,50 @@ def refusal_of(path):
     return None
 
 
-def check_texts(tally, program, script, group):
+def check_texts(tally, command, group):
     """The texts that are left where the header is lost; one that the end of the area cuts is not printed."""
-    head, old, _ = sample(group)
-    program.file("head", head.replace(MAGIC, bytes(len(MAGIC))))
-    listed = "%d vg0 AAAAAA seqno 13 - Tue Nov 14 22:13:20 2023\n%d vg0 BBBBBB seqno 2 - cut\n" % (FIRST + OLD, FIRST + VALID)
-    tally.same("the texts of an area", script.run("head", name="metadata_texts"), 0, listed)
-    tally.same("one of them", script.run("head", str(FIRST + OLD), name="metadata_texts"), 0, old)
-    rows = [(FIRST + VALID, "the text at that place is cut\n"), (FIRST + OLD + 1, "there is no text at that place\n")]
-    for place, message in rows:
-        got = script.run("head", str(place), name="metadata_texts")
-        tally.same("the text at %d of an area" % place, got, 1, "", message)
-    program.file("head", bytes(8192))
-    tally.same("the texts of no area", script.run("head", name="metadata_texts"), 1, "", "there is no text of a group\n")
-    tally.same("the texts without words", script.run(name="metadata_texts"), 2, "", "usage: metadata_texts.py HEAD [PLACE]\n")
+    head, old, valid = sample(group)
+
+    def texts(image, *words):
+        command.program.file("head", image)
+        return command.answer([*words, "head"])
+
+    lost = head.replace(MAGIC, bytes(len(MAGIC)))
+    listed = "%d vg0 AAAAAA seqno 13 - Tue Nov 14 22:13:20 2023\n%d vg0 BBBBBB seqno 2 - Tue Nov 14 22:13:20 2023\n" % (FIRST + OLD, FIRST + VALID)
+    tally.same("the texts of an area", texts(lost, "--list"), 0, listed)
+    tally.same("one of them", texts(lost, "--at", str(FIRST + OLD)), 0, old)
+    tally.same("one of them by its number", texts(lost, "--seqno", "13"), 0, old)
+    tally.same("one that goes round the ring", texts(lost, "--seqno", "2"), 0, valid)
+    tally.same("the texts of a group that was removed", texts(no_group(head), "--list"), 0, listed)
+    nowhere = with_bytes(lost, SECTOR, bytes(SECTOR))
+    cut = listed.replace("2 - Tue Nov 14 22:13:20 2023", "2 - cut")
+    tally.same("the texts of an area that nothing tells of", texts(nowhere, "--list"), 0, cut)
+    rows = [("--at", FIRST + VALID, "the text at that place is cut"), ("--at", FIRST + OLD + 1, "there is no text at that place"),
+            ("--seqno", 2, "the text with the seqno 2 is cut"), ("--seqno", 3, "there is no text with the seqno 3")]
+    for word, place, message in rows:
+        tally.same("the text with %s %d" % (word, place), texts(nowhere, word, str(place)), 1, "", SAID + "head: %s\n" % message)
+    twice = with_bytes(lost, FIRST + SECTOR, old.replace(b"AAAAAA", b"CCCCCC"))
+    tally.same("two texts with one number", texts(twice, "--seqno", "13"), 1, "", SAID + "head: there are several texts with the "
+               "seqno 13, at the bytes %d, %d: take one with --at BYTE\n" % (FIRST + SECTOR, FIRST + OLD))
+    again = with_bytes(lost, FIRST + SECTOR, old)
+    tally.same("one text that is there twice", texts(again, "--seqno", "13"), 0, old)
+    tally.same("the texts of no area", texts(bytes(8192), "--list"), 1, "", SAID + "head: there is no text of a group\n")
+    escapes = with_bytes(lost, FIRST + OLD, old.replace(b"AAAAAA", b"A\x1b[7mA"))
+    tally.same("a text with an escape", texts(escapes, "--list"), 0, listed.replace("AAAAAA", "A\\x1b[7mA"))
     # A text whose end another one has taken is no whole one, though a time follows.
-    taken = bytearray(head)
-    taken[FIRST + OLD + SECTOR:FIRST + OLD + SECTOR + len(old)] = old
-    program.file("head", bytes(taken))
-    lines = script.run("head", name="metadata_texts").out.decode().splitlines()
+    taken = with_bytes(lost, FIRST + OLD + SECTOR, old)
+    lines = texts(taken, "--list").out.decode().splitlines()
     tally.holds("a text that another one cuts", [it.split(" - ")[1] for it in lines] == [
-        "cut", "Tue Nov 14 22:13:20 2023", "cut"], "the list is %r" % lines)
+        "cut", "Tue Nov 14 22:13:20 2023", "Tue Nov 14 22:13:20 2023"], "the list is %r" % lines)
+    for name, filler in HOSTILE:
+        tally.same("the texts of " + name, texts(bytes(FIRST) + filler, "--list"), 1, "", SAID + "head: there is no text of a group\n")
+
+
+def no_group(head):
+    """The sample after its group was removed: label and header say so."""
+    emptied = with_bytes(head, FIRST, area(b"", size=SIZE)[:SECTOR])
+    return with_bytes(emptied, SECTOR, label([(FIRST, SIZE)], is_used=False))
+
+
+# Half a MiB on which a search may take too long.
+HOSTILE = [("a long word", b"a" * (1 << 19)), ("braces", b' {\nid = "' * (1 << 16)), ("words and braces", b'aaaa {\nid = "' * (1 << 15))]

@@ -28,10 +28,10 @@ def text_of_area(group, identity, number):
     return b'vg0 {\nid = "%s"\nseqno = %d\n' % (identity, number) + body + head + TIME + b"\0"
 
 
-def label(areas, place=1, size=64 << 20, is_used=True):
+def label(areas, place=1, size=64 << 20, is_used=True, identity=b"anidentityof32bytesforthislabel0"):
     """The sector with the label, which lists metadata areas."""
     lists = struct.pack("<4Q", 1 << 20, 0, 0, 0) + b"".join(struct.pack("<QQ", *it) for it in areas) + bytes(16)
-    body = struct.pack("<L8s32sQ", 32, b"LVM2 001", b"anidentityof32bytesforthislabel0", size)
+    body = struct.pack("<L8s32sQ", 32, b"LVM2 001", identity, size)
     body = (body + lists + struct.pack("<LL", 2, is_used)).ljust(SECTOR - 20, b"\0")
     return b"LABELONE" + struct.pack("<QL", place, checksum(body)) + body
 
@@ -64,15 +64,38 @@ def mbr(*entries):
     return (bytes(446) + packed).ljust(510, b"\0") + b"\x55\xaa"
 
 
-def gpt(*entries, sector=SECTOR, damage=None):
+def gpt(*entries, sector=SECTOR, damage=None, last=99):
     """The first sectors of a disk with a GPT, whose entries are a first and a last sector; an empty one is none.
-    `damage` is a byte that isn't what it was."""
-    table = b"".join(LVM + IDENTITY + struct.pack("<QQ", *it) + bytes(80) if it else bytes(128) for it in entries)
-    table = table.ljust(128 * 128, b"\0")
-    fields = struct.pack("<QQQQ16sQLLL", 1, 99, 34, 98, IDENTITY, 2, 128, 128, zlib.crc32(table))
-    header = b"EFI PART" + struct.pack("<LL", 0x10000, 92)
-    header += struct.pack("<LL", zlib.crc32(header + bytes(8) + fields), 0) + fields
-    disk = bytearray(mbr((0xEE, 1, 99)).ljust(sector, b"\0") + header.ljust(sector, b"\0") + table)
+    `damage` is a byte that isn't what it was, `last` the last sector of the disk."""
+    table = gpt_table(entries)
+    disk = bytearray(mbr((0xEE, 1, last)).ljust(sector, b"\0") + gpt_header(table, 1, last, 2).ljust(sector, b"\0") + table)
     if damage is not None:
         disk[damage] ^= 1
     return bytes(disk)
+
+
+def gpt_table(entries):
+    """The entries of a GPT."""
+    table = b"".join(LVM + IDENTITY + struct.pack("<QQ", *it) + bytes(80) if it else bytes(128) for it in entries)
+    return table.ljust(128 * 128, b"\0")
+
+
+def gpt_header(table, place, other, at):
+    """The header of a GPT in one sector, which has its other copy in another, and whose entries begin at a third."""
+    usable = max(place, other) - 1 - len(table) // SECTOR
+    fields = struct.pack("<QQQQ16sQLLL", place, other, 34, usable, IDENTITY, at, 128, 128, zlib.crc32(table))
+    header = b"EFI PART" + struct.pack("<LL", 0x10000, 92)
+    return header + struct.pack("<LL", zlib.crc32(header + bytes(8) + fields), 0) + fields
+
+
+def with_backup(disk, *entries, sector=SECTOR):
+    """A disk with the second copy of its GPT behind it."""
+    table, end = gpt_table(entries), len(disk) // sector
+    last = end + len(table) // sector
+    return disk + table + gpt_header(table, last, 1, end).ljust(sector, b"\0")
+
+
+def md_member(data, start, place=0):
+    """A member of an md array of version 1.1 or 1.2, by the place of its superblock, whose data begins in this sector."""
+    superblock = b"\xfc\x4e\x2b\xa9\x01\0\0\0".ljust(128, b"\0") + struct.pack("<Q", start)
+    return (bytes(place) + superblock).ljust(start * SECTOR, b"\0") + data

@@ -1,0 +1,195 @@
+#!/usr/bin/env python3
+"""Time and memory of the commands of dmremap-tools, for a number of lines and for a tenth of them.
+
+Usage: benches/tools.py [MOST]
+
+Each line tells a command and its input of MOST lines (1000000 if not said), the least seconds of processor time of three
+runs, how much longer they are than those of a tenth, and the greatest memory in MiB. Time that is linear grows by a factor
+of up to 10. `physicals` has a physical volume, and `chain` two volumes, for as many lines as the generator says. The lines
+after these are of single inputs: 3,000 devices of which each stands on the one before, 400 devices on two each, half a MiB of
+what looks like the beginning of a text, and a volume of 128 MiB, on two images in turn, that is saved.
+"""
+
+import os
+import random
+import subprocess
+import sys
+import tempfile
+
+TOOL = os.path.join(os.path.dirname(os.path.dirname(os.path.realpath(__file__))), "dmremap-tools")
+RUNS = 3
+EXTENTS = ("Filesystem type is: ef53\nFile size of /f is %d (%d blocks of 512 bytes)\n"
+           " ext:     logical_offset:        physical_offset: length:   expected: flags:\n")
+
+
+def pieces(count, dice):
+    for it in range(1, count + 1):
+        yield "%d %s /dev/sd%s %d %d\n" % (it, dice.choice("RW"), dice.choice("abcd"), dice.randrange(1 << 31), dice.choice((8, 16, 256)))
+
+
+def snapshot_pieces(count, dice):
+    for it in range(1, count // 2 + 1):
+        yield "%d copy sda %d 8 sdb %d\n%d W sdb %d 8\n" % (it, dice.randrange(1 << 31), 16 * it, it, 16 * it)
+
+
+def in_bytes(count, dice):
+    for _ in range(count):
+        yield "%s a %d %d\n" % (dice.choice("RW"), dice.randrange(1 << 40), dice.choice((4096, 512, 1000)))
+
+
+def queued(count, dice):
+    for it in range(count):
+        yield ("253,0  %3d %8d %5d.%09d  4101  Q %3s %d + 8 [fio]\n"
+               % (it % 4, it, it // 1000, it % 1000 * 1000000, dice.choice(("R", "WS")), dice.randrange(1 << 31)))
+
+
+def logged(count, dice):
+    yield "fio version 2 iolog\n/dev/mapper/a add\n/dev/mapper/a open\n"
+    for _ in range(count):
+        yield "/dev/mapper/a %s %d 4096\n" % (dice.choice(("read", "write")), dice.randrange(1 << 31) * 512)
+
+
+def extents(count, dice):
+    yield EXTENTS % (count * 4096, count * 8)
+    after = 0
+    for it in range(count):
+        at = dice.randrange(1 << 31) * 8
+        yield ("%4d: %8d..%8d: %10d..%10d: %6d: %10d:%s\n"
+               % (it, 8 * it, 8 * it + 7, at, at + 7, 8, after, " last,eof" if it == count - 1 else ""))
+        after = at + 8
+    yield "/f: %d extents found\n" % count
+
+
+def spans(count, _):
+    for it in range(count):
+        yield "d %d %d a 0 linear\n" % (8 * it, 8 * it + 8)
+
+
+def places(count, dice):
+    for _ in range(count):
+        yield "sda %d 8\n" % dice.randrange(1 << 20)
+
+
+def origins(count, _):
+    for it in range(count):
+        yield "d 0 1000000 s%d 0 origin\n" % it
+
+
+def writes(count, dice):
+    for _ in range(count):
+        yield "W a %d 8\n" % dice.randrange(1 << 26)
+
+
+GROUP = "contents = 1\nversion = 1\ng {\nextent_size = 8\nphysical_volumes {\n"
+PHYSICAL = 'pv%d {\nid = "x"\ndevice = "/dev/d%d"\nstatus = ["ALLOCATABLE"]\nflags = []\ndev_size = 4096\npe_start = 8\npe_count = 200\n}\n'
+VOLUME = '%s {\nstatus = ["READ", "WRITE"]\nsegment_count = 1\nsegment1 {\nstart_extent = 0\nextent_count = 4\ntype = "%s"\n%s}\n}\n'
+
+
+def physicals(count, _):
+    """A physical volume for 25 lines."""
+    yield GROUP
+    for it in range(count // 25):
+        yield PHYSICAL % (it, it)
+    yield "}\nlogical_volumes {\n" + VOLUME % ("v", "striped", 'stripe_count = 1\nstripes = ["pv0", 0]\n') + "}\n}\n"
+
+
+def chain(count, _):
+    """Volumes of which each is a snapshot of the next, up to one that dmremap can't follow, and one that it can."""
+    last = count // 400
+    yield GROUP + PHYSICAL % (0, 0) + "}\nlogical_volumes {\n" + VOLUME % ("v", "error", "")
+    for it in range(last):
+        yield VOLUME % ("v%d" % it, "striped", 'stripe_count = 1\nstripes = ["pv0", 0]\n')
+        yield VOLUME % ("snapshot%d" % it, "snapshot", 'chunk_size = 8\norigin = "v%d"\ncow_store = "v%d"\n' % (it + 1, it))
+    yield VOLUME % ("v%d" % last, "raid1", "") + "}\n}\n"
+
+
+def wide():
+    """Many lines on one disk, with the store of a snapshot over all of it."""
+    return "".join("d%d: 0 16 linear sda %d\n" % (it, 16 * it) for it in range(60000)) + "s: 0 960000 snapshot base sda P 8\n"
+
+
+SMALL = {"ls": "a\t(253:0)\n", "table": "a: 0 1048576 linear sda 0\n", "wide": wide()}
+ROWS = [
+    (["bytes"], in_bytes), (["cut"], in_bytes), (["trace", "ls", "table"], queued), (["fio", "table"], logged),
+    (["filefrag", "a"], extents), (["totals"], pieces), (["totals"], snapshot_pieces), (["histogram"], pieces),
+    (["splits"], pieces), (["seeks"], pieces), (["json"], pieces), (["to-fio"], pieces), (["dd", "--image", "x"], pieces),
+    (["free"], spans), (["clashes"], spans), (["clashes"], origins), (["owner", "table", "-"], places),
+    (["owner", "wide", "-"], places), (["store-size"], writes),
+    (["lvm2-text", "-"], physicals), (["lvm2-text", "-"], chain),
+]
+# Single inputs: what a command is called, its words, and its files.
+DEVICES, LEVELS = 3000, 200
+SINGLE = [
+    ("%d devices" % DEVICES, ["machine", "--disks", "disks", "names", "state", "sizes", "lines"], {
+        "names": "".join("d%d\t(253:%d)\n" % (it, it) for it in range(DEVICES)), "state": "d0: 0 8 linear \n",
+        "sizes": "8:1 4096 sda1 \n" + "".join("253:%d 4096 dm-%d \n" % (it, it) for it in range(DEVICES)),
+        "lines": "".join("d%d: 0 8 linear %s 0\n" % (it, "253:%d" % (it - 1) if it else "8:1") for it in range(DEVICES))}),
+    ("%d devices" % (2 * LEVELS), ["aliases", "lattice", "listed"], {
+        "lattice": "".join("%d:%d 8 d%d.%d d%d.%d\n" % (at + 1, it, at + 1, it, at, below) for at in range(LEVELS) for it in range(2)
+                           for below in range(2)) + "0:0 8 d0.0 \n0:1 8 d0.1 \n",
+        "listed": "d%d.0 8\nd0.0 8\n" % LEVELS}),
+    ("braces", ["metadata", "--list", "head"], {
+        "head": 'a {\nid = "x"\nseqno = 1\n}\n' + 'aaaa {\nid = "' * (1 << 15)}),
+]
+# A volume that is saved: so many chunks of 64 KiB, on two images in turn.
+CHUNKS, CHUNK = 2048, 1 << 16
+
+
+def main():
+    most = int(sys.argv[1]) if len(sys.argv) > 1 else 1000000
+    with tempfile.TemporaryDirectory() as room:
+        for name, text in SMALL.items():
+            write(os.path.join(room, name), [text])
+        for words, lines in ROWS:
+            seconds, memory = least(words, lines, most, room)
+            tenth, _ = least(words, lines, most // 10, room)
+            print("%-22s %-16s %6.2f s %5.1f %5d MiB" % (" ".join(words), lines.__name__, seconds, seconds / tenth, memory), flush=True)
+        for name, words, files in SINGLE:
+            for file, text in files.items():
+                write(os.path.join(room, file), [text])
+            ran = [measured(words, os.devnull, room) for _ in range(RUNS)]
+            print("%-22s %-16s %6.2f s       %5d MiB" % (" ".join(words[:2]), name, min(it[0] for it in ran), max(it[1] for it in ran)), flush=True)
+        seconds, memory = least_of_saves(room)
+        print("%-22s %-16s %6.2f s       %5d MiB" % ("save", "%d pieces" % CHUNKS, seconds, memory))
+
+
+def least_of_saves(room):
+    """The least seconds of some runs that save a volume, and the greatest memory."""
+    sectors = CHUNKS * CHUNK // 512
+    for name in ("left", "right"):
+        with open(os.path.join(room, name), "wb") as it:
+            it.write(os.urandom(CHUNKS * CHUNK // 2))
+    write(os.path.join(room, "volume"), ["v: 0 %d striped 2 %d left 0 right 0\n" % (sectors, CHUNK // 512)])
+    write(os.path.join(room, "disks"), ["left %d\nright %d\n" % (sectors // 2, sectors // 2)])
+    ran = []
+    for _ in range(RUNS):
+        ran.append(measured(["save", "v", "saved", "table", "volume", "disks"], os.devnull, room))
+        os.remove(os.path.join(room, "saved"))
+    return min(it[0] for it in ran), max(it[1] for it in ran)
+
+
+def least(words, lines, count, room):
+    """The least seconds of some runs, and the greatest memory."""
+    path = os.path.join(room, "input")
+    write(path, lines(count, random.Random(1)))
+    ran = [measured(words, path, room) for _ in range(RUNS)]
+    return min(it[0] for it in ran), max(it[1] for it in ran)
+
+
+def write(path, parts):
+    with open(path, "w") as it:
+        it.writelines(parts)
+
+
+def measured(words, path, room):
+    """The seconds of processor time that a run takes, and its memory in MiB."""
+    with open(path, "rb") as given:
+        child = subprocess.Popen([TOOL, *words], stdin=given, stdout=subprocess.DEVNULL, stderr=subprocess.DEVNULL, cwd=room)
+        _, status, used = os.wait4(child.pid, 0)
+    if status:
+        sys.exit("%s: it ended with %d" % (" ".join(words), status))
+    return used.ru_utime + used.ru_stime, used.ru_maxrss >> 10
+
+
+if __name__ == "__main__":
+    main()

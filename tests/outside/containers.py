@@ -1,0 +1,61 @@
+"""Headers of LUKS, made from their formats for the tests, and what luksDump prints of such."""
+
+import hashlib
+import struct
+
+UUID = "9f0ddaf8-7f12-4f09-98b6-4e4d01cf8b28"
+# The bytes of a header of version 2, of which there are two, one after the other.
+SIZE = 1 << 14
+SEGMENT = '"%d":{"type":"crypt","offset":"131072","size":"%s","sector_size":512}'
+DUMP_1 = """\
+LUKS header information for sda2.img
+
+Version:       \t1
+Cipher name:   \taes
+Payload offset:\t4096
+MK bits:       \t512
+UUID:          \t%s
+""" % UUID
+DUMP_2 = """\
+LUKS header information
+Version:       \t2
+Metadata area: \t16384 [bytes]
+UUID:          \t%s
+Label:         \t(no label)
+
+Data segments:
+  0: crypt
+\toffset: 16777216 [bytes]
+\tlength: %%s
+\tcipher: aes-xts-plain64
+\tsector: 4096 [bytes]
+
+Keyslots:
+  0: luks2
+""" % UUID
+
+
+def version_1(payload):
+    """A header of version 1, whose data begins in this sector."""
+    head = b"LUKS\xba\xbe\0\1".ljust(104, b"\0") + struct.pack(">L", payload)
+    return head.ljust(168, b"\0") + UUID.encode().ljust(40, b"\0") + bytes(800)
+
+
+def version_2(size="dynamic", segments=1, json=None):
+    """Both headers of version 2, whose data begins in sector 256."""
+    text = json or ('{"segments":{%s}}' % ",".join(SEGMENT % (it, size) for it in range(segments))).encode()
+    return header(b"LUKS", 0, text) + header(b"SKUL", SIZE, text)
+
+
+def header(magic, place, text):
+    """A header of version 2 at this byte."""
+    fields = magic + b"\xba\xbe\0\2" + struct.pack(">QQ", SIZE, 3)
+    fields = fields.ljust(72, b"\0") + b"sha256".ljust(96, b"\0") + UUID.encode().ljust(40, b"\0")
+    head = (fields.ljust(256, b"\0") + struct.pack(">Q", place)).ljust(4096, b"\0")
+    area = text.ljust(SIZE - 4096, b"\0")
+    return head[:448] + hashlib.sha256(head + area).digest().ljust(64, b"\0") + head[512:] + area
+
+
+def flipped(content, place):
+    """The same with a bit flipped."""
+    return content[:place] + bytes([content[place] ^ 1]) + content[place + 1:]

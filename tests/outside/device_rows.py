@@ -1,0 +1,165 @@
+"""Devices that are made of what other tools print: rows of the commands `thin`, `cache`, `btrfs` and `file-device`."""
+
+import tool_calls
+
+
+def good(command, words, inputs, output, message=""):
+    """A row of an answer. Numbers of devices may be those of the files, so these are among the words."""
+    return tool_calls.good(command, words + [str(it) for it in range(1, len(inputs) + 1)], inputs, output, message)
+
+
+def bad(command, words, inputs, message):
+    return tool_calls.bad(command, words + [str(it) for it in range(1, len(inputs) + 1)], inputs, message)
+
+
+POOL = """\
+<superblock uuid="" time="1" transaction="2" flags="0" version="2" data_block_size="128" nr_data_blocks="%s">
+  <def name="3">
+    <range_mapping origin_begin="30" data_begin="40" length="2" time="0"/>
+  </def>
+  <device dev_id="1" mapped_blocks="%s" transaction="0" creation_time="0" snap_time="1">
+    <range_mapping origin_begin="0" data_begin="100" length="9" time="0"/>
+    <range_mapping origin_begin="9" data_begin="109" length="4" time="1"/>
+    <single_mapping origin_block="20" data_block="12" time="0"/>
+  </device>
+  <device dev_id="2" mapped_blocks="3" transaction="0" creation_time="0" snap_time="1">
+    <ref name="3"/>
+    <single_mapping origin_block="20" data_block="13" time="0"/>
+  </device>
+</superblock>
+"""
+THIN = ["--data", "d", "--device", "1", "t"]
+TWO = ["--device", "2", "/dev/mapper/u", "3900"]
+
+
+def pool(blocks="1000", mapped="14"):
+    return POOL % (blocks, mapped)
+
+
+def thin(words, output, text=None):
+    return good("thin", words, [text or pool()], output)
+
+
+def no_thin(words, message, text=None):
+    return bad("thin", words, [text or pool()], message)
+
+
+POOLS = [
+    thin(THIN + ["4000"], "t,,,ro,0 1664 linear d 12800,1664 896 zero,2560 128 linear d 1536,2688 1312 zero\n"),
+    thin(THIN + ["2600"] + TWO, "t,,,ro,0 1664 linear d 12800,1664 896 zero,2560 40 linear d 1536;"
+         "u,,,ro,0 2560 zero,2560 128 linear d 1664,2688 1152 zero,3840 60 linear d 5120\n"),
+    thin(["--data", "/dev/mapper/v-p_tdata", "--device", "1", "t", "64"], "t,,,ro,0 64 linear /dev/mapper/v-p_tdata 12800\n"),
+    thin(THIN + ["2700", "--external", "1", "o"],
+         "t,,,ro,0 1664 linear d 12800,1664 896 linear o 1664,2560 128 linear d 1536,2688 12 linear o 2688\n"),
+    thin(THIN + ["4000", "--part", "1600", "100"], "t,,,ro,0 1664 linear d 12800,1664 896 zero,2560 1440 error\n"),
+    thin(THIN + ["4000", "--part", "2687", "2"], "t,,,ro,0 2560 error,2560 128 linear d 1536,2688 1312 zero\n"),
+    no_thin(["--data", "d", "--device", "3", "t", "8"], "1: it has no device 3"),
+    no_thin(THIN + ["x"], "--device: not a whole number below 2^64: 'x'"),
+    no_thin(THIN + ["0"], "t: it has no sectors"),
+    no_thin(["--data", "d,e", "--device", "1", "t", "8"], "--data: no name of a disk: 'd,e'"),
+    no_thin(["--data", "d", "--device", "1", "a b", "8"], "NAME: no name of a device: 'a b'"),
+    no_thin(THIN + ["8"], "1:9: it has 14 blocks and not 13, as it says", pool(mapped="13")),
+    no_thin(THIN + ["8"], "1:7: past the end of the data, of 110 blocks:     <range_mapping origin_begin=\"9\" data_begin=\"109\" length=\"4\" time=\"1\"/>", pool("110")),
+    no_thin(THIN + ["8"], "1:13: its end is missing", pool().replace("</superblock>\n", "")),
+    no_thin(THIN + ["8"], "1:1: not what thin_dump prints: <x>", "<x>\n"),
+    no_thin(THIN + ["8"], "1:1: not what thin_dump prints:   <device dev_id=\"1\">", "  <device dev_id=\"1\">\n"),
+    no_thin(THIN + ["8"], "1:15: not what thin_dump prints: <superblock>", pool() + "<superblock>\n"),
+    no_thin(THIN + ["8"], "1:2: an element that isn't known: <snapshot>", pool().replace("<def name=\"3\">", "<snapshot>").replace("  <snapshot>", "<snapshot>")),
+    no_thin(THIN + ["8"], "1:8: not a whole number below 2^64: '-1'", pool().replace('data_block="12"', 'data_block="-1"')),
+    no_thin(THIN + ["8"], "1:8: `single_mapping` doesn't say data_block", pool().replace('data_block="12" ', "")),
+    no_thin(THIN + ["4000"], "t: block 12 of a device is there twice", pool().replace('"20" data_block="12"', '"12" data_block="12"')),
+]
+
+CACHE = """\
+<superblock uuid="" block_size="128" nr_cache_blocks="%s" policy="smq" hint_width="4">
+  <mappings>
+    <mapping cache_block="0" origin_block="3" dirty="true"/>
+    <mapping cache_block="1" origin_block="4" dirty="true"/>
+    <mapping cache_block="2" origin_block="5" dirty="false"/>
+    <mapping cache_block="9" origin_block="0" dirty="true"/>
+  </mappings>
+  <hints>
+    <hint cache_block="0" data="AAAAAA=="/>
+  </hints>
+</superblock>
+"""
+CACHED = ["--cache", "c", "--origin", "o", "--name", "d", "--sectors"]
+CACHES = [
+    good("cache", CACHED + ["1000"], [CACHE % 64], "d,,,ro,0 128 linear c 1152,128 256 linear o 128,384 256 linear c 0,640 360 linear o 640\n"),
+    good("cache", CACHED + ["700", "--all"], [CACHE % 64], "d,,,ro,0 128 linear c 1152,128 256 linear o 128,384 316 linear c 0\n"),
+    good("cache", CACHED + ["400", "--part", "0", "1"], [CACHE % 64], "d,,,ro,0 128 linear c 1152,128 272 error\n"),
+    bad("cache", CACHED + ["1000"], [CACHE % 9], "1:6: past the end of the cache, of 9 blocks:     <mapping cache_block=\"9\" origin_block=\"0\" dirty=\"true\"/>"),
+    bad("cache", CACHED + ["1000"], [(CACHE % 64).replace('origin_block="4"', 'origin_block="3"')], "d: block 3 of the origin is there twice"),
+    bad("cache", CACHED + ["1000"], ["<superblock block_size=\"1\" nr_cache_blocks=\"1\">\n"], "1:1: its end is missing"),
+    bad("cache", CACHED + ["1000"], [(CACHE % 64).replace("hints", "nothing")], "1:8: an element that isn't known:   <nothing>"),
+    bad("cache", ["--cache", "c", "--origin", "o;", "--name", "d", "--sectors", "8"], [CACHE % 64], "--origin: no name of a disk: 'o;'"),
+]
+
+CHUNKS = """\
+btrfs-progs v6.2
+chunk tree
+leaf 22036480 items 7 free space 15316 generation 6 owner CHUNK_TREE
+\titem 0 key (DEV_ITEMS DEV_ITEM 1) itemoff 16185 itemsize 98
+\t\tdevid 1 total_bytes 314572800 bytes_used 67108864
+\titem 1 key (FIRST_CHUNK_TREE CHUNK_ITEM 131072) itemoff 15989 itemsize 80
+\t\tlength 65536 owner 2 stripe_len 65536 type SYSTEM%s
+\t\tio_align 65536 io_width 65536 sector_size 4096
+\t\tnum_stripes 2 sub_stripes 1
+\t\t\tstripe 0 devid 1 offset 1048576
+\t\t\tdev_uuid 2e4b618d-01ae-4462-8168-53f98eda713b
+\t\t\tstripe 1 devid 2 offset 2097152
+\t\t\tdev_uuid b8472030-60e7-4b64-b9ef-6338cd188077
+\titem 2 key (FIRST_CHUNK_TREE CHUNK_ITEM 262144) itemoff 15909 itemsize 176
+\t\tlength 262144 owner 2 stripe_len 65536 type DATA|RAID10
+\t\tnum_stripes 4 sub_stripes 2
+\t\t\tstripe 0 devid 1 offset 3145728
+\t\t\tstripe 1 devid 2 offset 4194304
+\t\t\tstripe 2 devid 1 offset 5242880
+\t\t\tstripe 3 devid 2 offset 6291456
+total bytes 629145600
+"""
+BTRFS = ["--name", "b", "--device", "1", "d", "--device", "2", "e"]
+BEFORE, AFTER = "b: 0 256 error\n", "b: 384 128 error\nb: 512 512 striped 2 128 d 6144 d 10240\n"
+TREES = [
+    good("btrfs", BTRFS, [CHUNKS % "|RAID1"], BEFORE + "b: 256 128 linear d 2048\n" + AFTER),
+    good("btrfs", BTRFS, [CHUNKS % "|RAID0"], BEFORE + "b: 256 128 striped 2 128 d 2048 e 4096\n" + AFTER),
+    good("btrfs", BTRFS + ["--copy", "1"], [CHUNKS % "|DUP"], BEFORE + "b: 256 128 linear e 4096\nb: 384 128 error\nb: 512 512 striped 2 128 e 8192 e 12288\n"),
+    good("btrfs", BTRFS, [CHUNKS % "|RAID5"], "b: 0 256 error\nb: 256 128 error\n" + AFTER, "left out: the chunk at 131072, which is of RAID5\n"),
+    good("btrfs", BTRFS + ["--part", "300", "8"], [CHUNKS % ""], BEFORE + "b: 256 128 linear d 2048\nb: 384 640 error\n"),
+    bad("btrfs", BTRFS[:-3], [CHUNKS % "|RAID0"], "1:6: device 2 of the file system isn't given"),
+    bad("btrfs", BTRFS, ["chunk tree\ntotal bytes 0\n"], "1: no chunks of a btrfs file system"),
+    bad("btrfs", BTRFS, [(CHUNKS % "").replace("total bytes 629145600\n", "")], "1:20: its end is missing"),
+    bad("btrfs", BTRFS, [(CHUNKS % "").replace("num_stripes 4", "num_stripes 5")], "1:14: a stripe of the chunk at 262144 is missing"),
+    bad("btrfs", BTRFS, [(CHUNKS % "").replace("offset 1048576", "offset 1048577")], "1:6: no whole sectors: 1048577 bytes"),
+    bad("btrfs", BTRFS, [(CHUNKS % "").replace("CHUNK_ITEM 262144", "CHUNK_ITEM 131584")], "1:14: it begins before the end of another"),
+]
+
+FOUND = "Filesystem type is: %s\nFile size of /f is 4096 (8 blocks of 512 bytes)\n ext:     logical_offset:        physical_offset: length:   expected: flags:\n" \
+        "   0:        0..       7:     124928..    124935:      8:             last,eof\n/f: 1 extent found\n"
+ADDRESSES = [
+    good("filefrag", ["--addresses", "b"], [FOUND % "9123683e"], "R b 124928 8\n"),
+    bad("filefrag", ["--addresses", "b"], [FOUND % "ef53"], "1:1: not btrfs: Filesystem type is: ef53"),
+]
+
+ASKED = "R v-home 1000 8\nR v-home 5000 16\n"
+FILES = [
+    good("file-device", ["--name", "i"], ["size 10000\n0 8\n8 16\n", ASKED], "i: 0 8 linear /dev/mapper/v-home 1000\ni: 8 16 linear /dev/mapper/v-home 5000\n"),
+    good("file-device", ["--name", "i", "--on", "sda"], ["size 20001\n8 8\n20 16\n", ASKED],
+         "i: 0 8 zero\ni: 8 8 linear sda 1000\ni: 16 4 zero\ni: 20 16 linear sda 5000\ni: 36 4 zero\n"),
+    good("file-device", ["--name", "i"], ["size 512\n", ""], "i: 0 1 zero\n"),
+    good("file-device", ["--name", "i", "--part", "12", "2"], ["size 10000\n0 8\n8 16\n", ASKED], "i: 0 8 error\ni: 8 16 linear /dev/mapper/v-home 5000\n"),
+    bad("file-device", ["--name", "i"], ["", ASKED], "1:0: it is empty"),
+    bad("file-device", ["--name", "i"], ["0 8\n8 16\n", ASKED], "1:1: not a line of PLACES"),
+    bad("file-device", ["--name", "i"], ["size 9\n0 8 1\n", ASKED], "1:2: not a line of PLACES"),
+    bad("file-device", ["--name", "i"], ["size 9\n0 7\n", ASKED], "2:1: not the request of line 2 of PLACES"),
+    bad("file-device", ["--name", "i"], ["size 9\n0 8\n4 16\n", ASKED], "1:3: it lies before the end of the line above: 4 16"),
+    bad("file-device", ["--name", "i"], ["size 9\n0 8\n", ASKED], "2:2: more requests than lines of PLACES"),
+    bad("file-device", ["--name", "i"], ["size 9\n0 8\n8 16\n9 1\n", ASKED], "2:2: not the request of line 4 of PLACES"),
+    bad("file-device", ["--name", "i"], ["size 9\n0 8\n", "W v 0 8\n"], "2:1: not the request of line 2 of PLACES"),
+    bad("file-device", ["--name", "i"], ["size 9\n0 8\n", "R v 0\n"], "2:1: not the request of a file: R v 0"),
+    bad("file-device", ["--name", "i"], ["size 0\n", ""], "i: it has no sectors"),
+    # A line for every second sector is more than dmremap takes.
+    bad("file-device", ["--name", "i", "--on", "d"], ["size 0\n" + "".join("%d 1\n" % (2 * it) for it in range(40000)), "R v 0 1\n" * 40000],
+        "i: it has more than 65536 lines, or 1048576 bytes of them, which is all that dmremap takes: ask for a part, with --part START SECTORS"),
+]
+ROWS = POOLS + CACHES + TREES + ADDRESSES + FILES

@@ -1,0 +1,205 @@
+"""The commands that make FILE and DISKS of a machine: rows with what they print, say and write beside that, and what
+is made of it by the program."""
+
+import os
+import re
+import shutil
+import tempfile
+
+import containers
+import elsewhere_rows
+import machine_rows
+import partition_rows
+import physical_volumes
+import tool_calls
+from harness import run
+from tool_calls import TOOL
+
+SAMPLES = ("ls", "status", "lsblk")
+
+
+def check(tally, program, top):
+    """Each row, the samples, files that aren't there, and large machines."""
+    for row in machine_rows.ROWS + partition_rows.ROWS:
+        check_row(tally, program, top, *row)
+    tool_calls.check_rows(tally, program, top, elsewhere_rows.ROWS)
+    check_samples(tally, program, top)
+    check_missing(tally, program, top)
+    check_images(tally, program, top)
+    check_bound_images(tally, program, top)
+    check_containers(tally, program, top)
+    check_large(tally, program, top)
+
+
+def called(program, top, words, inputs):
+    """What a command answers over inputs, which are the files `1`, `2` and so on after its words, and DISKS."""
+    folder = os.path.dirname(program.file("machines/disks"))
+    files = [program.file("machines/%d" % place, text) for place, text in enumerate(inputs, 1)]
+    return tool_calls.call(top, [*words, *files], folder=folder), read(os.path.join(folder, "disks"))
+
+
+def read(path):
+    """The bytes of a file, or None where there is none."""
+    if not os.path.exists(path):
+        return None
+    with open(path, "rb") as it:
+        return it.read()
+
+
+def check_row(tally, program, top, command, words, inputs, output, message, status, disks):
+    """A row with its DISKS, and that what it makes loads."""
+    tool_calls.check_rows(tally, program, top, [(command, words, inputs, output, message, status)])
+    name, written = "%s over %r" % (command, inputs[-1][:40]), read(os.path.join(program.room, "rows", "disks"))
+    tally.holds("DISKS of " + name, written == (disks.encode() if disks is not None else None), "it is %r" % written)
+    if status == 0 and disks is not None:
+        form = "concise" if ",,," in output else "table"
+        made = program.run(["table", form, program.file("machines/source", output), program.file("machines/listed", disks)])
+        tally.holds("that it loads, " + name, made.status == 0, made.err)
+
+
+def check_samples(tally, program, top):
+    """Both forms of a machine's tables give the same, but for what table text can't say."""
+    def made(table):
+        inputs = [read(os.path.join(tool_calls.samples(top), it + ".txt")) for it in (*SAMPLES, table)]
+        got, disks = called(program, top, ["machine", "--disks", "disks"], inputs)
+        form = "concise" if table == "concise" else "table"
+        return program.run(["table", form, program.file("machines/source", got.out), program.file("machines/listed", disks)])
+
+    wanted = made("concise")
+    tally.same("a machine's tables in both forms", made("table"), 0, wanted.out)
+
+
+def check_missing(tally, program, top):
+    """A file that isn't there or is a folder is told, and what would have been written is spoiled."""
+    for name, why in (("nowhere", "No such file or directory"), (".", "Is a directory")):
+        got, written = called(program, top, ["machine", "--disks", "disks", name, "status", "lsblk", "table"], [])
+        tally.same("machine of " + name, got, 1, "refused\n", "%s machine: %s: %s\n" % (TOOL, name, why))
+        tally.holds("what machine leaves of DISKS", written == b"refused\n", "it is %r" % written)
+    got, _ = called(program, top, ["machine", "--disks", "no/where", "1", "2", "3", "4"], [])
+    tally.same("DISKS that can't be written", got, 1, "refused\n", TOOL + " machine: no/where: No such file or directory\n")
+
+
+def check_images(tally, program, top):
+    """Lengths of images, in whole sectors."""
+    for name, size in (("one", 1100), ("two", 512)):
+        program.file("machines/" + name, bytes(size))
+    program.file("machines/paths", "/dev/sda one\nb two\n")
+    folder = os.path.join(program.room, "machines")
+    tally.same("DISKS of images", tool_calls.call(top, ["disks", "--paths", "paths"], folder=folder), 0, "/dev/sda 2\nb 1\n")
+    for words in ([], ["text", "--paths", "paths"], ["--paths", "paths", "--image", "one"]):
+        got = tool_calls.call(top, ["disks", *words], folder=folder)
+        tally.same("disks with the words %s" % words, got, 2, "refused\n", TOOL + " disks: give TEXT, TEXT and --image, or --paths PATHS\n")
+
+
+    program.file("machines/sda1.img", bytes(2048 * 512))
+    program.file("machines/paths", "8:1 sda1.img\n")
+    for name, text in (("ls", machine_rows.NUMBERS), ("status", machine_rows.FRESH), ("table", machine_rows.ALL)):
+        program.file("machines/" + name, text)
+    got = tool_calls.call(top, ["machine", "--disks", "disks", "--paths", "paths", "ls", "status", "table"], folder=folder)
+    tally.same("a machine without lsblk", got, 0, machine_rows.ALL.replace("253:0", "/dev/mapper/base").replace("253:1", "/dev/mapper/cow"))
+    tally.holds("DISKS without lsblk", read(os.path.join(folder, "disks")) == b"8:1 2048\n", "it is another")
+    got = tool_calls.call(top, ["machine", "--disks", "disks", "ls", "status", "table"], folder=folder)
+    tally.same("a machine without lengths", got, 2, "refused\n", TOOL + " machine: give LSBLK or --paths PATHS\n")
+
+
+def check_bound_images(tally, program, top):
+    """Which physical volume an image is, by the id in its label."""
+    first, second, other = (physical_volumes.volume(identity=it.ljust(32, b"x")) for it in (b"first", b"second", b"other"))
+    images = {"a": first, "b": physical_volumes.md_member(second, 16), "c": other, "d": bytes(4096)}
+    for name, image in images.items():
+        program.file("machines/" + name, image)
+    identity = "%s-xxxx-xxxx-xxxx-xxxx-xxxx-xxxxxx"
+    physical = '\t\tpv%d {\n\t\t\tid = "' + identity + '"\n\t\t\tdevice = "%s"\n\t\t}\n'
+    program.file("machines/text", "g {\n\tphysical_volumes {\n%s\t}\n}\n" % (physical % (0, "second", "[unknown]") + physical % (1, "firstx", "/dev/sdb")))
+    folder = os.path.join(program.room, "machines")
+    array = "b: a member of an md array, whose data begins at sector 16: that is read as the physical volume\n"
+    missing = "missing: pv0, with the id " + identity % "second" + "\n"
+    for names, output, message, status in [
+        ("ab", "/dev/sdb a\npv0 b\n", array, 0),
+        ("a", "/dev/sdb a\n", missing, 0),
+        ("ac", "/dev/sdb a\nrefused\n", "c: its id is " + identity % "otherx" + ", which the text has not", 1),
+        ("aa", "/dev/sdb a\nrefused\n", "a: its id is " + identity % "firstx" + ", as that of a", 1),
+        ("d", "refused\n", "d: there is no label in the first four sectors: it is no physical volume", 1),
+    ]:
+        got = tool_calls.call(top, ["disks", "text", *("--image=" + it for it in names)], folder=folder)
+        tally.same("the images " + names, got, status, output, "%s disks: %s\n" % (TOOL, message) if status else message)
+
+
+def check_containers(tally, program, top):
+    """Containers of LUKS: by their headers, the second one of version 2, and the text of luksDump."""
+    def device(name, content, *words):
+        return tool_calls.call(top, ["luks", *words, "/dev/sda2", program.file("machines/" + name, content)], folder=os.path.join(program.room, "machines"))
+
+    disk = 8192 * 512
+    first, second = containers.version_1(64).ljust(disk, b"\0"), containers.version_2().ljust(disk, b"\0")
+    line = "luks-%s: 0 %%d linear /dev/sda2 %%d\n" % containers.UUID
+    for name, content, words, output in [
+        ("version 1", first, [], line % (8128, 64)),
+        ("version 2", second, [], line % (7936, 256)),
+        ("version 2 of a fixed size", containers.version_2(size="4096").ljust(disk, b"\0"), [], line % (8, 256)),
+        ("a second header", bytes(4096) + second[4096:], ["--name", "home"], "home: 0 7936 linear /dev/sda2 256\n"),
+        ("a header alone", containers.version_2(), ["--length", "8192"], line % (7936, 256)),
+        ("a text of version 1", containers.DUMP_1, ["--length", "8192"], line % (4096, 4096)),
+        ("a text of version 2", containers.DUMP_2 % "(whole device)", ["--length", "65536"], line % (32768, 32768)),
+        ("a text of a fixed size", containers.DUMP_2 % "4096 [bytes]", [], line % (8, 32768)),
+    ]:
+        tally.same("a container of " + name, device("container", content, *words), 0, output)
+    damaged = "its header of LUKS is damaged"
+    for name, content, words, message in [
+        ("nothing", bytes(4096), [], "no header of LUKS, and no text of luksDump"),
+        ("a header that is cut off", second[:8000], [], damaged),
+        ("two headers that are damaged", containers.flipped(containers.flipped(second, 300), containers.SIZE + 300), [], damaged),
+        ("a header alone", containers.version_2(), [], "how long is the disk? Its data begins at sector 256: give --length"),
+        ("a text alone", containers.DUMP_1, [], "how long is the disk? Its data begins at sector 4096: give --length"),
+        ("data after the disk", containers.version_2(size="8388608"), ["--length", "8192"], "the data ends at sector 16640, and the disk at sector 8192"),
+        ("a container that is encrypted anew", containers.version_2(segments=2), [], "it has 2 segments, as while it is being encrypted anew: crypt, crypt"),
+        ("no segments", containers.version_2(json=b"{}"), [], "its header of LUKS doesn't say where the data is"),
+        ("an odd offset", containers.version_2(size="511"), [], "its header of LUKS doesn't say where the data is"),
+        ("a text of something else", b"LUKS header information\n", [], "no text of luksDump that says where the data is"),
+    ]:
+        got = device("container", content, *words)
+        tally.same("a container of " + name, got, 1, "refused\n", "%s luks: %s: %s\n" % (TOOL, os.path.join(program.room, "machines", "container"), message))
+    check_real_containers(tally, device)
+    got = device("container", second, "--name", "a b")
+    tally.same("a container with such a name", got, 1, "refused\n", TOOL + " luks: NAME: no name of a device: 'a b'\n")
+
+
+def check_real_containers(tally, device):
+    """Containers that cryptsetup makes: their headers say what its luksDump does."""
+    cryptsetup = shutil.which("cryptsetup", path=os.environ["PATH"] + ":/sbin:/usr/sbin")
+    if not cryptsetup:
+        tally.skip("containers that cryptsetup makes", "it isn't there")
+        return
+    for kind in ("luks1", "luks2"):
+        with tempfile.NamedTemporaryFile() as disk:
+            disk.truncate(40 << 20)
+            made = run([cryptsetup, "luksFormat", "-q", "--type", kind, "--pbkdf", "pbkdf2", "--pbkdf-force-iterations", "1000", disk.name, "-"], given="word")
+            dumped = run([cryptsetup, "luksDump", disk.name])
+            if made.status or dumped.status:
+                tally.skip("a container of %s that cryptsetup makes" % kind, (made.err or dumped.err).decode().strip())
+                continue
+            by_header = device("container", disk.read())
+        by_text = device("container", dumped.out, "--length", str((40 << 20) // 512))
+        is_so = by_header.status == 0 and by_header.out == by_text.out and b" linear /dev/sda2 " in by_header.out
+        tally.holds("a container of %s that cryptsetup makes" % kind, is_so, "%r and %r, %r" % (by_header.out, by_text.out, by_header.err))
+
+
+def check_large(tally, program, top):
+    """Devices on each other, a thousand of them, from the top down and from the bottom up."""
+    count = 1000
+    for order in (range(count), range(count - 1, -1, -1)):
+        names = "".join("d%d\t(253:%d)\n" % (it, it) for it in order)
+        lines = "".join("d%d: 0 8 linear %s 0\n" % (it, "253:%d" % (it - 1) if it else "8:1") for it in order)
+        sizes = "8:1 1048576 sda1 sda\n" + "".join("253:%d 4096 dm-%d \n" % (it, it) for it in order)
+        got, disks = called(program, top, ["machine", "--disks", "disks"], [names, "d0: 0 8 linear \n", sizes, lines])
+        left = {it for it in range(count) if it % 33 == 32}
+        found = {int(it) for it in re.findall(r"left out: d(\d+) \(it stands on itself, or on too many others\), the disk", got.err.decode())}
+        is_so = got.status == 0 and found == left and got.out.count(b"\n") == count - len(left)
+        tally.holds("a thousand devices on each other", is_so, "status %s, %s" % (got.status, sorted(found ^ left)[:5]))
+    # Each device lies on two of the level below, so that there are more ways down than can be counted.
+    levels = 200
+    rows = "".join("%d:%d 8 d%d.%d d%d.%d\n" % (level, it, level, it, level - 1, below) if level else "0:%d 8 d0.%d \n" % (it, it)
+                   for level in range(levels) for it in range(2) for below in range(2))
+    disks = "d%d.0 8\nd0.0 8\n" % (levels - 1)
+    got = tool_calls.call(top, ["aliases", program.file("machines/lsblk", rows), program.file("machines/listed", disks)])
+    tally.same("a lattice of devices", got, 0, "d%d.0 lies on d0.0\n" % (levels - 1))

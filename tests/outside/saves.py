@@ -1,0 +1,238 @@
+"""The commands `save` and `read-back`: volumes and files that are put together from images, with what is missing told, as a map
+of ddrescue, by which a later run goes on."""
+
+import contextlib
+import errno
+import os
+import random
+
+import tool_calls
+
+SECTOR = 512
+
+
+def check(tally, program, top):
+    check_read_back(tally, program, top)
+    check_volumes(tally, program, top)
+    check_file(tally, program, top)
+    check_gaps(tally, program, top)
+    check_refusals(tally, program, top)
+    check_mutations(tally, program, top)
+
+
+def read(path):
+    with open(path, "rb") as it:
+        return it.read()
+
+
+def check_read_back(tally, program, top):
+    """A file that is put together: of disks with odd names and of some with paths, of one that ends too early, over a file or
+    a link that is there, onto a full disk, and of sectors that can't be read."""
+    folder = os.path.dirname(program.file("back/room"))
+    sectors = [bytes([it]) * 512 for it in range(16)]
+    for name in ["it's", "$(id)", "a&b|c>d", '"`x`"', "elsewhere here"]:
+        program.file("back/" + name, b"".join(sectors))
+
+    def put_together(name, places, pieces, *words):
+        inputs = [program.file("back/places", places), program.file("back/pieces", pieces)]
+        return tool_calls.call(top, ["read-back", *words, *inputs, name], folder=folder)
+
+    def holds(name, got, status, content, message=""):
+        path = os.path.join(folder, name)
+        found = read(path) if os.path.exists(path) else None
+        tally.same("a file put together as " + name, got, status, "", message)
+        tally.holds("the content of " + name, found == content, "it is %r" % found)
+
+    places = "size 3000\n0 4\n6 1\n"
+    pieces = "1 R it's 3 1\n1 R $(id) 8 1\n1 zero 1\n1 R a&b|c>d 0 1\n2 R \"`x`\" 15 1\n"
+    whole = sectors[3] + sectors[8] + bytes(512) + sectors[0] + bytes(3000 - 2048)
+    holds("o'ut", put_together("o'ut", places, pieces), 0, whole)
+    holds("o'ut", put_together("o'ut", places, pieces), 1, whole, "dmremap-tools read-back: o'ut: it is there already\n")
+    os.symlink("behind", os.path.join(folder, "link"))
+    holds("behind", put_together("link", places, pieces), 1, None, "dmremap-tools read-back: link: it is there already\n")
+    holds("no/where", put_together("no/where", places, pieces), 5, None, "dmremap-tools read-back: no/where: No such file or directory\n")
+    found = program.file("back/paths", "/dev/sda elsewhere here\n")
+    holds("elsewhere", put_together("elsewhere", "size 900\n0 2\n", "1 R /dev/sda 2 2\n", "--paths", found), 0, (sectors[2] + sectors[3])[:900])
+    holds("lost", put_together("lost", "size 1024\n0 2\n", "1 error 1\n1 R it's 1 1\n"), 4, bytes(512) + sectors[1],
+          "1 sectors of the file from 0 on can't be read\n")
+    holds("gaps", put_together("gaps", "size 3072\n0 3\n3 3\n", "1 R it's 1 1\n1 error 2\n2 error 1\n2 zero 1\n2 error 1\n"), 4,
+          sectors[1] + bytes(2560), "3 sectors of the file from 1 on can't be read\n1 sectors of the file from 5 on can't be read\n")
+    holds("short", put_together("short", "size 1024\n0 2\n", "1 R it's 15 2\n"), 1, None, "dmremap-tools read-back: it's: it ends before sector 17\n")
+    with unreadable(range(5, 6), range(9, 12)):
+        holds("damaged", put_together("damaged", "size 8192\n0 16\n", "1 R it's 0 16\n"), 4,
+              b"".join(bytes(512) if it in (5, 9, 10, 11) else sectors[it] for it in range(16)),
+              "1 sectors of the file from 5 on can't be read\n3 sectors of the file from 9 on can't be read\n")
+    got = put_together("sparse", "size 4294967296\n8388607 1\n", "1 R it's 5 1\n")
+    found = os.stat(os.path.join(folder, "sparse"))
+    tally.holds("a file with a hole", got.status == 0 and found.st_size == 1 << 32 and found.st_blocks < 1024, "it has %d blocks" % found.st_blocks)
+
+
+@contextlib.contextmanager
+def unreadable(*bad):
+    """Lets no read of these sectors of a disk succeed, as where the disk is damaged."""
+    read_at = os.pread
+
+    def fails(descriptor, size, at):
+        if any(at < 512 * it.stop and 512 * it.start < at + size for it in bad):
+            raise OSError(errno.EIO, os.strerror(errno.EIO))
+        return read_at(descriptor, size, at)
+
+    os.pread = fails
+    try:
+        yield
+    finally:
+        os.pread = read_at
+
+
+TABLE = "v: 0 16 striped 2 4 a 8 b 0\nv: 16 8 zero\nv: 24 8 linear b 32\nv: 32 8 error\nv: 40 8 linear c 0\n"
+DISKS = "a 64\nb 64\nc 64\n"
+# For each sector of the volume the disk and the sector there, or None for zeros.
+HOMES = [("ab"[at // 4 % 2], (8, 0)[at // 4 % 2] + at // 8 * 4 + at % 4) for at in range(16)]
+HOMES += [None] * 8 + [("b", 32 + at) for at in range(8)] + [None] * 8 + [("c", at) for at in range(8)]
+
+
+class Disks:
+    """Images of the disks, below names that they haven't in the tables."""
+
+    def __init__(self, program):
+        self.program = program
+        self.content = {name: os.urandom(64 * SECTOR) for name in "abc"}
+        self.paths = {name: program.file("save/image %s" % name, content) for name, content in self.content.items()}
+        self.words = ["--program", program.path, "--paths", program.file("save/paths", "".join("%s %s\n" % it for it in self.paths.items()))]
+        self.source = ["table", program.file("save/table", TABLE), program.file("save/disks", DISKS)]
+
+    def target(self, name):
+        return os.path.join(self.program.room, "save", name)
+
+    def save(self, top, target, *words):
+        return tool_calls.call(top, ["save", *self.words, "v", self.target(target), *self.source, *words])
+
+    def volume(self, without=""):
+        """What the volume has, where some disks are missing."""
+        homes = [it if it and it[0] not in without else None for it in HOMES]
+        return b"".join(self.content[it[0]][it[1] * SECTOR:(it[1] + 1) * SECTOR] if it else bytes(SECTOR) for it in homes)
+
+
+LOST = "%d sectors of the file from %d on can't be read\n"
+
+
+def check_volumes(tally, program, top):
+    """A whole volume, of which a line is an error; and once more without that line."""
+    disks = Disks(program)
+    got = disks.save(top, "whole")
+    tally.same("a volume with an error", got, 4, "", LOST % (8, 32))
+    tally.holds("what it has", read(disks.target("whole")) == disks.volume(), "it is another")
+    tally.same("a volume that may have gaps", disks.save(top, "gaps", "--allow-missing"), 0, "", LOST % (8, 32))
+    program.file("save/table", TABLE.replace("error", "zero"))
+    tally.same("a volume without an error", disks.save(top, "sound"), 0)
+    tally.holds("what it has", read(disks.target("sound")) == disks.volume(), "it is another")
+
+
+MAP = """\
+# Mapfile. Created by dmremap-tools save
+# current_pos  current_status  current_pass
+0x%08X     %s               1
+#      pos        size  status
+"""
+
+
+def check_gaps(tally, program, top):
+    """A disk that is missing, and sectors that can't be read: holes, a map of ddrescue, and a run that goes on by it."""
+    disks = Disks(program)
+    os.rename(disks.paths["c"], disks.paths["c"] + ".away")
+    with open(disks.paths["b"], "r+b") as file:
+        file.truncate(36 * SECTOR)
+    missing = "missing: c: No such file or directory\n"
+    with unreadable(range(9, 10)):
+        got = disks.save(top, "begun", "--map", disks.target("map"))
+    tally.same("a volume with gaps", got, 4, "", LOST % (1, 1) + missing + LOST % (20, 28))
+    areas = [(0, 1, "+"), (1, 1, "-"), (2, 26, "+"), (28, 12, "-"), (40, 8, "?")]
+    text = "".join("0x%08X  0x%08X  %s\n" % (SECTOR * at, SECTOR * count, it) for at, count, it in areas)
+    tally.holds("its map", read(disks.target("map")).decode() == MAP % (SECTOR, "?") + text, read(disks.target("map")))
+    os.rename(disks.paths["c"] + ".away", disks.paths["c"])
+    program.file("save/image b", disks.content["b"])
+    program.file("save/table", TABLE.replace("error", "zero"))
+    # What is finished isn't read again.
+    with unreadable(range(0, 1)):
+        got = disks.save(top, "begun", "--map", disks.target("map"))
+    tally.same("a volume that goes on", got, 4, "", LOST % (1, 40))
+    got = disks.save(top, "begun", "--map", disks.target("map"))
+    tally.same("a volume that is finished", got, 0)
+    tally.holds("what it has", read(disks.target("begun")) == disks.volume(), "it is another")
+    text = "0x%08X  0x%08X  +\n" % (0, SECTOR * 48)
+    tally.holds("its last map", read(disks.target("map")).decode() == MAP % (SECTOR * 48, "+") + text, read(disks.target("map")))
+
+
+def check_file(tally, program, top):
+    """A file of the volume, by what filefrag printed of it: its extents, its hole, and its length."""
+    disks = Disks(program)
+    extents = ("Filesystem type is: ef53\nFile size of /f is 9000 (18 blocks of 512 bytes)\n"
+               " ext:     logical_offset:        physical_offset: length:   expected: flags:\n"
+               "   0:        0..       3:         26..        29:      4:            \n"
+               "   1:        8..      17:          2..        11:     10:         30: last,eof\n/f: 2 extents found\n")
+    got = disks.save(top, "file", "--extents", program.file("save/extents", extents))
+    tally.same("a file", got, 0)
+    volume = disks.volume()
+    wanted = (volume[26 * SECTOR:30 * SECTOR] + bytes(4 * SECTOR) + volume[2 * SECTOR:12 * SECTOR])[:9000]
+    tally.holds("what it has", read(disks.target("file")) == wanted, "it is another")
+    two = program.file("save/extents", extents + extents.split("\n", 1)[1])
+    tally.same("two files", disks.save(top, "files", "--extents", two), 1, "", "dmremap-tools save: %s: more than one file\n" % two)
+
+
+def check_refusals(tally, program, top):
+    """A target that is there, or can't be made; a map of another file; a command that dmremap refuses."""
+    disks = Disks(program)
+    program.file("save/there", "")
+    os.symlink("behind", disks.target("link"))
+    said = "dmremap-tools save: %s\n"
+    rows = [
+        ("there", [], 1, "%s: it is there already" % disks.target("there")),
+        ("link", [], 1, "%s: it is there already" % disks.target("link")),
+        ("no/where", [], 5, "%s: No such file or directory" % disks.target("no/where")),
+        ("new", ["--map", program.file("save/m", "x\n")], 1, "%s:1: not a map of ddrescue" % disks.target("m")),
+        ("new", ["--map", program.file("save/m2", "0x0 ?\n0x0 0x200 +\n")], 1, "%s: a map of another file than one of 24576 bytes" % disks.target("m2")),
+        ("new", ["--map", program.file("save/m3", "0x0 ?\n0x0 0x6000 ?\n")], 5, "%s: No such file or directory" % disks.target("new")),
+        ("there", ["--map", disks.target("m3")], 1, "%s: it isn't the file that was begun: it has 0 bytes and not 24576" % disks.target("there")),
+        ("new", ["--map", "/proc/none"], 5, "/proc/none: No such file or directory"),
+    ]
+    for name, words, status, message in rows:
+        tally.same("saving as %s with %s" % (name, words), disks.save(top, name, *words), status, "", said % message)
+        tally.holds("what is left of " + name, name == "there" or not os.path.exists(disks.target(name)), "it is there")
+    tally.holds("what is behind the link", not os.path.exists(disks.target("behind")), "it was made")
+    got = tool_calls.call(top, ["save", *disks.words, "w", disks.target("new"), *disks.source])
+    tally.same("saving no device", got, 1, "", said % "%s: no device w" % disks.source[1])
+    table = program.file("save/wrong", "v: 0 8 linear d 0\n")
+    got = tool_calls.call(top, ["save", *disks.words, "v", disks.target("new"), "table", table, disks.source[2]])
+    tally.same("saving what doesn't load", got, 1, "", "dmremap: source: unknown at 1\n" + said % "%s: it ends with status 1" % program.path)
+
+
+TRIES = 150
+BITS = [b"0", b"18446744073709551615", b"9" * 40, b"-1", b"\0", b"\xff", b"\n", b" ", b"R", b"error", b"size", b"+", b"0x", b"?"]
+
+
+def check_mutations(tally, program, top):
+    """Inputs with random changes: a file, or a refusal in words after which there is none."""
+    disks = Disks(program)
+    texts = {"places": b"size 3000\n0 4\n6 1\n", "pieces": b"1 R a 3 1\n1 zero 1\n1 R b 0 2\n2 error 1\n",
+             "paths": read(os.path.join(program.room, "save/paths")), "map": b"0x0 ?\n0x0 0x2000 +\n0x2000 0x4000 ?\n"}
+    back = ["read-back", "--paths", "paths", "places", "pieces", "out"]
+    saved = ["save", "--program", program.path, "--paths", "paths", "--map", "map", "v", "out", *disks.source]
+    dice = random.Random(1)
+    for number in range(TRIES):
+        words, changed = (back, dice.choice(["places", "pieces", "paths"])) if number % 2 else (saved, dice.choice(["paths", "map"]))
+        for name, text in texts.items():
+            program.file("changed/" + name, mutated(text, dice) if name == changed else text)
+        out = program.file("changed/out", bytes(0x6000))
+        if words is back:
+            os.remove(out)
+        got = tool_calls.call(top, words, folder=os.path.dirname(out))
+        is_so = got.status in (0, 1, 4) and (words is saved or os.path.exists(out) == (got.status != 1))
+        tally.holds("%s of changed %s" % (words[0], changed), is_so, "status %s, %r" % (got.status, got.err[-300:]))
+
+
+def mutated(text, dice):
+    """A text with a few random changes."""
+    for _ in range(dice.randrange(1, 4)):
+        at = dice.randrange(len(text) + 1)
+        text = text[:at] + dice.choice(BITS + [b""]) + text[at + dice.randrange(4):]
+    return text

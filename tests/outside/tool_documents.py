@@ -1,0 +1,97 @@
+"""What is made of the texts of the commands of dmremap-tools, the manual and the completions, is made of them as they are,
+shows without a warning, and offers what there is. And one sources' folder packs into the same bytes, which work."""
+
+import importlib.util
+import os
+import shutil
+from importlib.machinery import SourceFileLoader
+
+import manual
+from harness import run
+from tool_calls import TOOL, samples
+
+# What a shell runs to print what is offered for the last of the words after the script, one on each line.
+BASH = """
+source "$1" || exit
+shift
+COMP_WORDS=("$@") COMP_CWORD=$(($# - 1))
+_dmremap_tools
+printf '%s\\n' "${COMPREPLY[@]}"
+"""
+ZSH = """
+_describe() { print -l -- ${${(P)@[-1]}%%:*} }
+_wanted() { $4 }
+_files() { print -l -- $words[CURRENT]*(N) }
+complete() {
+    local script=$1
+    shift
+    local -a words=("$@")
+    local CURRENT=$#
+    source $script
+}
+complete "$@" || true
+"""
+SHELLS = [
+    ("bash", ["bash", "--norc", "-c", BASH, "bash"], "dmremap-tools.bash"),
+    ("zsh", ["zsh", "-f", "-c", ZSH, "zsh"], "_dmremap-tools"),
+]
+
+
+def check(tally, program, top):
+    derive = loaded(os.path.join(top, "tools", "derive"))
+    for name, text in derive.made().items():
+        with open(os.path.join(top, name), encoding="utf-8") as it:
+            tally.holds(name, it.read() == text, "it isn't what tools/derive writes")
+    manual.check_shown(tally, os.path.join(top, "docs", TOOL + ".1"))
+    check_offered(tally, program, top, derive)
+    check_packed(tally, program, top)
+    check_started(tally, program, top)
+
+
+def loaded(path):
+    """A script as a module."""
+    loader = SourceFileLoader("loaded_" + os.path.basename(path), path)
+    module = importlib.util.module_from_spec(importlib.util.spec_from_loader(loader.name, loader))
+    loader.exec_module(module)
+    return module
+
+
+def check_offered(tally, program, top, derive):
+    """The commands, and the options of each."""
+    found = list(derive.parsers())
+    rows = [([""], {command.name for command, _, _ in found}), (["met"], {"metadata"})]
+    rows += [([command.name, "-"], set(derive.names(parser))) for command, _, parser in found]
+    folder = os.path.dirname(program.file("offered/a file"))
+    for shell, words, script in SHELLS:
+        if shutil.which(shell) is None:
+            tally.skip("the completions of " + shell, "it isn't there")
+            continue
+        for given, wanted in rows:
+            got = run(words + [os.path.join(top, "completions", script), TOOL] + given, folder=folder)
+            offered = {it for it in got.out.decode().split("\n") if it.startswith(given[-1])} - {"", "--help"}
+            is_so = (got.status, got.err) == (0, b"") and offered == wanted - {"--help"}
+            tally.holds("what %s offers after %s" % (shell, given), is_so, "status %s, %r, %s" % (got.status, got.err, offered))
+
+
+def check_packed(tally, program, top):
+    """The packed file is the same each time, and does what the sources do, from anywhere."""
+    packed = [os.path.join(program.room, "packed", str(it), TOOL) for it in range(2)]
+    for path in packed:
+        os.makedirs(os.path.dirname(path))
+        tally.same("tools/pack", run([os.path.join(top, "tools", "pack"), path]))
+    with open(packed[0], "rb") as one, open(packed[1], "rb") as other:
+        tally.holds("two runs of tools/pack", one.read() == other.read(), "their bytes differ")
+    words = ["totals", os.path.join(samples(top), "pieces.txt")]
+    wanted = run([os.path.join(top, TOOL), *words])
+    tally.holds("totals", wanted.status == 0 and wanted.out, wanted.err)
+    tally.same("totals by the packed file", run([packed[0], *words], folder="/"), 0, wanted.out)
+    for it in (run([os.path.join(top, "tools", "pack")]), run([os.path.join(top, "tools", "pack"), "a", "b"])):
+        tally.same("tools/pack with wrong words", it, 1, "", "usage: pack OUT\n")
+
+
+def check_started(tally, program, top):
+    """The script at the top works by a link, from any folder."""
+    link = os.path.join(program.room, "a link")
+    os.symlink(os.path.join(top, TOOL), link)
+    wanted = run([os.path.join(top, TOOL), "--help"])
+    tally.same("the tool by a link", run([link, "--help"], folder="/"), 0, wanted.out)

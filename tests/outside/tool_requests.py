@@ -1,0 +1,267 @@
+"""What the commands that make requests make of inputs, among them such as are easily taken wrong."""
+
+import os
+
+from tool_calls import bad, call, check_rows, good, samples
+
+LAST = 1048576
+
+
+def check(tally, program, top):
+    check_rows(tally, program, top, FILEFRAG + DEBUGFS + TRACE + LOGS + OTHERS)
+
+
+# Extents of a file.
+
+HEAD = "Filesystem type is: ef53\nFile size of /f is %d (%d blocks of %d bytes)\n"
+LIST = " ext:     logical_offset:        physical_offset: length:   expected: flags:\n"
+V = ["v"]
+
+
+def frag(extents, size=20480, block=512, found=1):
+    """What filefrag prints of a file with these lines of extents."""
+    return HEAD % (size, -(-size // block), block) + LIST + extents + "/f: %d extents found\n" % found
+
+
+def frags(extents, output, message="", **how):
+    return good("filefrag", V, [frag(extents, **how)], output, message)
+
+
+def no_frags(text, message, output=""):
+    return bad("filefrag", V, [text], "1:" + message, output)
+
+
+TWO = ("   0:        0..      15:       8000..      8015:     16:            \n"
+       "   1:       16..      23:      40960..     40967:      8:       8016: last,eof\n")
+WHOLE = "   0:        0..       1:          8..         9:      2:             last,eof\n"
+FILEFRAG = [
+    frags(TWO, "R v 8000 16\nR v 40960 8\n", size=12288),
+    frags(WHOLE, "R v 64 16\n", size=8192, block=4096),
+    frags(WHOLE, "R v 16 4\n", size=2048, block=1024),
+    frags("   0: 0.. 1048575: 0..1048575: 1048576: last\n", "R v 0 1048576\n"),
+    frags("   0: 0.. 1048576: 0..1048576: 1048577: last\n", "R v 0 1048576\nR v 1048576 1\n"),
+    frags("   0: 4194304.. 6694303: 6597069766656..6597072266655: 2500000: 40976: last,eof\n",
+          "R v 6597069766656 %d\nR v 6597070815232 %d\nR v 6597071863808 402848\n" % (LAST, LAST)),
+    frags("   0:        0..       7:         80..        87:      8:             last,merged,shared,eof\n", "R v 80 8\n", size=4096),
+    frags(TWO.replace("last,eof", "") + "   2:       24..      31:      50000..     50007:      8:      40968: last,unwritten,eof\n",
+          "R v 8000 16\nR v 40960 8\n",
+          "unwritten, so that it reads as zeros: 2:       24..      31:      50000..     50007:      8:      40968: last,unwritten,eof\n",
+          size=16384),
+    frags("", "", found=0),
+    good("filefrag", V, ["Filesystem type is: ef53\nFilesystem cylinder groups approximately 3\n" +
+                         "File size of a b (3 blocks of 7 bytes) is 9 is 5 (2 block of 512 bytes)\n" + LIST + "a: 0 extents found\n"], ""),
+    good("filefrag", V, [frag(WHOLE, 1024) + frag(WHOLE, 8192, 4096)], "R v 8 2\nR v 64 16\n"),
+    bad("filefrag", ["v", "--places", "places"], [frag(WHOLE, 1024) + frag(WHOLE, 1024)],
+        "1:7: PLACES is of one file", "R v 8 2\n"),
+    good("filefrag", ["/dev/vg-0/lv"], [frag(WHOLE, 1024)], "R vg--0-lv 8 2\n"),
+    bad("filefrag", [""], [frag(WHOLE, 1024)], "VOLUME: no name of a device: ''"),
+    bad("filefrag", ["v w"], [frag(WHOLE, 1024)], "VOLUME: no name of a device: 'v w'"),
+    bad("filefrag", ["/dev/dm-1"], [frag(WHOLE, 1024)], "VOLUME: which device is /dev/dm-1? Give --ls LS"),
+    good("filefrag", ["/dev/dm-1", "--ls", "1"], ["x\t(253:1)\n", frag(WHOLE, 1024)], "R x 8 2\n"),
+    no_frags("\n", "1: not a line of filefrag -v: "),
+    no_frags("Filesystem type is: ef53\n", "1: no file"),
+    no_frags(WHOLE, "1: not a line of filefrag -v: " + WHOLE[:-1]),
+    no_frags(LIST + WHOLE, "1: not a line of filefrag -v: " + LIST[:-1]),
+    no_frags(HEAD.split("\n")[1] % (8192, 2, 4096) + "\n" + LIST + WHOLE,
+             "1: the line comes too early: File size of /f is 8192 (2 blocks of 4096 bytes)"),
+    no_frags("Filesystem type is: 9123683e\n", "1: neither ext2, ext3, ext4 nor XFS: Filesystem type is: 9123683e"),
+    no_frags(frag(WHOLE, 1000, 500), "4: blocks of 500 bytes, which are no whole sectors"),
+    no_frags(frag(WHOLE, 1024).replace("/f: 1 extents found\n", ""),
+             "4: the end is missing of: File size of /f is 1024 (2 blocks of 512 bytes)", "R v 8 2\n"),
+    no_frags(frag(WHOLE.replace("last", "last,delalloc,unknown_loc"), 1024), "4: an extent whose place is not known: " +
+             WHOLE.replace("last", "last,delalloc,unknown_loc")[3:-1]),
+    no_frags(frag("   0:        0..       4:     171816..    171820:      5:             last,not_aligned,inline,eof\n", 5),
+             "4: an extent whose place is not known: 0:        0..       4:     171816..    171820:      5:             last,not_aligned,inline,eof"),
+    no_frags(frag(WHOLE.replace("last", "last,encoded"), 1024), "4: an extent whose place is not known: " +
+             WHOLE.replace("last", "last,encoded")[3:-1]),
+    no_frags(frag(TWO.replace("   1:", "   2:"), 12288), "5: an extent is missing: 2:       16..      23:      40960..     40967:"
+             "      8:       8016: last,eof", "R v 8000 16\n"),
+    no_frags(frag(TWO.replace("       16..      23", "       15..      22"), 12288), "5: an extent is missing: 1:       15..      22:"
+             "      40960..     40967:      8:       8016: last,eof", "R v 8000 16\n"),
+    no_frags(frag(TWO[:TWO.index("\n") + 1], 12288, found=2), "5: an extent is missing before: /f: 2 extents found", "R v 8000 16\n"),
+    no_frags(frag("", 12288, found=2), "4: an extent is missing before: /f: 2 extents found"),
+    no_frags(frag(WHOLE.replace(",eof", "") + "   1:        2..       3:         20..        21:      2:         10: last,eof\n", 2048),
+             "5: an extent is missing: 1:        2..       3:         20..        21:      2:         10: last,eof", "R v 8 2\n"),
+    no_frags(frag(WHOLE.replace("      2:", "      3:"), 1024), "4: ends and length differ: " + WHOLE.replace("      2:", "      3:")[3:-1]),
+    no_frags(frag(WHOLE.replace(" 9:", "10:"), 1024), "4: ends and length differ: " + WHOLE.replace(" 9:", "10:")[3:-1]),
+    no_frags((HEAD % (20480, 40, 512)).replace("512 bytes", "12 bytes"), "2: bytes and blocks differ: File size of /f is 20480 (40 blocks of 12 bytes)"),
+    # Hexadecimal numbers, as -X prints them: with letters, and where only the file's end tells.
+    no_frags(frag(WHOLE.replace(" 9:", " f:"), 1024), "4: not a line of filefrag -v: " + WHOLE.replace(" 9:", " f:")[:-1]),
+    no_frags(frag("   0:        0..      10:         20..        30:     11:             last,eof\n", 17 * 512),
+             "4: the file ends elsewhere: 0:        0..      10:         20..        30:     11:             last,eof"),
+    frags("   0: 0.. 0: 9007199254740993..9007199254740993: 1: last\n", "R v 9007199254740993 1\n", size=512),
+    no_frags(frag("   0: 0.. 0: 99999999999999999999..99999999999999999999: 1: last\n", 512),
+             "4: not a line of filefrag -v:    0: 0.. 0: 99999999999999999999..99999999999999999999: 1: last"),
+    no_frags(frag("   0: 0.. 0: 999999999999999999..999999999999999999: 1: last\n", 65536, 65536),
+             "4: it goes past sector 2^64:    0: 0.. 0: 999999999999999999..999999999999999999: 1: last"),
+    no_frags(HEAD % (10 ** 20, 1, 512), "2: not a whole number below 2^64: '100000000000000000000'"),
+    # A name of a file may hold anything, and be long.
+    no_frags("Filesystem type is: \x1b[2J\n", "1: neither ext2, ext3, ext4 nor XFS: Filesystem type is: \\x1b[2J"),
+    no_frags("Filesystem type is: ef53\n" + "\u202e" * 200 + "\n", "2: not a line of filefrag -v: " + "\\u202e" * 100 + ".."),
+    # A name with a newline that looks like an extent.
+    no_frags("Filesystem type is: ef53\nFile size of /x\n   0:        0..     119:   1..  120:    120:            \n"
+             " is 0 (0 blocks of 4096 bytes)\n", "2: not a line of filefrag -v: File size of /x"),
+]
+
+# Extents that debugfs lists.
+
+SUPER = "Filesystem volume name:   <none>\nBlock size:               %s\nFragment size:            4096\n"
+TREE = "Level Entries       Logical      Physical Length Flags\n"
+LEAF = " 0/ 0   1/  1     0 -  2197  2070 -  4267   2198 \n"
+
+
+def ex(lines, message=None, output="", block=4096, variables=V, said=""):
+    inputs = [SUPER % block, TREE + lines]
+    if message is None:
+        return good("debugfs", variables, inputs, output, said)
+    return bad("debugfs", variables, inputs, "2:" + message, output)
+
+
+DEBUGFS = [
+    ex(LEAF, output="R v 16560 17584\n"),
+    ex(LEAF, output="R v 4140 4396\n", block=1024),
+    ex(LEAF, output="R vg--0-lv 16560 17584\n", variables=["/dev/vg-0/lv"]),
+    ex(LEAF, output="R v 264960 281344\n", block=65536),
+    ex(" 0/ 1   1/  2     0 -  9  16            10\n 1/ 1   1/  1     0 -  9  20 -  29   10 \n"
+       " 0/ 1   2/  2    10 -  19  17            10\n 1/ 1   1/  1    10 -  19  50 -  59   10 Uninit\n",
+       output="R v 160 80\n", said="unwritten, so that it reads as zeros: 1/ 1   1/  1    10 -  19  50 -  59   10 Uninit\n"),
+    ex(LEAF.replace("1/  1", "1/  2"), "2: entries are missing at the end", "R v 16560 17584\n"),
+    ex(LEAF.replace("1/  1", "2/  2"), "2: an entry is missing: 0/ 0   2/  2     0 -  2197  2070 -  4267   2198"),
+    ex(LEAF.replace("   2198", "   2197"), "2: ends and length differ: 0/ 0   1/  1     0 -  2197  2070 -  4267   2197"),
+    ex(LEAF.replace("2198", "2198 Strange"), "2: not a line of ex: 0/ 0   1/  1     0 -  2197  2070 -  4267   2198 Strange"),
+    ex("/a: does not uses extent block maps\n", "2: not a line of ex: /a: does not uses extent block maps"),
+    ex(LEAF, "2: blocks of 100 bytes, which are no whole sectors", block=100),
+    bad("debugfs", V, [SUPER % 4096, ""], "2:0: no list of extents: only files with extents have one"),
+    bad("debugfs", V, ["Fragment size:  4096\n", TREE + LEAF], "1:1: no line 'Block size' of dumpe2fs"),
+    bad("debugfs", V, [SUPER % 4096, TREE + LEAF + TREE + LEAF], "2:3: more than one file", "R v 16560 17584\n"),
+    bad("debugfs", V + ["--places", "places", "--size", ""], [SUPER % 4096, TREE + LEAF], "--size: not a whole number below 2^64: ''"),
+]
+
+# Requests of traces, logs and bytes.
+
+LS = "vg0-lv0\t(253:0)\nvg0-lv--1\t(253:1)\nmy disk\t(253:2)\nvg0-thin\t(253:3)\n"
+KEPT = "vg0-lv0: 0 8 zero\nvg0-lv0: 8 8 error\nvg0-lv--1: 0 8 zero\n"
+QUEUED = "253,0    0        7     0.000000000  4101  Q %s [fio]\n"
+
+
+def traced(lines, output="", message="", names=LS, tables=KEPT):
+    return good("trace", [], [names, tables, lines], output, message)
+
+
+def no_trace(lines, message, output="", names=LS, tables=KEPT):
+    return bad("trace", [], [names, tables, lines], message, output)
+
+
+TRACE = [
+    traced(QUEUED % "  R 8 + 16", "R vg0-lv0 8 16\n"),
+    traced(QUEUED % "FWS 8 + 16" + QUEUED % "WFS 24 + 8" + QUEUED % " RA 0 + 8", "W vg0-lv0 8 16\nW vg0-lv0 24 8\nR vg0-lv0 0 8\n"),
+    traced((QUEUED % "  R 8 + 16").replace("[fio]", "[Q R 0 + 8 a]"), "R vg0-lv0 8 16\n"),
+    traced((QUEUED % "  R 8 + 16").replace("253,0 ", "  8,0 "), "", "left out: 1 requests to 8,0, which dmsetup ls has not\n"),
+    traced(QUEUED % "  R 8 + 16", "R a 8 16\n", names="a\t(253, 0)\n", tables="a: 0 8 zero\n"),
+    # Devices that were left out are told, in the order in which they come.
+    traced("".join((QUEUED % "  R 8 + 16").replace("253,0", "253,%d" % it) for it in (3, 0, 2, 3, 1, 9)),
+           "R vg0-lv0 8 16\nR vg0-lv--1 8 16\n", "left out: 2 requests to vg0-thin (253,3), which the tables have not\n"
+           "left out: 1 requests to my disk (253,2), which the tables have not\nleft out: 1 requests to 253,9, which dmsetup ls has not\n"),
+    no_trace(QUEUED % "  R 8 + 16", "2:1: not table text: No devices found", tables="No devices found\n"),
+    no_trace(QUEUED % "  R 8 + 16", "2: no device in it", tables=""),
+    traced(QUEUED % "  D 8 + 16" + QUEUED % "  N 8 + 16", "", "left out: 2 requests that are neither reads nor writes\n"),
+    traced(QUEUED % "  R 0 + 1048577", "R vg0-lv0 0 1048576\nR vg0-lv0 1048576 1\n"),
+    traced("  fio-1 [002] ..... 12.5: block_bio_queue: 253,1 RA 8 + 16 [x]\n", "R vg0-lv--1 8 16\n"),
+    traced("fio 1 [002] 12.5: block:block_bio_queue: 253,1 W 8 + 16 [x]\n", "W vg0-lv--1 8 16\n"),
+    traced("  fio-1 [002] ..... 12.5: block_bio_queue: 253,1 FF 0 + 0 [x]\n"),
+    traced(QUEUED % "  R 8 + 16" + "CPU0 (253,0):\n Reads Queued:           1,        8KiB\nSkips: 0 forward (0 -   0.0%)\n", "R vg0-lv0 8 16\n"),
+    no_trace(QUEUED % "  R 8 + 16" + "Skips: 2 forward (9 -   1.0%)\n", "3:2: events were lost: Skips: 2 forward (9 -   1.0%)", "R vg0-lv0 8 16\n"),
+    no_trace("CPU:3 [LOST 12 EVENTS]\n", "3:1: events were lost: CPU:3 [LOST 12 EVENTS]"),
+    no_trace("CPU:3 [12 EVENTS DROPPED]\n", "3:1: events were lost: CPU:3 [12 EVENTS DROPPED]"),
+    no_trace(QUEUED % " ZA 8 + 16", "3:1: neither a read nor a write: " + (QUEUED % " ZA 8 + 16")[:-1]),
+    no_trace(QUEUED % "  R 8 / 16", "3:1: not a form of the event: " + (QUEUED % "  R 8 / 16")[:-1]),
+    traced(QUEUED % "  R 9007199254740993 + 1", "R vg0-lv0 9007199254740993 1\n"),
+    traced(QUEUED % "  R 18446744073709551614 + 1", "R vg0-lv0 18446744073709551614 1\n"),
+    no_trace(QUEUED % "  R 18446744073709551615 + 2", "3:1: it goes past sector 2^64: " + (QUEUED % "  R 18446744073709551615 + 2")[:-1]),
+    no_trace(QUEUED % "  R 18446744073709551616 + 1", "3:1: not a whole number below 2^64: '18446744073709551616'"),
+    no_trace(QUEUED % "  R x + 1", "3:1: not a whole number below 2^64: 'x'"),
+    # Other actions, and a process whose name looks like the event.
+    traced((QUEUED % "  R 8 + 16").replace("Q", "C") + QUEUED % "FWS" + QUEUED % "  R 8 + 16", "R vg0-lv0 8 16\n"),
+    traced("  8,0 1 1 1 1 C x-4101 [002] ..... 12.5: block_bio_queue: 253,0 R 8 + 16 [x]\n", "R vg0-lv0 8 16\n"),
+    no_trace("8,0 1 1 1 1 Q R-4101 [002] ..... 12.5: block_bio_queue: 253,0 R 8 [x]\n",
+             "3:1: not a form of the event: 8,0 1 1 1 1 Q R-4101 [002] ..... 12.5: block_bio_queue: 253,0 R 8 [x]"),
+    no_trace("block_bio_queue: 253,1 R 8 + 16 [x]\n", "3:1: not a form of the event: block_bio_queue: 253,1 R 8 + 16 [x]"),
+    no_trace((QUEUED % "  R 8 + 16")[:40], "3:1: the text ends within a line: " + (QUEUED % "  R 8 + 16")[:40]),
+    # Tables in the concise form, which machines have.
+    traced(QUEUED % "  R 8 + 16", "R vg0-lv0 8 16\n", tables="vg0-lv0,,,rw,0 8 zero\n"),
+    no_trace("12.5: block_bio_queue: 253,1 R 8 [x]\n", "3:1: not a form of the event: 12.5: block_bio_queue: 253,1 R 8 [x]"),
+    no_trace("hello\n", "3:1: no request in the trace"),
+    no_trace("hello\n", "1: not what `dmsetup ls` prints of devices", names="No devices found\n"),
+    traced(QUEUED % "  R 8 + 16", "", "left out: 1 requests to a\\x20b (253,0), which the tables have not\n", names="a\\x20b\t(253:0)\n"),
+]
+
+FIO = "fio version 2 iolog\n/dev/mapper/a add\n/dev/mapper/a open\n"
+
+
+def logged(log, output, message="", variables=(), before=()):
+    return good("fio", list(variables), list(before) + ["a: 0 8 zero\nb--c-d: 0 8 zero\n", log], output, message)
+
+
+def no_log(log, message, output=""):
+    return bad("fio", [], ["a: 0 8 zero\n", log], message, output)
+
+
+LOGS = [
+    logged(FIO + "/dev/mapper/a read 4096 8192\n/dev/mapper/a trim 0 512\n/dev/mapper/a sync 0 0\n"
+           "/dev/mapper/a wait 5 0\n/dev/mapper/a write 0 1\n/dev/mapper/a close\n", "R a 8 16\nW a 0 1\n", "left out: 1 trims\n"),
+    logged("fio version 3 iolog\n1 /dev/mapper/a read 4095 2\n2 /dev/mapper/a datasync 0 0\n", "R a 7 2\n"),
+    logged(FIO + "/dev/b-c/d read 0 512\n/dev/sda read 0 512\n/mnt/file read 0 512\n/dev/mapper/b--c-d read 0 1\n/dev/sda write 0 512\n",
+           "R b--c-d 0 1\nR b--c-d 0 1\n", "left out: 2 requests to /dev/sda, which the tables have not\n"
+           "left out: 1 requests to /mnt/file, which the tables have not\n"),
+    logged(FIO + "/dev/dm-5 read 0 512\n/dev/dm-7 read 0 512\n/dev/dm-6 read 0 512\n", "R a 0 1\n",
+           "left out: 1 requests to /dev/dm-7, which the tables have not\nleft out: 1 requests to /dev/dm-6, which the tables have not\n",
+           ["--ls", "1"], ["a\t(253:5)\nz\t(253:6)\n"]),
+    no_log(FIO + "/dev/dm-5 read 0 512\n", "2:4: which device is /dev/dm-5? Give --ls LS"),
+    no_log("fio version 1 iolog\n", "2:1: not the first line of a log: fio version 1 iolog"),
+    no_log(FIO + "1 /dev/mapper/a read 0 512\n", "2:4: not a line of a log: 1 /dev/mapper/a read 0 512"),
+    no_log(FIO.replace("2", "3"), "2:2: not a line of a log: /dev/mapper/a add"),
+    no_log(FIO + "/dev/mapper/a read 0\n", "2:4: not a line of a log: /dev/mapper/a read 0"),
+    no_log(FIO + "/dev/mapper/a read 0 4k\n", "2:4: not a whole number below 2^64: '4k'"),
+    logged(FIO + "/dev/mapper/a write 18446744073709551615 1\n", "W a 36028797018963967 1\n"),
+    no_log(FIO + "/dev/mapper/a write 18446744073709551616 1\n", "2:4: not a whole number below 2^64: '18446744073709551616'"),
+    no_log("fio version 3 iolog\n/dev/mapper/a read 0 512\n", "2:2: not a line of a log: /dev/mapper/a read 0 512"),
+    no_log("/dev/mapper/a read 0 512\n", "2:1: not the first line of a log: /dev/mapper/a read 0 512"),
+    bad("fio", [], [FIO], "1:1: not table text: fio version 2 iolog"),
+    bad("fio", [], ["", FIO], "1: no device in it"),
+    bad("fio", [], ["a: 0 8 zero\n", ""], "2:0: the log is empty"),
+    # Names of devices as paths.
+    good("bytes", [], ["R /dev/mapper/a 0 1\nW /dev/b-c/d-e 511 2\n"], "R a 0 1\nW b--c-d--e 0 2\n"),
+    good("bytes", ["--ls", "1"], ["x\t(253:0)\ny\t(253:12)\n", "R /dev/dm-12 0 1\nR /dev/dm-0 0 1\n"], "R y 0 1\nR x 0 1\n"),
+    bad("bytes", ["--ls", "1"], ["x\t(253:0)\n", "R /dev/dm-12 0 1\n"], "2:1: no name of a device: '/dev/dm-12'"),
+    bad("bytes", ["--ls", "nowhere"], ["R /dev/dm-12 0 1\n"], "nowhere: No such file or directory"),
+    bad("bytes", [], ["R /dev/dm-12 0 1\n"], "1:1: which device is /dev/dm-12? Give --ls LS"),
+    bad("bytes", [], ["R /dev/sda 0 1\n"], "1:1: no name of a device: '/dev/sda'"),
+    bad("bytes", [], ["R /dev/disk/by-id/x 0 1\n"], "1:1: no name of a device: '/dev/disk/by-id/x'"),
+    good("cut", [], ["R /dev/mapper/a 0 1\n"], "R a 0 1\n"),
+    good("bytes", [], ["R a 0 1\nW a 511 2\nR a 1024 512\n"], "R a 0 1\nW a 0 2\nR a 2 1\n"),
+    good("bytes", [], ["R a 4503599627370496 1024\n"], "R a 8796093022208 2\n"),
+    bad("bytes", [], ["R a 0 0\n"], "1:1: no bytes: R a 0 0"),
+    bad("bytes", [], ["R a -1 8\n"], "1:1: not a whole number below 2^64: '-1'"),
+    bad("bytes", [], ["R a 1e3 8\n"], "1:1: not a whole number below 2^64: '1e3'"),
+    bad("bytes", [], ["R a 0x10 8\n"], "1:1: not a whole number below 2^64: '0x10'"),
+    bad("bytes", [], ["R a 010 8\n"], "1:1: not a whole number below 2^64: '010'"),
+    bad("bytes", [], ["R a 8\n"], "1:1: not R or W, a device, an offset and a length: R a 8"),
+    good("cut", [], ["R a 0 1048576\nW b 5 1048577\n"], "R a 0 1048576\nW b 5 1048576\nW b 1048581 1\n"),
+    bad("cut", [], ["R a 0 4398046511105\n"], "1:1: longer than 2 PiB: R a 0 4398046511105"),
+    bad("cut", [], ["R a 0 1\nR a 0 0\n"], "1:2: no sectors: R a 0 0", "R a 0 1\n"),
+    bad("cut", [], ["r a 0 1\n"], "1:1: not a request: r a 0 1"),
+    bad("cut", [], ["R a,b 0 1\n"], "1:1: no name of a device: 'a,b'"),
+]
+
+
+# Whole devices.
+
+OTHERS = [
+    good("whole", ["/dev/mapper/a"], ["b: 0 8 zero\na: 0 8 zero\n"], "R a 0 8\n"),
+    good("whole", ["a"], ["b,,,rw,0 8 zero;a,,,ro,0 9 zero\n"], "R a 0 9\n"),
+    good("whole", ["a"], ["a: 0 8 zero\nb: 0 9 zero\na: 8 2000000 zero\n"], "R a 0 1048576\nR a 1048576 951432\n"),
+    bad("whole", ["c"], ["a: 0 8 zero\n"], "1: no device c"),
+    bad("whole", ["a"], ["a: 0 4398046511105 zero\n"], "1: a is longer than 2 PiB"),
+    bad("whole", ["/dev/sda"], ["a: 0 8 zero\n"], "VOLUME: no name of a device: '/dev/sda'"),
+    bad("whole", ["a"], ["a 0 8 zero\n"], "1:1: not table text: a 0 8 zero"),
+]

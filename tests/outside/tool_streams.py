@@ -1,0 +1,309 @@
+"""dmremap-tools and its streams: each command over outputs that are full, closed or not read any more, over inputs that are
+cut, and over samples with random changes. Whatever comes, it says so, and with the right status."""
+
+import importlib
+import os
+import pty
+import random
+import re
+import resource
+import shutil
+import signal
+import subprocess
+import sys
+import tempfile
+
+from harness import Outcome, run
+from tool_calls import TOOL, call, samples
+
+# For each command the words of a call that has an answer, in a folder with the samples and what is made of them here. Words
+# that end in `<` are given as standard input.
+CALLS = {
+    "filefrag": ["--places", "beside", "vg0-lv0", "extents.txt"],
+    "debugfs": ["--places", "beside", "--size", "31981568", "vg0-lv0", "super.txt", "ex.txt"],
+    "bytes": ["in-bytes"],
+    "trace": ["--times", "beside", "ls.txt", "vg0.table", "blkparse.txt"],
+    "fio": ["vg0.table", "fio.log"],
+    "cut": ["in-bytes"],
+    "whole": ["home", "stack.table"],
+    "machine": ["--disks", "beside", "ls.txt", "status.txt", "lsblk.txt", "concise.txt"],
+    "partitions": ["--lsblk", "lsblk.txt", "--disks", "beside", "sfdisk.txt", "machine.tables"],
+    "disks": ["vg0.backup"],
+    "elsewhere": ["--paths", "paths.txt", "vg0.concise"],
+    "luks": ["--length", "65536", "/dev/sda2", "luks.txt"],
+    "aliases": ["lsblk.txt", "both.disks"],
+    "metadata": ["vg0-head.img"],
+    "lvm2-text": ["vgm.backup"],
+    "totals": ["pieces.txt"],
+    "histogram": ["pieces.txt"],
+    "splits": ["pieces.txt"],
+    "seeks": ["pieces.txt"],
+    "times": ["times", "pieces.txt"],
+    "json": ["pieces.txt"],
+    "to-fio": ["paths.pieces"],
+    "dd": ["--image", "image", "pieces.txt"],
+    "spans": ["stack.disks", "stack.table"],
+    "free": ["spans"],
+    "clashes": ["spans"],
+    "align": ["--to", "4096", "spans"],
+    "owner": ["--disk", "sda", "stack.table", "sda.map"],
+    "files": ["home", "owners", "home.img"],
+    "tree": ["stack.table"],
+    "dot": ["stack.table"],
+    "extents": ["read.pieces"],
+    "store-size": ["writes"],
+    "store-full": ["--program", "./dmremap", "writes", "table", "snap.table", "snap.disks"],
+    "md": ["--name", "md0", "raid1.txt"],
+    "under": ["--disk", "/dev/sda1", "sda1", "vg0.table", "sda1.table"],
+    "thin": ["--data", "tdata", "--device", "1", "vg0-thin1", "4000", "thin.xml"],
+    "cache": ["--cache", "cdata", "--origin", "corig", "--name", "home", "--sectors", "1000", "cache.xml"],
+    "btrfs": ["--name", "fs", "--device", "1", "/dev/sda", "--device", "2", "/dev/sdb", "chunks.txt"],
+    "file-device": ["--name", "disk.img", "file.places", "file.requests"],
+    "nbd-plugin": [],
+    "picture": ["spans"],
+    "plot": ["--times", "times", "stack.disks", "pieces.txt"],
+}
+# What is made beside the samples.
+MADE = {
+    "in-bytes": "R vg0-lv0 1000 3000\nW vg0-lv0 4096 2500000000\n",
+    "vg0.table": "vg0-lv0: 0 204800 linear /dev/sda1 2048\nvg0-lv--1: 0 32768 striped 2 128 /dev/sda1 206848 /dev/sda1 223232\n",
+    "vg0.concise": "vg0-lv0,,,rw,0 204800 linear /dev/sda1 2048\n",
+    "luks.txt": "LUKS header information for sda2.img\nVersion: 1\nPayload offset: 4096\nUUID: 9f0ddaf8-7f12\n",
+    "both.disks": "/dev/sda 1054720\n/dev/sda1 1050624\n8:1 1050624\n/dev/dm-7 2097152\n",
+    "times": "0.5\n0.6\n0.75\n1.0\n12.5\n",
+    "paths.pieces": "1 R /dev/sda1 10048 16\n2 R /dev/sda1 43008 8\n",
+    "read.pieces": "1 R sda 4096 1048576\n2 zero 8\n",
+    "md.pieces": "1 R /dev/md1 100 200\n2 R sda 0 8\n3 zero 8\n",
+    "sda1.table": "sda1: 0 1050624 linear /dev/sda 2048\n",
+    "places": "size 20001\n0 16\n32 8\n",
+    "places.requests": "R vg0-lv0 8000 16\nR vg0-lv0 40960 8\n",
+    "writes": "W snap 0 8\nW snap 4096 8\nR snap 0 8\n",
+    "snap.table": "snap: 0 819200 snapshot base cow P 8\n",
+    "snap.disks": "base 819200\ncow 32\n",
+    "sda1.table": "sda1: 0 1050624 linear /dev/sda 2048\n",
+    "file.places": "size 20000\n0 16\n16 8\n32 8\n",
+    "file.requests": "R vg0-lv0 8000 16\nR vg0-lv0 40960 8\nR vg0-lv0 40968 8\n",
+}
+DERIVED = [("spans", "spans", ["stack.disks", "stack.table"]),
+           ("owners", "owner", ["--disk", "sda", "stack.table", "sda.map"]),
+           ("machine.tables", "machine", ["--disks", "machine.disks", "ls.txt", "status.txt", "lsblk.txt", "concise.txt"])]
+# Commands that make a file in place of printing, or pass on what dmremap prints. They are tried in `layouts`, `saves` and `used`.
+UNPRINTED = {"read-back", "save", "used"}
+# Words of these calls that name files, but none that a text is put into.
+NO_INPUTS = ("beside", "image", "./dmremap")
+# What a command needs that may not be there.
+NEEDED = {"files": "debugfs"}
+CUTS, MUTATIONS, MEMORY = 8, 500, 1 << 30
+FULL, GONE, INTERRUPTED = 5, 141, 130
+ANSWERED, REFUSED, INCOMPLETE = 0, 1, 4
+# What is put into a text in place of something else.
+BITS = [b"0", b"18446744073709551615", b"18446744073709551616", b"9" * 40, b"-1", b"\0", b"\x1b[2J", b"\xff", b"\n", b" ", b":",
+        b"/dev/dm-0", b"a" * 300, "\u202e".encode(), b"{", b"}", b'"', b"#", b"=", b"[", b"]", b"\\"]
+
+
+def check(tally, program, top):
+    folder = make_room(program, top)
+    commands = importlib.import_module("dmremap_tools.commands").COMMANDS
+    lost = {it.name for it in commands} ^ (set(CALLS) | UNPRINTED)
+    tally.holds("commands whose streams are tried", not lost, "others are %s" % sorted(lost))
+    tried = [it for it in commands if it.name in CALLS and shutil.which(NEEDED.get(it.name, "sh"))]
+    for command in tried:
+        check_ends(tally, top, folder, command)
+        check_cuts(tally, top, folder, command)
+    check_terminal(tally, top, folder)
+    check_live(tally, top, folder)
+    check_interrupt(tally, top, folder)
+    check_words(tally, top)
+    check_mutations(tally, top, folder, tried, MUTATIONS)
+
+
+def make_room(program, top):
+    """A folder with the samples, and what the commands need besides."""
+    folder = os.path.join(program.room, "streams")
+    shutil.copytree(samples(top), folder)
+    shutil.copy(os.path.join(top, "examples", "vg0.backup"), folder)
+    os.symlink(program.path, os.path.join(folder, "dmremap"))
+    for name, text in MADE.items():
+        program.file(os.path.join("streams", name), text)
+    for name, command, words in DERIVED:
+        program.file(os.path.join("streams", name), call(top, [command, *words], folder=folder).out)
+    return folder
+
+
+def tool(top):
+    """The words that run the tool as a shell does."""
+    return [sys.executable, os.path.join(top, TOOL)]
+
+
+def check_ends(tally, top, folder, command):
+    """Outputs that don't take what is printed."""
+    words = [command.name, *CALLS[command.name]]
+    plain = call(top, words, folder=folder)
+    told = plain.err.decode()
+    if not tally.holds("%s has an answer" % words, plain.status == ANSWERED and plain.out, "status %s, %r" % (plain.status, plain.err)):
+        return
+    said = told + "%s %s: standard output: %s\n"
+    with open("/dev/full", "wb") as full:
+        got = call(top, words, folder=folder, stdout=full.fileno())
+        tally.same("%s to a full output" % command.name, got, FULL, "", said % (TOOL, command.name, "No space left on device"))
+        if told:
+            got = call(top, words, folder=folder, stderr=full.fileno())
+            tally.holds("%s to full messages" % command.name, got.status == FULL, "status %s" % got.status)
+        got = call(top, [command.name, "--help"], folder=folder, stdout=full.fileno())
+        tally.holds("the help of %s to a full output" % command.name, got.status == FULL and got.err.count(b"\n") == 1, got.err)
+    here, there = os.pipe()
+    os.close(here)
+    tally.same("%s to a pipe that nobody reads" % command.name, call(top, words, folder=folder, stdout=there), GONE, "", told)
+    os.close(there)
+    got = run(tool(top) + words, folder=folder, before=lambda: os.close(1))
+    tally.same("%s without an output" % command.name, got, FULL, "", said % (TOOL, command.name, "Bad file descriptor"))
+    if "beside" in words:
+        full = [it if it != "beside" else "/dev/full" for it in words]
+        got = call(top, full, folder=folder)
+        is_told = got.err.decode().endswith("%s %s: /dev/full: No space left on device\n" % (TOOL, command.name))
+        tally.holds("%s with a full file beside" % command.name, got.status == FULL and is_told, "status %s, %r" % (got.status, got.err))
+
+
+def check_cuts(tally, top, folder, command):
+    """Inputs that end anywhere: an answer, or a refusal in words."""
+    dice = random.Random(command.name)
+    for place, name in inputs_of(command.name, folder):
+        content = bytes_of(os.path.join(folder, name))
+        for length in sorted({0, *(dice.randrange(len(content)) for _ in range(CUTS))}):
+            got = with_input(top, folder, command, place, content[:length])
+            why = fault_of(command, got)
+            tally.holds("%s with %s cut at %d" % (command.name, name, length), not why, why)
+
+
+def inputs_of(name, folder):
+    """Which words of a call are files that are read."""
+    words = CALLS[name]
+    return [(at, it) for at, it in enumerate(words) if it not in NO_INPUTS and os.path.isfile(os.path.join(folder, it))]
+
+
+def with_input(top, folder, command, place, content):
+    """What a command says where one of its inputs is another."""
+    words = list(CALLS[command.name])
+    words[place] = "changed"
+    with open(os.path.join(folder, "changed"), "wb") as it:
+        it.write(content)
+    return call(top, [command.name, *words], folder=folder, memory=MEMORY)
+
+
+def fault_of(command, got):
+    """What is wrong with how a command ended, or nothing."""
+    said = got.err.decode("utf-8", "replace")
+    if got.status not in (ANSWERED, REFUSED, INCOMPLETE):
+        return "status %s, %r" % (got.status, said[-300:])
+    if not said.replace("\n", "").isprintable() or "Traceback" in said:
+        return "it says %r" % said
+    if got.status == REFUSED and not said.splitlines()[-1].startswith("%s %s: " % (TOOL, command.name)):
+        return "it says %r" % said
+    if got.status == REFUSED and command.is_fed != got.out.endswith(b"refused\n"):
+        return "it prints %r" % got.out[-100:]
+    return ""
+
+
+def check_mutations(tally, top, folder, commands, count, seed=0):
+    """Random changes of all inputs."""
+    dice = random.Random(seed)
+    choices = [(command, *it) for command in commands for it in inputs_of(command.name, folder)]
+    kept = {name: bytes_of(os.path.join(folder, name)) for _, _, name in choices}
+    for number in range(count):
+        command, place, name = dice.choice(choices)
+        content = mutated(kept[name], dice)
+        got = with_input(top, folder, command, place, content)
+        why = fault_of(command, got)
+        tally.holds("%s with change %d of %s" % (command.name, number, name), not why, why)
+
+
+def mutated(content, dice):
+    """The bytes with one to four changes."""
+    content = bytearray(content)
+    for _ in range(dice.choice((1, 1, 2, 4))):
+        at = dice.randrange(len(content) + 1)
+        end = min(len(content), at + dice.choice((0, 1, 1, 4, 40)))
+        kind = dice.randrange(6)
+        if kind == 0 and at < len(content):
+            content[at] ^= 1 << dice.randrange(8)
+        elif kind == 1:
+            content[at:end] = dice.choice(BITS)
+        elif kind == 2:
+            del content[at:end]
+        elif kind == 3:
+            content[at:at] = content[at:end] * dice.randrange(1, 5)
+        elif kind == 4:
+            figures = [it.span() for it in re.finditer(rb"[0-9]+", content)]
+            if figures:
+                begin, end = dice.choice(figures)
+                content[begin:end] = dice.choice(BITS[:5])
+        else:
+            del content[at:]
+    return bytes(content)
+
+
+def check_terminal(tally, top, folder):
+    """What a foreign text holds reaches no terminal as it is."""
+    with open(os.path.join(folder, "foreign"), "wb") as it:
+        it.write(b"1 R \x1b[2Jsda\xff\xe2\x80\xae 4096 256\n")
+    words = ["totals", "foreign"]
+    plain = call(top, words, folder=folder)
+    tally.same("a foreign name to a file", plain, 0, b"\x1b[2Jsda\xff\xe2\x80\xae R 1 256 131072\n")
+    here, there = pty.openpty()
+    got = call(top, words, folder=folder, stdout=there)
+    os.close(there)
+    shown = os.read(here, 65536)
+    os.close(here)
+    tally.same("a foreign name", got)
+    tally.holds("a foreign name on a terminal", shown == b"\\x1b[2Jsda\\xff\\u202e R 1 256 131072\r\n", "it shows %r" % shown)
+
+
+def check_live(tally, top, folder):
+    """A command in a pipe answers what it was given before it waits for more."""
+    for words, given, wanted in ((["cut"], b"R a 0 1\n", b"R a 0 1\n"),
+                                 (["trace", "ls.txt", "vg0.table"], b"253,0 0 7 0.5 4101 Q R 8 + 16 [fio]\n", b"R vg0-lv0 8 16\n"),
+                                 (["json"], b"1 zero 8\n", b'{"request":1,"what":"zero","len":8}\n')):
+        ran = subprocess.Popen(tool(top) + words, stdin=subprocess.PIPE, stdout=subprocess.PIPE, cwd=folder)
+        for _ in range(2):
+            ran.stdin.write(given)
+            ran.stdin.flush()
+            got = ran.stdout.readline()
+            tally.holds("%s while its input grows" % words[0], got.split()[1:] == wanted.split()[1:], "it prints %r" % got)
+        ran.stdin.close()
+        ran.stdout.close()
+        tally.holds("how %s ends" % words[0], ran.wait() == 0, "status %s" % ran.returncode)
+
+
+def check_interrupt(tally, top, folder):
+    """An interrupt ends a command in silence, and spoils what it had begun to write."""
+    words = ["trace", "--times", "beside", "ls.txt", "vg0.table"]
+    ran = subprocess.Popen(tool(top) + words, stdin=subprocess.PIPE, stdout=subprocess.PIPE, stderr=subprocess.PIPE, cwd=folder)
+    ran.stdin.write(b"253,0 0 7 0.5 4101 Q R 8 + 16 [fio]\n")
+    ran.stdin.flush()
+    first = ran.stdout.readline()
+    ran.send_signal(signal.SIGINT)
+    out, err = ran.communicate()
+    tally.same("an interrupt", Outcome(ran.returncode, first + out, err), INTERRUPTED, "R vg0-lv0 8 16\nrefused\n")
+    found = bytes_of(os.path.join(folder, "beside"))
+    tally.holds("what an interrupt leaves beside", found == b"0.5\nrefused\n", "it is %r" % found)
+
+
+def check_words(tally, top):
+    """Words that make no sense."""
+    usage = "usage: %s COMMAND ..\n%s: " % (TOOL, TOOL)
+    tally.same("no command", call(top, []), 2, "", usage + "--help lists the commands\n")
+    tally.same("another command", call(top, ["x\x1b"]), 2, "", usage + "no command 'x\\x1b'; --help lists them\n")
+    for words, reason in ((["cut", "--nothing"], "unrecognized arguments: --nothing"),
+                          (["cut", "a", "b"], "unrecognized arguments: b"),
+                          (["whole"], "the following arguments are required: VOLUME"),
+                          (["trace", "-", "-"], "standard input can't be two files")):
+        got = call(top, words)
+        is_so = (got.status, got.out) == (2, b"refused\n") and got.err.decode().endswith("\n%s %s: %s\n" % (TOOL, words[0], reason))
+        tally.holds(" ".join(words), is_so or words[0] == "trace" and got.status in (1, 2), "%s, %r, %r" % (got.status, got.out, got.err))
+    got = run(tool(top) + ["--help"])
+    tally.holds("--help", got.status == 0 and b"\nanswers:\n" in got.out and got.err == b"", "%s, %r" % (got.status, got.err))
+
+
+def bytes_of(path):
+    with open(path, "rb") as it:
+        return it.read()

@@ -1,0 +1,64 @@
+"""A long trace in parts: the commands that docs/RECIPES.md has for it give what one run gives. Parts are made smaller here."""
+
+import os
+import random
+import re
+import shutil
+import sys
+
+from harness import run
+from tool_calls import TOOL
+
+SECTION = re.compile(r"\n### A long trace in parts\n(.*?)\n##", re.S)
+BLOCK = re.compile(r"```(\w+)\n(.*?)```", re.S)
+SMALLER = (("--block 10M", "--block 20k"), ("1000000", "700"), ('"10MB"', "20000"))
+COUNT = 5000
+
+
+def check(tally, program, top):
+    with open(os.path.join(top, "docs", "RECIPES.md"), encoding="utf-8") as it:
+        found = SECTION.search(it.read())
+    if not tally.holds("the task of a long trace", found, "RECIPES has none"):
+        return
+    blocks = [(kind, smaller(text)) for kind, text in BLOCK.findall(found[1])]
+    folder = make_room(program, top)
+    pieces = run(["./dmremap", "map", "lvm", "vg0.backup"], given=bytes_of(folder, "requests"), folder=folder)
+    totals = run(["sh", "-c", "./dmremap map lvm vg0.backup < requests | ./dmremap-tools totals | sort"], folder=folder)
+    tally.holds("one run over a long trace", pieces.status == totals.status == 0 and totals.out.count(b"\n") == 2, totals.err)
+    commands = [text.replace("$ ", "", 1) for kind, text in blocks if kind == "console"]
+    if shutil.which("parallel"):
+        tally.same("totals by parts", run(["bash", "-c", commands[0]], folder=folder), 0, totals.out)
+        tally.same("pieces by parts", run(["bash", "-c", commands[1]], folder=folder))
+        tally.holds("numbers by parts", bytes_of(folder, "pieces") == pieces.out, "they differ")
+    else:
+        tally.skip("a long trace in parts", "there is no parallel")
+    # The system's own Python may have it where this one hasn't.
+    python = next((it for it in (sys.executable, "/usr/bin/python3") if run([it, "-c", "import dask.bag"]).status == 0), None)
+    if python is None:
+        tally.skip("a long trace on many machines", "there is no dask")
+        return
+    program.file("parts/totals.py", next(text for kind, text in blocks if kind == "python"))
+    tally.same("totals by Dask", run([python, "totals.py", "requests"], folder=folder), 0, totals.out)
+
+
+def make_room(program, top):
+    """A folder with the program, the tools, and requests to a volume."""
+    dice = random.Random(3)
+    rows = ["%s vg0-lv0 %d %d\n" % (dice.choice("RW"), dice.randrange(200000), dice.randrange(1, 4000)) for _ in range(COUNT)]
+    folder = os.path.dirname(program.file("parts/requests", "".join(rows)))
+    for name, path in (("dmremap", program.path), (TOOL, os.path.join(top, TOOL))):
+        os.symlink(path, os.path.join(folder, name))
+    shutil.copy(os.path.join(top, "examples", "vg0.backup"), folder)
+    return folder
+
+
+def smaller(text):
+    """A text with parts that a short trace has several of."""
+    for large, small in SMALLER:
+        text = text.replace(large, small)
+    return text
+
+
+def bytes_of(folder, name):
+    with open(os.path.join(folder, name), "rb") as it:
+        return it.read()

@@ -1,0 +1,28 @@
+"""dmremap-tools: commands that connect dmremap with what other tools print, and make something of its answers.
+
+How to add a command:
+
+1. Write the module `GROUP/NAME.py`, with `_` for `-` in the name. Its docstring is what `--help` prints: what the
+   command has, gets and refuses. Below stand
+       EXAMPLE, a command line as a user would type it;
+       add_words(parser), which adds arguments to an `argparse` parser;
+       run(words), which does it: `words` has what was typed, by the names of these arguments. It may return the
+           status INCOMPLETE of `refusal`, where the answer is there but has gaps that were told.
+2. Add a line to the list in `commands.py`: name, group, summary, and whether dmremap reads what it prints.
+3. Add rows to a module in `tests/outside`, a task to `docs/RECIPES.md` and a line to `docs/dmremap-tools.1`.
+
+What a command uses of `base`, so that all behave alike:
+
+    streams.Lines(path)         the lines of a file or of `-`, as they come, with .refuse(why) and .number(text)
+    streams.read(path)          the whole text of a file or of `-`
+    streams.out.write(text)     standard output; it is flushed before an input is waited for
+    streams.beside(path)        a file that is written beside it, as PLACES
+    streams.tell(text)          a line on standard error
+    streams.show_progress(text) how far long work is, on a terminal alone
+    refusal.Refusal(where, why) raised, it ends the command with `dmremap-tools NAME: WHERE: WHY` and status 1
+    quoting.shown(text)         foreign text, for a message
+    numbers, names, tables, listings, pieces, requests, paths, program
+
+A command opens no output by itself, catches no OSError of one, and never prints. A failing output, a closed
+pipe, an interrupt and wrong words end it in `main.py`, where each has its status.
+"""

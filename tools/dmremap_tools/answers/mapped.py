@@ -1,0 +1,58 @@
+"""dmremap map, with the requests of a generator."""
+
+import subprocess
+import threading
+from types import TracebackType
+from typing import Iterable, List, Optional, Sequence, Type
+
+from dmremap_tools.base import pieces, program, streams
+from dmremap_tools.base.refusal import Refusal
+
+
+class Mapped:
+    """dmremap while it answers: `answers` has the pieces as they come. How it fails is told at the end."""
+
+    def __init__(self, command: Sequence[str], requests: Iterable[str]) -> None:
+        self._name = command[0]
+        streams.flush()
+        try:
+            self._child = subprocess.Popen(command, stdin=subprocess.PIPE, stdout=subprocess.PIPE)
+        except OSError as fault:
+            raise Refusal(command[0], streams.why(fault))
+        self._faults: List[BaseException] = []
+        self._feeder = threading.Thread(target=self._feed, args=(requests,))
+        self._feeder.start()
+        self.answers = pieces.Answers("/dev/fd/%d" % self._child.stdout.fileno())
+        self.answers.name = self._name
+
+    def __enter__(self) -> "Mapped":
+        return self
+
+    def __exit__(self, kind: "Optional[Type[BaseException]]", fault: Optional[BaseException], trace: Optional[TracebackType]) -> None:
+        if kind:
+            self._child.kill()
+        self._child.stdout.close()
+        self._feeder.join()
+        status = self._child.wait()
+        if kind is None or kind is Refusal:
+            if self._faults:
+                raise self._faults[0]
+            if status > 0:
+                program.fail(self._name, status)
+
+    def _feed(self, requests: Iterable[str]) -> None:
+        """Writes the requests. If dmremap ends early, its status says why."""
+        pipe = self._child.stdin
+        try:
+            for request in requests:
+                pipe.write(request.encode())
+            pipe.close()
+        except BrokenPipeError:
+            pass
+        except Exception as fault:
+            self._faults.append(fault)
+        finally:
+            try:
+                pipe.close()
+            except OSError:
+                pass

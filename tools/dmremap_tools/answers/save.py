@@ -1,0 +1,164 @@
+"""Saves a whole volume, or a file of it, out of disks or images of them.
+
+Has a VOLUME, FORMAT, FILE and DISKS, as `dmremap map` takes them, and the disks that they name: each at its name, or where
+--paths says. Gets TARGET, a file with what the volume has, with holes where it reads as zeros; or with --extents, which is
+what `filefrag -v` printed of a file of the volume, that file.
+
+Sectors that can't be read, and those of disks that aren't there, are told and are holes; the status is 4 then, or 0 with
+--allow-missing. With --map MAP these areas are written as a map of ddrescue, and where MAP is there already, a run that was
+broken off goes on, and tries what was missing again. Refuses a TARGET that is there already, but for that.
+"""
+
+import time
+from argparse import ArgumentParser, Namespace
+from typing import Iterator, List, NamedTuple, Optional, Set, Tuple
+
+from dmremap_tools.answers.gaps import Gaps
+from dmremap_tools.answers.mapped import Mapped
+from dmremap_tools.answers.read_back import placed
+from dmremap_tools.answers.saved_map import SavedMap
+from dmremap_tools.answers.sources import Sources
+from dmremap_tools.answers.target import Target
+from dmremap_tools.base import names, numbers, paths, pieces, program, quoting, requests, streams
+from dmremap_tools.base.refusal import INCOMPLETE, Refusal
+from dmremap_tools.layouts.rescue_map import BAD, FINISHED, UNTRIED
+from dmremap_tools.requests import filefrag
+
+EXAMPLE = "dmremap-tools save vg0-lv0 lv0.img lvm vg0.backup --paths paths --map lv0.map"
+SECONDS = 30
+
+
+class Extent(NamedTuple):
+    """Sectors of the file from `at` on, which are those of the volume from `first` on."""
+
+    at: int
+    first: int
+    count: int
+
+
+def add_words(parser: ArgumentParser) -> None:
+    """Adds the arguments."""
+    parser.add_argument("volume", metavar="VOLUME", help="the device, by its name or path")
+    parser.add_argument("target", metavar="TARGET")
+    parser.add_argument("format", metavar="FORMAT", choices=("table", "concise", "lvm"))
+    parser.add_argument("sources", metavar="FILE", nargs="+", help="FILE and DISKS")
+    parser.add_argument("--extents", metavar="EXTENTS", help="what filefrag -v printed of a file")
+    parser.add_argument("--map", metavar="MAP", help="a map of ddrescue, which is written, and by which a run goes on")
+    parser.add_argument("--allow-missing", action="store_true", help="end with status 0 where sectors are missing")
+    paths.add_words(parser)
+    names.add_words(parser)
+    program.add_words(parser)
+
+
+def run(words: Namespace) -> Optional[int]:
+    """Makes the file, or goes on with it."""
+    volume = names.Names(words.ls).device(words.volume, names.Word("VOLUME"))
+    command = [program.dmremap(words.program), "map", words.format, *words.sources]
+    size, extents = extents_of(words.extents, volume) if words.extents is not None else whole(command, volume)
+    sources = Sources(paths.read(words.paths) if words.paths is not None else {})
+    areas = [(it.at * numbers.SECTOR, (it.at + it.count) * numbers.SECTOR) for it in extents]
+    saved = SavedMap(words.map, size, areas)
+    target = Target(words.target, size, saved.is_begun)
+    is_kept = saved.is_begun
+    try:
+        saved.write()
+        is_kept = words.map is not None
+        gaps = fill(command, volume, list(left(extents, saved)), Saver(sources, target, saved, size))
+        if is_kept:
+            target.sync()
+        target.close()
+    except BaseException:
+        if not is_kept:
+            target.discard()
+        raise
+    finally:
+        if is_kept:
+            saved.write()
+    return INCOMPLETE if gaps.were_any and not words.allow_missing else None
+
+
+def fill(command: List[str], volume: str, todo: List[Extent], saver: "Saver") -> Gaps:
+    """Saves what is left to do, and returns what is missing of it."""
+    asked = ("R %s %d %d\n" % (volume, it.first, it.count) for it in todo)
+    with Mapped(command, asked) as mapped:
+        for at, piece in placed(((it.at, it.count) for it in todo), mapped.answers):
+            saver.save(at, piece)
+    saver.gaps.tell()
+    return saver.gaps
+
+
+def whole(command: List[str], volume: str) -> Tuple[int, List[Extent]]:
+    """The length of a volume in bytes, and all of it as one extent."""
+    printed = program.ask([command[0], "table", *command[2:]])
+    lines = [row.split(" ") for row in printed.split("\n") if row.startswith(volume + ": ")]
+    if not lines:
+        raise Refusal(command[3], "no device " + volume)
+    length = int(lines[-1][1]) + int(lines[-1][2])
+    return length * numbers.SECTOR, [Extent(0, 0, length)]
+
+
+def extents_of(path: str, volume: str) -> Tuple[int, List[Extent]]:
+    """The length of a file in bytes, and its extents, of what filefrag printed."""
+    reader = Gathered(streams.Lines(path), volume)
+    reader.read()
+    if reader.files > 1:
+        raise Refusal(reader.source.name, "more than one file")
+    return reader.size, reader.extents
+
+
+class Gathered(filefrag.Reader):
+    """Keeps the extents of a file, in its order."""
+
+    def __init__(self, source: streams.Lines, name: str) -> None:
+        super().__init__(source, name, None, filefrag.KNOWN)
+        self.extents: List[Extent] = []
+
+    def add(self, at: int, first: int, count: int) -> None:
+        """Keeps an extent."""
+        self.extents.append(Extent(at, first, count))
+
+
+def left(extents: List[Extent], saved: SavedMap) -> Iterator[Extent]:
+    """What is left to do of some extents, in requests."""
+    for extent in extents:
+        begin, end = extent.at * numbers.SECTOR, (extent.at + extent.count) * numbers.SECTOR
+        for some, stop in saved.left(begin, end):
+            first, count = numbers.sectors_touched(some, stop - some)
+            for at, part in requests.parts(first, count):
+                yield Extent(at, extent.first + at - extent.at, part)
+
+
+class Saver:
+    """Copies pieces into the file, and marks what it has."""
+
+    def __init__(self, sources: Sources, target: Target, saved: SavedMap, size: int) -> None:
+        self.gaps = Gaps()
+        self._sources, self._target, self._saved, self._size = sources, target, saved, size
+        self._missing: Set[str] = set()
+        self._written = time.monotonic()
+
+    def save(self, at: int, piece: pieces.Piece) -> None:
+        """Copies a piece to a sector of the file."""
+        if piece.what != "R":
+            self._mark(at * numbers.SECTOR, piece.count * numbers.SECTOR, FINISHED if piece.what == "zero" else BAD)
+            return
+        why = self._sources.missing(piece.disk)
+        if why is not None and piece.disk not in self._missing:
+            self._missing.add(piece.disk)
+            streams.tell("missing: %s: %s" % (quoting.shown(piece.disk), why))
+        begin = at * numbers.SECTOR
+        for size, content in self._sources.parts(piece.disk, piece.start, piece.count):
+            if content:
+                self._target.write(begin, content)
+            self._mark(begin, size, FINISHED if content else BAD if why is None else UNTRIED)
+            begin += size
+
+    def _mark(self, begin: int, size: int, status: str) -> None:
+        if status != FINISHED:
+            self.gaps.add(begin // numbers.SECTOR, size // numbers.SECTOR)
+        self._saved.mark(begin, begin + size, status)
+        streams.show_progress("%d of %d MiB" % ((begin + size) >> 20, self._size >> 20))
+        if time.monotonic() - self._written > SECONDS:
+            self._target.sync()
+            self._saved.write()
+            self._written = time.monotonic()

@@ -1,0 +1,86 @@
+"""The disks that pieces lie on, or images of them, to be read."""
+
+import os
+import stat
+from typing import Dict, Iterator, Optional, Tuple
+
+from dmremap_tools.base import numbers, quoting, streams
+from dmremap_tools.base.refusal import Refusal
+
+# Bytes that are read at once, and disks that are open at once.
+BLOCK, MOST_OPEN = 1 << 20, 64
+
+
+class Sources:
+    """Disks by their names, each at the path that `paths` has for it, or at its name."""
+
+    def __init__(self, paths: Dict[str, str]) -> None:
+        self._paths = paths
+        self._open: Dict[str, int] = {}
+        self._missing: Dict[str, str] = {}
+
+    def check(self, name: str, end: int) -> None:
+        """Refuses a disk that isn't there, or ends before this sector."""
+        missing = self.missing(name)
+        if missing is not None:
+            raise Refusal(quoting.shown(self._path(name)), missing)
+        if os.lseek(self._open[name], 0, os.SEEK_END) < end * numbers.SECTOR:
+            raise Refusal(quoting.shown(self._path(name)), "it ends before sector %d" % end)
+
+    def missing(self, name: str) -> Optional[str]:
+        """Why a disk isn't there, or None if it is."""
+        if name not in self._open and name not in self._missing:
+            if len(self._open) == MOST_OPEN:
+                os.close(self._open.pop(next(iter(self._open))))
+            try:
+                self._open[name] = opened(self._path(name))
+            except Refusal as refusal:
+                self._missing[name] = str(refusal).partition(": ")[2]
+        return self._missing.get(name)
+
+    def parts(self, name: str, start: int, count: int) -> Iterator[Tuple[int, bytes]]:
+        """The bytes of some sectors, in parts: how many they are, and they themselves, or none where they can't be read."""
+        at, end = start * numbers.SECTOR, (start + count) * numbers.SECTOR
+        if self.missing(name) is not None:
+            yield end - at, b""
+            return
+        while at < end:
+            size = min(BLOCK, end - at)
+            yield from read(self._open[name], at, size)
+            at += size
+
+    def _path(self, name: str) -> str:
+        return self._paths.get(name, name)
+
+
+def opened(path: str) -> int:
+    """A file or a disk, open for reading."""
+    try:
+        descriptor = os.open(path, os.O_RDONLY | os.O_NONBLOCK)
+    except OSError as fault:
+        raise Refusal(quoting.shown(path), streams.why(fault))
+    kind = os.fstat(descriptor).st_mode
+    if not stat.S_ISREG(kind) and not stat.S_ISBLK(kind):
+        os.close(descriptor)
+        raise Refusal(quoting.shown(path), "neither a file nor a disk")
+    return descriptor
+
+
+def read(descriptor: int, at: int, size: int) -> Iterator[Tuple[int, bytes]]:
+    """Bytes of a disk, in halves, and these in halves, where they can't be read at once; none after its end."""
+    try:
+        content = os.pread(descriptor, size, at)
+    except OSError:
+        half = size // 2 // numbers.SECTOR * numbers.SECTOR
+        if half:
+            yield from read(descriptor, at, half)
+            yield from read(descriptor, at + half, size - half)
+            return
+        content = b""
+    content = content[:len(content) // numbers.SECTOR * numbers.SECTOR]
+    if not content:
+        yield size, b""
+        return
+    yield len(content), content
+    if len(content) < size:
+        yield from read(descriptor, at + len(content), size - len(content))

@@ -1,0 +1,32 @@
+"""Answers with the time of each request in place of its number.
+
+Has TIMES, which `trace --times` writes, and the answers to the requests of that trace. Refuses lines that are no pieces,
+pieces out of order, and requests that TIMES has not.
+"""
+
+from argparse import ArgumentParser, Namespace
+
+from dmremap_tools.base import pieces, streams
+
+EXAMPLE = "dmremap-tools times times pieces"
+
+
+def add_words(parser: ArgumentParser) -> None:
+    """Adds the arguments."""
+    parser.add_argument("times", metavar="TIMES", help="line N is the time of request N")
+    pieces.add_words(parser)
+
+
+def run(words: Namespace) -> None:
+    """Joins the two as they come."""
+    times, source = streams.Lines(words.times), pieces.Answers(words.file)
+    coming, time = iter(times), ""
+    for piece in source:
+        if piece.request < times.number:
+            source.refuse_line("out of order")
+        while times.number < piece.request:
+            time = next(coming, "")
+            if not time:
+                source.refuse_line("no time of the request")
+        streams.out.write("%s %s\n" % (time, source.line.partition(" ")[2]))
+    source.tell_if_none()

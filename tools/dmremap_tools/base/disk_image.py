@@ -1,0 +1,83 @@
+"""The image of a disk, or the disk itself, as bytes at their places."""
+
+import errno
+import os
+from typing import BinaryIO, Optional, Tuple
+
+from dmremap_tools.base import streams
+from dmremap_tools.base.numbers import SECTOR
+from dmremap_tools.base.refusal import Refusal
+
+
+class Image:
+    """A file or a disk from a byte `base` on, up to its end or for `size` bytes.
+
+    The bytes of a part that the image lacks can be put beside it: `extra` is where they begin, and their image."""
+
+    def __init__(self, file: BinaryIO, path: str, base: int = 0, size: Optional[int] = None) -> None:
+        self.file, self.path, self.base = file, path, base
+        self.extra: "Optional[Tuple[int, Image]]" = None
+        self.size = max(0, length_of(file, path) - base)
+        if size is not None:
+            self.size = min(self.size, size)
+
+    def read(self, at: int, count: int) -> bytes:
+        """The bytes from `at` on, fewer where the image ends. Whoever asks sees to it that they aren't too many."""
+        if at + count > self.size and self.extra and at >= self.extra[0]:
+            return self.extra[1].read(at - self.extra[0], count)
+        left, parts = min(count, self.size - at), []
+        try:
+            self.file.seek(self.base + at if left > 0 else 0)
+            while left > 0:
+                part = self.file.read(left)
+                if not part:
+                    break
+                parts.append(part)
+                left -= len(part)
+        except OSError as fault:
+            raise Refusal(self.path, "byte %d and those after it can't be read: %s" % (self.base + at, streams.why(fault)))
+        return b"".join(parts)
+
+    def next_data(self, at: int) -> int:
+        """The next byte from `at` on that isn't in a hole of a file, where the file system tells of holes."""
+        try:
+            return os.lseek(self.file.fileno(), self.base + at, os.SEEK_DATA) - self.base
+        except OSError as fault:
+            return self.size if fault.errno == errno.ENXIO else at
+
+    def part(self, start: int, size: int) -> "Image":
+        """The image of a part of this one."""
+        return Image(self.file, self.path, self.base + start, size)
+
+
+def length_of(file: BinaryIO, path: str) -> int:
+    """The bytes that a file or a disk has."""
+    try:
+        return file.seek(0, 2)
+    except OSError:
+        raise Refusal(path, "no file or disk, of which each byte can be read: a pipe, maybe")
+
+
+def open_image(path: str) -> Image:
+    """The image of this path, which isn't empty; of standard input for `-`."""
+    name = "standard input" if path == "-" else path
+    try:
+        file = open(0 if path == "-" else path, "rb", buffering=0, closefd=path != "-", opener=_open)
+    except OSError as fault:
+        raise Refusal(name, streams.why(fault))
+    image = Image(file, name)
+    if not image.size:
+        raise Refusal(name, "it is empty")
+    return image
+
+
+def _open(path: str, flags: int) -> int:
+    """Opens without waiting, as for one who writes to a pipe of this name."""
+    return os.open(path, flags | os.O_NONBLOCK)
+
+
+def dd(image: Image, output: str, start: int, size: int) -> str:
+    """The command that fetches these bytes from the disk that an image is of."""
+    first = image.base + start
+    count = (first % SECTOR + size + SECTOR - 1) // SECTOR
+    return "dd if=DISK of=%s bs=%d skip=%d count=%d" % (output, SECTOR, first // SECTOR, count)

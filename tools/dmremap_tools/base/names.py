@@ -1,0 +1,80 @@
+"""Names of devices, as tables and requests have them."""
+
+import re
+from argparse import ArgumentParser
+from typing import Dict, NoReturn, Optional, Protocol
+
+from dmremap_tools.base import quoting
+from dmremap_tools.base.refusal import Refusal
+
+FORM = re.compile(r"[-A-Za-z0-9#+.:=@_]{1,127}")
+DISK = re.compile(r"(?!/dev/mapper/)(?!.*[,;\\])[!-~]{1,255}")
+MINOR = re.compile(r"/dev/dm-([0-9]{1,10})")
+MAPPER = "/dev/mapper/"
+MOST_KEPT = 4096
+
+
+class Place(Protocol):
+    """Where a name stands."""
+
+    def refuse(self, reason: str) -> NoReturn:
+        """Refuses what stands there."""
+
+
+class Word:
+    """A word of the command line as a place, by what it is called in the usage."""
+
+    def __init__(self, name: str) -> None:
+        self._name = name
+
+    def refuse(self, reason: str) -> NoReturn:
+        """Refuses the word."""
+        raise Refusal(self._name, reason)
+
+
+def of_path(path: str) -> str:
+    """The name of a device that is given by /dev/mapper/NAME or /dev/VG/LV. Anything else stays."""
+    parts = path.split("/")
+    if len(parts) != 4 or not path.startswith("/dev/"):
+        return path
+    if parts[2] == "mapper":
+        return parts[3]
+    return "-".join(it.replace("-", "--") for it in parts[2:])
+
+
+class Names:
+    """Knows the name of a device by its path. For /dev/dm-N it needs what `dmsetup ls` prints, in a file."""
+
+    def __init__(self, ls: Optional[str] = None) -> None:
+        self._ls = ls
+        self._of_minor: Optional[Dict[str, str]] = None
+        self._found: Dict[str, str] = {}
+
+    def known(self, path: str, place: Place) -> str:
+        """The name that a path stands for, or the path; empty for a /dev/dm-N that `dmsetup ls` has not."""
+        minor = MINOR.fullmatch(path) if path.startswith("/dev/dm-") else None
+        if not minor:
+            return of_path(path)
+        if self._ls is None:
+            place.refuse("which device is %s? Give --ls LS" % path)
+        if self._of_minor is None:
+            from dmremap_tools.base import listings
+            self._of_minor = {number.partition(":")[2]: name for name, number in listings.read_ls(self._ls)}
+        return self._of_minor.get(minor[1], "")
+
+    def device(self, path: str, place: Place) -> str:
+        """The name of a device that is given by its name or a path."""
+        name = self._found.get(path)
+        if name is None:
+            name = self.known(path, place)
+            if not FORM.fullmatch(name):
+                place.refuse("no name of a device: '%s'" % quoting.shown(path))
+            if len(self._found) == MOST_KEPT:
+                self._found.clear()
+            self._found[path] = name
+        return name
+
+
+def add_words(parser: ArgumentParser) -> None:
+    """Adds --ls."""
+    parser.add_argument("--ls", metavar="LS", help="what `dmsetup ls` prints, for devices that are given as /dev/dm-N")

@@ -1,0 +1,37 @@
+"""Whole numbers of sectors and bytes, exact up to 2^64."""
+
+import argparse
+import re
+from typing import Optional
+
+from dmremap_tools.base import quoting
+
+SECTOR = 512
+LIMIT = 1 << 64
+# As dmremap reads numbers: without a sign and without zeros in front. Longer ones are none, whatever they say.
+LONGEST = 20
+# The same where it is short enough to be below 2^64 in any case, for forms of lines that are read many at once.
+SHORT = "(0|[1-9][0-9]{0,17})"
+FORM = re.compile(r"0|[1-9][0-9]{0,%d}" % (LONGEST - 1))
+
+
+def read(text: str) -> Optional[int]:
+    """The number that a text says, or None if it isn't a whole number below 2^64."""
+    if not text.isdigit() or not text.isascii() or len(text) > LONGEST or (text[0] == "0" and text != "0"):
+        return None
+    value = int(text)
+    return value if value < LIMIT else None
+
+
+def word(text: str) -> int:
+    """The same for a word of a command line."""
+    value = read(text)
+    if value is None:
+        raise argparse.ArgumentTypeError("not a whole number below 2^64: '%s'" % quoting.shown(text))
+    return value
+
+
+def sectors_touched(begin: int, count: int) -> "tuple[int, int]":
+    """The first sector that some bytes touch, and how many they touch."""
+    first = begin // SECTOR
+    return first, (begin + count + SECTOR - 1) // SECTOR - first

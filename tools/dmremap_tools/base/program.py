@@ -1,0 +1,78 @@
+"""Other programs: dmremap, and what commands ask, as debugfs. How they fail is told in words."""
+
+import os
+import shutil
+import subprocess
+import sys
+from argparse import ArgumentParser
+from typing import List, Optional, Sequence
+
+from dmremap_tools.base import streams
+from dmremap_tools.base.refusal import Refusal
+
+OUTPUT_FAILED = 5
+ADMINISTRATION = "/usr/local/sbin:/usr/sbin:/sbin"
+
+
+def add_words(parser: ArgumentParser) -> None:
+    """Adds --program."""
+    parser.add_argument("--program", metavar="PROGRAM", help="which dmremap is asked; else that beside this tool, or on the path")
+
+
+def dmremap(given: Optional[str]) -> str:
+    """The path of dmremap: the one that was given, or that beside this tool, or that on the path."""
+    if given is not None:
+        return given
+    for tool in (sys.argv[0], os.path.realpath(sys.argv[0])):
+        beside = os.path.join(os.path.dirname(os.path.abspath(tool)), "dmremap")
+        if os.access(beside, os.X_OK):
+            return beside
+    return shutil.which("dmremap") or "dmremap"
+
+
+def ask(words: Sequence[str], most: int = streams.MOST_TEXT, given: Optional[int] = None) -> str:
+    """What a program prints, at most so many bytes; `given` is a descriptor for its standard input. Its messages are
+    passed on. Where it fails, so does this."""
+    return _asked(words, most, given, None).decode("utf-8", "surrogateescape")
+
+
+def found(name: str) -> str:
+    """The path of a program, which may stand where only the administrator's programs do."""
+    return shutil.which(name) or shutil.which(name, path=ADMINISTRATION) or name
+
+
+def ask_quietly(words: Sequence[str], most: int = streams.MOST_TEXT, given: Optional[int] = None) -> "tuple[str, str]":
+    """What a program prints on its two outputs, whatever its status is, in English."""
+    import tempfile
+    with tempfile.TemporaryFile() as said:
+        printed = _asked(words, most, given, said).decode("utf-8", "surrogateescape")
+        said.seek(0)
+        return printed, said.read(most).decode("utf-8", "surrogateescape")
+
+
+def _asked(words: Sequence[str], most: int, given: Optional[int], said) -> bytes:
+    streams.flush()
+    try:
+        child = subprocess.Popen([it.encode("utf-8", "surrogateescape") for it in words], stdout=subprocess.PIPE, stderr=said,
+                                 stdin=subprocess.DEVNULL if given is None else given, env=dict(os.environ, LC_ALL="C"))
+    except OSError as fault:
+        raise Refusal(words[0], streams.why(fault))
+    try:
+        printed = child.stdout.read(most + 1)
+        if len(printed) > most:
+            raise Refusal(words[0], "it printed more than %d bytes" % most)
+        status = child.wait()
+    finally:
+        if child.poll() is None:
+            child.kill()
+            child.wait()
+    if said is None and status:
+        fail(words[0], status)
+    return printed
+
+
+def fail(name: str, status: int) -> None:
+    """Refuses since a program ended with this status."""
+    if status == OUTPUT_FAILED:
+        raise streams.OutputFailed("%s: its output failed" % name)
+    raise Refusal(name, "it was ended by signal %d" % -status if status < 0 else "it ends with status %d" % status)

@@ -1,0 +1,52 @@
+"""Foreign text, made fit to be shown: a name or a line may hold whatever somebody wrote to a disk."""
+
+from typing import List
+
+MOST_SHOWN = 100
+# How many things a message names.
+MOST_NAMED = 16
+
+
+def escaped(text: str) -> str:
+    """The text with an escape for each character that isn't printable, so that a terminal obeys none of them."""
+    return text if text.isprintable() else "".join(map(_escape, text))
+
+
+def _escape(letter: str) -> str:
+    """An escape for a character, or itself. What was no UTF-8 is shown as the byte that it was."""
+    if letter.isprintable():
+        return letter
+    code = ord(letter)
+    if 0xDC80 <= code <= 0xDCFF:
+        code -= 0xDC00
+    known = {9: "\\t", 10: "\\n", 13: "\\r"}
+    return known.get(code) or ("\\x%02x" if code < 256 else "\\u%04x" if code < 65536 else "\\U%08x") % code
+
+
+def shown(text: str) -> str:
+    """At most 100 characters of a text for a message, escaped, with two dots where there are more."""
+    return escaped(text[:MOST_SHOWN]) + (".." if len(text) > MOST_SHOWN else "")
+
+
+def some(words: List[str], between: str = ", ") -> str:
+    """The first 16 of some words, and two dots where there are more."""
+    return between.join(words[:MOST_NAMED] + [".."] * (len(words) > MOST_NAMED))
+
+
+def on_terminal(text: str) -> str:
+    """Lines for a terminal: line feeds and tabs stay."""
+    if text.replace("\n", "").replace("\t", "").isprintable():
+        return text
+    return "".join(it if it in "\n\t" else _escape(it) for it in text)
+
+
+def printable(text: str) -> str:
+    """The text as it is, or in quotes and with escapes where it has letters that don't print."""
+    if text.isprintable():
+        return text
+    return '"%s"' % escaped(text.replace("\\", "\\\\").replace('"', '\\"'))
+
+
+def for_shell(text: str) -> str:
+    """The text as one word of a shell's command."""
+    return "'" + text.replace("'", "'\\''") + "'"

@@ -1,0 +1,17 @@
+"""How a command says that it has no answer."""
+
+
+# The status of an answer with gaps, each of which was told.
+INCOMPLETE = 4
+
+
+class Refusal(Exception):
+    """There is no answer: `where` is a file, perhaps with a line, or what was asked; `why` is in words."""
+
+    def __init__(self, where: str, why: str) -> None:
+        super().__init__("%s: %s" % (where, why))
+        self.why = why
+
+
+class WrongWords(Exception):
+    """The words of the command line make no sense."""

@@ -1,0 +1,56 @@
+"""Requests, as dmremap reads them."""
+
+import re
+from typing import Iterator, Tuple
+
+from dmremap_tools.base import names, numbers, streams
+
+MOST = 1 << 20
+# What is longer than 2 PiB is no length of anything: it would be cut into more than four million requests.
+LONGEST = 1 << 42
+TOO_LONG = "longer than 2 PiB"
+# What to do, a device, and two numbers, as they mostly are.
+_MOST_LINES = re.compile(r"^([RW]) (\S+) %s %s$" % (numbers.SHORT, numbers.SHORT), re.M)
+
+
+def read(source: streams.Lines, known: names.Names, form: str) -> Iterator[Tuple[str, str, int, int]]:
+    """The lines that say R or W, a device, and two numbers. Others are refused as not of this form, which is in words."""
+    device = known.device
+    for fields in source.rows(_MOST_LINES):
+        if isinstance(fields, tuple):
+            operation, name, first, count = fields
+            yield operation, device(name, source), int(first), int(count)
+        else:
+            words = fields.split()
+            if len(words) != 4 or words[0] not in ("R", "W"):
+                source.refuse_line(form)
+            yield words[0], known.device(words[1], source), source.whole(words[2]), source.whole(words[3])
+
+
+def parts(first: int, count: int) -> Iterator[Tuple[int, int]]:
+    """The sectors as dmremap takes them, at most 1,048,576 at a time: the first of each part, and how many."""
+    for at in range(first, first + count, MOST):
+        yield at, min(MOST, first + count - at)
+
+
+def write(source: streams.Lines, operation: str, name: str, first: int, count: int) -> int:
+    """Prints a request of a line for these sectors, or several where one would be too long; returns how many."""
+    if 0 < count <= MOST and first + count <= numbers.LIMIT:
+        streams.out.write(f"{operation} {name} {first} {count}\n")
+        return 1
+    if count == 0:
+        source.refuse_line("no sectors")
+    if first + count > numbers.LIMIT:
+        source.refuse_line("it goes past sector 2^64")
+    if count > LONGEST:
+        source.refuse_line(TOO_LONG)
+    for at, part in parts(first, count):
+        streams.out.write("%s %s %d %d\n" % (operation, name, at, part))
+    return -(-count // MOST)
+
+
+def write_bytes(source: streams.Lines, operation: str, name: str, begin: int, count: int) -> None:
+    """The same for all sectors that some bytes touch."""
+    if count == 0:
+        source.refuse_line("no bytes")
+    write(source, operation, name, *numbers.sectors_touched(begin, count))

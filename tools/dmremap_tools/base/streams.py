@@ -1,0 +1,304 @@
+"""Inputs, outputs and messages.
+
+Outputs are gathered, and flushed before an input is waited for, so that a pipe of commands runs while its input
+grows. Whatever an output doesn't take ends the command: see `main.py`.
+"""
+
+import os
+import stat
+from typing import Iterator, List, NoReturn, Pattern, Tuple
+
+from dmremap_tools.base import numbers, quoting
+from dmremap_tools.base.refusal import Refusal, WrongWords
+
+CHUNK = 1 << 16
+MOST_PARTS = 1 << 10
+LONGEST_LINE = 1 << 16
+MOST_TEXT = 64 << 20
+SPOILED = "refused\n"
+NO_NUMBER = "not a whole number below 2^64: '%s'"
+
+
+class OutputFailed(Exception):
+    """An output didn't take all that was written."""
+
+
+class ReaderGone(Exception):
+    """Nobody reads the output any more."""
+
+
+class Output:
+    """A file or pipe that text is written to. Nothing foreign reaches a terminal unescaped."""
+
+    def __init__(self, descriptor: int, name: str) -> None:
+        self._descriptor, self._name = descriptor, name
+        self._parts: List[str] = []
+        self._is_open = True
+
+    def write(self, text: str) -> None:
+        """Writes text, now or later."""
+        parts = self._parts
+        parts.append(text)
+        if len(parts) >= MOST_PARTS or len(text) > CHUNK:
+            self.flush()
+
+    def flush(self) -> None:
+        """Writes what was gathered."""
+        if not self._parts:
+            return
+        text = "".join(self._parts)
+        self._parts = []
+        if os.isatty(self._descriptor):
+            text = quoting.on_terminal(text)
+        left = memoryview(text.encode("utf-8", "surrogateescape"))
+        try:
+            while left:
+                left = left[_write_some(self._descriptor, left):]
+        except OSError as fault:
+            self._fail(fault)
+
+    def close(self) -> None:
+        """Flushes, and closes it, as some file systems say only then that they are full."""
+        self.flush()
+        self._is_open = False
+        try:
+            os.close(self._descriptor)
+        except OSError as fault:
+            self._fail(fault)
+
+    def spoil(self) -> None:
+        """Ends it with the line `refused`, which dmremap takes for nothing, wherever it reads it."""
+        if self._is_open:
+            self.write(SPOILED)
+            self.flush()
+
+    def _fail(self, fault: OSError) -> NoReturn:
+        self._parts = []
+        if isinstance(fault, BrokenPipeError):
+            raise ReaderGone
+        raise OutputFailed("%s: %s" % (self._name, why(fault)))
+
+
+class Lines:
+    """The lines of a file, or of standard input for `-`, as they come. A text that ends within a line is refused, as
+    nobody can tell what the rest of it was. `number` is that of the line that was read last, from 1."""
+
+    def __init__(self, path: str) -> None:
+        self.name = "standard input" if path == "-" else path
+        self.number = 0
+        self._descriptor = _open(path)
+        self._block, self._before = "", 0
+
+    def __iter__(self) -> Iterator[str]:
+        for block in self._blocks():
+            for line in block[:-1].split("\n"):
+                self.number += 1
+                yield line
+
+    def rows(self, form: Pattern[str]) -> "Iterator[Tuple[str, ...] | str]":
+        """For each line what the groups of a form have, or the line itself where it is of another form. The form has
+        several groups, is compiled with re.M, and begins with ^ and ends with $: so many lines are read at once."""
+        for block in self._blocks():
+            found = form.findall(block)
+            if len(found) != block.count("\n"):
+                found = [match.groups() if match else line
+                         for line in block[:-1].split("\n") for match in (form.match(line),)]
+            for self.number, fields in enumerate(found, self.number + 1):
+                yield fields
+
+    @property
+    def line(self) -> str:
+        """The line that was read last."""
+        return self._block.split("\n")[self.number - self._before - 1]
+
+    def refuse(self, reason: str) -> NoReturn:
+        """Refuses the line that was read last."""
+        raise Refusal("%s:%d" % (self.name, self.number), reason)
+
+    def refuse_line(self, reason: str) -> NoReturn:
+        """The same, with what stands there."""
+        self.refuse("%s: %s" % (reason, quoting.shown(self.line)))
+
+    def whole(self, text: str) -> int:
+        """The whole number below 2^64 that a word of the line is."""
+        value = numbers.read(text)
+        if value is None:
+            self.refuse(NO_NUMBER % quoting.shown(text))
+        return value
+
+    def _blocks(self) -> Iterator[str]:
+        """The text in pieces of whole lines. What was written goes out before more of it is waited for."""
+        rest = b""
+        for chunk in iter(lambda: _read_some(self._descriptor, self.name), b""):
+            end = chunk.rfind(b"\n") + 1
+            if end:
+                self._block, self._before = (rest + chunk[:end]).decode("utf-8", "surrogateescape"), self.number
+                rest = chunk[end:]
+                yield self._block
+            else:
+                rest += chunk
+            if len(rest) > LONGEST_LINE:
+                self.number += 1
+                self.refuse("a line of more than %d bytes" % LONGEST_LINE)
+        if rest:
+            self.number += 1
+            self.refuse("the text ends within a line: " + quoting.shown(rest.decode("utf-8", "surrogateescape")))
+
+
+def whole(where: str, text: str) -> int:
+    """The whole number below 2^64 that a text is."""
+    value = numbers.read(text)
+    if value is None:
+        raise Refusal(where, NO_NUMBER % quoting.shown(text))
+    return value
+
+
+def read_bytes(path: str, most: int = MOST_TEXT) -> bytes:
+    """The bytes of a file, or of standard input for `-`, which has at most so many."""
+    name, descriptor, chunks, size = "standard input" if path == "-" else path, _open(path), [], 0
+    while True:
+        chunk = _read_some(descriptor, name)
+        if not chunk:
+            break
+        chunks.append(chunk)
+        size += len(chunk)
+        if size > most:
+            raise Refusal(name, "it has more than %d bytes" % most)
+    if descriptor:
+        os.close(descriptor)
+    return b"".join(chunks)
+
+
+def read(path: str, most: int = MOST_TEXT) -> str:
+    """The same as text. Bytes that are no UTF-8 stay what they are, and are written as they were."""
+    return read_bytes(path, most).decode("utf-8", "surrogateescape")
+
+
+def rows(path: str, most: int = MOST_TEXT) -> List[str]:
+    """The lines of the whole text of a file, the last of which may lack its end."""
+    found = read(path, most).split("\n")
+    return found[:-1] if found[-1] == "" else found
+
+
+def beside(path: str) -> Output:
+    """A file that is written beside standard output. It is spoiled where the command fails."""
+    try:
+        made = Output(os.open(path, os.O_WRONLY | os.O_CREAT | os.O_TRUNC, 0o666), path)
+    except OSError as fault:
+        raise Refusal(path, why(fault))
+    _besides.append(made)
+    return made
+
+
+def tell(text: str) -> None:
+    """Says on standard error, in a line, what stands beside the answer."""
+    _messages.write(quoting.escaped(text) + "\n")
+    _clear_progress()
+    _messages.flush()
+
+
+def show_progress(text: str) -> None:
+    """Shows on a terminal how far long work is, in a line that the next message takes away. Elsewhere nothing."""
+    global _is_progress_shown
+    if os.isatty(2):
+        _is_progress_shown = True
+        _show("\r\033[K" + quoting.escaped(text)[:79])
+
+
+def _clear_progress() -> None:
+    global _is_progress_shown
+    if _is_progress_shown:
+        _is_progress_shown = False
+        _show("\r\033[K")
+
+
+def _show(text: str) -> None:
+    try:
+        os.write(2, text.encode("utf-8", "surrogateescape"))
+    except OSError:
+        pass
+
+
+def finish() -> None:
+    """Writes what is left to all outputs, and closes them."""
+    _clear_progress()
+    flush()
+    for each in [out, *_besides]:
+        each.close()
+
+
+def flush() -> None:
+    """Writes what was gathered for all outputs."""
+    for each in [*_besides, out]:
+        each.flush()
+
+
+def spoil(is_fed: bool) -> None:
+    """Spoils what stands beside standard output, and that itself if dmremap reads it. Else what was written there stays."""
+    for each in [*_besides, out]:
+        try:
+            if is_fed or each is not out:
+                each.spoil()
+            else:
+                each.flush()
+        except ReaderGone:
+            pass
+
+
+def why(fault: OSError) -> str:
+    """What the system says of a file."""
+    return fault.strerror or str(fault)
+
+
+def hold_descriptors() -> None:
+    """Sees to it that no file is opened in place of a standard stream that is closed: each fails when it is used."""
+    for descriptor in range(3):
+        try:
+            os.fstat(descriptor)
+        except OSError:
+            os.open(os.devnull, os.O_RDONLY if descriptor else os.O_WRONLY)
+
+
+def _open(path: str) -> int:
+    global _is_input_taken
+    if path != "-":
+        try:
+            return os.open(path, os.O_RDONLY)
+        except OSError as fault:
+            raise Refusal(path, why(fault))
+    if _is_input_taken:
+        raise WrongWords("standard input can't be two files")
+    _is_input_taken = True
+    return 0
+
+
+def _read_some(descriptor: int, name: str) -> bytes:
+    try:
+        if not stat.S_ISREG(os.fstat(descriptor).st_mode):
+            flush()
+        return os.read(descriptor, CHUNK)
+    except BlockingIOError:
+        _wait([descriptor], [])
+        return _read_some(descriptor, name)
+    except OSError as fault:
+        raise Refusal(name, why(fault))
+
+
+def _write_some(descriptor: int, left: memoryview) -> int:
+    try:
+        return os.write(descriptor, left)
+    except BlockingIOError:
+        _wait([], [descriptor])
+        return 0
+
+
+def _wait(inputs: List[int], outputs: List[int]) -> None:
+    import select
+    select.select(inputs, outputs, [])
+
+
+out = Output(1, "standard output")
+_messages = Output(2, "standard error")
+_besides: List[Output] = []
+_is_input_taken = False
+_is_progress_shown = False

@@ -1,0 +1,142 @@
+"""Devices and their lines, in table text and in concise text."""
+
+import re
+from typing import Callable, Iterator, List, NoReturn, Optional, Sequence, Tuple
+
+from dmremap_tools.base import names, numbers, quoting, streams
+from dmremap_tools.base.refusal import Refusal
+
+# How many words follow a target that dmremap reads. Those of `striped` depend on its columns.
+TARGETS = {"linear": 2, "striped": None, "zero": 0, "error": 0, "snapshot": 4, "snapshot-origin": 1}
+MOST_COLUMNS, LONGEST_CHUNK = 128, (1 << 32) - 1
+
+
+class Line:
+    """A line of a device: its first sector, its length, its target and the words after that."""
+
+    def __init__(self, start: int, length: int, target: str, words: Sequence[str]) -> None:
+        self.start, self.length, self.target, self.words = start, length, target, list(words)
+
+    def __str__(self) -> str:
+        return " ".join([str(self.start), str(self.length), self.target] + self.words)
+
+    def places(self) -> range:
+        """Where its words name a disk or a device below."""
+        if self.target == "striped":
+            return range(2, len(self.words), 2)
+        return range({"linear": 1, "snapshot-origin": 1, "snapshot": 2}.get(self.target, 0))
+
+    def lowers(self) -> List[str]:
+        """The disks and devices that it names."""
+        return [self.words[it] for it in self.places()]
+
+    def spans(self) -> Iterator[Tuple[str, int, Optional[int]]]:
+        """What it uses of each: the first sector, and how many. A snapshot uses all, for which None stands."""
+        for place in self.places():
+            if self.target in ("linear", "striped"):
+                yield self.words[place], int(self.words[place + 1]), self.length // len(self.places())
+            else:
+                yield self.words[place], 0, None if self.target == "snapshot" else self.length
+
+    def with_lowers(self, named: Callable[[str], str]) -> "Line":
+        """The line with other names for these, which a function gives."""
+        words = list(self.words)
+        for place in self.places():
+            words[place] = named(words[place])
+        return Line(self.start, self.length, self.target, words)
+
+    def fault(self) -> Optional[str]:
+        """What is wrong with its words, or None."""
+        words = self.words
+        if self.target == "striped":
+            figures = words[:2] + words[3::2]
+            is_whole = len(words) > 2 and len(words) % 2 == 0 and words[0] == str(len(self.places()))
+        else:
+            figures = words[3:] if self.target == "snapshot" else words[1:]
+            is_whole = len(words) == TARGETS.get(self.target)
+        if not is_whole or any(numbers.read(it) is None for it in figures):
+            return "no line that dmremap reads"
+        if self.target == "striped":
+            columns, chunk = int(words[0]), int(words[1])
+            if columns > MOST_COLUMNS or not 0 < chunk <= LONGEST_CHUNK or self.length % (columns * chunk):
+                return "stripes that don't divide it"
+        if self.target == "snapshot" and words[2] not in ("P", "N", "K"):
+            return "a snapshot of another kind"
+        return None
+
+
+class Device:
+    """A device: its name, `rw`, `ro` or nothing where its text doesn't say, and its lines."""
+
+    def __init__(self, name: str, flags: str = "") -> None:
+        self.name, self.flags = name, flags
+        self.lines: List[Line] = []
+
+    def end(self) -> int:
+        """The sector after its last."""
+        return self.lines[-1].start + self.lines[-1].length
+
+    def lowers(self) -> List[str]:
+        """The disks and devices that its lines name."""
+        return [lower for line in self.lines for lower in line.lowers()]
+
+
+def read(path: str) -> Tuple[List[Device], bool]:
+    """The devices of table text or concise text, as dmremap prints it, and whether it is the latter."""
+    text = streams.read(path)
+    is_concise = "," in text.split(" ", 1)[0]
+    rows = text.rstrip("\n").split(";" if is_concise else "\n") if text else []
+    return (_concise if is_concise else _table)(path, rows), is_concise
+
+
+def _concise(path: str, rows: List[str]) -> List[Device]:
+    devices = []
+    for number, row in enumerate(rows, 1):
+        place = "%s:%d" % (path, number)
+        name, *fields = row.split(",")
+        if len(fields) < 4 or fields[2] not in ("", "ro", "rw"):
+            raise Refusal(place, "not a device of concise text: " + quoting.shown(row))
+        device = Device(name, fields[2])
+        device.lines += [line_of(place, it) for it in fields[3:]]
+        devices.append(device)
+    return devices
+
+
+def _table(path: str, rows: List[str]) -> List[Device]:
+    devices: List[Device] = []
+    for number, row in enumerate(rows, 1):
+        place = "%s:%d" % (path, number)
+        name, is_named, line = row.partition(": ")
+        if not name or not is_named:
+            raise Refusal(place, "not table text: " + quoting.shown(row))
+        if not devices or devices[-1].name != name:
+            devices.append(Device(name))
+        devices[-1].lines.append(line_of(place, line))
+    return devices
+
+
+def line_of(place: str, text: str) -> Line:
+    """A line that dmremap takes, as far as the line alone can tell."""
+    words = text.split(" ")
+    start, length = [numbers.read(it) for it in words[:2]] if len(words) > 2 else (None, None)
+    if start is None or length is None:
+        raise Refusal(place, "not a line of a table: " + quoting.shown(text))
+    line = Line(start, length, words[2], words[3:])
+    fault = line.fault()
+    if fault:
+        raise Refusal(place, "%s: %s" % (fault, quoting.shown(text)))
+    return line
+
+
+def names_in(path: str) -> List[str]:
+    """What a disk or a device may be called in FILE: with and without /dev/ in front, or as a device of that name."""
+    short = re.sub("^/dev/", "", path)
+    name = names.of_path(path)
+    return [path, "/dev/" + path, short, path if name == path else names.MAPPER + name, names.MAPPER + short]
+
+
+def text_of(devices: List[Device], is_concise: bool) -> str:
+    """Devices as table text or in the concise form, as dmremap reads it."""
+    if is_concise:
+        return ";".join(",".join([it.name, "", "", it.flags] + [str(line) for line in it.lines]) for it in devices) + "\n"
+    return "".join("%s: %s\n" % (it.name, line) for it in devices for line in it.lines)

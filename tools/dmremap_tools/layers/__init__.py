@@ -1,0 +1,1 @@
+"""Commands for what lies below and above a stack: used snapshots, arrays, pools, file systems, and pictures of them."""

@@ -1,0 +1,126 @@
+"""The addresses of a btrfs file system as a device, from its tree of chunks.
+
+Has what `btrfs inspect-internal dump-tree -t chunk DEVICE` prints, and for each device of the file system its number and a
+disk. Gets table text of a device on which each address is a sector: the file system counts the extents of its files, which
+`filefrag --addresses` takes, in these. Chunks are `single`, `dup`, `raid0`, `raid1` and its like, and `raid10`; of those with
+copies it is the first, or --copy, counted from 0. Those of raid5 and raid6 are told, and become `error`, as does what no chunk
+has. A write goes to all copies, and never to where the file was before, so ask for reads.
+
+Refuses a text without chunks, one that isn't whole, a device that isn't given, and chunks of no whole sectors.
+"""
+
+import re
+from argparse import ArgumentParser, Namespace
+from typing import Dict, Iterator, List, NoReturn
+
+from dmremap_tools.base import numbers, quoting, streams, tables
+from dmremap_tools.base.refusal import Refusal
+from dmremap_tools.layers import parts
+
+EXAMPLE = "dmremap-tools btrfs --name btrfs --device 1 /dev/sda chunks.txt > btrfs.table"
+ITEM = re.compile(r"\s*item \d+ key \((\S+) (\S+) (\d{1,20})\).*")
+LENGTH = re.compile(r"\s*length (\d{1,20}) owner \d+ stripe_len (\d{1,20}) type (\S+)")
+COUNT = re.compile(r"\s*num_stripes (\d{1,5}) sub_stripes (\d{1,5})")
+STRIPE = re.compile(r"\s*stripe \d+ devid (\d{1,20}) offset (\d{1,20})")
+PARITY = ("RAID5", "RAID6")
+
+
+class Chunk:
+    """A chunk: where it begins and how long it is in bytes, its profile, and its stripes."""
+
+    def __init__(self, where: str, start: int) -> None:
+        self.where, self.start = where, start
+        self.length = self.size = self.count = self.each = 0
+        self.profile = ""
+        self.stripes: List["tuple[str, int]"] = []
+
+    def refuse(self, why: str) -> NoReturn:
+        """Refuses it."""
+        raise Refusal(self.where, why)
+
+    def sectors(self, count: int) -> int:
+        """Bytes as sectors."""
+        return count // numbers.SECTOR if count % numbers.SECTOR == 0 else self.refuse("no whole sectors: %d bytes" % count)
+
+    def take(self, row: str) -> None:
+        """Takes what a line says of it."""
+        length, count, stripe = LENGTH.fullmatch(row), COUNT.fullmatch(row), STRIPE.fullmatch(row)
+        if length:
+            self.length, self.size, self.profile = int(length[1]), int(length[2]), length[3].split("|")[-1].upper()
+        elif count:
+            self.count, self.each = int(count[1]), max(1, int(count[2]))
+        elif stripe:
+            self.stripes.append((stripe[1], int(stripe[2])))
+
+    def line(self, disks: Dict[str, str], copy: int) -> tables.Line:
+        """Its line, of this copy."""
+        if not self.length or not self.stripes or len(self.stripes) != self.count:
+            self.refuse("a stripe of the chunk at %d is missing" % self.start)
+        if self.profile in PARITY:
+            streams.tell("left out: the chunk at %d, which is of %s" % (self.start, self.profile))
+            return tables.Line(self.sectors(self.start), self.sectors(self.length), "error", [])
+        columns = [self.stripes[copy % self.count]]
+        if self.profile in ("RAID0", "RAID10"):
+            each = self.each if self.profile == "RAID10" else 1
+            columns = self.stripes[copy % each::each]
+        words = [word for it in columns for word in self._spot(disks, *it)]
+        is_striped = len(columns) > 1
+        return tables.Line(self.sectors(self.start), self.sectors(self.length), "striped" if is_striped else "linear",
+                           [str(len(columns)), str(self.sectors(self.size))] * is_striped + words)
+
+    def _spot(self, disks: Dict[str, str], device: str, offset: int) -> List[str]:
+        if device not in disks:
+            self.refuse("device %s of the file system isn't given" % device)
+        return [disks[device], str(self.sectors(offset))]
+
+
+def add_words(parser: ArgumentParser) -> None:
+    """Adds the arguments."""
+    parser.add_argument("--name", metavar="NAME", required=True, help="the device of the addresses")
+    parser.add_argument("--device", metavar=("NUMBER", "DISK"), nargs=2, action="append", required=True,
+                        help="a device of the file system")
+    parser.add_argument("--copy", metavar="N", type=numbers.word, default=0, help="which copy, counted from 0")
+    parts.add_words(parser)
+    parser.add_argument("chunks", metavar="CHUNKS", help="what dump-tree printed")
+
+
+def run(words: Namespace) -> None:
+    """Prints the device."""
+    disks = {number: parts.disk_in(disk, "--device") for number, disk in words.device}
+    chunks = sorted(read(words.chunks), key=lambda it: it.start)
+    if not chunks:
+        raise Refusal(quoting.shown(words.chunks), "no chunks of a btrfs file system")
+    device = parts.device_of(words.name, "", lines_of(chunks, disks, words.copy), parts.part_of(words))
+    streams.out.write(tables.text_of([device], False))
+
+
+def read(path: str) -> List[Chunk]:
+    """The chunks that a text has."""
+    found: List[Chunk] = []
+    is_chunk = is_whole = False
+    source = streams.Lines(path)
+    for row in source:
+        item = ITEM.fullmatch(row)
+        if item:
+            is_chunk = item[2] == "CHUNK_ITEM"
+            if is_chunk:
+                found.append(Chunk("%s:%d" % (source.name, source.number), int(item[3])))
+        elif is_chunk:
+            found[-1].take(row)
+        is_whole = is_whole or row.startswith("total bytes ")
+    if not is_whole:
+        source.refuse("its end is missing")
+    return found
+
+
+def lines_of(chunks: List[Chunk], disks: Dict[str, str], copy: int) -> Iterator[tables.Line]:
+    """A line for each chunk, and for what lies between them."""
+    end = 0
+    for chunk in chunks:
+        line = chunk.line(disks, copy)
+        if line.start < end:
+            chunk.refuse("it begins before the end of another")
+        if line.start > end:
+            yield tables.Line(end, line.start - end, "error", [])
+        yield line
+        end = line.start + line.length

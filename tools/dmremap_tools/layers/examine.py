@@ -1,0 +1,163 @@
+"""Members of md arrays, as `mdadm --examine` prints them."""
+
+import re
+from typing import Dict, List, NoReturn, Optional, Sequence, Tuple
+
+from dmremap_tools.base import quoting, streams
+from dmremap_tools.base.refusal import Refusal
+
+HEAD = re.compile(r"(/\S+|[^\s:][^:]*):")
+FIELD = re.compile(r" *([A-Z][A-Za-z0-9 ']*?) : (.*)")
+# What metadata 0.90 says of each device: the last number is its role.
+DEVICE = re.compile(r" *(this|\d+) +\d+ +\d+ +\d+ +(-?\d{1,4}) +(\S.*)")
+DEVICE_HEAD = re.compile(r" +Number +Major +Minor +RaidDevice State")
+OLD_VERSION = re.compile(r"0?0\.90\.\d\d")
+ROLE = re.compile(r"Active device (\d{1,4})")
+AMOUNT = re.compile(r"(\d{1,18})(?: (?:sectors|KiB))?(?: \(.*)?")
+EVENTS = re.compile(r"\d{1,20}(?:\.\d{1,20})?")
+CHUNK = re.compile(r"(\d{1,9})K")
+FEATURES = re.compile(r"0x([0-9a-f]{1,8})")
+# Bits of the feature map that don't change where data lies: a bitmap, bad blocks, a layout of raid0 that is said.
+BAD_BLOCKS = 0x8
+HARMLESS = 0x1 | BAD_BLOCKS | 0x1000
+CHANGING = ("Reshape pos'n", "Delta Devices", "New Level", "New Layout", "New Chunksize", "Recovery Offset")
+JOURNAL = ("Journal Offset", "Journal")
+MOST_DEVICES = 4096
+
+
+class Member:
+    """A member: its path, where the text speaks of it, its fields, and in metadata 0.90 what it says of each role."""
+
+    def __init__(self, place: str, path: str) -> None:
+        self.place, self.path = place, path
+        self.fields: Dict[str, str] = {}
+        self.states: Dict[str, Tuple[int, str]] = {}
+
+    def refuse(self, why: str) -> NoReturn:
+        """Refuses what is said of it."""
+        raise Refusal(self.place, why)
+
+    def get(self, *keys: str) -> str:
+        """The field that has the first of these keys."""
+        for key in keys:
+            if key in self.fields:
+                return self.fields[key]
+        self.refuse("nothing is said of '%s' of %s" % (keys[0], quoting.shown(self.path)))
+
+    def is_old(self) -> bool:
+        """Whether its metadata is 0.90, which counts in KiB, and has no offset."""
+        return bool(OLD_VERSION.fullmatch(self.get("Version")))
+
+    def number(self, *keys: str) -> int:
+        """The number that a field begins with."""
+        text = self.get(*keys)
+        match = AMOUNT.fullmatch(text)
+        if not match:
+            self.refuse("no number: %s : %s" % (keys[0], quoting.shown(text)))
+        return int(match[1])
+
+    def data_offset(self) -> int:
+        """Its first sector of data."""
+        return self.number("Data Offset") if "Data Offset" in self.fields else 0
+
+    def used(self) -> int:
+        """How many of its sectors an array of level 4, 5, 6 or 10 uses."""
+        return 2 * self.number("Used Dev Size") if self.is_old() else self.number("Used Dev Size", "Avail Dev Size")
+
+    def role(self) -> Optional[int]:
+        """Its place in the array, or None if it has none, as a spare."""
+        if self.is_old():
+            role, state = self.states.get("this", (-1, ""))
+            return role if role >= 0 and state.startswith("active sync") else None
+        match = ROLE.fullmatch(self.get("Device Role"))
+        return int(match[1]) if match else None
+
+    def events(self) -> List[int]:
+        """How often the array had changed when it was written last."""
+        text = self.get("Events")
+        if not EVENTS.fullmatch(text):
+            self.refuse("no number: Events : " + quoting.shown(text))
+        return [int(it) for it in text.split(".")]
+
+    def is_dropped(self, role: int) -> bool:
+        """Whether it says that the array has this role no more."""
+        if self.is_old():
+            others = [it for key, it in self.states.items() if key != "this"]
+            return any(other == role and not state.startswith("active sync") for other, state in others)
+        state = self.fields.get("Array State", "").split(" ")[0]
+        return role < len(state) and state[role] != "A"
+
+    def check(self) -> None:
+        """Refuses it if its sum is wrong, or data lies elsewhere than its fields say."""
+        if not self.get("Checksum").endswith(" - correct"):
+            self.refuse("its sum is wrong")
+        features = FEATURES.fullmatch(self.fields.get("Feature Map", "0x0"))
+        others = int(features[1], 16) & ~HARMLESS if features else HARMLESS
+        if any(it in self.fields for it in JOURNAL) or others & 0x200:
+            self.refuse("it has a journal, where the newest data may be")
+        if others or any(it in self.fields for it in CHANGING):
+            self.refuse("it is being reshaped or rebuilt: feature map " + quoting.shown(self.fields.get("Feature Map", "0x0")))
+        if features and int(features[1], 16) & BAD_BLOCKS:
+            streams.tell("%s has bad blocks: a kernel reads another copy there" % self.path)
+
+
+def read(path: str) -> List[Member]:
+    """The members that a text has."""
+    found: List[Member] = []
+    for number, row in enumerate(streams.rows(path), 1):
+        head, field, device = HEAD.fullmatch(row), FIELD.fullmatch(row), DEVICE.fullmatch(row)
+        if head:
+            found.append(Member("%s:%d" % (path, number), head[1]))
+        elif found and field:
+            found[-1].fields.setdefault(field[1], field[2].strip())
+        elif found and device:
+            found[-1].states[device[1]] = int(device[2]), device[3]
+        elif row.strip() and not DEVICE_HEAD.fullmatch(row):
+            raise Refusal("%s:%d" % (path, number), "not a line of `mdadm --examine`: " + quoting.shown(row))
+    if not found:
+        raise Refusal(path, "no member of an array")
+    return found
+
+
+def same(members: Sequence[Member], *keys: str) -> str:
+    """What all members say of a field."""
+    values = {it.get(*keys) for it in members}
+    if len(values) > 1:
+        members[0].refuse("the members differ in '%s': %s" % (keys[0], quoting.shown(", ".join(sorted(values)))))
+    return values.pop()
+
+
+def by_role(members: Sequence[Member]) -> Tuple[Dict[int, Member], int]:
+    """The members by their roles, all of the last state that any of them tells, and how many roles there are."""
+    same(members, "Array UUID", "UUID")
+    same(members, "Raid Level")
+    same(members, "Raid Devices")
+    count, version = members[0].number("Raid Devices"), same(members, "Version")
+    if version not in ("1.0", "1.1", "1.2") and not OLD_VERSION.fullmatch(version):
+        members[0].refuse("metadata of version %s, and only 0.90 and 1.0 to 1.2 are known" % quoting.shown(version))
+    if not 0 < count <= MOST_DEVICES:
+        members[0].refuse("no array has %d devices" % count)
+    newest, found = max(it.events() for it in members), {}
+    for it in members:
+        it.check()
+        role = it.role()
+        if role is None or role >= count:
+            streams.tell("left out: %s, which is no active device" % it.path)
+        elif it.events() != newest:
+            streams.tell("left out: %s, which was away when others changed" % it.path)
+        elif role in found:
+            it.refuse("%s is device %d as well" % (quoting.shown(found[role].path), role))
+        else:
+            found[role] = it
+    return _without_dropped(found) or members[0].refuse("no member of it is active"), count
+
+
+def _without_dropped(found: Dict[int, Member]) -> Dict[int, Member]:
+    """Without the members that others have dropped."""
+    kept = {}
+    for role, it in found.items():
+        if any(other.is_dropped(role) for other in found.values()):
+            streams.tell("left out: %s, which the array has dropped" % it.path)
+        else:
+            kept[role] = it
+    return kept

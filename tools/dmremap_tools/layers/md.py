@@ -1,0 +1,127 @@
+"""Table text of an md array, or answers that end at one followed on to its members.
+
+Has what `mdadm --examine` prints of all members of an array, which may be images; metadata 0.90 and 1.0 to 1.2. Gets a table
+of the array, named --name: of linear, raid0, raid1 and raid4, and of raid10 whose copies are far, or near and divide the
+members. Where there are copies, the table is of the first that is there, or of --copy, counted from 0; a write goes to all of
+them, and raid4 writes parity as well, so ask for reads. A kernel reads any copy.
+
+With --follow DISK it has answers too, and gets them with each piece on that disk followed on to the members: of raid4, raid5
+and raid6 in all their layouts, and of raid10 of all kinds. A read of raid10 is of --copy, or of another one where that one is
+missing; a write is of each copy that is there.
+
+--path names a member's disk in the table, where that isn't its path. Metadata 0.90 of linear and raid0 doesn't say how long
+the members are: --size does. Left out is a member that is a spare, was away, or was dropped. Refuses members that differ in
+what they say of the array, that are being reshaped or rebuilt, that have a journal or a wrong sum, and what needs one that is
+missing. In answers it refuses writes beside parity, copies and fills, and what lies past the end.
+"""
+
+import argparse
+from typing import Dict, Iterator, List, Tuple
+
+from dmremap_tools.base import names, numbers, pieces, quoting, streams
+from dmremap_tools.base.refusal import WrongWords
+from dmremap_tools.layers import arrays, examine
+
+# The name of a disk, a sector of it, and how many follow.
+Run = Tuple[str, int, int]
+
+EXAMPLE = "dmremap-tools md --name md0 examine.txt > md0.table"
+
+
+def add_words(parser: argparse.ArgumentParser) -> None:
+    """Adds the arguments."""
+    what = parser.add_mutually_exclusive_group(required=True)
+    what.add_argument("--name", metavar="NAME", help="the device of the table")
+    what.add_argument("--follow", metavar="DISK", help="the array, as the answers name it")
+    parser.add_argument("--copy", metavar="N", type=numbers.word, help="which copy, counted from 0")
+    parser.add_argument("--path", metavar="MEMBER=DISK", action="append", default=[], help="the name of a member's disk")
+    parser.add_argument("--size", metavar="MEMBER=SECTORS", action="append", default=[], help="how long a member is")
+    parser.add_argument("examined", metavar="EXAMINED", help="what mdadm --examine printed")
+    parser.add_argument("file", metavar="PIECES", nargs="?", default="-", help="with --follow, answers; else standard input")
+
+
+def run(words: argparse.Namespace) -> None:
+    """Prints a table, or answers."""
+    sizes = {path: streams.whole("--size", size) for path, size in _pairs(words.size, "--size MEMBER=SECTORS").items()}
+    array = arrays.Array(examine.read(words.examined), _pairs(words.path, "--path MEMBER=DISK"), sizes)
+    if words.name is not None:
+        name = names.Names().device(words.name, names.Word("--name"))
+        for line in list(arrays.lines_of(array, words.copy)):
+            streams.out.write("%s: %s\n" % (name, line))
+    else:
+        follow(array, words.follow, words.copy, pieces.Answers(words.file))
+
+
+def _pairs(given: List[str], form: str) -> Dict[str, str]:
+    """What options of the form A=B give, each A once."""
+    found: Dict[str, str] = {}
+    for word in given:
+        path, _, value = word.partition("=")
+        if not path or not value or path in found:
+            raise WrongWords("usage: %s\nnot %s, or twice: %s" % (form, form, quoting.shown(word)))
+        found[path] = value
+    return found
+
+
+def follow(array: arrays.Array, disk: str, copy: "int | None", source: pieces.Answers) -> None:
+    """Prints answers with the pieces on a disk followed on."""
+    near, far, _ = array.copies
+    if array.level not in (*arrays.PARITY, "raid10"):
+        array.refuse("--follow isn't for %s, of which there is a table" % quoting.shown(array.level))
+    if copy is not None and copy >= near * far:
+        array.refuse("it has %d copies, counted from 0" % (near * far))
+    for piece in source:
+        if disk not in (piece.disk, piece.to):
+            is_move = piece.what in ("R", "W")
+            streams.out.write(("%d %s %s %d %d" % (piece.request, piece.what, piece.disk, piece.start, piece.count) if is_move
+                               else source.line) + "\n")
+            continue
+        if piece.what not in ("R", "W") or piece.what == "W" and array.level in arrays.PARITY:
+            source.refuse_line("on %s only reads are followed" % quoting.shown(disk))
+        if piece.start + piece.count > array.sectors:
+            source.refuse_line("%s has %d sectors" % (quoting.shown(disk), array.sectors))
+        for name, start, count in _joined(_read(array, piece, copy or 0) if piece.what == "R" else _written(array, piece)):
+            streams.out.write("%d %s %s %d %d\n" % (piece.request, piece.what, name, start, count))
+
+
+def _chunks(array: arrays.Array, piece: pieces.Piece) -> Iterator[Tuple[int, int, int]]:
+    """The chunks of a piece: the number, where the piece begins in it, and how many of its sectors it has."""
+    start, end = piece.start, piece.start + piece.count
+    while start < end:
+        number, at = divmod(start, array.chunk)
+        count = min(end - start, array.chunk - at)
+        yield number, at, count
+        start += count
+
+
+def _read(array: arrays.Array, piece: pieces.Piece, first: int) -> Iterator[Run]:
+    """Where a piece is read: in one of the copies, or in the next one that is there."""
+    many = array.copies.near * array.copies.far
+    for number, at, count in _chunks(array, piece):
+        places = [arrays.place(array, number, (first + it) % many) for it in range(many)]
+        role, row = next((it for it in places if it[0] in array.by_role), places[0])
+        yield array.disk(role), array.member(role).data_offset() + row * array.chunk + at, count
+
+
+def _written(array: arrays.Array, piece: pieces.Piece) -> Iterator[Run]:
+    """Where a piece is written: in each copy that is there, one after the other."""
+    for number, _, _ in _chunks(array, piece):
+        if not any(arrays.place(array, number, it)[0] in array.by_role for it in range(array.copies.near * array.copies.far)):
+            array.member(arrays.place(array, number, 0)[0])
+    for copy in range(array.copies.near * array.copies.far):
+        for number, at, count in _chunks(array, piece):
+            role, row = arrays.place(array, number, copy)
+            if role in array.by_role:
+                yield array.disk(role), array.member(role).data_offset() + row * array.chunk + at, count
+
+
+def _joined(runs: Iterator[Run]) -> Iterator[Run]:
+    """The same, with what follows each other on a disk as one."""
+    name, start, count = next(runs)
+    for other, at, more in runs:
+        if other == name and at == start + count:
+            count += more
+        else:
+            yield name, start, count
+            name, start, count = other, at, more
+    yield name, start, count

@@ -1,0 +1,56 @@
+"""The lines of a device that is made here, as a whole or the part of it that is asked for: dmremap takes 65,536 lines of a
+table, and 1 MiB of text."""
+
+from argparse import ArgumentParser, Namespace
+from typing import Iterable, Iterator, List, Optional, Tuple
+
+from dmremap_tools.base import names, numbers, quoting, tables
+from dmremap_tools.base.refusal import Refusal
+
+MOST_LINES, MOST_TEXT = 1 << 16, 1 << 20
+
+
+def add_words(parser: ArgumentParser) -> None:
+    """Adds --part."""
+    parser.add_argument("--part", metavar=("START", "SECTORS"), nargs=2, type=numbers.word,
+                        help="only the lines that these sectors lie in; what is beside them becomes `error`")
+
+
+def part_of(words: Namespace) -> Optional[Tuple[int, int]]:
+    """The first sector that is asked for, and the one after the last; None for all."""
+    return (words.part[0], words.part[0] + words.part[1]) if words.part is not None else None
+
+
+def disk_in(word: str, option: str) -> str:
+    """A disk or a device of another text, as lines name it."""
+    if not names.DISK.fullmatch(word) and not (word.startswith(names.MAPPER) and names.FORM.fullmatch(word[len(names.MAPPER):])):
+        raise Refusal(option, "no name of a disk: '%s'" % quoting.shown(word))
+    return word
+
+
+def device_of(name: str, flags: str, lines: Iterable[tables.Line], part: Optional[Tuple[int, int]]) -> tables.Device:
+    """A device of these lines, or of those that the part lies in, with `error` around them."""
+    device, size = tables.Device(names.Names().device(name, names.Word("NAME")), flags), 0
+    for line in lines if part is None else _meeting(lines, *part):
+        size += len(name) + len(str(line)) + 3
+        if len(device.lines) == MOST_LINES or size > MOST_TEXT:
+            raise Refusal(device.name, "it has more than %d lines, or %d bytes of them, which is all that dmremap takes: "
+                          "ask for a part, with --part START SECTORS" % (MOST_LINES, MOST_TEXT))
+        device.lines.append(line)
+    if not device.lines:
+        raise Refusal(device.name, "it has no sectors")
+    return device
+
+
+def _meeting(lines: Iterable[tables.Line], first: int, end: int) -> Iterator[tables.Line]:
+    left: List[int] = []
+    for line in lines:
+        if line.start < end and line.start + line.length > first:
+            if left:
+                yield tables.Line(left[0], line.start - left[0], "error", [])
+                left = []
+            yield line
+        else:
+            left = [left[0] if left else line.start, line.start + line.length]
+    if left:
+        yield tables.Line(left[0], left[1] - left[0], "error", [])

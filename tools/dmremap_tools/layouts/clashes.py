@@ -1,0 +1,68 @@
+"""Every two lines of a stack that have sectors in common, and which.
+
+Has SPANS, what `spans` printed; else standard input. Gets on what, the first and the last sector that two lines have in
+common, and their devices. `dmremap check` prints the first clash alone. Snapshots may share an origin, also with the line
+`snapshot-origin` that serves them.
+"""
+
+import argparse
+import heapq
+from typing import Dict, List, Tuple
+
+from dmremap_tools.base import streams
+from dmremap_tools.layouts import span_lines
+from dmremap_tools.layouts.span_lines import Span
+
+EXAMPLE = "dmremap-tools spans stack.disks stack.table | dmremap-tools clashes"
+ORIGIN, SERVES, OTHER = "origin", "snapshot-origin", "other"
+# The kinds that have no sector in common with one of these.
+MEET = {ORIGIN: (OTHER,), SERVES: (SERVES, OTHER), OTHER: (ORIGIN, SERVES, OTHER)}
+
+
+class Open:
+    """The spans of a disk or a device that have not ended, by kind and then by their ends.
+
+    Of those that don't meet a span none is looked at, so the time is that of what is printed.
+    """
+
+    def __init__(self) -> None:
+        self._spans: Dict[str, List[Tuple[int, int, Span]]] = {ORIGIN: [], SERVES: [], OTHER: []}
+        self._count = 0
+
+    def meeting(self, span: Span) -> List[Span]:
+        """Those that may not have sectors in common with this one and do, in the order in which they began."""
+        found: List[Tuple[int, Span]] = []
+        for spans in self._spans.values():
+            while spans and spans[0][0] <= span.first:
+                heapq.heappop(spans)
+        for kind in MEET[kind_of(span)]:
+            found += [(number, it) for _, number, it in self._spans[kind]]
+        return [it for _, it in sorted(found)]
+
+    def add(self, span: Span) -> None:
+        """Opens a span."""
+        self._count += 1
+        heapq.heappush(self._spans[kind_of(span)], (span.end, self._count, span))
+
+
+def kind_of(span: Span) -> str:
+    """What counts of a span's kind."""
+    return span.kind if span.kind in (ORIGIN, SERVES) else OTHER
+
+
+def add_words(parser: argparse.ArgumentParser) -> None:
+    """Adds SPANS."""
+    parser.add_argument("spans", metavar="SPANS", nargs="?", default="-")
+
+
+def run(words: argparse.Namespace) -> None:
+    """Prints each clash."""
+    on, opened = "", Open()
+    for span in span_lines.spans_in(words.spans):
+        if span.kind == span_lines.END or span.first == span.end:
+            continue
+        if span.on != on:
+            on, opened = span.on, Open()
+        for other in opened.meeting(span):
+            streams.out.write("%s %d %d %s %s\n" % (on, span.first, min(other.end, span.end) - 1, other.device, span.device))
+        opened.add(span)

@@ -1,0 +1,77 @@
+"""What the metadata of a volume group says of physical volumes: what they have for themselves, and which extents belong to
+volumes that no line names."""
+
+from typing import Collection, Dict, Iterator, List, NamedTuple
+
+from dmremap_tools.base import config_text, quoting, streams
+from dmremap_tools.base.config_text import Node
+from dmremap_tools.base.refusal import Refusal
+from dmremap_tools.metadata.volume_group import Group, Segment
+
+# The kind of what is taken though no line names it; `device` says what it is.
+ALLOCATED = "allocated"
+
+
+class Taken(NamedTuple):
+    """A range of a physical volume, of the device and with the kind of a span, and which sector of the device it begins with."""
+
+    first: int
+    end: int
+    device: str
+    start: str
+    kind: str
+
+
+class PhysicalVolume(NamedTuple):
+    """A physical volume: its key and path in the metadata, where its extents begin, and what is taken of it."""
+
+    key: str
+    path: str
+    taken: List[Taken]
+
+
+def physical_volumes(path: str, named: Collection[str]) -> Iterator[PhysicalVolume]:
+    """The physical volumes in a text of lvm2. Volumes with these names of devices have lines, and are left out here."""
+    top = config_text.Document(path, streams.read_bytes(path)).top
+    groups = [group for group in map(Group, top.sections()) if group.physicals]
+    if not groups:
+        raise Refusal(path, "no physical volumes of a group")
+    for group in groups:
+        found = {key: PhysicalVolume(word_of(key), word_of(node.value(b"device", bytes) or b"no path"), own(path, group, node))
+                 for key, node in group.physicals.items()}
+        for name, volume in group.volumes.items():
+            device = word_of(b"-".join(it.replace(b"-", b"--") for it in (group.name, name)))
+            if device not in named and group.extent_size:
+                for segment in volume.segments:
+                    add_segment(group, segment, device, found)
+        yield from found.values()
+
+
+def own(path: str, group: Group, node: Node) -> List[Taken]:
+    """What a physical volume has for itself: before its extents, and after them, where a second area may lie."""
+    start, count, size = (node.value(it, int) for it in (b"pe_start", b"pe_count", b"dev_size"))
+    if start is None or start < 0:
+        raise Refusal(path, "no pe_start of " + config_text.shown(node.key))
+    name = word_of(group.name)
+    found = [Taken(0, start, name, "-", "label+metadata")]
+    if count is not None and count >= 0 and size is not None and group.extent_size:
+        found.append(Taken(start + count * group.extent_size, size, "end-of-" + name, "-", ALLOCATED))
+    return [it for it in found if it.first < it.end]
+
+
+def add_segment(group: Group, segment: Segment, device: str, found: Dict[bytes, PhysicalVolume]) -> None:
+    """Adds the extents that a segment has on physical volumes, as far as its figures make sense."""
+    begin = segment.node.value(b"start_extent", int)
+    if begin is None or begin < 0 or not segment.count or segment.count < 0 or not segment.stripes:
+        return
+    length = -(-segment.count // len(segment.stripes)) * group.extent_size
+    for key, place in segment.stripes:
+        start = group.physicals[key].value(b"pe_start", int) if key in group.physicals else None
+        if start is not None and isinstance(place, int) and place >= 0:
+            first = start + place * group.extent_size
+            found[key].taken.append(Taken(first, first + length, device, str(begin * group.extent_size), ALLOCATED))
+
+
+def word_of(content: bytes) -> str:
+    """Bytes of the metadata as a word of a line."""
+    return quoting.escaped(content.decode("utf-8", "surrogateescape")).replace(" ", "\\x20")

@@ -1,0 +1,124 @@
+"""What lies where: each range of a disk or a device that a line of a stack uses.
+
+Has DISKS, FILE, which is table text or concise text of a stack that dmremap loads, and perhaps the metadata of volume groups.
+Gets a line for each range, sorted: on what, the first sector, the sector after the last, the device whose line it is,
+where that line begins on it, and as what. A line with `end` says where a disk or a device ends.
+
+A snapshot uses all of its origin, as `origin`, and all of its store. With metadata, what a physical volume has before its
+extents, its label and an area for the metadata, is `label+metadata` of its group; what it has after them, where a second
+area may lie, and the extents of volumes that have no line, as inactive ones, are `allocated`. With --paths the disks are
+read, and partition tables, partitions without a line, headers of LUKS, and labels and areas of LVM are `allocated` as well.
+"""
+
+from argparse import ArgumentParser, Namespace
+from typing import Dict, Iterator, List, Optional, Sequence
+
+from dmremap_tools.base import disk_image, disks, names, paths, quoting, streams, tables
+from dmremap_tools.base.disk_image import Image
+from dmremap_tools.base.numbers import SECTOR
+from dmremap_tools.base.refusal import Refusal
+from dmremap_tools.layouts.group_spans import ALLOCATED, PhysicalVolume, physical_volumes
+from dmremap_tools.layouts.heads import heads_of
+from dmremap_tools.layouts.span_lines import END, Span
+from dmremap_tools.layouts.uses import DEEPEST
+
+EXAMPLE = "dmremap-tools spans stack.disks stack.table > spans"
+PARTITION = "partition-"
+
+
+def add_words(parser: ArgumentParser) -> None:
+    """Adds DISKS, FILE, METADATA and --paths."""
+    parser.add_argument("disks", metavar="DISKS")
+    parser.add_argument("file", metavar="FILE")
+    parser.add_argument("metadata", metavar="METADATA", nargs="*")
+    paths.add_words(parser)
+
+
+def run(words: Namespace) -> None:
+    """Prints the ranges."""
+    devices = tables.read(words.file)[0]
+    spans = Spans(disks.read(words.disks), devices)
+    for path in words.metadata:
+        for physical in physical_volumes(path, {it.name for it in devices}):
+            spans.add_physical(physical)
+    if words.paths is not None:
+        found = paths.read(words.paths)
+        images = {disk: disk_image.open_image(found[disk]) for disk in spans.disks if disk in found}
+        for on, image in images_in(images, devices):
+            spans.add_heads(on, image)
+    for span in spans.sorted():
+        streams.out.write(str(span))
+
+
+def images_in(images: Dict[str, Image], devices: Sequence[tables.Device]) -> "Iterator[tuple[str, Image]]":
+    """The images of disks, and the beginnings of devices that lie on them in one piece."""
+    yield from images.items()
+    known = {names.MAPPER + it.name: it for it in devices}
+    for device in devices:
+        image = beginning(device, images, known)
+        if image:
+            yield names.MAPPER + device.name, image
+
+
+def beginning(device: tables.Device, images: Dict[str, Image], devices: Dict[str, tables.Device]) -> Optional[Image]:
+    """The first linear line of a device, where that lies on an image through other such lines."""
+    at, size = 0, device.lines[0].length
+    for _ in range(DEEPEST):
+        line = device.lines[0]
+        if line.target != "linear" or at + size > line.length:
+            return None
+        lower, first = line.words[0], int(line.words[1])
+        if lower in images:
+            return images[lower].part((first + at) * SECTOR, size * SECTOR)
+        if lower not in devices:
+            return None
+        device, at = devices[lower], at + first
+    return None
+
+
+class Spans:
+    """The ranges, and how long each disk and each device is."""
+
+    def __init__(self, sizes: Dict[str, int], devices: Sequence[tables.Device]) -> None:
+        self.disks, self._sizes = list(sizes), dict(sizes)
+        self._sizes.update((names.MAPPER + it.name, it.end()) for it in devices)
+        self._spans: List[Span] = []
+        self._ended = dict.fromkeys(sizes)
+        for device in devices:
+            self._add_device(device)
+
+    def sorted(self) -> List[Span]:
+        """All ranges and ends, by what they are on and their first sector."""
+        ends = [Span(on, self._sizes[on], self._sizes[on], "-", "-", END) for on in self._ended]
+        return sorted(self._spans + ends)
+
+    def add_physical(self, physical: PhysicalVolume) -> None:
+        """Adds what is taken of a physical volume, if it is a disk or a device here."""
+        on = next((it for it in tables.names_in(physical.path) + [physical.key] if it in self._sizes), None)
+        if on is None:
+            streams.tell("left out: the physical volume %s (%s), which is neither a disk nor a device here"
+                         % (physical.key, physical.path))
+            return
+        for taken in physical.taken:
+            self._add(Span(on, *taken))
+
+    def add_heads(self, on: str, image: Image) -> None:
+        """Adds what the beginning of a disk or a device says is taken, and those partitions in which nothing lies."""
+        for first, end, what in heads_of(image):
+            end = min(end, self._sizes[on])
+            is_used = what.startswith(PARTITION) and any(it.on == on and it.first < end and first < it.end for it in self._spans)
+            if first < end and not is_used:
+                self._add(Span(on, first, end, what, "-", ALLOCATED))
+
+    def _add(self, span: Span) -> None:
+        self._spans.append(span)
+        self._ended[span.on] = None
+
+    def _add_device(self, device: tables.Device) -> None:
+        for line in device.lines:
+            for place, (lower, first, count) in enumerate(line.spans()):
+                if lower not in self._sizes:
+                    raise Refusal(quoting.shown(lower), "neither a disk nor a device")
+                kind = line.target if line.target != "snapshot" else ("origin", "store")[place]
+                end = self._sizes[lower] if count is None else first + count
+                self._add(Span(lower, first, end, device.name, str(line.start), kind))

@@ -1,0 +1,97 @@
+"""When the stores of snapshots are full: the request that makes each of them invalid.
+
+Has REQUESTS, a file, and what maps them: FORMAT, FILE and DISKS, as `dmremap map` takes them. Gets a line for each
+snapshot: the request that makes it invalid, and how full its store was before that, as `--status` prints it. Refuses
+what dmremap refuses, and a FILE without snapshots.
+
+dmremap is run over the first half of the requests, then over less or more of them, and so on: about twenty times for a
+million requests. A snapshot of kind `K` stays valid by its own writes when its store is full, so only a write to its
+origin ends it.
+"""
+
+import os
+import stat
+from argparse import ArgumentParser, Namespace
+from typing import Dict, Optional, Tuple
+
+from dmremap_tools.base import program, streams
+from dmremap_tools.base.refusal import Refusal
+from dmremap_tools.layouts.statuses import statuses_after
+
+EXAMPLE = "dmremap-tools store-full requests table snaps.table snaps.disks"
+INVALID = "Invalid"
+# More bytes than a request has.
+LONGEST = 8192
+
+
+def add_words(parser: ArgumentParser) -> None:
+    """Adds the arguments."""
+    parser.add_argument("requests", metavar="REQUESTS")
+    parser.add_argument("format", metavar="FORMAT", choices=("table", "concise", "lvm"))
+    parser.add_argument("sources", metavar="FILE", nargs="+", help="FILE and DISKS")
+    program.add_words(parser)
+
+
+def run(words: Namespace) -> None:
+    """Prints a line for each snapshot."""
+    command = [program.dmremap(words.program), "map", words.format, *words.sources, "--status"]
+    runs = Runs(words.requests, command)
+    if not runs.statuses(runs.size):
+        raise Refusal(words.requests, "the command knows no snapshot")
+    for name, status in runs.statuses(runs.size).items():
+        if status == INVALID:
+            low, high = runs.last_valid(name)
+            streams.out.write("%s: invalid by request %d, before it %s\n" % (name, runs.requests(high), runs.statuses(low)[name]))
+        else:
+            streams.out.write("%s: valid to the end, %s\n" % (name, status))
+
+
+class Runs:
+    """dmremap over the beginnings of a file, in bytes. Each run is made once."""
+
+    def __init__(self, path: str, command: "list[str]") -> None:
+        self._command = command
+        try:
+            self._file = open(path, "rb")
+            found = os.fstat(self._file.fileno())
+        except OSError as fault:
+            raise Refusal(path, streams.why(fault))
+        if not stat.S_ISREG(found.st_mode):
+            raise Refusal(path, "not a file of requests")
+        self.size = found.st_size
+        self._known: Dict[int, Dict[str, str]] = {}
+
+    def statuses(self, size: int) -> Dict[str, str]:
+        """The status of each snapshot after the requests in so many bytes."""
+        if size not in self._known:
+            streams.show_progress("run %d, over %d of %d bytes" % (len(self._known) + 1, size, self.size))
+            self._known[size] = statuses_after(self._command, self._file, size)
+        return self._known[size]
+
+    def last_valid(self, name: str) -> Tuple[int, int]:
+        """The end of the last request after which the snapshot is valid, and that of the next one."""
+        low, high = 0, self.size
+        middle = self._between(low, high)
+        while middle is not None:
+            low, high = (middle, high) if self.statuses(middle)[name] != INVALID else (low, middle)
+            middle = self._between(low, high)
+        return low, high
+
+    def requests(self, size: int) -> int:
+        """How many requests there are in so many bytes."""
+        count = 0
+        self._file.seek(0)
+        for at in range(0, size, 1 << 20):
+            count += self._file.read(min(1 << 20, size - at)).count(b"\n")
+        return count
+
+    def _between(self, low: int, high: int) -> Optional[int]:
+        """The end of a request about halfway between the ends of two others, or None if there is none."""
+        middle = (low + high) // 2
+        self._file.seek(middle)
+        end = middle + len(self._file.readline(LONGEST))
+        if end == high:
+            begin = max(low, middle - LONGEST)
+            self._file.seek(begin)
+            end = begin + self._file.read(middle - begin).rfind(b"\n") + 1
+        return end if low < end < high else None

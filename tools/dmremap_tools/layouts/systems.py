@@ -1,0 +1,38 @@
+"""The kind of a file system, by what stands at its beginning."""
+
+import os
+import re
+
+from dmremap_tools.answers.sources import opened
+from dmremap_tools.base import quoting
+from dmremap_tools.base.refusal import Refusal
+from dmremap_tools.layouts import ext_system
+from dmremap_tools.layouts.asked_runs import AskedRuns
+from dmremap_tools.layouts.xfs_system import XfsSystem
+
+PLACED = re.compile(r"(.*)\?offset=([0-9]{1,19})", re.S)
+XFS, BTRFS, BTRFS_AT = b"XFSB", b"_BHRfS_M", 65536 + 64
+
+
+def system_in(image: str, asked: AskedRuns, is_damaged: bool, superblock: "int | None") -> "ext_system.ExtSystem | XfsSystem":
+    """The file system in an image, with what is asked for looked up."""
+    placed = PLACED.fullmatch(image)
+    path, at = (placed[1], int(placed[2])) if placed else (image, 0)
+    descriptor = opened(path)
+    is_btrfs, is_xfs = read_at(descriptor, at + BTRFS_AT, len(BTRFS)) == BTRFS, read_at(descriptor, at, len(XFS)) == XFS
+    os.close(descriptor)
+    if is_btrfs:
+        raise Refusal(quoting.shown(image), "it is btrfs, whose files have no places on a device that debugfs or xfs_db tells")
+    if not is_xfs:
+        return ext_system.ExtSystem(image, asked, list(ext_system.tries(is_damaged, superblock)))
+    if at:
+        raise Refusal(quoting.shown(image), "it is XFS, and xfs_db reads no file system within a file: `losetup -r -o %d`" % at)
+    return XfsSystem(path, asked)
+
+
+def read_at(descriptor: int, at: int, count: int) -> bytes:
+    """Some bytes of a file, as far as they are there and can be read."""
+    try:
+        return os.pread(descriptor, count, at)
+    except (OSError, OverflowError):
+        return b""

@@ -1,0 +1,134 @@
+"""An XFS file system: which files have its blocks, as xfs_db of xfsprogs says it, which only reads here."""
+
+import os
+import re
+import stat
+import tempfile
+from typing import Dict, Iterable, List, NamedTuple, NoReturn, Sequence, Tuple
+
+from dmremap_tools.base import numbers, program, quoting, streams
+from dmremap_tools.base.refusal import Refusal
+from dmremap_tools.layouts.asked_runs import MOST_BLOCKS, AskedRuns
+
+FIGURE = re.compile(r"^(blocksize|dblocks|agblocks|agblklog|inopblog|inodesize) = ([0-9]{1,20})$", re.M)
+USE = re.compile(r"^block [0-9]{1,20} \(([0-9]{1,10})/([0-9]{1,10})\) type ([a-z0-9]+)(?: inode ([0-9]{1,20}))?$", re.M)
+MOST_COMPLAINTS, MOST_BLOCK = 3, 1 << 16
+
+
+class Geometry(NamedTuple):
+    """What the superblock says: sizes in bytes, numbers of blocks, and logarithms of blocks and inodes."""
+
+    blocksize: int
+    dblocks: int
+    agblocks: int
+    agblklog: int
+    inopblog: int
+    inodesize: int
+
+    def is_sound(self) -> bool:
+        """Whether its figures can be computed with."""
+        is_block = numbers.SECTOR <= self.blocksize <= MOST_BLOCK and self.blocksize % numbers.SECTOR == 0
+        return is_block and self.agblocks > 0 and max(self.agblklog, self.inopblog) < 64 and 0 < self.inodesize <= self.blocksize
+
+
+class XfsSystem:
+    """The files that have the sectors that are asked for. `sectors` has each block; `end` is the block after the last."""
+
+    def __init__(self, image: str, asked: AskedRuns) -> None:
+        self._image = image
+        self._geometry = self._read_geometry()
+        self.sectors, self.end = self._geometry.blocksize // numbers.SECTOR, self._geometry.dblocks
+        blocks = asked.blocks(self.sectors, self.end)
+        self._uses = self._read_uses(blocks)
+        inodes = {inode for _, inode in self._uses.values() if inode}
+        for run in asked.runs:
+            for block, first, end in run.parts(self.sectors):
+                if self._uses.get(block, ("", 0))[0] == "inode":
+                    inodes.update(self._inodes_at(block, first, end))
+        self._names = self._read_names(sorted(inodes))
+
+    def users(self, block: int, first: int, end: int) -> List[str]:
+        """The file that has these sectors of a block, or words for what has it else."""
+        kind, inode = self._uses[block]
+        if inode:
+            return [self._names.get(inode) or "inode %d" % inode]
+        if kind == "inode":
+            names = (self._names.get(it) for it in self._inodes_at(block, first, end))
+            return ["inode table: " + it for it in names if it] or ["inode table"]
+        if kind == "unknown":
+            return ["no inode"]
+        return ["unused" if kind.startswith("free") and kind != "freelist" else "in use"]
+
+    def _read_geometry(self) -> Geometry:
+        printed, complaints = self._ask(["sb 0", "print " + " ".join(Geometry._fields)])
+        figures = {name: int(figure) for name, figure in FIGURE.findall(printed)}
+        if len(figures) < len(Geometry._fields) or not Geometry(**figures).is_sound():
+            self._refuse(complaints)
+        return Geometry(**figures)
+
+    def _read_uses(self, blocks: Sequence[int]) -> Dict[int, Tuple[str, int]]:
+        """As what each of these blocks is used, and its inode, or 0."""
+        runs: List[List[int]] = []
+        for block in blocks:
+            if runs and runs[-1][1] == block and block % self._geometry.agblocks:
+                runs[-1][1] += 1
+            else:
+                runs.append([block, block + 1])
+        streams.show_progress("reading all of %s" % self._image)
+        commands = ["daddr %d\nblockuse -c %d" % (first * self.sectors, end - first) for first, end in runs]
+        printed, complaints = self._ask(["blockget"] + commands if blocks else [])
+        per_group = self._geometry.agblocks
+        found = {int(group) * per_group + int(place): (kind, int(inode or 0)) for group, place, kind, inode in USE.findall(printed)}
+        if not all(it in found for it in blocks):
+            self._refuse(complaints or printed.splitlines())
+        for complaint in complaints[:MOST_COMPLAINTS]:
+            streams.tell("xfs_db: " + quoting.shown(complaint))
+        return found
+
+    def _inodes_at(self, block: int, first: int, end: int) -> Iterable[int]:
+        """The inodes that lie in these sectors of a block."""
+        geometry = self._geometry
+        group, place = divmod(block, geometry.agblocks)
+        begin = ((group << geometry.agblklog) | place) << geometry.inopblog
+        at = block * geometry.blocksize
+        stop = -(-(end * numbers.SECTOR - at) // geometry.inodesize)
+        return range(begin + (first * numbers.SECTOR - at) // geometry.inodesize, begin + stop)
+
+    def _read_names(self, inodes: Sequence[int]) -> Dict[int, str]:
+        """The path of each of these inodes that has one. A line that nobody can foretell stands between two answers, as a
+        name may hold whatever looks like an answer. Where xfs_db complains, a folder above may be lost: ?/PATH."""
+        if len(inodes) > MOST_BLOCKS:
+            raise Refusal(quoting.shown(self._image), "more than %d inodes" % MOST_BLOCKS)
+        mark = os.urandom(16).hex()
+        printed, complaints = self._ask(["blockget -n"] + ["echo %s\nncheck -i %d" % (mark, it) for it in inodes] if inodes else [])
+        found = {}
+        said, *answers = printed.split(mark)
+        for inode, answer in zip(inodes, answers):
+            number, _, path = answer.partition("\n")[2].lstrip(" ").partition(" ")
+            if number == str(inode):
+                # A folder has a dot at the end, and the root nothing else.
+                path = "" if path == ".\n" else path[:-3] if path.endswith("/.\n") else path[:-1]
+                found[inode] = quoting.printable(("?/" if said or complaints else "/") + path)
+        return found
+
+    def _ask(self, commands: Sequence[str]) -> "tuple[str, List[str]]":
+        """What it answers to some commands, and what it complains of."""
+        is_file = stat.S_ISREG(status(self._image).st_mode)
+        with tempfile.TemporaryFile() as file:
+            file.write("".join(it + "\n" for it in commands).encode())
+            file.seek(0)
+            words = [program.found("xfs_db"), "-r", *(["-f"] if is_file else []), "-c", "source /dev/stdin", "--", self._image]
+            printed, said = program.ask_quietly(words, given=file.fileno())
+        return printed, said.splitlines()
+
+    def _refuse(self, complaints: Sequence[str]) -> NoReturn:
+        reason = "; ".join(map(quoting.shown, complaints[:MOST_COMPLAINTS])) or "not enough"
+        raise Refusal(quoting.shown(self._image), "xfs_db says: " + reason)
+
+
+def status(image: str) -> os.stat_result:
+    """What the system knows of a file."""
+    try:
+        return os.stat(image)
+    except OSError as fault:
+        raise Refusal(quoting.shown(image), streams.why(fault))

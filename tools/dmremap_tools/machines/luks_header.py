@@ -1,0 +1,95 @@
+"""The header of a LUKS container: where its data lies. Version 1 and 2, as cryptsetup documents them, and what its
+luksDump prints."""
+
+import hashlib
+import json
+import re
+import struct
+from typing import NamedTuple, Optional
+
+from dmremap_tools.base import numbers
+from dmremap_tools.base.disk_image import Image
+from dmremap_tools.base.numbers import SECTOR
+from dmremap_tools.base.refusal import Refusal
+
+MAGIC, SECOND_MAGIC, DUMP = b"LUKS\xba\xbe", b"SKUL\xba\xbe", b"LUKS header information"
+# Where the second header of version 2 may lie: the sizes that the first may have.
+SIZES = [1 << it for it in range(14, 23)]
+BINARY, SUM_AT, SUM_BYTES = 4096, 448, 64
+SUMS = ("sha1", "sha224", "sha256", "sha384", "sha512")
+FIELDS = {"uuid": re.compile(r"^UUID:\s+([-0-9a-fA-F]{1,64})$", re.M), "payload": re.compile(r"^Payload offset:\s+(\d{1,20})$", re.M),
+          "segments": re.compile(r"^  \d+: (\w+)\n\toffset: (\d{1,20}) \[bytes\]\n\tlength: (?:\(whole device\)|(\d{1,20}) \[bytes\])$", re.M)}
+
+
+class Container(NamedTuple):
+    """The id of a container, and where its data begins and how long that is, in sectors; without a length it goes on to the
+    end of the disk."""
+
+    uuid: str
+    start: int
+    length: Optional[int]
+
+
+def container_in(image: Image) -> Container:
+    """The container whose header, or the text of luksDump, is at the beginning of an image."""
+    head = image.read(0, BINARY)
+    if head.startswith(DUMP):
+        return _dumped(image)
+    version = int.from_bytes(head[6:8], "big")
+    if head.startswith(MAGIC) and version == 1 and len(head) >= 208:
+        start, = struct.unpack_from(">L", head, 104)
+        return Container(_text(head[168:208]), start, None)
+    for place in [0] + SIZES:
+        found = _second_version(image, place)
+        if found:
+            return found
+    raise Refusal(image.path, "no header of LUKS, and no text of luksDump" if not head.startswith(MAGIC) else "its header of LUKS is damaged")
+
+
+def _dumped(image: Image) -> Container:
+    """The container that luksDump tells of."""
+    text = image.read(0, 1 << 20).decode("utf-8", "replace")
+    uuid, payload, segments = FIELDS["uuid"].search(text), FIELDS["payload"].search(text), FIELDS["segments"].findall(text)
+    if uuid and payload and int(payload[1]) < numbers.LIMIT:
+        return Container(uuid[1], int(payload[1]), None)
+    if not uuid or not segments:
+        raise Refusal(image.path, "no text of luksDump that says where the data is")
+    return _one_segment(image, uuid[1], [(kind, start, length or "dynamic") for kind, start, length in segments])
+
+
+def _second_version(image: Image, place: int) -> Optional[Container]:
+    """The container of a header of version 2 at this byte, or None where none is sound."""
+    head = image.read(place, BINARY)
+    if len(head) < BINARY or head[:6] != (SECOND_MAGIC if place else MAGIC) or head[6:8] != b"\0\2":
+        return None
+    size, = struct.unpack_from(">Q", head, 8)
+    belongs, = struct.unpack_from(">Q", head, 256)
+    kind = _text(head[72:104])
+    if size not in SIZES or belongs != place or kind not in SUMS:
+        return None
+    area = image.read(place + BINARY, size - BINARY)
+    found = hashlib.new(kind, head[:SUM_AT] + bytes(SUM_BYTES) + head[SUM_AT + SUM_BYTES:] + area).digest()
+    if len(area) < size - BINARY or not head[SUM_AT:].startswith(found):
+        return None
+    try:
+        segments = json.loads(area.split(b"\0", 1)[0].decode("utf-8"))["segments"].values()
+        described = [(str(it["type"]), str(it["offset"]), str(it["size"])) for it in segments]
+    except (ValueError, KeyError, TypeError, AttributeError, RecursionError):
+        raise Refusal(image.path, "its header of LUKS doesn't say where the data is")
+    return _one_segment(image, _text(head[168:208]), described)
+
+
+def _one_segment(image: Image, uuid: str, segments: "list[tuple[str, str, str]]") -> Container:
+    """The container of one segment, which is a type, and an offset and a size in bytes."""
+    if len(segments) != 1 or segments[0][0] != "crypt":
+        raise Refusal(image.path, "it has %d segments, as while it is being encrypted anew: %s"
+                      % (len(segments), ", ".join(kind[:16] for kind, _, _ in segments[:4])))
+    start, length = numbers.read(segments[0][1]), numbers.read(segments[0][2])
+    if start is None or start % SECTOR or length is not None and (length == 0 or length % SECTOR) or length is None and segments[0][2] != "dynamic":
+        raise Refusal(image.path, "its header of LUKS doesn't say where the data is")
+    return Container(uuid, start // SECTOR, length // SECTOR if length is not None else None)
+
+
+def _text(content: bytes) -> str:
+    """The letters of a field, up to its NUL."""
+    return content.split(b"\0", 1)[0].decode("ascii", "replace")

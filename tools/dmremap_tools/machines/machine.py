@@ -1,0 +1,102 @@
+"""FILE and DISKS of a machine that has device-mapper devices of any kind.
+
+Have: four texts, which root can make on that machine:
+
+    dmsetup ls > ls.txt
+    dmsetup status > status.txt
+    lsblk -brno MAJ:MIN,SIZE,KNAME,PKNAME > lsblk.txt
+    dmsetup table --concise > concise.txt
+
+Without LSBLK the lengths are those of the disks or images in PATHS, whose lines begin with numbers, as `8:1 sda1.img`.
+
+Get: FILE in the form of the last text, which may be what `dmsetup table` prints instead, and DISKS with the disks that
+FILE names. Numbers of devices become their names, numbers of disks their paths, and lines of `crypt` linear ones: what
+lies there is encrypted, so compare nothing with it. `dmsetup table` doesn't say which devices are read-only, so all count
+as writable then. One device alone: `dmsetup table NAME | sed 's/^/NAME: /'`.
+
+A device that dmremap can't follow is told and left out; to the devices above it, it is a disk. Such are
+
+    devices of other targets, as thin, raid, mirror, cache, multipath, verity, integrity and snapshot-merge;
+    those without a table, or with a name that dmremap doesn't take (`dmsetup rename` gives another);
+    those that aren't as long as lsblk says, or go past the end of what lies below, or lie on a disk without a length;
+    snapshots whose status isn't as `16/1048576 16`, with two equal figures, so that their stores have copies, unless --store
+    names them: ask `used` then, with the same words;
+    those of kind PO or with features, not as long as their origin, or with a store that is read-only or not plain.
+
+An origin stays where a snapshot of it is left out, and it is said that copies for that one are missing in answers.
+
+With --only, which may be given several times, FILE has that device and all that it stands on.
+
+Refuses a text that isn't what one of these commands prints, and a machine of which nothing is left.
+"""
+
+import argparse
+from typing import Dict, List, Optional, Tuple
+
+from dmremap_tools.base import disk_image, listings, numbers, paths, quoting, streams, tables
+from dmremap_tools.base.refusal import Refusal, WrongWords
+from dmremap_tools.machines.found import NOT_ASKED, Found, leave_others, leave_unknown, read_status, read_tables
+from dmremap_tools.machines.stack import Stack
+
+EXAMPLE = "dmremap-tools machine --disks disks ls.txt status.txt lsblk.txt concise.txt > tables"
+
+
+def add_words(parser: argparse.ArgumentParser) -> None:
+    """Adds the four texts, and DISKS."""
+    parser.add_argument("--disks", metavar="DISKS", required=True, help="the file to write DISKS to")
+    parser.add_argument("--only", metavar="NAME", action="append", default=[], help="a device that is asked for, with all that it stands on")
+    parser.add_argument("--store", metavar="SNAPSHOT=IMAGE", action="append", default=[], help="a snapshot whose store `used` will read")
+    paths.add_words(parser)
+    for name, command in (("ls", "dmsetup ls"), ("status", "dmsetup status"), ("lsblk", listings.LSBLK_COMMAND),
+                          ("table", "dmsetup table --concise")):
+        parser.add_argument(name, metavar=name.upper(), nargs="?" if name == "lsblk" else None, help="what `%s` prints" % command)
+
+
+def run(words: argparse.Namespace) -> None:
+    """Reads the four texts, leaves out what dmremap would refuse, and writes the rest."""
+    beside = streams.beside(words.disks)
+    devices = {number: Found(name, number) for name, number in listings.read_ls(words.ls)}
+    is_known = {**read_status(words.status), **{it.partition("=")[0]: True for it in words.store}}
+    stack = Stack(devices, *lengths_of(words))
+    is_concise = read_tables(words.table, devices)
+    leave_unknown(devices, is_known)
+    if words.only:
+        leave_others(devices, words.only)
+    stack.settle()
+    kept, disks = stack.with_names()
+    say_left_out(stack, disks)
+    if not kept:
+        raise Refusal(words.table, "no device is left that dmremap can follow")
+    beside.write("".join("%s %d\n" % it for it in disks.items()))
+    streams.out.write(tables.text_of(kept, is_concise))
+
+
+def lengths_of(words: argparse.Namespace) -> Tuple[Dict[str, Optional[int]], Dict[str, str]]:
+    """By number, the length of each device and disk, and its path. What PATHS has is as long as it is there."""
+    if words.lsblk is None and words.paths is None:
+        raise WrongWords("give LSBLK or --paths PATHS")
+    sizes, of = listings.read_lsblk(words.lsblk) if words.lsblk is not None else ({}, {})
+    numbers_of = {path: number for number, path in of.items()}
+    for name, path in (paths.read(words.paths) if words.paths is not None else {}).items():
+        sizes[numbers_of.get(name, name)] = disk_image.open_image(path).size // numbers.SECTOR
+    return sizes, of
+
+
+def say_left_out(stack: Stack, disks: Dict[str, int]) -> None:
+    """Says what is left out, what is encrypted, and which copies answers lack."""
+    for device in stack.devices.values():
+        path = stack.lower(device.number)
+        if device.why and device.why != NOT_ASKED:
+            streams.tell("left out: %s (%s)%s" % (quoting.shown(device.name), device.why, ", the disk " + path if path in disks else ""))
+        elif device.is_encrypted and not device.why:
+            streams.tell("encrypted: the sectors below %s, whose lines of crypt are linear here" % device.name)
+    left_out = [it for it in stack.devices.values() if it.why]
+    unknown = [it for it in left_out if not it.is_described]
+    snapshots: Dict[str, List[Found]] = {}
+    for other in left_out:
+        for origin in dict.fromkeys(other.origins):
+            snapshots.setdefault(origin, []).append(other)
+    for device in (it for it in stack.kept() if it.has("snapshot-origin")):
+        for other in snapshots.get(device.lowers()[0], []) + unknown:
+            streams.tell("kept: %s, without %s, which %s a snapshot of it: on the machine, a write to it also copies what it overwrites, "
+                         "which the answers don't show" % (device.name, quoting.shown(other.name), "is" if other.origins else "may be"))

@@ -1,0 +1,123 @@
+"""Finds the command, runs it, and gives each way to end its status."""
+
+import argparse
+import gc
+import importlib
+import os
+import signal
+from types import ModuleType
+from typing import List, NoReturn
+
+from dmremap_tools import commands
+from dmremap_tools.base import streams
+from dmremap_tools.base.refusal import Refusal, WrongWords
+
+TOOL = "dmremap-tools"
+REFUSED, WRONG_WORDS, OUTPUT_FAILED, OWN_FAULT, INTERRUPTED, READER_GONE = 1, 2, 5, 70, 130, 141
+
+
+class Parser(argparse.ArgumentParser):
+    """Reads the words of a command. Help goes to standard output, as everything else that is asked for."""
+
+    def print_help(self, file: object = None) -> None:
+        """Prints the help."""
+        streams.out.write(self.format_help())
+
+    def exit(self, status: int = 0, message: "str | None" = None) -> NoReturn:
+        """Ends after the help."""
+        raise SystemExit(status)
+
+    def error(self, message: str) -> NoReturn:
+        """Refuses words."""
+        raise WrongWords("%s\n%s" % (self.format_usage().rstrip(), message))
+
+
+def main(words: List[str]) -> NoReturn:
+    """Runs the tool and ends the process, so that nothing has to be collected."""
+    gc.disable()
+    streams.hold_descriptors()
+    os._exit(run(words))
+
+
+def run(words: List[str]) -> int:
+    """Runs the tool with the words after its name, and returns its status."""
+    command = commands.find(words[0]) if words else None
+    name = TOOL + " " + command.name if command else TOOL
+    is_fed = command is not None and command.is_fed
+    try:
+        status = _run(command, name, words)
+        streams.finish()
+        return status
+    except SystemExit:
+        return _end(0, "", False)
+    except WrongWords as wrong:
+        usage, _, reason = str(wrong).rpartition("\n")
+        return _end(WRONG_WORDS, "%s: %s" % (name, reason), is_fed, usage)
+    except Refusal as refusal:
+        return _end(REFUSED, "%s: %s" % (name, refusal), is_fed)
+    except MemoryError:
+        return _end(REFUSED, "%s: out of memory" % name, is_fed)
+    except streams.OutputFailed as failed:
+        return _end(OUTPUT_FAILED, "%s: %s" % (name, failed), is_fed)
+    except streams.ReaderGone:
+        return _end(READER_GONE, "", is_fed)
+    except KeyboardInterrupt:
+        return _end(INTERRUPTED, "", is_fed)
+    except Exception as fault:
+        return _end(OWN_FAULT, "%s: a fault of this tool: %r" % (name, fault), is_fed)
+
+
+def _run(command: "commands.Command | None", name: str, words: List[str]) -> int:
+    if command:
+        module = importlib.import_module("dmremap_tools." + command.module)
+        parser = parser_of(command, module, name)
+        typed = _parsed(parser, words[1:])
+        if signal.getsignal(signal.SIGINT) is signal.SIG_DFL:
+            signal.signal(signal.SIGINT, signal.default_int_handler)
+        return module.run(typed) or 0
+    if words and words[0] in ("-h", "--help"):
+        streams.out.write(commands.overview())
+        return 0
+    usage = "usage: %s COMMAND ..\n" % TOOL
+    raise WrongWords(usage + ("no command '%s'; --help lists them" % words[0] if words else "--help lists the commands"))
+
+
+def _parsed(parser: Parser, words: List[str]) -> argparse.Namespace:
+    """The words of a command, with options in any place, unless they end in those of another program."""
+    try:
+        return parser.parse_intermixed_args(words)
+    except TypeError:
+        return parser.parse_args(words)
+
+
+def parser_of(command: "commands.Command", module: ModuleType, name: str) -> Parser:
+    """The parser of a command's words, with its help."""
+    text = "%s\n\nexample:\n  %s" % ((module.__doc__ or "").strip(), module.EXAMPLE)
+    parser = Parser(prog=name, description=text, allow_abbrev=False, formatter_class=argparse.RawDescriptionHelpFormatter)
+    module.add_words(parser)
+    return parser
+
+
+def _end(status: int, message: str, is_fed: bool, usage: str = "") -> int:
+    """Says why, and spoils the outputs unless all went well. An output that fails only now is told, too."""
+    try:
+        for line in usage.splitlines() + message.splitlines():
+            streams.tell(line)
+        if status:
+            streams.spoil(is_fed)
+        else:
+            streams.finish()
+        return status
+    except streams.ReaderGone:
+        return status or READER_GONE
+    except streams.OutputFailed as failed:
+        return _end_at_failure(status, str(failed), message)
+
+
+def _end_at_failure(status: int, failed: str, said: str) -> int:
+    try:
+        if status != OUTPUT_FAILED:
+            streams.tell("%s: %s" % ((said.split(":")[0] or TOOL), failed))
+    except (streams.OutputFailed, streams.ReaderGone):
+        pass
+    return OUTPUT_FAILED

@@ -1,0 +1,1 @@
+"""Commands that find and mend metadata of LVM."""

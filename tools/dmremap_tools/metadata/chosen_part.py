@@ -1,0 +1,74 @@
+"""The physical volume in an image: the image itself, or one of its partitions."""
+
+from typing import List, Optional
+
+from dmremap_tools.base import quoting
+from dmremap_tools.base.disk_image import Image, dd
+from dmremap_tools.base.numbers import SECTOR
+from dmremap_tools.base.partition_table import DamagedTable, Partition, Table, backup_of, table_of
+from dmremap_tools.base.refusal import Refusal
+from dmremap_tools.metadata.physical_volume import label_of
+from dmremap_tools.metadata.volumes_within import array_data, where_volumes_begin
+
+# How much of a partition is to be fetched: its label, and most areas.
+HEAD = 1 << 20
+
+
+def chosen_part(disk: Image, number: Optional[int]) -> Image:
+    """The physical volume: the image itself, or a partition of it."""
+    if number == 0:
+        return disk
+    try:
+        table = table_in(disk)
+    except DamagedTable as damaged:
+        raise Refusal(disk.path, damaged.why + where_volumes_begin(disk))
+    if number is None and table is None:
+        return disk
+    if number is None:
+        raise Refusal(disk.path, whole_disk(disk, table))
+    if table is None:
+        raise Refusal(disk.path, "there is no partition table: leave --partition out")
+    chosen = [it for it in table.partitions if it.number == number]
+    if not chosen:
+        raise Refusal(disk.path, "there is no partition %d: there are %s" % (number, numbers(table.partitions)))
+    if chosen[0].start >= disk.size:
+        raise Refusal(disk.path, "partition %d begins after the end of this image: fetch its head, and take that as HEAD: %s"
+                      % (number, dd(disk, "head.img", chosen[0].start, HEAD)))
+    return disk.part(chosen[0].start, chosen[0].size)
+
+
+def table_in(disk: Image, sector: int = SECTOR) -> Optional[Table]:
+    """The partition table of a disk. Where its beginning is lost, the second copy of a GPT is read, unless the disk itself is
+    a physical volume, before whose time there may have been one."""
+    return table_of(disk, sector) or (backup_of(disk) if label_of(disk)[0] is None else None)
+
+
+def whole_disk(disk: Image, table: Table) -> str:
+    """Why a whole disk is no physical volume, and what to try."""
+    if label_of(disk)[0]:
+        return ("there are both a partition table (%s) and the label of a physical volume, which lvm2 doesn't take then: "
+                "--partition N takes a partition, and --partition 0 the disk itself" % table.kind)
+    found = "the image of a whole disk (%s)" % table.kind
+    there = [it for it in table.partitions if it.start < disk.size]
+    volumes = [it for it in there if has_volume(disk.part(it.start, it.size))]
+    if len(volumes) == 1:
+        return "%s, whose partition %s is a physical volume: take --partition %s, or cut it out" % ((found,) + 2 * (numbers(volumes),))
+    if volumes:
+        return "%s, whose partitions %s are physical volumes: take --partition N for one, or cut it out" % (found, numbers(volumes))
+    if len(there) < len(table.partitions):
+        first = next(it for it in table.partitions if it.start >= disk.size)
+        others = ["%d from sector %d on" % (it.number, it.start // SECTOR) for it in table.partitions]
+        return ("%s, which ends before its partitions do (%s): fetch the head of the one that you want, and take that as HEAD; "
+                "for %d it is %s" % (found, quoting.some(others), first.number, dd(disk, "head.img", first.start, HEAD)))
+    return ("%s, none of whose partitions (%s) has a sound label: take --partition N for one, or cut it out%s"
+            % (found, numbers(table.partitions) or "-", where_volumes_begin(disk)))
+
+
+def has_volume(part: Image) -> bool:
+    """Whether a partition is a physical volume, or has one in a member of an md array."""
+    return label_of(part)[0] is not None or array_data(part) is not None
+
+
+def numbers(partitions: List[Partition]) -> str:
+    """The numbers of some partitions, in words."""
+    return quoting.some([str(it.number) for it in partitions])

@@ -1,0 +1,255 @@
+"""A copy of a group's metadata that dmremap reads, and that means the same to it.
+
+Have: TEXT, as `vgcfgbackup` writes it or a metadata area has it, of which dmremap says `field`, `syntax`, `extents`,
+`snapshot`, `store` or `limit`: one raid, mirror, cache or thin volume is enough, or one disk after `pvresize`.
+
+Get: the text without what dmremap can't follow. Each line keeps its number, and a text that needs no change comes out as
+it is. Whatever is left out or changed is told with its line. Left out are
+
+    volumes of other types than striped, linear, zero and error, and what lies on them or is a snapshot of them;
+    volumes on another volume, as while they are moved; stripes that don't divide one; names that no device can have;
+    snapshots that are being merged, or aren't as long as their origin, or whose store has zero or error or is left out,
+    or has more places for chunks than dmremap counts in all: the origin stays, and what answers lack is said;
+    fields that don't matter, with negative numbers, fractions, words without quotes or several lines.
+
+Changed are a disk that is shorter than its extents, as after pvresize, one without a name or a length, parts of raid
+volumes that are read-only, and what lvm2 reads and dmremap doesn't: octal numbers, single quotes, `linear`, a string in
+place of a list, commas too many or too few, fields that are there twice, other white space, bytes that are no UTF-8.
+
+With --only, which may be given several times, the copy has that volume, and its origin if it is a snapshot.
+
+Refuses a text of which no volume would be left, one that is no metadata of a group, and forms that lvm2 never writes.
+Nothing about the copy is proved. The text can't say whether it is the newest.
+"""
+
+import argparse
+import os
+import re
+from typing import Dict, List
+
+from dmremap_tools.base import quoting, streams
+from dmremap_tools.base.config_text import Document, Node, is_word_between, shown
+from dmremap_tools.base.refusal import Refusal
+from dmremap_tools.metadata.followed import NOT_ASKED, judge, leave_others
+from dmremap_tools.metadata.mending import LIST, ONE, Mending, mend_section
+from dmremap_tools.metadata.text_copy import is_readable
+from dmremap_tools.metadata.volume_group import LINEAR, STRIPED, Group, Volume
+
+EXAMPLE = "dmremap-tools lvm2-text vgm.backup > copy.backup && dmremap table lvm copy.backup"
+MARK = b"\xef\xbb\xbf"
+# White space that dmremap doesn't take for such: that at the end of a line or before a word, and other. In comments,
+# which stand between the two, it may stand.
+OTHER_SPACE = re.compile(rb"(\r+(?=\n|\Z))|#(?:[^\n\r]+|\r+(?![\n\r]|\Z))*|([\r\v\f])")
+OTHER = 2
+CARRIAGE_RETURN = re.compile(b"\r")
+
+# The fields that dmremap reads, and what each has. Others it passes over.
+TOP = {b"contents": ONE, b"version": ONE}
+GROUP = {b"extent_size": ONE}
+PHYSICAL = {b"device": ONE, b"dev_size": ONE, b"pe_start": ONE, b"pe_count": ONE}
+VOLUME = {b"status": LIST, b"flags": LIST, b"segment_count": ONE}
+SEGMENT = {b"start_extent": ONE, b"extent_count": ONE, b"type": ONE, b"stripe_count": ONE, b"stripe_size": ONE,
+           b"stripes": LIST, b"chunk_size": ONE, b"origin": ONE, b"cow_store": ONE}
+WRITE, WRITE_LOCKED = b"WRITE", b"WRITE_LOCKED"
+
+
+def add_words(parser: argparse.ArgumentParser) -> None:
+    """Adds TEXT and --only."""
+    parser.add_argument("--only", metavar="NAME", action="append", default=[], help="a volume that is asked for, with its origin")
+    parser.add_argument("text", metavar="TEXT", help="the metadata, as vgcfgbackup writes it")
+
+
+def run(words: argparse.Namespace) -> None:
+    """Prints the copy."""
+    content = streams.read_bytes(words.text)
+    name = "standard input" if words.text == "-" else words.text
+    copy = Mending(Document(name, content[len(MARK):] if content.startswith(MARK) else content))
+    drop_twice(copy)
+    group = Group(group_of(copy))
+    for name in words.only:
+        if os.fsencode(name) not in group.volumes:
+            raise Refusal(copy.document.path, "no volume %s" % quoting.shown(name))
+    if words.only:
+        leave_others(group, [os.fsencode(it) for it in words.only])
+    drop_volumes(copy, group)
+    mend_group(copy, group)
+    mend_bytes(copy, content)
+    copy.tell()
+    streams.out.write(copy.content().decode("utf-8", "surrogateescape"))
+
+
+def drop_twice(copy: Mending) -> None:
+    """Of several values of one key the last counts for lvm2. It puts sections together; here that isn't done."""
+    waiting = [copy.document.top]
+    while waiting:
+        section = waiting.pop()
+        last = {it.key: it for it in section.children or ()}
+        if len(last) < len(section.children or ()):
+            drop_earlier(copy, section, last)
+        waiting += section.sections()
+
+
+def drop_earlier(copy: Mending, section: Node, last: Dict[bytes, Node]) -> None:
+    """Leaves out the fields of a section that are there again."""
+    for node in section.children or ():
+        counting = last[node.key]
+        if counting is node:
+            continue
+        if node.children is not None or counting.children is not None:
+            raise copy.document.refused(counting.start, "%s is there twice, first in line %d: put the two together"
+                                        % (shown(node.key), copy.document.line_at(node.start)))
+        copy.drop(node, shown(node.key), "it is there again in line %d, which counts" % copy.document.line_at(counting.start))
+    section.children = [it for it in section.children or () if last[it.key] is it]
+
+
+def group_of(copy: Mending) -> Node:
+    """The group: lvm2 reads the first section alone."""
+    top = copy.document.top
+    sections = top.sections()
+    if not sections or sections[0].child(b"physical_volumes") is None:
+        raise Refusal(copy.document.path, "no metadata of a group: there is no section with physical_volumes")
+    for node in sections[1:]:
+        copy.drop(node, shown(node.key), "lvm2 reads one section of a text, the first")
+    top.children = [it for it in top.children or () if it.children is None or it is sections[0]]
+    return sections[0]
+
+
+def drop_volumes(copy: Mending, group: Group) -> None:
+    """Leaves out the volumes that can't stay."""
+    for volume in group.volumes.values():
+        if volume.node.value(b"segment_count", int) not in (None, len(volume.segments)):
+            raise copy.document.refused(volume.node.start, "%s: segment_count isn't the number of its segments, %d"
+                                        % (shown(volume.name), len(volume.segments)))
+    judge(group)
+    for volume in group.volumes.values():
+        if volume.why == NOT_ASKED:
+            copy.leave_out(volume.node)
+        elif volume.why:
+            copy.drop(volume.node, shown(volume.name), volume.why)
+    say_kept(copy, group)
+    if group.volumes and all(it.why for it in group.volumes.values()):
+        copy.tell()
+        raise Refusal(copy.document.path, "nothing is left: dmremap can follow none of its volumes")
+
+
+def say_kept(copy: Mending, group: Group) -> None:
+    """Says of each origin that stays without some of its snapshots what answers lack."""
+    without: Dict[bytes, List[bytes]] = {}
+    for record in group.records:
+        origin = group.volumes.get(record.origin or b"")
+        if not record.volume.why or not origin or origin.why:
+            continue
+        name = record.store or record.volume.name
+        if record.is_merging:
+            copy.say(origin.node.start, "kept: %s, without its snapshot %s, which is being merged into it: on a machine, what isn't "
+                     "merged yet is read from there, which the answers don't show" % (shown(origin.name), shown(name)))
+        else:
+            without.setdefault(origin.name, []).append(name)
+    for name, snapshots in without.items():
+        copy.say(group.volumes[name].node.start, "kept: %s, without its snapshot %s: on a machine, a write to it also copies what it "
+                 "overwrites, which the answers don't show" % (shown(name), shown(b", ".join(snapshots))))
+
+
+def mend_group(copy: Mending, group: Group) -> None:
+    """Mends what dmremap reads of the text, and leaves out what it would stumble over."""
+    mend_section(copy, copy.document.top, TOP, {group.node})
+    lists = {it for it in group.node.sections() if it.key in (b"physical_volumes", b"logical_volumes")}
+    mend_section(copy, group.node, GROUP, lists)
+    for node in lists:
+        mend_section(copy, node, {}, set(node.sections()))
+    for node in group.physicals.values():
+        mend_section(copy, node, PHYSICAL, ())
+        mend_physical(copy, group, node)
+    parts = group.raid_parts()
+    for volume in group.volumes.values():
+        if not volume.why:
+            mend_volume(copy, volume, volume.name in parts)
+
+
+def mend_volume(copy: Mending, volume: Volume, is_part: bool) -> None:
+    """Mends a volume that stays."""
+    if is_part:
+        mend_part(copy, volume)
+    mend_section(copy, volume.node, VOLUME, {it.node for it in volume.segments})
+    for segment in volume.segments:
+        mend_section(copy, segment.node, SEGMENT, ())
+        kind = segment.node.child(b"type")
+        if kind and segment.kind == LINEAR:
+            copy.put(kind, kind.items[0], b'"%s"' % STRIPED, "linear is another name of striped")
+
+
+def mend_part(copy: Mending, volume: Volume) -> None:
+    """lvm2 loads all parts of raid volumes as writable, whatever their status is."""
+    status = volume.node.child(b"status")
+    if not status or status.children is not None or WRITE in status.own_values() or WRITE_LOCKED in volume.node.values(b"flags"):
+        return
+    items = status.items
+    if items:
+        copy.insert(items[-1].end, b', "WRITE"')
+    else:
+        copy.insert(status.end - 1, b'"WRITE"')
+    copy.say(status.start, "changed: status: %s is part of a raid volume, which lvm2 loads as writable" % shown(volume.name))
+
+
+def mend_physical(copy: Mending, group: Group, node: Node) -> None:
+    """Gives a disk the length that its extents need at least, and a name. After a change of its size lvm2 writes
+    less, and old versions wrote no size; the true one stands nowhere in the text."""
+    start, count = node.value(b"pe_start", int), node.value(b"pe_count", int)
+    if start is None or count is None or group.extent_size is None:
+        return
+    size, least = node.value(b"dev_size", int), start + count * group.extent_size
+    if least == 0 and not size:
+        copy.drop(node, shown(node.key), "it has no sectors")
+        return
+    inside, name, size_field = node.value_at + 1, shown(node.key), node.child(b"dev_size")
+    if node.child(b"device") is None:
+        copy.insert(inside, b' device = ""')
+        copy.say(node.start, "changed: device: %s has none, so that the disk has this name" % name)
+    if size_field is None:
+        copy.insert(inside, b" dev_size = %d" % least)
+        copy.say(node.start, "changed: dev_size: %s has none, and is at least %d sectors long, where its extents end" % (name, least))
+    elif size is not None and size < least:
+        copy.put(size_field, size_field.items[0], b"%d" % least,
+                 "%s is at least %d sectors long, where its extents end, and not %d" % (name, least, size))
+
+
+def mend_bytes(copy: Mending, content: bytes) -> None:
+    """Says what the copy lacks of white space, and of bytes that are no text."""
+    document = copy.document
+    if content.startswith(MARK):
+        copy.said.append((1, "changed: a byte order mark is taken out"))
+    if b"\0" in content:
+        copy.said.append((1 + content[:content.index(b"\0")].count(b"\n"), "left out: the NUL here, and what comes after it"))
+    if document.tight or not is_readable(document.content) or re.search(rb"[\r\v\f]", document.content):
+        mend_spaces(copy)
+
+
+def mend_spaces(copy: Mending) -> None:
+    """Writes white space as dmremap reads it, and says so, but for what is left out."""
+    content, end, returns = copy.document.content, 0, []
+    gaps = iter(sorted(copy.gaps()) + [(len(content) + 1, len(content) + 2, b"")])
+    gap = next(gaps)
+    for _, start, following in copy.document.tokens():
+        while gap[1] <= start:
+            gap = next(gaps)
+        if not gap[0] <= start:
+            returns += [copy.document.line_at(it.start()) for it in CARRIAGE_RETURN.finditer(content, end, start)]
+            say_space(copy, end, start, following)
+        for found in OTHER_SPACE.finditer(content, end, start):
+            if found.lastindex:
+                copy.write(found.start(), found.end(), b" " if found.lastindex == OTHER else b"")
+        end = following
+    if returns:
+        copy.said.append((returns[0], "changed: carriage returns are taken out of %d lines" % len(set(returns))))
+
+
+def say_space(copy: Mending, end: int, start: int, following: int) -> None:
+    """Says what is odd in white space from `end` to `start`, and in the token from there on."""
+    content = copy.document.content
+    others = [it for it in OTHER_SPACE.finditer(content, end, start) if it.lastindex]
+    if others and not CARRIAGE_RETURN.search(content, end, start):
+        copy.say(start, "changed: white space of another kind")
+    if not is_readable(content[end:following]):
+        copy.say(start, "changed: bytes that are no UTF-8")
+    if start == end and is_word_between(content, start):
+        copy.say(start, "changed: a space is missing")

@@ -1,0 +1,90 @@
+"""The metadata text of the group that a physical volume of LVM2 belongs to.
+
+Have: HEAD, the physical volume, or an image of its beginning, such as its first MiB, or of the whole disk, whose
+partition --partition chooses. A volume that begins elsewhere is taken with --start. In a member of an md array it is
+found behind the superblock. Several HEADs have to agree.
+
+Get: the valid text. The label says where the metadata areas are, and the header of an area which of its texts is valid.
+Each of the three has a sum. If the first area is damaged, the second is taken, where there is one. If both are sound,
+the text with the higher seqno. With --list, what is left of older texts: the place of each in HEAD, its group, the
+group's id, the seqno and the time; `cut` is a text that isn't there to its end. --seqno and --at print one of these.
+
+Without a sound label, areas are looked for in the first and the last 4 MiB, and then labels in the whole image. A GPT
+whose first copy is damaged is read by its second one.
+
+Refuses whatever no sum confirms, and a volume that belongs to no group. Of HEADs that differ each is told with its
+volumes. A text that lvm2 was about to make the valid one isn't taken; nor does lvm2 take it. Older texts have no sum:
+choose one by the group's id and the time, as a group that was removed may have had the same name, and higher numbers.
+No sum tells whether another physical volume has a later text, or whether the disks still hold what it says.
+"""
+
+import argparse
+from typing import List, Optional
+
+from dmremap_tools.base import numbers, streams
+from dmremap_tools.base.disk_image import Image, open_image
+from dmremap_tools.base.numbers import SECTOR
+from dmremap_tools.base.refusal import Refusal, WrongWords
+from dmremap_tools.metadata.chosen_part import chosen_part
+from dmremap_tools.metadata.group_text import summary, without_time
+from dmremap_tools.metadata.older_texts import text_at, text_with, texts_in
+from dmremap_tools.metadata.valid_text import areas_of, valid_text, with_fetched
+from dmremap_tools.metadata.volumes_within import taken_from_array
+
+EXAMPLE = "dmremap-tools metadata vg0-head.img > vg0.backup && dmremap table lvm vg0.backup"
+
+
+def add_words(parser: argparse.ArgumentParser) -> None:
+    """Adds HEAD, and what is to be had of it."""
+    where = parser.add_mutually_exclusive_group()
+    where.add_argument("--partition", type=numbers.word, metavar="N", help="the partition of a whole disk, or 0 for the disk itself")
+    where.add_argument("--start", type=numbers.word, metavar="SECTOR", help="where the physical volume begins, in sectors of 512 bytes")
+    which = parser.add_mutually_exclusive_group()
+    which.add_argument("--area", metavar="FILE", help="a metadata area that HEAD lacks, fetched as a message said")
+    which.add_argument("--list", action="store_true", help="list the texts that are left in the metadata areas")
+    which.add_argument("--seqno", type=numbers.word, metavar="N", help="print the text with this number, which is one of the list")
+    which.add_argument("--at", type=numbers.word, metavar="BYTE", help="print the text at this place, which is one of the list")
+    parser.add_argument("heads", nargs="+", metavar="HEAD", help="the physical volume, or an image of its beginning")
+
+
+def run(words: argparse.Namespace) -> None:
+    """Prints what is asked for."""
+    if len(words.heads) > 1 and (words.list or any(it is not None for it in (words.area, words.seqno, words.at))):
+        raise WrongWords("--area, --list, --seqno and --at take one HEAD")
+    image = volume_in(words.heads[0], words)
+    if words.list:
+        for text in texts_in(image):
+            streams.out.write(text.line())
+        return
+    if words.seqno is not None:
+        content = text_with(image, words.seqno)
+    elif words.at is not None:
+        content = text_at(image, words.at)
+    else:
+        content = first_if_equal(words.heads, [text_of(image, words.area)] + [text_of(volume_in(it, words), None) for it in words.heads[1:]])
+    streams.out.write(content.decode("utf-8", "surrogateescape"))
+
+
+def volume_in(path: str, words: argparse.Namespace) -> Image:
+    """The physical volume in a HEAD."""
+    disk = open_image(path)
+    if words.start is None:
+        return taken_from_array(chosen_part(disk, words.partition))
+    if words.start * SECTOR >= disk.size:
+        raise Refusal(disk.path, "it ends before sector %d" % words.start)
+    return taken_from_array(disk.part(words.start * SECTOR, disk.size))
+
+
+def text_of(image: Image, area: Optional[str]) -> bytes:
+    """The valid text of a physical volume, with an area that was fetched."""
+    areas = areas_of(image)
+    return valid_text(image, with_fetched(image, areas, open_image(area)) if area is not None else areas)
+
+
+def first_if_equal(paths: List[str], texts: List[bytes]) -> bytes:
+    """The first of some texts, which are one but for their times."""
+    if len({without_time(it) for it in texts}) > 1:
+        for path, text in zip(paths, texts):
+            streams.tell("%s: %s" % (path, summary(text)))
+        raise Refusal(paths[0], "the texts differ: look at what each has, and take the HEAD that is right alone")
+    return texts[0]

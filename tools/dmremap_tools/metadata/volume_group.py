@@ -1,0 +1,98 @@
+"""The volumes of a group as its metadata says them."""
+
+import collections
+from typing import Dict, List, NamedTuple, Optional, Set, Tuple
+
+from dmremap_tools.base import names
+from dmremap_tools.base.config_text import Node, Value
+
+# The types of segments that dmremap reads, and what lvm2 calls the first of them as well.
+STRIPED, LINEAR, SNAPSHOT, NO_STORE = b"striped", b"linear", b"snapshot", (b"zero", b"error")
+TYPES = (STRIPED, LINEAR, SNAPSHOT) + NO_STORE
+# Lists of the parts of a raid volume: its data, with what says how that is kept before each of them.
+RAID_PARTS = (b"raids", b"raid0_lvs")
+
+
+class Segment(NamedTuple):
+    """A segment, with what it has of numbers and stripes."""
+
+    node: Node
+    kind: Optional[bytes]
+    count: Optional[int]
+    stripes: List[Tuple[Value, Value]]
+    stripe_size: Optional[int]
+
+
+class Volume:
+    """A logical volume, with the place of its section, and why it can't stay, if it can't."""
+
+    def __init__(self, node: Node) -> None:
+        self.node, self.name = node, node.key
+        self.why: Optional[str] = None
+        self.segments = [segment_of(it) for it in node.sections()]
+        self.extents = sum(it.count or 0 for it in self.segments)
+
+    def record(self) -> "Optional[Record]":
+        """The snapshot that this volume stands for, or None for a volume that is one."""
+        if len(self.segments) != 1 or self.segments[0].kind != SNAPSHOT:
+            return None
+        node = self.segments[0].node
+        is_merging = node.child(b"merging_store") is not None
+        store = node.value(b"merging_store" if is_merging else b"cow_store", bytes)
+        return Record(self, node.value(b"origin", bytes), store, is_merging, node.value(b"chunk_size", int))
+
+
+class Record(NamedTuple):
+    """A snapshot: `store` is the volume that has its name, and `is_merging` says that it is written back to its origin."""
+
+    volume: Volume
+    origin: Optional[bytes]
+    store: Optional[bytes]
+    is_merging: bool
+    chunk: Optional[int]
+
+
+class Group:
+    """A volume group: its physical volumes and its volumes, by their keys."""
+
+    def __init__(self, node: Node) -> None:
+        self.node, self.name = node, node.key
+        self.extent_size: Optional[int] = node.value(b"extent_size", int)
+        self.physicals = {it.key: it for it in sections_in(node, b"physical_volumes")}
+        self.volumes: Dict[bytes, Volume] = {it.key: Volume(it) for it in sections_in(node, b"logical_volumes")}
+        self.records = [it for it in (volume.record() for volume in self.volumes.values()) if it]
+
+    def name_length(self, *parts: bytes) -> int:
+        """The bytes of the name of a device: each hyphen of a part is doubled."""
+        return len(b"-".join(it.replace(b"-", b"--") for it in (self.name,) + parts))
+
+    def raid_parts(self) -> Set[Value]:
+        """The names of volumes that are parts of a raid volume."""
+        return {name for volume in self.volumes.values() for segment in volume.segments
+                if (segment.kind or b"").startswith(b"raid") for key in RAID_PARTS for name in segment.node.values(key)}
+
+
+def sections_in(node: Node, key: bytes) -> List[Node]:
+    """The sections inside the one of this key."""
+    found = node.child(key)
+    return found.sections() if found else []
+
+
+def disk_names(physicals: List[Node]) -> List[str]:
+    """The names that dmremap has for the disks of these physical volumes: the paths, where they are names of disks and no
+    two are the same, and otherwise the keys."""
+    found = [it.value(b"device", bytes) for it in physicals]
+    count = collections.Counter(found)
+    named = []
+    for node, path in zip(physicals, found):
+        text = path.decode("utf-8", "surrogateescape") if isinstance(path, bytes) else ""
+        is_name = text.startswith("/") and names.DISK.fullmatch(text) and count[path] == 1
+        named.append(text if is_name else node.key.decode("utf-8", "surrogateescape"))
+    return named
+
+
+def segment_of(node: Node) -> Segment:
+    """A segment, with what it has of numbers and stripes."""
+    values = node.values(b"stripes")
+    return Segment(node, node.value(b"type", bytes), node.value(b"extent_count", int), list(zip(values[::2], values[1::2])),
+                   node.value(b"stripe_size", int))

@@ -1,0 +1,24 @@
+"""Cuts requests that are longer than dmremap takes.
+
+Has requests of any length, `R DEVICE START LEN` or `W ..`, in sectors. Gets the same, cut after 1,048,576 sectors
+(512 MiB). Refuses lines that are no requests. The other commands that make requests cut by themselves.
+"""
+
+from argparse import ArgumentParser, Namespace
+
+from dmremap_tools.base import names, requests, streams
+
+EXAMPLE = "echo 'R vg0-lv0 8000 2500000' | dmremap-tools cut | dmremap map lvm vg0.backup"
+
+
+def add_words(parser: ArgumentParser) -> None:
+    """Adds the arguments."""
+    parser.add_argument("file", metavar="FILE", nargs="?", default="-", help="requests; else standard input")
+    names.add_words(parser)
+
+
+def run(words: Namespace) -> None:
+    """Cuts them as they come."""
+    source = streams.Lines(words.file)
+    for asked in requests.read(source, names.Names(words.ls), "not a request"):
+        requests.write(source, *asked)

@@ -1,0 +1,145 @@
+"""Requests from a trace of device-mapper devices.
+
+Has what `dmsetup ls` prints (LS), the tables that will be asked (TABLES, table text or concise text), and a trace: that
+of `blkparse` or `btrace`, or the event block_bio_queue as trace_pipe, `trace-cmd report` and `perf script` print it. Gets
+the reads and writes, as they come, and with --times the time of each. Discards, flushes, and requests to devices that the
+tables have not, are left out and counted. Refuses a trace that says that events were lost, and zone appends and other
+requests whose sectors are not the trace's.
+
+Trace top devices only: a request to a device on another one shows up at both, and would count twice.
+"""
+
+import re
+from argparse import ArgumentParser, Namespace
+from functools import lru_cache
+from typing import Dict, Optional, Tuple, Union
+
+from dmremap_tools.base import listings, numbers, requests, streams
+from dmremap_tools.requests.kept import Kept
+
+EXAMPLE = "btrace /dev/dm-0 | dmremap-tools trace ls.txt vg0.table | dmremap map lvm vg0.backup | dmremap-tools totals"
+
+EVENT = "block_bio_queue:"
+# A line of blkparse, up to the action. Those of the action Q, a request that comes, are read whole where they are of the
+# usual form; of other actions there is nothing to read. A process may have a name that looks like such a line.
+PARSED = r" *([0-9]+,[0-9]+) +[0-9]+ +[0-9]+ +([0-9.]+) +[0-9]+ +"
+LINE = re.compile(r"^%s(?:Q +(\S+) %s \+ %s .*|[A-PR-Za-z][A-Za-z]* (?!.*%s).*)$"
+                  % (PARSED, numbers.SHORT, numbers.SHORT, EVENT), re.M)
+ANY_QUEUED = re.compile(PARSED + r"Q (.*)")
+LOST = re.compile(r"CPU:? ?[0-9]+ \[.*(?:LOST|DROPPED).*| *Skips: +0*[1-9].*")
+TIME = re.compile(r"[0-9.]+:?")
+DEVICE = re.compile(r"[0-9]+,[0-9]+")
+# Discards and flushes alone, and reads and writes, with what else a kernel says of them.
+NEITHER = re.compile(r"F?[DN][A-Z]*")
+EITHER = re.compile(r"F?[RW][FASM]*")
+
+
+def add_words(parser: ArgumentParser) -> None:
+    """Adds the arguments."""
+    parser.add_argument("ls", metavar="LS", help="what dmsetup ls printed at the time of the trace")
+    parser.add_argument("tables", metavar="TABLES", help="table or concise text")
+    parser.add_argument("file", metavar="TRACE", nargs="?", default="-", help="the trace; else standard input")
+    parser.add_argument("--times", metavar="TIMES", help="a file to write: line N is the time of request N")
+
+
+def run(words: Namespace) -> None:
+    """Prints the requests as they come."""
+    times = streams.beside(words.times) if words.times is not None else None
+    names = {number.replace(":", ","): name for name, number in listings.read_ls(words.ls)}
+    reader = RequestMaker(streams.Lines(words.file), names, Kept(words.tables), times)
+    for fields in reader.source.rows(LINE):
+        reader.take_line(fields)
+    reader.end()
+
+
+class Reader:
+    """Reads the events of a trace. What takes its requests has a method `take`."""
+
+    def __init__(self, source: streams.Lines) -> None:
+        self.source, self.events = source, 0
+
+    def take(self, number: str, what: str, first: int, count: int, time: str) -> None:
+        """Takes a request: the device's number, what is done, and with which sectors."""
+        raise NotImplementedError
+
+    def take_line(self, fields: Union[str, Tuple[str, ...]]) -> None:
+        """Takes what a line has, or the line itself."""
+        if isinstance(fields, str):
+            self.take_other(fields)
+            return
+        self.events += 1
+        number, time, what, first, count = fields
+        if what:
+            self.take(number, what, int(first), int(count), time)
+
+    def take_other(self, line: str) -> None:
+        """Takes a line that isn't of the usual form of blkparse."""
+        if LOST.fullmatch(line):
+            self.source.refuse_line("events were lost")
+        if EVENT in line:
+            self._take_event(*line.split(EVENT, 1))
+            return
+        queued = ANY_QUEUED.fullmatch(line)
+        if queued:
+            self.events += 1
+            fields = queued[3].split()
+            if len(fields) > 3 and fields[2] == "+":
+                self.take(queued[1], fields[0], self.source.whole(fields[1]), self.source.whole(fields[3]), queued[2])
+            elif len(fields) < 2 or not fields[1].startswith("["):
+                self.source.refuse_line("not a form of the event")
+
+    def _take_event(self, head: str, rest: str) -> None:
+        self.events += 1
+        before, fields = head.split(), rest.split()
+        if before and before[-1].endswith(":") and not TIME.fullmatch(before[-1]):
+            del before[-1]
+        is_whole = len(fields) > 4 and DEVICE.fullmatch(fields[0]) and fields[3] == "+"
+        if not is_whole or not before or not TIME.fullmatch(before[-1]):
+            self.source.refuse_line("not a form of the event")
+        if fields[4] != "0":
+            first, count = self.source.whole(fields[2]), self.source.whole(fields[4])
+            self.take(fields[0], fields[1], first, count, before[-1].rstrip(":"))
+
+
+class RequestMaker(Reader):
+    """Makes requests of the events of a trace."""
+
+    def __init__(self, source: streams.Lines, names: Dict[str, str], kept: Kept, times: Optional[streams.Output]) -> None:
+        super().__init__(source)
+        self.names, self.kept, self.times = names, kept, times
+        self.dropped = 0
+
+    def take(self, number: str, what: str, first: int, count: int, time: str) -> None:
+        """Prints a request, or leaves it out."""
+        name = self.names.get(number)
+        if name is None:
+            self.kept.leave("%s, which dmsetup ls has not" % number)
+            return
+        if name not in self.kept.names:
+            self.kept.leave("%s (%s), which the tables have not" % (name, number))
+            return
+        operation = _operation_of(what)
+        if operation is None:
+            self.source.refuse_line("neither a read nor a write")
+        if not operation:
+            self.dropped += 1
+            return
+        made = requests.write(self.source, operation, name, first, count)
+        if self.times:
+            self.times.write((time + "\n") * made)
+
+    def end(self) -> None:
+        """Refuses a text without events, and tells what was left out."""
+        if not self.events:
+            self.source.refuse("no request in the trace")
+        self.kept.tell()
+        if self.dropped:
+            streams.tell("left out: %d requests that are neither reads nor writes" % self.dropped)
+
+
+@lru_cache(maxsize=1024)
+def _operation_of(what: str) -> Optional[str]:
+    """R or W by what a kernel calls an operation, nothing for what is left out, and None for what isn't known."""
+    if EITHER.fullmatch(what):
+        return "W" if "W" in what else "R"
+    return "" if NEITHER.fullmatch(what) else None
