@@ -16,8 +16,10 @@ PAIR = ("o: 0 16 snapshot-origin base\ns: 0 16 snapshot base c1 P 8\nt: 0 16 sna
         "base 16\nc1 64\nc2 64\n")
 # A store with room for one chunk.
 SMALL = ("s: 0 32 snapshot base cow P 8\n", "base 32\ncow 24\n")
-# A read-only device over a snapshot below.
+# A device over a snapshot.
 BELOW = ("s: 0 32 snapshot base cow P 8\nv: 0 32 linear /dev/mapper/s 0\n", "base 32\ncow 64\n")
+# The same as concise text, read-only: a write to it is an error, and takes nothing below.
+READ_ONLY = "s,,,,0 32 snapshot base cow P 8;v,,,ro,0 32 linear /dev/mapper/s 0"
 # Chunks of one sector, of which an area is for 32.
 AREA = ("s: 0 64 snapshot base cow P 1\n", "base 64\ncow 128\n")
 
@@ -85,9 +87,20 @@ def check(tally, program):
     for earlier, word in REFUSED:
         got = mapped(program, *SNAPSHOT, earlier, "R s 8 1\n")
         tally.same("earlier requests, %s" % word, got, 1, "", "dmremap: before: %s\n" % word)
+    check_read_only(tally, program)
     check_words(tally, program)
     check_files(tally, program)
     check_cuts(tally, program)
+
+
+def check_read_only(tally, program):
+    """A read-only device over a snapshot: what was written below shows, and what was written to it does not."""
+    words = ["map", "concise", program.file("concise", READ_ONLY), program.file("disks", SNAPSHOT[1]), "--status", "--before"]
+    for name, earlier, output in [
+            ("a write below a read-only device", "W s 9 1\n", "1 R cow 16 1\n2 error 1\ns: 0 32 snapshot 24/64 16\n"),
+            ("a write to a read-only device", "W v 9 1\n", "1 R base 8 1\n2 error 1\ns: 0 32 snapshot 16/64 16\n")]:
+        got = program.run([*words, program.file("earlier", earlier)], given="R v 8 1\nW v 8 1\n")
+        tally.same("after " + name, got, 0, output)
 
 
 def mapped(program, table, disks, earlier, requests, *more):

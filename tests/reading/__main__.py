@@ -24,7 +24,8 @@ COMMAND = "python3 tests/reading --write"
 # The promises: what each is called, the functions whose contracts make it, and what it says.
 PROMISES = [
     ("map_whole", ["map_whole"], "what the command `map` reads, writes, tells and returns"),
-    ("other_whole", ["other_whole"], "the same of the other commands"),
+    ("map_after", ["map_after", "play_earlier"], "the same from the state that earlier requests left"),
+    ("other_whole", ["other_whole"], "what the other commands read, write, tell and return"),
     ("Replay", ["Replay::new", "Replay::request", "Replay::halt"],
      "that a replay begins with no request; what a request answers on the disks as those before it left them; "
      "and what a request leaves that is halted, which the list of requests has too"),

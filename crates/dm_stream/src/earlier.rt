@@ -4,9 +4,10 @@
 
 ghost use Rattle.std.specs.Prelude.{◌≡◌, false};
 ghost use Rattle.std.proofs.Common.{refl, ◌∙◌};
-ghost use Rattle.dm_stream.specs.Earlier.{HasMoved, HasPlayed, HasStoppedAt};
+ghost use Rattle.dm_stream.specs.Earlier.{HasMoved, HasPlayed, HasStoppedAt, played_ending};
 ghost use Rattle.dm_stream.specs.laws.Earlier.{moved_more, moved_none, stopped_more};
 ghost use Rattle.dm_stream.specs.Outcome.{requests_outcome};
+ghost use Rattle.dm_stream.specs.Requests.{HasMet};
 ghost use Rattle.dm_stream.specs.Run.{CanMap};
 ghost use Rattle.dm_table.specs.io.DeviceIo.{delivery};
 ghost use Rattle.dm_table.specs.io.Progress.{IsReadOn};
@@ -106,7 +107,7 @@ impl<'s, T: Taken> Handler for EarlierPlayer<'s, T> {
 ///
 /// | Fault | When |
 /// |---|---|
-/// | `BadRequest` | the line of this number is bad; those before it were played |
+/// | `BadRequest` | the line of this number is bad |
 /// | `Read` | reading requests failed, and no line that was delivered before is bad |
 pub fn play_earlier<'s, T: Taken, R: Input>(
     stack: &'s Stack,
@@ -119,8 +120,9 @@ pub fn play_earlier<'s, T: Taken, R: Input>(
     // What the requests delivered gives the state that is left, and how they end.
     ensures played { HasPlayed (requests_outcome stack.now mapper.old.state
         (delivery (R.past requests.old) (R.past requests.new))) mapper.new.state result }
-    // Requests are only read on, and nothing is read after an end or a fault.
+    // Requests are only read on, and nothing is read after a bad line, an end or a fault.
     ensures reads { IsReadOn (R.past requests.old) (R.past requests.new) }
+    ensures met { HasMet (played_ending result) (R.past requests.old) (R.past requests.new) }
 {
     let mut player = EarlierPlayer {
         discard: Discard { stack },

@@ -1,7 +1,7 @@
 -- The whole run: what it writes, its message and its exit status, by what was delivered.
 -- It may come after earlier requests, which are played and not answered.
-use Rattle.std.specs.Prelude.{◌≡◌, ℕ, Bool, List, [], Option, None, Some}
-use Rattle.dm_table.specs.io.DeviceIo.{Delivery, OutputPast, written_since}
+use Rattle.std.specs.Prelude.{◌≡◌, ◌⊎◌, ℕ, Bool, List, [], Option, None, Some}
+use Rattle.dm_table.specs.io.DeviceIo.{Delivery, InputPast, OutputPast, delivery, written_since}
 use Rattle.dm_table.specs.io.Progress.{FailedOutput}
 use Rattle.dm_stream.specs.declared.earlier.EarlierFault.{EarlierFault}
 use Rattle.dm_stream.specs.declared.earlier.EarlierFault.TheVariants as earlier
@@ -11,6 +11,7 @@ use Rattle.dm_map.specs.state.State.{State, start_state}
 use Rattle.dm_stack.specs.Description.{Description}
 use Rattle.dm_stream.specs.Messages.{IsTold}
 use Rattle.dm_stream.specs.Outcome.{Outcome, requests_outcome, run_outcome}
+use Rattle.dm_stream.specs.Requests.{HasMet}
 use Rattle.dmremap.specs.declared.exit.Exit.{Exit}
 use Rattle.dmremap.specs.declared.exit.Exit.TheVariants.{Ended, Refused}
 use Rattle.dmremap.specs.declared.exit.Refusal.TheVariants as refusals
@@ -42,10 +43,11 @@ abbrev pub ended_if : List ℕ → Option Ending → Option Whole
 ended_if output (Some ending) = Some (whole_at output (Ended ending))
 ended_if output None = None
 
--- a run with this outcome begins only after earlier requests that came to a clean end; others are refused, and nothing is written
+-- earlier requests are refused, and nothing is written
 abbrev pub earlier_refused : EarlierFault → Option Whole
 earlier_refused fault = Some (whole_at [] (Refused (refusals.Earlier fault)))
 
+-- a run with this outcome begins only after earlier requests that came to a clean end
 abbrev pub begun_after : Option Ending → Outcome → Option Whole
 begun_after (Some endings.Done) outcome = ended_if outcome.output outcome.ending
 begun_after (Some (endings.BadRequest number word)) outcome = earlier_refused (earlier.BadRequest number word)
@@ -80,6 +82,17 @@ pub record IsRunAfter (format : Format) (flag : Bool) (source disks : Delivery) 
 abbrev pub IsWholeRun : (format : Format) (flag : Bool) (source disks requests : Delivery) (status : ℕ) (output_old output_new messages_old messages_new : OutputPast) → Type 0
 IsWholeRun format flag source disks requests status output_old output_new messages_old messages_new =
     IsRunAfter format flag source disks None requests status output_old output_new messages_old messages_new
+
+-- earlier requests were played over a stack up to how they end, and nothing more was asked of them
+pub record ArePlayed (description : Description) (old new : InputPast) : Type 0 where
+  pub end : Ending
+  pub ends : (earlier_outcome description (Some (delivery old new))).ending ≡ Some end
+  pub met : HasMet end old new
+
+-- they are not asked for unless the load gave a stack
+abbrev pub EarlierRead : Format → (source disks : Delivery) → (old new : InputPast) → Type 0
+EarlierRead format source disks old new =
+    (new ≡ old) ⊎ ((description : Description) × PartsGive format source disks (SoundAs description) × ArePlayed description old new)
 
 -- the output failed: all earlier requests were played, and a beginning was written of what the requests give that were delivered. Something was left to
 -- write where no flush was asked for, and nothing where the flush failed.

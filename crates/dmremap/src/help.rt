@@ -53,8 +53,8 @@ Lines
   --status  NAME: 0 LEN snapshot ALLOCATED/TOTAL METADATA
                                   what is used of a store, at the end of the requests
             NAME: 0 LEN snapshot Invalid
-  --before  requests, as those of the standard input: what they leave of snapshots is where the
-            requests of the standard input start from
+  --before  requests in the same form, which are played first: those of the standard input
+            start from the state that they leave
 DEV, ORIGIN and STORE are a disk, or /dev/mapper/NAME for a device of FILE. KIND is P, N or K.
 A request has 1 to 1048576 sectors.
 

@@ -12,7 +12,7 @@ ghost use Rattle.dmremap.specs.declared.job.Format.{Format};
 ghost use Rattle.dmremap.specs.declared.status.TheConstants.{STATUS_MEMORY, STATUS_WRITE_FAULT};
 ghost use Rattle.dmremap.specs.Inputs.{IsReadOnIf, delivery_if};
 ghost use Rattle.dmremap.specs.Streams.{MessagesTold, OutputWritten, RequestsRead};
-ghost use Rattle.dmremap.specs.Whole.{GiveAfter, IsFailedAfter, IsRunAfter, Whole};
+ghost use Rattle.dmremap.specs.Whole.{EarlierRead, GiveAfter, IsFailedAfter, IsRunAfter, Whole};
 
 #[cfg(test)]
 mod tests;
@@ -28,11 +28,11 @@ use std::alloc::Global;
 /// Maps requests as `map_whole` does, but from the state that earlier requests left: they are played to their
 /// end after the load, and before a request is read. Nothing is written or flushed for them.
 ///
-/// The statuses are those of `map_whole`. It is 1, too, where an earlier request is bad or reading them failed:
-/// then nothing was written or flushed, and no request was read.
+/// The statuses are those of `map_whole`. Status 1 is also given where an earlier request is bad, or where reading
+/// them failed: then nothing was written or flushed, and no request was read.
 ///
-/// Cost: that of `map_whole`, once for the earlier requests and once for the others. No memory is taken for a
-/// request.
+/// Cost: that of `map_whole`, and less than as much for each earlier request as for one that is answered. No
+/// memory is taken once the load is done.
 #[tactic(auto, using(crate::proofs::ExitLemmas::exits_told))]
 pub fn map_after<S: Input, D: Input, B: Input, Q: Input, W: Output, M: Output>(
     alloc: Global,
@@ -70,6 +70,10 @@ pub fn map_after<S: Input, D: Input, B: Input, Q: Input, W: Output, M: Output>(
     ensures source_read_on { IsReadOn (S.past source.old) (S.past source.new) }
     ensures disks_read_on { IsReadOnIf D.past disks.old disks.new }
     ensures earlier_read_on { IsReadOn (B.past earlier.old) (B.past earlier.new) }
+    // Earlier requests are not asked for where the load is refused, and nothing is asked after a bad one.
+    ensures earlier { EarlierRead format
+        (delivery (S.past source.old) (S.past source.new)) (delivery_if D.past disks.old disks.new)
+        (B.past earlier.old) (B.past earlier.new) }
     // The status says how requests were read, what came of the output, and that a failed output was told.
     ensures requests { RequestsRead result (Q.past requests.old) (Q.past requests.new) }
     ensures output { OutputWritten result (W.past output.old) (W.past output.new) }

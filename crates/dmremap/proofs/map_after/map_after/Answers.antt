@@ -1,4 +1,4 @@
-use Rattle.std.proofs.Common.{Some, ap, refl, sym, ◌≡◌, ◌∙◌}
+use Rattle.std.proofs.Common.{Some, ap, inl, inr, refl, sym, ◌≡◌, ◌∙◌}
 use Rattle.dm_table.specs.io.DeviceIo.{delivery}
 use Rattle.dm_table.specs.laws.Progress.{since-same}
 use Rattle.dm_map.specs.state.State.{start_state}
@@ -22,7 +22,13 @@ returns-in-Err-clause-whole g c = λ five six. record {
   told = c.tell.ensures.told.told;
 }
 
+pub returns-in-Err-clause-earlier : goal.returns-in-Err-clause-earlier
+returns-in-Err-clause-earlier g c = inl refl
+
 -- ---- there was no memory for requests
+
+pub returns-in-Err-new-clause-earlier : goal.returns-in-Err-new-clause-earlier
+returns-in-Err-new-clause-earlier g c = inl refl
 
 pub returns-in-Err-new-clause-requests : goal.returns-in-Err-new-clause-requests
 returns-in-Err-new-clause-requests g c =
@@ -61,6 +67,16 @@ returns-in-Ok-play_earlier-clause-beginning g c = λ five.
           (played_state c.in-Ok.stack _ _ before starts done.1) c.run.ensures.ran c.status.ensures five;
     }
 
+pub returns-in-Ok-play_earlier-clause-earlier : goal.returns-in-Ok-play_earlier-clause-earlier
+returns-in-Ok-play_earlier-clause-earlier g c =
+    let before = delivery (g.B.Input.past c.args.earlier.now) (g.B.Input.past c.play_earlier.new.requests) in
+    let starts : c.in-Ok-new.mapper.state ≡ start_state c.in-Ok.stack = c.in-Ok-new.ensures.state ∙ ap start_state c.looker.ensures.stack in
+    inr (c.in-Ok.stack, c.in-Ok.ensures.gives.sound, record {
+      end = endings.Done;
+      ends = played_ending c.in-Ok.stack _ before endings.Done starts c.in-Ok-play_earlier.ensures.played.done.0;
+      met = c.in-Ok-play_earlier.ensures.met;
+    })
+
 pub returns-in-Ok-play_earlier-clause-memory : goal.returns-in-Ok-play_earlier-clause-memory
 returns-in-Ok-play_earlier-clause-memory g c = λ six. absurd (never_memory c.run.result (sym c.status.ensures ∙ six))
 
@@ -84,6 +100,17 @@ returns-clause-whole g c = λ five six.
           c.tell-in-Err-play_earlier.ensures.is;
       told = c.tell-in-Err-play_earlier.ensures.told.told;
     }
+
+pub returns-clause-earlier : goal.returns-clause-earlier
+returns-clause-earlier g c =
+    let before = delivery (g.B.Input.past c.args.earlier.now) (g.B.Input.past c.play_earlier.new.requests) in
+    let starts : c.in-Ok-new.mapper.state ≡ start_state c.in-Ok.stack = c.in-Ok-new.ensures.state ∙ ap start_state c.looker.ensures.stack in
+    let fault = c.in-Err-play_earlier.fault in
+    inr (c.in-Ok.stack, c.in-Ok.ensures.gives.sound, record {
+      end = refused_ending fault;
+      ends = played_ending c.in-Ok.stack _ before (refused_ending fault) starts c.in-Err-play_earlier.ensures.played.refused;
+      met = c.in-Err-play_earlier.ensures.met;
+    })
 
 pub returns-clause-requests : goal.returns-clause-requests
 returns-clause-requests g c = unasked_requests (refusals.Earlier c.in-Err-play_earlier.fault) _ _ _ c.tell-in-Err-play_earlier.ensures.is (read_on_none _) refl
