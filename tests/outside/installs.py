@@ -19,8 +19,10 @@ PLACES = {
     "share/bash-completion/completions/%s": "completions/%s.bash",
     "share/zsh/site-functions/_%s": "completions/_%s",
 }
-DOCUMENTS, RECIPES = "share/doc/dmremap", "share/dmremap/recipes"
-# What packs the tool, and what it makes, where it is there.
+DOCUMENTS = "share/doc/dmremap"
+# What the tool looks for beside itself, and where it is here.
+PLUGIN = ("share/dmremap/nbd_volume.py", "tools/nbd_volume.py")
+# What packs the tool, and what it makes.
 PACK, TOOL = "tools/pack", "bin/dmremap-tools"
 USAGE = "usage: ./install [--remove] [PREFIX]\n"
 RELEASE_USAGE = "usage: ./release [FOLDER]\n"
@@ -96,14 +98,11 @@ def make_objects(program):
 
 def installed_in(tree):
     """What is installed, and the bytes that it has. Those of the tool aren't looked at."""
-    is_there = os.path.exists(os.path.join(tree, PACK))
-    places = {"bin/dmremap": "crates/dmremap/out/dmremap", **({TOOL: PACK} if is_there else {})}
-    places.update((place % name, path % name) for name in ["dmremap", *["dmremap-tools"] * is_there] for place, path in PLACES.items())
+    places = {"bin/dmremap": "crates/dmremap/out/dmremap", TOOL: PACK, **dict([PLUGIN])}
+    places.update((place % name, path % name) for name in ("dmremap", "dmremap-tools") for place, path in PLACES.items())
     for pattern in ("README.md", "docs/*.md", "benches/RESULTS.md", "examples/*.*", "examples/samples/*.*"):
         paths = [os.path.relpath(it, tree) for it in glob.glob(os.path.join(tree, pattern))]
         places.update(("%s/%s" % (DOCUMENTS, it), it) for it in paths)
-    for path in glob.glob(os.path.join(tree, "examples", "recipes", "*.*")):
-        places["%s/%s" % (RECIPES, os.path.basename(path))] = os.path.relpath(path, tree)
     return {place: None if place == TOOL else bytes_of(os.path.join(tree, path)) for place, path in places.items()}
 
 
@@ -123,9 +122,8 @@ def check_works(tally, program, folder, name):
     else:
         got = run(["man", "-M", os.path.join(folder, "share", "man"), "-w", "dmremap"])
         tally.same("the manual of " + name, got, 0, os.path.join(folder, "share", "man", "man1", "dmremap.1") + "\n")
-    if os.path.exists(os.path.join(folder, TOOL)):
-        got = run([os.path.join(folder, TOOL), "--help"])
-        tally.holds("the tool of " + name, got.status == 0 and b"dmremap-tools" in got.out, "%s, %r" % (got.status, got.err))
+    got = run([os.path.join(folder, TOOL), "--help"])
+    tally.holds("the tool of " + name, got.status == 0 and b"dmremap-tools" in got.out, "%s, %r" % (got.status, got.err))
 
 
 def check_installed(tally, program, tree):
