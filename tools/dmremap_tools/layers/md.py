@@ -58,7 +58,7 @@ def _pairs(given: List[str], form: str) -> Dict[str, str]:
     for word in given:
         path, _, value = word.partition("=")
         if not path or not value or path in found:
-            raise WrongWords("usage: %s\nnot %s, or twice: %s" % (form, form, quoting.shown(word)))
+            raise WrongWords("not %s, or twice: %s" % (form, quoting.shown(word)), "usage: " + form)
         found[path] = value
     return found
 
