@@ -218,6 +218,7 @@ UNFOLLOWED = [
     not_followed(members(3, level="raid5", layout="left-symmetric"), "1 R sda 0 1\n2 W /dev/md0 0 1\n", "2:2: on /dev/md0 only reads are followed: 2 W /dev/md0 0 1", "1 R sda 0 1\n"),
     not_followed(members(3, level="raid5", layout="left-symmetric"), "1 copy /dev/md0 0 8 sdb 0\n", "2:1: on /dev/md0 only reads are followed: 1 copy /dev/md0 0 8 sdb 0"),
     not_followed(FAR, "1 fill 8 /dev/md0 0\n", "2:1: on /dev/md0 only reads are followed: 1 fill 8 /dev/md0 0"),
+    not_followed(FAR, "1 R /dev/md0 0 1048577\n", "2:1: longer than a request is: 1 R /dev/md0 0 1048577"),
     not_followed(FAR, "1 R /dev/md0 90 8\n", "2:1: /dev/md0 has 96 sectors: 1 R /dev/md0 90 8"),
     not_followed(members(4, level="raid5", layout="left-symmetric").split("/dev/sdd:")[0], "1 R /dev/md0 0 8\n1 R /dev/md0 48 64\n",
                  "1:1: device 3 of the array is missing", "1 R /dev/sda 2048 8\n"),

@@ -90,6 +90,8 @@ CACHES = [
     good("cache", CACHED + ["400", "--part", "0", "1"], [CACHE % 64], "d,,,ro,0 128 linear c 1152,128 272 error\n"),
     bad("cache", CACHED + ["1000"], [CACHE % 9], "1:6: past the end of the cache, of 9 blocks:     <mapping cache_block=\"9\" origin_block=\"0\" dirty=\"true\"/>"),
     bad("cache", CACHED + ["1000"], [(CACHE % 64).replace('origin_block="4"', 'origin_block="3"')], "d: block 3 of the origin is there twice"),
+    bad("cache", CACHED + ["1000"], ["<superblock block_size=\"0\" nr_cache_blocks=\"1\">\n"],
+        "1:1: blocks of no sectors: <superblock block_size=\"0\" nr_cache_blocks=\"1\">"),
     bad("cache", CACHED + ["1000"], ["<superblock block_size=\"1\" nr_cache_blocks=\"1\">\n"], "1:1: its end is missing"),
     bad("cache", CACHED + ["1000"], [(CACHE % 64).replace("hints", "nothing")], "1:8: an element that isn't known:   <nothing>"),
     bad("cache", ["--cache", "c", "--origin", "o;", "--name", "d", "--sectors", "8"], [CACHE % 64], "--origin: no name of a disk: 'o;'"),

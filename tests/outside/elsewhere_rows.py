@@ -55,6 +55,9 @@ ALIASES = [good("aliases", [], [LSBLK, disks], output, message) for disks, outpu
     ("base 1\n/dev/sda 1\n", "", "lsblk has not base\n"),
 ]]
 ALIASES += [
+    good("aliases", [], ["\ufeff" + LSBLK.replace("\n", "\r\n"), "/dev/sda 1\r\n/dev/sda1 1\r\n"], "/dev/sda1 lies on /dev/sda\n"),
+    lost("aliases", [], [LSBLK, b"\xfd7zXZ\0\n"], "2: it is compressed (xz)"),
+    lost("aliases", [], [LSBLK, b"sda\0 1\n"], "2: it is no text"),
     lost("aliases", [], ["sda 8:0\n", "sda 1\n"], "1:1: not a line of lsblk -brno MAJ:MIN,SIZE,KNAME,PKNAME: sda 8:0"),
     lost("aliases", [], [LSBLK, "sda\n"], "2:1: not a line of DISKS: sda"),
     lost("aliases", [], [LSBLK, ""], "2: " + NEEDED),

@@ -186,6 +186,16 @@ ONLY = [
     ("machine", WORDS + ["--only", "x"], [NUMBERS, FRESH, SIZES, ALL], "refused\n", "--only: no device x", 1, "refused\n"),
 ]
 
+# Texts with a byte order mark and carriage returns, and such as are no texts.
+WRAPPED = [
+    machine(ALL.replace("\n", "\r\n"), LOWER_OUT + SNAP_OUT + ORIG_OUT, names="\ufeff" + NUMBERS.replace("\n", "\r\n"),
+            status=FRESH.replace("\n", "\r\n"), sizes=SIZES.replace("\n", "\r\n")),
+    no_machine(ALL, "1: it is compressed (gzip)", names=b"\x1f\x8b\x08\0"),
+    no_machine(ALL, "2: it is UTF-16, and not UTF-8", status=b"\xff\xfea\0"),
+    no_machine(ALL, "3: it is no text", sizes=b"8:1\0\n"),
+    no_machine(b"BZh91AY", "4: it is compressed (bzip2)"),
+]
+
 REFUSED = [
     no_machine(ALL, "1: not what `dmsetup ls` prints of devices", names="No devices found\n"),
     no_machine(ALL, "1: not what `dmsetup ls` prints of devices", names=""),
@@ -201,4 +211,4 @@ REFUSED = [
                "\\nb,,2,rw,0 8 zero \nleft out: a (no table)\n4: no device is left that dmremap can follow", names=names_of("a")),
 ]
 
-ROWS = SNAPSHOTS + TARGETS + NAMES + LENGTHS + ONLY + REFUSED
+ROWS = SNAPSHOTS + TARGETS + NAMES + LENGTHS + ONLY + WRAPPED + REFUSED

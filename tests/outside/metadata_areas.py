@@ -228,6 +228,10 @@ REFUSED = [
      + "; ".join("the metadata area at byte %d: the sum of its header is wrong" % (it * SECTOR) for it in range(15)) + "; .." + NOT_FOUND + FROM_FIRST),
     ("an image in another format", b"QFI\xfb" + bytes(8186), "there is no label in the first four sectors" + NOT_FOUND
      + ": it is an image of qcow2: convert it with qemu-img convert -O raw"),
+    ("an image of VMDK", b"KDMV" + bytes(8188), "there is no label in the first four sectors" + NOT_FOUND
+     + ": it is an image of VMDK: convert it with qemu-img convert -O raw"),
+    ("an image that is compressed", b"\x28\xb5\x2f\xfd" + bytes(8188), "there is no label in the first four sectors" + NOT_FOUND
+     + ": it is compressed (zstd)"),
     ("an encrypted disk", b"LUKS\xba\xbe" + bytes(8186), "there is no label in the first four sectors" + NOT_FOUND
      + ": it is encrypted with LUKS: open it with cryptsetup, and take what is opened"),
 ]

@@ -13,6 +13,7 @@ from tool_calls import TOOL, call
 SECTOR, CHUNK = 512, 16
 SIZE = 16 << 20
 TOOLS = ("nbdkit", "nbdcopy", "nbdinfo", "qemu-io", "mke2fs", "e2fsck")
+STRIPED = ["format=table", "source=striped", "disks=striped.disks", "device=/dev/mapper/v", "paths=paths"]
 ADMINISTRATORS = "/usr/sbin:/sbin"
 
 
@@ -21,31 +22,43 @@ def check(tally, program, top):
     lost = [it for it in TOOLS if not shutil.which(it, path=path)]
     if not lost and run(["nbdkit", "python", "--dump-plugin"]).status:
         lost = ["nbdkit's plugin for Python"]
-    check_path(tally, program, top)
+    plugins = check_path(tally, program, top)
     if lost:
         tally.skip("volumes as disks", "there is no " + ", ".join(lost))
         return
     case = Case(tally, program, top, path)
     check_copies(case)
+    for it in plugins:
+        case.plugin, plain = it, case.plugin
+        got = case.serve(STRIPED, 'nbdinfo --size "$uri"')
+        tally.same("a server out of " + os.path.basename(it), got, 0, "%d\n" % SIZE)
+        case.plugin = plain
     check_group(case)
     check_holes(case)
     check_refusals(case)
 
 
 def check_path(tally, program, top):
-    """The path that is printed: that of the sources, or where the packed tool puts a file of its own."""
+    """The path that is printed: that of the sources, that of an installed tool, or where a tool that is alone puts a file of its own."""
     tally.same("nbd-plugin", call(top, ["nbd-plugin"]), 0, os.path.join(top, "tools", "nbd_volume.py") + "\n")
-    packed = os.path.join(program.room, "plugin", TOOL)
+    room = os.path.join(program.room, "plugin")
+    packed = os.path.join(room, "bin", TOOL)
     os.makedirs(os.path.dirname(packed))
     tally.same("tools/pack", run([os.path.join(top, "tools", "pack"), packed]))
-    env = dict(os.environ, XDG_CACHE_HOME=os.path.join(program.room, "cache"))
+    os.chmod(packed, 0o755)
+    env = dict(os.environ, XDG_CACHE_HOME=os.path.join(room, "cache"))
     got = run([packed, "nbd-plugin"], env=env)
-    found = got.out.decode().rstrip("\n")
-    is_there = os.path.dirname(found) == os.path.join(program.room, "cache", TOOL) and os.path.isfile(found)
-    tally.holds("nbd-plugin of the packed tool", is_there, "it prints %r, %r" % (got.out, got.err))
+    cached = got.out.decode().rstrip("\n")
+    is_there = os.path.dirname(cached) == os.path.join(room, "cache", TOOL) and os.path.isfile(cached)
+    tally.holds("nbd-plugin of a tool alone", is_there, "it prints %r, %r" % (got.out, got.err))
     env["XDG_CACHE_HOME"] = program.path
     got = run([packed, "nbd-plugin"], env=env)
     tally.holds("nbd-plugin without a folder to write to", got.status == 1 and b"nbd_volume" in got.err and got.err.count(b"\n") == 1, got.err)
+    installed = os.path.join(room, "share", "dmremap", "nbd_volume.py")
+    os.makedirs(os.path.dirname(installed))
+    shutil.copy(os.path.join(top, "tools", "nbd_volume.py"), installed)
+    tally.same("nbd-plugin of an installed tool", run([packed, "nbd-plugin"], env=env), 0, installed + "\n")
+    return cached, installed
 
 
 def random_bytes(seed, count):
@@ -105,14 +118,13 @@ def check_copies(case):
     case.put("striped", "v: 0 %d striped 2 %d c 0 d 0\n" % (2 * half, CHUNK))
     case.put("striped.disks", "c %d\nd %d\n" % (half, half))
     case.put("paths", "c %s\nd %s\n" % (os.path.join(case.folder, "c.img"), os.path.join(case.folder, "d.img")))
-    striped = ["format=table", "source=striped", "disks=striped.disks", "device=/dev/mapper/v", "paths=paths"]
-    case.copies("a striped volume", striped, content)
+    case.copies("a striped volume", STRIPED, content)
     case.tally.same("the file system that was copied", run(["e2fsck", "-fn", "copy"], folder=case.folder, env=case.env), 0,
                     run(["e2fsck", "-fn", "fs"], folder=case.folder, env=case.env).out.decode().replace("fs:", "copy:"),
                     run(["e2fsck", "-fn", "fs"], folder=case.folder, env=case.env).err)
     # Requests of odd bytes.
     case.put("fs.part", content[1000:1000 + 70001])
-    got = case.serve(striped, 'qemu-io -r -f raw -c "read -v 1000 37" "$uri"')
+    got = case.serve(STRIPED, 'qemu-io -r -f raw -c "read -v 1000 37" "$uri"')
     shown = " ".join("%02x" % it for it in content[1000:1016]).encode()
     case.tally.holds("bytes that are no sectors", got.status == 0 and shown in got.out, "%r, %r" % (got.out, got.err))
 
@@ -160,7 +172,7 @@ def check_holes(case):
 
 def check_refusals(case):
     """What the server says before it serves."""
-    plain = ["format=table", "source=striped", "disks=striped.disks", "device=v", "paths=paths"]
+    plain = [*STRIPED[:3], "device=v", STRIPED[4]]
     for name, words, why in (
             ("no device", plain[:3] + plain[4:], "device: it isn't given: device=.."),
             ("another device", [it.replace("=v", "=w") for it in plain], "w: source has no such device"),

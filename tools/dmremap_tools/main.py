@@ -9,7 +9,7 @@ from types import ModuleType
 from typing import List, NoReturn
 
 from dmremap_tools import commands
-from dmremap_tools.base import streams
+from dmremap_tools.base import quoting, streams
 from dmremap_tools.base.refusal import Refusal, WrongWords
 
 TOOL = "dmremap-tools"
@@ -29,7 +29,7 @@ class Parser(argparse.ArgumentParser):
 
     def error(self, message: str) -> NoReturn:
         """Refuses words."""
-        raise WrongWords("%s\n%s" % (self.format_usage().rstrip(), message))
+        raise WrongWords(message, self.format_usage().rstrip())
 
 
 def main(words: List[str]) -> NoReturn:
@@ -51,8 +51,7 @@ def run(words: List[str]) -> int:
     except SystemExit:
         return _end(0, "", False)
     except WrongWords as wrong:
-        usage, _, reason = str(wrong).rpartition("\n")
-        return _end(WRONG_WORDS, "%s: %s" % (name, reason), is_fed, usage)
+        return _end(WRONG_WORDS, "%s: %s" % (name, wrong), is_fed, wrong.usage)
     except Refusal as refusal:
         return _end(REFUSED, "%s: %s" % (name, refusal), is_fed)
     except MemoryError:
@@ -78,8 +77,8 @@ def _run(command: "commands.Command | None", name: str, words: List[str]) -> int
     if words and words[0] in ("-h", "--help"):
         streams.out.write(commands.overview())
         return 0
-    usage = "usage: %s COMMAND ..\n" % TOOL
-    raise WrongWords(usage + ("no command '%s'; --help lists them" % words[0] if words else "--help lists the commands"))
+    reason = "no command '%s'; --help lists them" % quoting.shown(words[0]) if words else "--help lists the commands"
+    raise WrongWords(reason, "usage: %s COMMAND .." % TOOL)
 
 
 def _parsed(parser: Parser, words: List[str]) -> argparse.Namespace:
@@ -101,8 +100,9 @@ def parser_of(command: "commands.Command", module: ModuleType, name: str) -> Par
 def _end(status: int, message: str, is_fed: bool, usage: str = "") -> int:
     """Says why, and spoils the outputs unless all went well. An output that fails only now is told, too."""
     try:
-        for line in usage.splitlines() + message.splitlines():
-            streams.tell(line)
+        for line in usage.split("\n") + [message]:
+            if line:
+                streams.tell(line)
         if status:
             streams.spoil(is_fed)
         else:

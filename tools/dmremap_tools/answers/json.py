@@ -25,8 +25,7 @@ def run(words: Namespace) -> None:
 
 
 def _object(piece: pieces.Piece) -> str:
-    start = '{"request":%d,"what":"%s",' % (piece.request, piece.what)
-    if piece.disk:
-        start += '"disk":%s,"start":%d,' % (quoted(piece.disk), piece.start)
-    to = ',"to":%s,"to_start":%d' % (quoted(piece.to), piece.to_start) if piece.to else ""
-    return '%s"len":%d%s}\n' % (start, piece.count, to)
+    request, what, count, disk, start, to, to_start = piece
+    source = f'"disk":{quoted(disk)},"start":{start},' if disk else ""
+    target = f',"to":{quoted(to)},"to_start":{to_start}' if to else ""
+    return f'{{"request":{request},"what":"{what}",{source}"len":{count}{target}}}\n'

@@ -19,15 +19,15 @@ def run(words: Namespace) -> None:
     # By disk: the end of the last piece, how many moves there were, and how far they were together.
     moves: Dict[str, List[int]] = {}
     source = pieces.Answers(words.file)
-    for piece in source:
-        if piece.what in ("R", "W"):
-            move = moves.get(piece.disk)
+    for _, what, length, disk, start, _, _ in source:
+        if what in ("R", "W"):
+            move = moves.get(disk)
             if move:
                 move[1] += 1
-                move[2] += abs(piece.start - move[0])
-                move[0] = piece.start + piece.count
+                move[2] += abs(start - move[0])
+                move[0] = start + length
             else:
-                moves[piece.disk] = [piece.start + piece.count, 0, 0]
+                moves[disk] = [start + length, 0, 0]
     source.tell_if_none()
     for disk in sorted(moves):
         _, count, far = moves[disk]

@@ -20,16 +20,16 @@ def run(words: Namespace) -> None:
     left: Dict[str, int] = {}
     source = pieces.Answers(words.file)
     streams.out.write("fio version 2 iolog\n")
-    for piece in source:
-        if piece.what != "R":
-            left[piece.what] = left.get(piece.what, 0) + 1
+    for _, what, count, disk, start, _, _ in source:
+        if what != "R":
+            left[what] = left.get(what, 0) + 1
             continue
-        if piece.disk not in opened:
-            if not piece.disk.startswith("/"):
-                source.refuse("no path of a disk: " + quoting.shown(piece.disk))
-            opened[piece.disk] = True
-            streams.out.write("%s add\n%s open\n" % (piece.disk, piece.disk))
-        streams.out.write("%s read %d %d\n" % (piece.disk, piece.start * numbers.SECTOR, piece.count * numbers.SECTOR))
+        if disk not in opened:
+            if not disk.startswith("/"):
+                source.refuse("no path of a disk: " + quoting.shown(disk))
+            opened[disk] = True
+            streams.out.write("%s add\n%s open\n" % (disk, disk))
+        streams.out.write(f"{disk} read {start * numbers.SECTOR} {count * numbers.SECTOR}\n")
     source.tell_if_none()
     for disk in opened:
         streams.out.write("%s close\n" % disk)

@@ -8,6 +8,8 @@ from dmremap_tools.base import numbers, streams
 
 # Most pieces are of one form, and their numbers are short enough to be below 2^64 in any case.
 _MOST = re.compile(r"^([1-9][0-9]{0,17}) ([RW]) (\S+) %s ([1-9][0-9]{0,17})$" % numbers.SHORT, re.M)
+# The same, with what `uses` needs of it alone.
+_MOST_USES = re.compile(r"^[1-9][0-9]{0,17} ([RW]) (\S+) (?:0|[1-9][0-9]{0,17}) ([1-9][0-9]{0,17})$", re.M)
 _N = "(0|[1-9][0-9]{0,19})"
 _MOVED = re.compile(r"%s ([RW]) (\S+) %s %s" % (_N, _N, _N))
 _COPY = re.compile(r"%s copy (\S+) %s %s (\S+) %s" % (_N, _N, _N, _N))
@@ -37,14 +39,13 @@ class Piece(NamedTuple):
 class Answers(streams.Lines):
     """The pieces of answers, as they come. Lines of `--status` are passed over, others refused."""
 
-    is_empty = True
+    statuses = 0
 
     def __iter__(self) -> Iterator[Piece]:
         make = tuple.__new__
         for fields in self.rows(_MOST):
             if isinstance(fields, tuple):
                 request, what, disk, start, count = fields
-                self.is_empty = False
                 yield make(Piece, (int(request), what, int(count), disk, int(start), "", 0))
             else:
                 piece = self._read(fields)
@@ -54,10 +55,10 @@ class Answers(streams.Lines):
     def uses(self) -> Iterator[Tuple[str, str, int]]:
         """For each piece the disk, what is done with it, and the number of sectors: R or W, for a copy both. There is no
         disk where that is `zero`, `drop` or `error`."""
-        for fields in self.rows(_MOST):
+        for fields in self.rows(_MOST_USES):
             if isinstance(fields, tuple):
-                self.is_empty = False
-                yield fields[2], fields[1], int(fields[4])
+                what, disk, count = fields
+                yield disk, what, int(count)
                 continue
             piece = self._read(fields)
             if piece and piece.to:
@@ -69,17 +70,17 @@ class Answers(streams.Lines):
 
     def tell_if_none(self) -> None:
         """Tells at the end if there was no piece."""
-        if self.is_empty:
+        if self.number == self.statuses:
             streams.tell("no piece came")
 
     def _read(self, line: str) -> Optional[Piece]:
         """The piece that a line is, or None for a status."""
         if _STATUS.fullmatch(line):
+            self.statuses += 1
             return None
         piece = _piece_of(line)
         if not piece or not piece.request or not piece.count or max(piece.start, piece.to_start) + piece.count > numbers.LIMIT:
             self.refuse_line("not a piece of an answer")
-        self.is_empty = False
         return piece
 
 

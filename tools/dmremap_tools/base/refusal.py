@@ -14,4 +14,8 @@ class Refusal(Exception):
 
 
 class WrongWords(Exception):
-    """The words of the command line make no sense."""
+    """The words of the command line make no sense: why, and perhaps how they are used, in lines."""
+
+    def __init__(self, reason: str, usage: str = "") -> None:
+        super().__init__(reason)
+        self.usage = usage

@@ -9,6 +9,7 @@ MOST = 1 << 20
 # What is longer than 2 PiB is no length of anything: it would be cut into more than four million requests.
 LONGEST = 1 << 42
 TOO_LONG = "longer than 2 PiB"
+_LIMIT, _write = numbers.LIMIT, streams.out.write
 # What to do, a device, and two numbers, as they mostly are.
 _MOST_LINES = re.compile(r"^([RW]) (\S+) %s %s$" % (numbers.SHORT, numbers.SHORT), re.M)
 
@@ -35,17 +36,17 @@ def parts(first: int, count: int) -> Iterator[Tuple[int, int]]:
 
 def write(source: streams.Lines, operation: str, name: str, first: int, count: int) -> int:
     """Prints a request of a line for these sectors, or several where one would be too long; returns how many."""
-    if 0 < count <= MOST and first + count <= numbers.LIMIT:
-        streams.out.write(f"{operation} {name} {first} {count}\n")
+    if 0 < count <= MOST and first + count <= _LIMIT:
+        _write(f"{operation} {name} {first} {count}\n")
         return 1
     if count == 0:
         source.refuse_line("no sectors")
-    if first + count > numbers.LIMIT:
+    if first + count > _LIMIT:
         source.refuse_line("it goes past sector 2^64")
     if count > LONGEST:
         source.refuse_line(TOO_LONG)
     for at, part in parts(first, count):
-        streams.out.write("%s %s %d %d\n" % (operation, name, at, part))
+        _write("%s %s %d %d\n" % (operation, name, at, part))
     return -(-count // MOST)
 
 

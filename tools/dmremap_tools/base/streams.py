@@ -8,7 +8,7 @@ import os
 import stat
 from typing import Iterator, List, NoReturn, Pattern, Tuple
 
-from dmremap_tools.base import numbers, quoting
+from dmremap_tools.base import numbers, plain_text, quoting
 from dmremap_tools.base.refusal import Refusal, WrongWords
 
 CHUNK = 1 << 16
@@ -80,8 +80,8 @@ class Output:
 
 
 class Lines:
-    """The lines of a file, or of standard input for `-`, as they come. A text that ends within a line is refused, as
-    nobody can tell what the rest of it was. `number` is that of the line that was read last, from 1."""
+    """The lines of a file, or of standard input for `-`, as they come, without a byte order mark and carriage returns. A text
+    that ends within a line is refused, as nobody can tell what the rest of it was. `number` is that of the line that was read last, from 1."""
 
     def __init__(self, path: str) -> None:
         self.name = "standard input" if path == "-" else path
@@ -128,11 +128,14 @@ class Lines:
 
     def _blocks(self) -> Iterator[str]:
         """The text in pieces of whole lines. What was written goes out before more of it is waited for."""
-        rest = b""
+        rest, is_begun = b"", False
         for chunk in iter(lambda: _read_some(self._descriptor, self.name), b""):
+            if not is_begun:
+                chunk, is_begun = plain_text.begun(self.name, chunk), True
             end = chunk.rfind(b"\n") + 1
             if end:
-                self._block, self._before = (rest + chunk[:end]).decode("utf-8", "surrogateescape"), self.number
+                lines = plain_text.with_plain_ends(rest + chunk[:end])
+                self._block, self._before = lines.decode("utf-8", "surrogateescape"), self.number
                 rest = chunk[end:]
                 yield self._block
             else:
@@ -166,12 +169,14 @@ def read_bytes(path: str, most: int = MOST_TEXT) -> bytes:
             raise Refusal(name, "it has more than %d bytes" % most)
     if descriptor:
         os.close(descriptor)
+    plain_text.check_compressed(name, chunks[0] if chunks else b"")
     return b"".join(chunks)
 
 
 def read(path: str, most: int = MOST_TEXT) -> str:
     """The same as text. Bytes that are no UTF-8 stay what they are, and are written as they were."""
-    return read_bytes(path, most).decode("utf-8", "surrogateescape")
+    text = plain_text.begun("standard input" if path == "-" else path, read_bytes(path, most))
+    return plain_text.with_plain_ends(text).decode("utf-8", "surrogateescape")
 
 
 def rows(path: str, most: int = MOST_TEXT) -> List[str]:

@@ -17,7 +17,7 @@ from dmremap_tools.layers import dumps, parts
 
 EXAMPLE = "dmremap-tools cache --cache cdata --origin corig --name vg0-home --sectors 2097152 dump.xml > cached.concise"
 OTHERS = ("mappings", "hints", "hint", "discards", "discard")
-MOST_BLOCKS = 1 << 22
+MOST_BLOCKS = 1 << 21
 
 
 def add_words(parser: ArgumentParser) -> None:
@@ -45,7 +45,7 @@ def read(path: str, is_all: bool) -> Tuple[int, List[Tuple[int, int]]]:
     pairs: List[Tuple[int, int]] = []
     for it in dumps.elements(path, "cache_dump"):
         if it.tag == "superblock" and not it.is_end:
-            block, most = it.number("block_size"), it.number("nr_cache_blocks")
+            block, most = it.block_size("block_size"), it.number("nr_cache_blocks")
         elif it.tag == "mapping":
             if it.number("cache_block") >= most or len(pairs) == MOST_BLOCKS:
                 it.source.refuse_line("past the end of the cache, of %d blocks" % min(most, MOST_BLOCKS))

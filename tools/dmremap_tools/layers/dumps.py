@@ -23,6 +23,10 @@ class Element(NamedTuple):
             self.source.refuse("`%s` doesn't say %s" % (self.tag, key))
         return self.source.whole(self.said[key])
 
+    def block_size(self, key: str) -> int:
+        """The sectors of a block."""
+        return self.number(key) or self.source.refuse_line("blocks of no sectors")
+
 
 def elements(path: str, tool: str) -> Iterator[Element]:
     """The elements of a dump, which begins and ends with its superblock."""

@@ -18,7 +18,7 @@ missing. In answers it refuses writes beside parity, copies and fills, and what 
 import argparse
 from typing import Dict, Iterator, List, Tuple
 
-from dmremap_tools.base import names, numbers, pieces, quoting, streams
+from dmremap_tools.base import names, numbers, pieces, quoting, requests, streams
 from dmremap_tools.base.refusal import WrongWords
 from dmremap_tools.layers import arrays, examine
 
@@ -58,7 +58,7 @@ def _pairs(given: List[str], form: str) -> Dict[str, str]:
     for word in given:
         path, _, value = word.partition("=")
         if not path or not value or path in found:
-            raise WrongWords("usage: %s\nnot %s, or twice: %s" % (form, form, quoting.shown(word)))
+            raise WrongWords("not %s, or twice: %s" % (form, quoting.shown(word)), "usage: " + form)
         found[path] = value
     return found
 
@@ -78,6 +78,8 @@ def follow(array: arrays.Array, disk: str, copy: "int | None", source: pieces.An
             continue
         if piece.what not in ("R", "W") or piece.what == "W" and array.level in arrays.PARITY:
             source.refuse_line("on %s only reads are followed" % quoting.shown(disk))
+        if piece.count > requests.MOST:
+            source.refuse_line("longer than a request is")
         if piece.start + piece.count > array.sectors:
             source.refuse_line("%s has %d sectors" % (quoting.shown(disk), array.sectors))
         for name, start, count in _joined(_read(array, piece, copy or 0) if piece.what == "R" else _written(array, piece)):

@@ -53,8 +53,7 @@ def wanted_in(words: argparse.Namespace) -> Wanted:
     for word in words.store:
         name, is_given, image = word.partition("=")
         if not image or name in images or name in words.fresh:
-            raise WrongWords("usage: --store SNAPSHOT=IMAGE\n"
-                             "not SNAPSHOT=IMAGE, or of one that was given before: " + quoting.shown(word))
+            raise WrongWords("not SNAPSHOT=IMAGE, or of one that was given before: " + quoting.shown(word), "usage: --store SNAPSHOT=IMAGE")
         images[name] = image
     return Wanted(images, words.fresh, paths.read(words.paths) if words.paths is not None else {})
 
@@ -69,9 +68,10 @@ def prepare(asked: str, stack: Stack, wanted: Wanted, room: str) -> Prepared:
     for snapshot in look:
         if snapshot.kind == "N":
             snapshot.refuse("it isn't persistent, so no disk says what is in it; --fresh %s takes it as fresh" % snapshot.name)
-    _look_into(asked, stack, wanted, look, room)
+    if look:
+        _look_into(asked, stack, wanted, look, room)
     for it in look:
-        streams.tell("%s: %s, %d chunks of its store taken" % (it.name, it.state, len(it.taken)))
+        streams.tell("%s: %s, with %d of its chunks in the store" % (it.name, it.state, len(it.taken)))
     devices, renamed = _changed(stack.devices, found)
     source = Stack(devices, stack.sizes).write(room)
     if renamed:

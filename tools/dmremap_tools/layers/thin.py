@@ -86,7 +86,7 @@ def read(path: str, wanted: "set[int]") -> Tuple[int, Dict[int, Runs]]:
     into: Optional[Runs] = None
     for it in dumps.elements(path, "thin_dump"):
         if it.tag == "superblock":
-            block, most = (block, most) if it.is_end else (it.number("data_block_size"), it.number("nr_data_blocks"))
+            block, most = (block, most) if it.is_end else (it.block_size("data_block_size"), it.number("nr_data_blocks"))
         elif it.tag == "device" and it.is_end:
             if into and into.blocks != count:
                 it.source.refuse("it has %d blocks and not %d, as it says" % (into.blocks, count))

@@ -46,7 +46,7 @@ def run(words: argparse.Namespace) -> None:
     given, wanted, asked = stack.Given(words.form, words.file, words.disks), state.wanted_in(words), program.dmremap(words.program)
     fault = given.fault()
     if fault:
-        raise WrongWords("usage: map FORMAT FILE [DISKS] [--status]\n" + fault)
+        raise WrongWords(fault, "usage: map FORMAT FILE [DISKS] [--status]")
     with tempfile.TemporaryDirectory(prefix="dmremap-tools-") as room:
         loaded = stack.load(asked, given, room)
         prepared = state.prepare(asked, loaded, wanted, room if words.keep is None else _folder(words.keep))
@@ -58,7 +58,7 @@ def _folder(path: str) -> str:
         os.makedirs(path, exist_ok=True)
     except OSError as fault:
         raise Refusal(path, streams.why(fault))
-    return path
+    return os.path.abspath(path)
 
 
 def _map(prepared: state.Prepared, is_status: bool) -> None:

@@ -58,7 +58,8 @@ class AskedRuns:
 
     def blocks(self, sectors: int, end: int) -> List[int]:
         """The blocks of so many sectors that they lie in, each once, up to the end of a file system."""
-        if sum(len(it.blocks(sectors)) for it in self.runs) > MOST_BLOCKS:
+        found = (it.blocks(sectors) for it in self.runs)
+        if sum(it.stop - it.start for it in found) > MOST_BLOCKS:
             raise Refusal(self._source.name, "more than %d blocks" % MOST_BLOCKS)
         return sorted({block for it in self.runs for block in it.blocks(sectors) if block < end})
 

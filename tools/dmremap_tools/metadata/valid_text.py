@@ -5,6 +5,7 @@ from typing import List
 from dmremap_tools.base import quoting, streams
 from dmremap_tools.base.disk_image import Image, dd
 from dmremap_tools.base.numbers import SECTOR
+from dmremap_tools.base.plain_text import COMPRESSED
 from dmremap_tools.base.refusal import Refusal
 from dmremap_tools.metadata import physical_volume
 from dmremap_tools.metadata.group_text import beginning_of, summary, without_time
@@ -17,6 +18,9 @@ OTHER = "try another physical volume of the group, or a file in /etc/lvm/backup"
 OTHERS = {
     b"LUKS\xba\xbe": "it is encrypted with LUKS: open it with cryptsetup, and take what is opened",
     b"QFI\xfb": "it is an image of qcow2: convert it with qemu-img convert -O raw",
+    b"KDMV": "it is an image of VMDK: convert it with qemu-img convert -O raw",
+    b"vhdxfile": "it is an image of VHDX: convert it with qemu-img convert -O raw",
+    **{magic: "it is compressed (%s)" % kind for magic, kind in COMPRESSED.items()},
 }
 
 

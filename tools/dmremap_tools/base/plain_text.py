@@ -1,0 +1,37 @@
+"""What a text may come in: a byte order mark and carriage returns at the ends of lines are taken off, and what is compressed
+or no text at all is refused."""
+
+from dmremap_tools.base.refusal import Refusal
+
+MARK = b"\xef\xbb\xbf"
+COMPRESSED = {b"\x1f\x8b": "gzip", b"BZh": "bzip2", b"\xfd7zXZ\0": "xz", b"\x28\xb5\x2f\xfd": "zstd", b"\x04\x22\x4d\x18": "lz4", b"PK\x03\x04": "zip"}
+WIDE = (b"\xff\xfe", b"\xfe\xff")
+# How much of the beginning has no NUL, if it is a text.
+LOOKED_AT = 512
+
+
+def check_compressed(name: str, beginning: bytes) -> None:
+    """Refuses an input that is compressed."""
+    kind = compression(beginning)
+    if kind:
+        raise Refusal(name, "it is compressed (%s)" % kind)
+
+
+def compression(beginning: bytes) -> str:
+    """By what an input is compressed, or nothing."""
+    return next((kind for magic, kind in COMPRESSED.items() if beginning.startswith(magic)), "")
+
+
+def begun(name: str, beginning: bytes) -> bytes:
+    """The beginning of a text without a byte order mark; what is no text is refused."""
+    check_compressed(name, beginning)
+    if beginning.startswith(WIDE):
+        raise Refusal(name, "it is UTF-16, and not UTF-8")
+    if b"\0" in beginning[:LOOKED_AT]:
+        raise Refusal(name, "it is no text")
+    return beginning[len(MARK):] if beginning.startswith(MARK) else beginning
+
+
+def with_plain_ends(text: bytes) -> bytes:
+    """Lines without the carriage returns at their ends."""
+    return text.replace(b"\r\n", b"\n") if b"\r" in text else text
