@@ -78,7 +78,9 @@ def make_tree(program, top, name):
     if not os.path.exists(objects):
         make_objects(program)
     make = 'cp "$1" "$3/dmremap" && cp "$2" "$3/dmremap.o"'
-    run([os.path.join(tree, "build"), "--by", "sh", "-c", make, "sh", program.path, os.path.join(objects, "c", "main.o"), out])
+    got = run([os.path.join(tree, "build"), "--by", "sh", "-c", make, "sh", program.path, os.path.join(objects, "c", "main.o"), out])
+    if got.status:
+        raise RuntimeError("no program was put there: %r" % got.err)
     return tree
 
 
