@@ -136,7 +136,7 @@ def check_changed(tally, tree):
     check_checkout(tally, tree)
     tree.put()
     tree.write(SOURCE, "text of before\n")
-    saved = tree.program.file("saved", "low:\nmiddle: low\ndmremap: low middle beside\nbeside: low\n")
+    saved = tree.program.file("saved", "low:\nmiddle: low\ndmremap: low middle beside\nbeside: middle\n")
     got = tree.run(["splitname", "a-b"], variables={"SAVED": saved, "AT": tree.path("crates.txt")})
     anew = told(["low", "middle", "beside", "dmremap"])
     tally.same("./dmremap where crates.txt is changed meanwhile", got, 0, "a b\n", BUILDING + told() + ANEW + anew)

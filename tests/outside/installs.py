@@ -80,7 +80,9 @@ def make_tree(program, top, name):
     if not os.path.exists(objects):
         make_objects(program)
     make = 'cp "$1" "$3/dmremap" && cp "$2" "$3/dmremap.o"'
-    run([os.path.join(tree, "build"), "--by", "sh", "-c", make, "sh", program.path, os.path.join(objects, "c", "main.o"), out])
+    got = run([os.path.join(tree, "build"), "--by", "sh", "-c", make, "sh", program.path, os.path.join(objects, "c", "main.o"), out])
+    if got.status:
+        raise RuntimeError("no program was put there: %r" % got.err)
     return tree
 
 
@@ -269,6 +271,12 @@ def check_refused(tally, program, tree, release, env):
 def check_static(tally, path, name):
     """A program that asks for no library. Ones that look at programs say so, where they are there."""
     tally.holds("the segments of " + name, is_static(path), "it asks for a loader or for libraries")
+    if os.geteuid() == 0:
+        folder, file = os.path.split(path)
+        got = run([os.sep + file, "--version"], before=lambda: (os.chroot(folder), os.chdir(os.sep)))
+        tally.holds(name + " where there is no library", got.status == 0 and got.out.startswith(b"dmremap "), "%s, %r" % (got.status, got.err))
+    else:
+        tally.skip(name + " where there is no library", "only root can hide them")
     for tool, told in ("ldd", b"not a dynamic executable"), ("file", b"statically linked"):
         if shutil.which(tool) is None:
             tally.skip("what %s says of %s" % (tool, name), "it isn't there")
