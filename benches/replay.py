@@ -29,11 +29,11 @@ SCATTERED = ("a: 0 1048576 striped %d 1 %s\n" % (COLUMNS, " ".join("base %d" % (
 CHUNKS = ("s: 0 100000 snapshot base cow P 1\n", "base 100000\ncow 200000\n")
 
 SECTORS = 40000
-ONE_LINE = ("a: 0 %d linear base 0\n" % SECTORS, "base %d\n" % SECTORS)
-LINES = ("".join("a: %d 1 linear base %d\n" % (it, it) for it in range(SECTORS)), "base %d\n" % SECTORS)
-DEVICES = ("".join("d%d: 0 40 linear base %d\n" % (it, 40 * it) for it in range(1000)), "base %d\n" % SECTORS)
-STRIPES = ("".join("a: %d 128 striped 128 1 %s\n" % (128 * line, " ".join("base %d" % (128 * line + it) for it in range(128)))
-                   for line in range(320)), "base 40960\n")
+ONE_LINE = ("a: 0 %d linear s 0\n" % SECTORS, "s %d\n" % SECTORS)
+LINES = ("".join("a: %d 1 linear s %d\n" % (it, it) for it in range(SECTORS)), "s %d\n" % SECTORS)
+DEVICES = ("".join("d%d: 0 40 linear s %d\n" % (it, 40 * it) for it in range(1000)), "s %d\n" % SECTORS)
+STRIPES = ("".join("a: %d 128 striped 128 1 %s\n" % (128 * line, " ".join("s %d" % (128 * line + it) for it in range(128)))
+                   for line in range(320)), "s 40960\n")
 
 
 def rising(count):
@@ -142,7 +142,7 @@ def measure(stack, requests):
                 time.sleep(0.002)
                 ended, status, used = os.wait4(ran.pid, os.WNOHANG)
     if status:
-        sys.exit("%s: status %d" % (stack[0], status))
+        sys.exit("%s: status %d" % (stack[0][:80], status))
     return used.ru_utime + used.ru_stime, most
 
 

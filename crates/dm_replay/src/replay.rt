@@ -62,6 +62,8 @@ impl<'s, T: Taken> Replay<'s, T> {
     /// A replay of a stack of which no two claims meet. Each sector of its disks holds what was there
     /// before.
     ///
+    /// Cost: that of `Stack::tidy` and of `Stack::tops`, which is noted, so that no request looks at all lines.
+    ///
     /// # Errors
     ///
     /// `Untidy` where two claims meet. `Memory` where it is out of memory.
