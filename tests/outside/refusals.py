@@ -33,9 +33,10 @@ PLACES = {
     ("dm_replay/replay", "halt", "play_front"): OURS,
     ("dm_replay/replay", "halt", "rerun"): OURS,
     ("dm_replay/replay", "new", "Mapper::new"): OURS,
+    ("dm_replay/replay", "new", "stack.tops"): OURS,
     ("dm_replay/replay", "refuse_clash", "stack.tidy"): OURS,
-    ("dm_replay/replay", "request", "keep"): OURS + ": the push of a write that was played",
-    ("dm_replay/replay", "request", "play_request"): OURS,
+    ("dm_replay/replay", "request_of", "keep"): OURS + ": the push of a write that was played",
+    ("dm_replay/replay", "request_of", "play_request"): OURS,
     ("dm_replay/value_runs", "add", "last.len"):
         "none: no run comes there, since it has no more sectors than a request has, 1,048,576",
     ("dm_stack/faults", "or_out_of_memory", "made"): "its argument's only error is that of a growth",
