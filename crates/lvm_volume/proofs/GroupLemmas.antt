@@ -10,6 +10,7 @@ use Rattle.lvm_volume.specs.checks.Extents.{name_faults, snapshot_faults, unknow
 use Rattle.lvm_volume.specs.fields.Fields.{faults_of_fields}
 use Rattle.lvm_volume.specs.group.Group.{Group, group_of}
 use Rattle.lvm_volume.specs.tables.Tables.{members_of, checks_of_parts, extent_faults, group_checks, unnamed}
+use Rattle.lvm_volume.proofs.fields.Faults.{first_kept}
 use Rattle.lvm_volume.proofs.checks.FaultKinds.{NoMemory, first_kind, of_walk, of_unknown, of_extents, of_snapshots, of_unnamed}
 
 -- what is returned where a fault is found
@@ -20,10 +21,6 @@ Refused fault said = (fault.kind ≡ Memory → IsMemoryFault Source fault) × (
 pub refused_by : {X : Type 0} {found : Option LoadFault} {fault : LoadFault} {said : Result X LoadFault} → (found ≡ Some fault → Refused fault said) → (found ≡ Some fault) ⊎ IsMemoryFault Source fault → Refused fault said
 refused_by refused (inl is) = refused is
 refused_by refused (inr memory) = (λ kind. memory, λ other. absurd (other (ap (λ (f : LoadFault). f.kind) memory)))
-
-found_first : (faults : List LoadFault) (later : Option LoadFault) (fault : LoadFault) → first_or faults None ≡ Some fault → first_or faults later ≡ Some fault
-found_first [] later fault e = absurd cc
-found_first (f ∷ faults) later fault e = e
 
 pub found_later : (faults : List LoadFault) (later : Option LoadFault) → first_or faults None ≡ None → first_or faults later ≡ later
 found_later [] later e = refl
@@ -44,7 +41,7 @@ abbrev pub of_both : Tree → Option LoadFault
 of_both top = first_or (faults_of_fields Fields top) (first_or (faults_of_fields (Limits (group_of top).extent_size) top) None)
 
 both_found : (fields limits : List LoadFault) (later : Option LoadFault) (fault : LoadFault) → first_or fields (first_or limits None) ≡ Some fault → first_or fields (first_or limits later) ≡ Some fault
-both_found [] limits later fault e = found_first limits later fault e
+both_found [] limits later fault e = first_kept limits later fault e
 both_found (f ∷ fields) limits later fault e = e
 
 both_kind : (fields limits : List LoadFault) (fault : LoadFault) → NoMemory fields → NoMemory limits → first_or fields (first_or limits None) ≡ Some fault → fault.kind ≢ Memory
@@ -79,7 +76,7 @@ past_names top none names = past_fields top none ∙ found_later (name_faults (g
 pub at_names : {X : Type 0} (top : Tree) (x : X) (fault : LoadFault) → of_both top ≡ None → Refused fault (unless (first_or (name_faults (group_of top).physicals) None) x) → Refused fault (unless (first_fault (group_checks top)) (group_of top))
 at_names top x fault none h = (
   h.0,
-  λ other. ap (λ (o : Option LoadFault). unless o (group_of top)) (past_fields top none ∙ found_first (name_faults (group_of top).physicals) _ fault (err_is _ x fault (h.1 other))),
+  λ other. ap (λ (o : Option LoadFault). unless o (group_of top)) (past_fields top none ∙ first_kept (name_faults (group_of top).physicals) _ fault (err_is _ x fault (h.1 other))),
 )
 
 parts_kind : (group : Group) (fault : LoadFault) → first_fault (checks_of_parts group) ≡ Some fault → fault.kind ≢ Memory

@@ -1,5 +1,6 @@
 pub mod GroupLemmas
 pub mod MetadataLemmas
+pub mod NameLengths
 pub mod OneGroup
 pub mod Splits
 mod WorkedSnapshots

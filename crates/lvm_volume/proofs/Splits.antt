@@ -3,7 +3,7 @@ use Rattle.std.proofs.Common.{◌≡◌, ◌≢◌, ℕ, suc, ◌+◌, ◌<◌, 
 use Rattle.std.specs.Prelude.{Result, Err, IfSome, IsTrue, option_map, MatchOption, option_and_then, is_none, nat_le}
 use Rattle.std.specs.List.{list_all}
 use Rattle.std.specs.Str.Pattern.{LacksTextAt, HasTextAt}
-use Rattle.std.proofs.lemmas.Bool.{eqb-true, and_parts, and_from, leb-true, le-leb}
+use Rattle.std.proofs.lemmas.Bool.{eqb-true, and_parts, and_from, leb-true, le-leb, lt-leb}
 use Rattle.std.proofs.lemmas.Bool.Decides.{nat_tests}
 use Rattle.std.proofs.lemmas.List.{append-nil, take_more, take-append-drop}
 use denote.Ref.{Bor}
@@ -151,6 +151,14 @@ pub fault_parts : (p : NameParts) → fault_of p ≡ or_later (parts_faults p) (
 fault_parts p = or_whole (part_fault p.vg) (part_fault p.lv) (layer_fault p.layer) (long_fault p)
 
 -- Building
+
+pub fault_first : (p : NameParts) (f : NameFault) → Some f ≡ parts_faults p → Some f ≡ fault_of p
+fault_first p f e = ap (λ (o : Option NameFault). or_later o (long_fault p)) e ∙ sym (fault_parts p)
+
+pub too_long : (p : NameParts) → None ≡ parts_faults p → 127 < length (joined p) → Some Long ≡ fault_of p
+too_long p e more =
+    let long : nat_le (length (joined p)) 127 ≡ false = lt-leb (length (joined p)) 127 more in
+    ap (λ (b : Bool). cond b None (Some Long)) (sym long) ∙ ap (λ (o : Option NameFault). or_later o (long_fault p)) e ∙ sym (fault_parts p)
 
 pub returns_fault : (f : NameFault) (said : Result (List ℕ) NameFault) → said ≡ Err f → Returns (Err f) said
 returns_fault Letter said e = sym e

@@ -2,11 +2,11 @@
 //! hyphens. That tells the hyphen that ends a part from those inside it, so a name splits in one way: a
 //! clause of `split_name` says so. To change what a part may be, change `specs/Names` first.
 
-ghost use Rattle.std.specs.Prelude.{◌≡◌, ℕ, ◌++◌, List, IfOk, IfSome, IfNone, OnOk, option_map, IsTrue};
+ghost use Rattle.std.specs.Prelude.{◌≡◌, ℕ, ◌++◌, ◌<◌, ◌^◌, List, IfOk, IfSome, IfNone, OnOk, length, option_map, IsTrue};
 ghost use Rattle.std.specs.List.{list_all};
 ghost use Rattle.std.specs.String.{string_bytes};
 ghost use Rattle.lvm_volume.specs.Names.{NameParts, name_parts, is_letter, begins_with, part_fault};
-ghost use Rattle.lvm_volume.specs.Names.{layer_fault, or_later, doubled, undoubled, joined, built, Returns};
+ghost use Rattle.lvm_volume.specs.Names.{layer_fault, or_later, doubled, undoubled, fault_of, joined, built, Returns, with_hyphen};
 ghost use Rattle.lvm_volume.specs.Names.{Builds, IsSplit, IsSpaced, parts_view, spaced, undoubled_parts};
 ghost use Rattle.lvm_volume.specs.Cuts.{slice_length, first_slice, later_slices, slices_of};
 
@@ -84,6 +84,41 @@ fn parts_fault(vg: &str, lv: &str, layer: Option<&str>) -> Option<NameFault>
         return Some(fault);
     }
     layer_fault(layer)
+}
+
+/// The length of a part with each hyphen doubled.
+#[tactic(auto, using(crate::proofs::NameLengths::length_doubled))]
+fn doubled_length(part: &str) -> u128
+    ensures len { result ≡ length (doubled part.now) }
+    ensures small { result < 2 ^ 65 }
+{
+    let hyphens = part.as_bytes().iter().filter(|byte| **byte == b'-').count();
+    u128::from(part.len() as u64) + u128::from(hyphens as u64)
+}
+
+/// The length of a layer and the hyphen before it, with the other hyphens doubled.
+fn layer_length(layer: Option<&str>) -> u128
+    ensures len { result ≡ length (with_hyphen (option_map doubled (option_map (λ l. l.now) layer.entry))) }
+    ensures small { result < 2 ^ 66 }
+{
+    match layer {
+        Some(layer) => doubled_length(layer) + 1,
+        None => 0,
+    }
+}
+
+/// Why no name is built of these parts, if none is. Takes no memory.
+pub(crate) fn name_fault(vg: &str, lv: &str, layer: Option<&str>) -> Option<NameFault>
+    ensures { result ≡ fault_of (name_parts vg.now lv.now layer.entry) }
+{
+    if let Some(fault) = parts_fault(vg, lv, layer) {
+        return Some(fault);
+    }
+    if doubled_length(vg) + 1 + doubled_length(lv) + layer_length(layer) <= 127 {
+        None
+    } else {
+        Some(NameFault::Long)
+    }
 }
 
 /// Adds a part with each hyphen doubled.

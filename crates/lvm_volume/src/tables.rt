@@ -46,7 +46,7 @@ impl VolumeGroup {
         let Ok(roles) = roles_of(alloc, &self.volumes) else {
             return Err(memory_fault());
         };
-        check_names(alloc, self.name.as_str(), &roles, &self.volumes)?;
+        check_names(self.name.as_str(), &roles, &self.volumes)?;
         let group = GroupRef {
             name: self.name.as_str(),
             extent_size: self.extent_size,

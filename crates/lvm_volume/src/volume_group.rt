@@ -4,7 +4,7 @@
 //! bits in sectors, stripes of physical volumes that are there, and snapshots of volumes that are origins. A
 //! new check takes its place here and in `group_checks` of `specs/tables/Tables.antt`.
 
-ghost use Rattle.std.specs.Prelude.{◌≡◌, ℕ, List};
+ghost use Rattle.std.specs.Prelude.{ℕ, List};
 ghost use Rattle.dm_table.specs.load.LoadFault.{Answers, first_fault, unless};
 ghost use Rattle.dm_table.specs.declared.load.place.Part.TheVariants.{Source};
 ghost use Rattle.lvm_volume.specs.fields.Fields.{IsChecked};

@@ -1,5 +1,5 @@
 -- Steps of a reading, one after the other.
-use Rattle.std.proofs.Common.{◌≡◌, ◌⊎◌, inl, inr, append_assoc, arith, ℕ, ◌+◌, ◌-◌, ◌<◌, ◌≤◌, drop, get_or, length, map, List, [], ◌∷◌, ◌++◌, Option, Some, None, refl, sym, ap, ◌∙◌}
+use Rattle.std.proofs.Common.{◌≡◌, ◌⊎◌, inl, append_assoc, arith, ℕ, ◌+◌, ◌-◌, ◌<◌, ◌≤◌, drop, get_or, length, map, List, [], ◌∷◌, ◌++◌, Option, Some, None, refl, sym, ap, ◌∙◌}
 use Rattle.std.proofs.lemmas.List.{append-nil, drop_more}
 use Rattle.std.proofs.Math.ListN.{drop_of_length-le}
 use Rattle.std.specs.List.{flat_map, range_with_len}
@@ -11,7 +11,7 @@ use Rattle.lvm_volume.specs.declared.fields.reader.FieldReader.{FieldReader}
 use Rattle.lvm_volume.specs.fields.Checks.{Check, Fields, Limits}
 use Rattle.lvm_volume.specs.fields.Fields.{first_of, missing}
 use Rattle.lvm_volume.specs.fields.Steps.{IsStep, after, or_first}
-use Rattle.lvm_volume.proofs.fields.Faults.{first_after, first_here, found_more, range_more}
+use Rattle.lvm_volume.proofs.fields.Faults.{first_after, first_here, first_kept, found_more, range_more}
 
 or_first_both : (found : Option LoadFault) (xs ys : List LoadFault) → or_first (or_first found xs) ys ≡ or_first found (xs ++ ys)
 or_first_both None [] ys = refl
@@ -67,13 +67,6 @@ nothing_left reader = record {
   failed_at = λ fault is. absurd cc;
 }
 
--- what fails for want of memory
-pub no_memory : {f : Check → List LoadFault} {old new : FieldReader} {fault : LoadFault} → IsMemoryFault Source fault → IsStep f old new (Some fault)
-no_memory {f} {old} {new} {fault} memory = record {
-  passed = λ none. absurd cc;
-  failed_at = λ it same. let is : it ≡ fault = cc in inr (is ∙ memory);
-}
-
 -- In a loop
 
 -- the first of the elements that are left
@@ -126,10 +119,6 @@ fresh size = record { extent_size = size; excess = None }
 -- the first fault of both checks
 abbrev pub of_both : (Check → List LoadFault) → ℕ → Option LoadFault
 of_both f size = first_or (f Fields) (first_of (f (Limits size)))
-
-first_kept : (faults : List LoadFault) (later : Option LoadFault) (fault : LoadFault) → first_or faults None ≡ Some fault → first_or faults later ≡ Some fault
-first_kept [] later fault e = absurd cc
-first_kept (f ∷ faults) later fault e = e
 
 pub ends_failed : {f : Check → List LoadFault} {old new : FieldReader} {fault : LoadFault} (size : ℕ) → IsStep f old new (Some fault) → (of_both f size ≡ Some fault) ⊎ IsMemoryFault Source fault
 ends_failed {f} size h = found_more (first_kept (f Fields) _ _) (h.failed_at _ refl)

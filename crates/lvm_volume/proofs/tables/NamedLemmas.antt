@@ -1,43 +1,18 @@
 -- Names of devices that are built, and those that are refused.
-use Rattle.std.proofs.Common.{◌≡◌, ◌≢◌, ◌⊎◌, inl, inr, ℕ, false, List, [], ◌∷◌, Option, Some, None, Ok, Err, refl, sym, ap, subst, ◌∙◌}
+use Rattle.std.proofs.Common.{◌≡◌, ℕ, false, List, [], ◌∷◌, Option, Some, None, refl, subst}
 use Rattle.std.specs.Prelude.{is_some}
 use Rattle.std.specs.List.{AllByRecursion, flat_map}
-use Rattle.dm_table.specs.declared.load.place.Part.TheVariants.{Source}
 use Rattle.dm_table.specs.declared.load.load_fault.LoadKind.TheVariants.{Name}
-use Rattle.dm_table.specs.declared.load.load_fault.LoadFault.{LoadFault}
-use Rattle.dm_table.specs.load.LoadFault.{IsMemoryFault, fault_at, first_or}
 use Rattle.lvm_volume.specs.declared.tables.device_names.Layer.{Layer}
 use Rattle.lvm_volume.specs.declared.tables.device_names.Layer.TheVariants.{Real, Cow}
 use Rattle.lvm_volume.specs.declared.fault.NameFault.{NameFault}
-use Rattle.lvm_volume.specs.declared.fault.NameFault.TheVariants as names
 use Rattle.lvm_volume.specs.declared.group.roles.Record.{Record}
 use Rattle.lvm_volume.specs.declared.group.roles.Role.{Role}
 use Rattle.lvm_volume.specs.declared.group.roles.Role.TheVariants as roles
 use Rattle.lvm_volume.specs.declared.group.volume.Volume.{Volume}
-use Rattle.lvm_volume.specs.Names.{Returns, fault_of, name_or}
-use Rattle.lvm_volume.specs.checks.Extents.{hit}
+use Rattle.lvm_volume.specs.Names.{fault_of}
 use Rattle.lvm_volume.specs.tables.Tables.{device_parts, layers_of, unnamed_layer, unnamed_volume}
 use Rattle.lvm_volume.proofs.checks.Sound.{append-nil_both, hit-nil}
-
-pub named : (o : Option NameFault) (text name : List ℕ) (line : ℕ) → Returns (Ok name) (name_or o text) → None ≡ first_or (hit (is_some o) Name line) None
-named None text name line e = refl
-named (Some f) text name line e = absurd cc
-
-pub refused : (o : Option NameFault) (text : List ℕ) (f : NameFault) (line : ℕ) → f ≢ names.Memory → Returns (Err f) (name_or o text) → Some (fault_at Source Name line) ≡ first_or (hit (is_some o) Name line) None
-refused (Some g) text f line other e = refl
-refused None text names.Letter line other e = absurd cc
-refused None text names.HyphenFirst line other e = absurd cc
-refused None text names.Empty line other e = absurd cc
-refused None text names.Long line other e = absurd cc
-refused None text names.Memory line other e = absurd (other refl)
-
-pub refused_found : (o : Option NameFault) (text : List ℕ) (f : NameFault) (fault : LoadFault) (line : ℕ) → (f ≡ names.Memory → IsMemoryFault Source fault) → (f ≢ names.Memory → fault ≡ fault_at Source Name line)
-    → Returns (Err f) (name_or o text) → (first_or (hit (is_some o) Name line) None ≡ Some fault) ⊎ IsMemoryFault Source fault
-refused_found o text names.Memory fault line memory is e = inr (memory refl)
-refused_found o text names.Letter fault line memory is e = let other : names.Letter ≢ names.Memory = λ same. absurd cc in inl (sym (refused o text names.Letter line other e) ∙ ap Some (sym (is other)))
-refused_found o text names.HyphenFirst fault line memory is e = let other : names.HyphenFirst ≢ names.Memory = λ same. absurd cc in inl (sym (refused o text names.HyphenFirst line other e) ∙ ap Some (sym (is other)))
-refused_found o text names.Empty fault line memory is e = let other : names.Empty ≢ names.Memory = λ same. absurd cc in inl (sym (refused o text names.Empty line other e) ∙ ap Some (sym (is other)))
-refused_found o text names.Long fault line memory is e = let other : names.Long ≢ names.Memory = λ same. absurd cc in inl (sym (refused o text names.Long line other e) ∙ ap Some (sym (is other)))
 
 -- Volumes of which no name is refused
 

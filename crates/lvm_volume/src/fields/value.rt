@@ -3,7 +3,7 @@
 ghost use Rattle.std.specs.Prelude.{◌≡◌, map, unwrap_or, IfOk};
 ghost use Rattle.lvm_text.specs.Tree as spec;
 ghost use Rattle.lvm_text.specs.Iterate.{item_view};
-ghost use Rattle.lvm_volume.specs.fields.Fields.{inner_sections, items_at, items_view, number_at};
+ghost use Rattle.lvm_volume.specs.fields.Fields.{items_at, items_view, number_at};
 
 use lvm_text::{Scalar, Section, Value};
 use std::alloc::{AllocError, Global};

@@ -19,7 +19,7 @@ ghost use Rattle.lvm_volume.specs.fields.Fields.{fields_faults, first_of, physic
 ghost use Rattle.lvm_volume.specs.fields.Steps.{IsStep};
 ghost use Rattle.lvm_volume.specs.checks.Extents.{name_faults};
 ghost use Rattle.lvm_volume.specs.group.Group.{chosen};
-ghost use Rattle.lvm_volume.specs.group.GroupCode.{Counts, texts};
+ghost use Rattle.lvm_volume.specs.group.GroupCode.{Counts};
 ghost use Rattle.lvm_volume.specs.group.PhysicalFields.{all_named, devices_in, fields_of, fields_view, named};
 
 use crate::fields::reader::{FieldReader, NumberKind, text_at};

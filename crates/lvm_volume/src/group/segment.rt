@@ -3,9 +3,8 @@
 //! What they say is not checked here. A new type of segment is a variant of `SegmentType`, a word of the
 //! field `type`, and an arm where segments are checked and where they become lines.
 
-ghost use Rattle.std.specs.Prelude.{◌≡◌, ◌+◌, ◌∷◌, [], ℕ, List, MatchOption, IfOk, codes, map, true};
+ghost use Rattle.std.specs.Prelude.{◌≡◌, ◌+◌, ◌∷◌, [], ℕ, List, MatchOption, IfOk, codes, map};
 ghost use Rattle.std.specs.Result.{result_err};
-ghost use Rattle.std.specs.List.{flat_map};
 ghost use Rattle.lvm_text.specs.Tree as tree;
 ghost use Rattle.lvm_text.specs.View.{scalar_view, scalar_views};
 ghost use Rattle.lvm_volume.specs.fields.Kinds as kinds;

@@ -1,24 +1,21 @@
 //! The names of devices: of a volume, and of the layer that an origin and a store have.
 //!
-//! They are all tried before any device is made, so that the first in the order of the text is refused,
+//! Their parts are all looked at before any device is made, so that the first in the order of the text is refused,
 //! whichever devices name it in their lines.
 
-ghost use Rattle.std.specs.Prelude.{◌≡◌, ◌≢◌, ◌∷◌, [], None, Some, IfOk};
+ghost use Rattle.std.specs.Prelude.{◌≡◌, ◌∷◌, [], None, Some, IfOk};
+ghost use Rattle.std.specs.Result.{result_err};
 ghost use Rattle.std.specs.List.{flat_map, zip};
-ghost use Rattle.dm_table.specs.load.LoadFault.{IsMemoryFault, fault_at};
-ghost use Rattle.dm_table.specs.declared.load.load_fault.LoadKind.TheVariants as loads;
-ghost use Rattle.dm_table.specs.declared.load.place.Part.TheVariants.{Source};
-ghost use Rattle.lvm_volume.specs.fields.Fields.{IsChecked, first_of};
-ghost use Rattle.lvm_volume.specs.declared.fault.NameFault.TheVariants as names;
-ghost use Rattle.lvm_volume.specs.Names.{Returns, built};
+ghost use Rattle.lvm_volume.specs.fields.Fields.{first_of};
+ghost use Rattle.lvm_volume.specs.Names.{Returns, built, fault_of};
 ghost use Rattle.lvm_volume.specs.tables.Tables.{IsNamed, device_name, device_parts, layer_text, unnamed_layer};
 ghost use Rattle.lvm_volume.specs.tables.Tables.{unnamed_volume};
 
 use crate::fault::NameFault;
-use crate::fields::source_line::{memory_fault, source_fault};
+use crate::fields::source_line::source_fault;
 use crate::group::roles::Role;
 use crate::group::volume::Volume;
-use crate::names::build_name;
+use crate::names::{build_name, name_fault};
 use dm_table::{LoadFault, LoadKind, Name};
 use std::alloc::{AllocError, Global};
 
@@ -43,69 +40,57 @@ impl Layer {
     }
 }
 
-/// Fails at the first volume of a group with a device that gets no name, by the roles of the volumes.
-pub(crate) fn check_names(
-    alloc: Global,
-    group: &str,
-    roles: &[Role],
-    volumes: &[Volume],
-) -> Result<(), LoadFault>
-    ensures { IsChecked result
-        (first_of (flat_map (unnamed_volume group.now) (zip roles.now volumes.now))) }
+/// Fails at the first volume of a group with a device that gets no name, by the roles of the volumes. Takes no
+/// memory.
+pub(crate) fn check_names(group: &str, roles: &[Role], volumes: &[Volume]) -> Result<(), LoadFault>
+    ensures { result_err result
+        ≡ first_of (flat_map (unnamed_volume group.now) (zip roles.now volumes.now)) }
 {
     for (role, volume) in roles.iter().zip(volumes) {
-        check_volume(alloc, group, *role, volume)?;
+        check_volume(group, *role, volume)?;
     }
     Ok(())
 }
 
 /// Fails at a volume with a device that gets no name.
 #[tactic(auto, unfolding(crate::specs::tables::Tables::unnamed_volume))]
-fn check_volume(alloc: Global, group: &str, role: Role, volume: &Volume) -> Result<(), LoadFault>
-    ensures { IsChecked result (first_of (unnamed_volume group.now (role, volume.now))) }
+fn check_volume(group: &str, role: Role, volume: &Volume) -> Result<(), LoadFault>
+    ensures { result_err result ≡ first_of (unnamed_volume group.now (role, volume.now)) }
 {
     match role {
-        Role::Plain => check_device(alloc, group, volume, None),
-        Role::Origin => check_layer(alloc, group, volume, Layer::Real),
-        Role::Store(_) => check_layer(alloc, group, volume, Layer::Cow),
+        Role::Plain => check_device(group, volume, None),
+        Role::Origin => check_layer(group, volume, Layer::Real),
+        Role::Store(_) => check_layer(group, volume, Layer::Cow),
         Role::Record | Role::Clashing => Ok(()),
     }
 }
 
 /// Fails at a volume with a layer, where one of the two gets no name.
-fn check_layer(alloc: Global, group: &str, volume: &Volume, layer: Layer) -> Result<(), LoadFault>
-    ensures { IsChecked result
-        (first_of (flat_map (unnamed_layer group.now volume.now) (Some layer ∷ None ∷ []))) }
+fn check_layer(group: &str, volume: &Volume, layer: Layer) -> Result<(), LoadFault>
+    ensures { result_err result
+        ≡ first_of (flat_map (unnamed_layer group.now volume.now) (Some layer ∷ None ∷ [])) }
 {
-    check_device(alloc, group, volume, Some(layer))?;
-    check_device(alloc, group, volume, None)
+    check_device(group, volume, Some(layer))?;
+    check_device(group, volume, None)
 }
 
 /// Fails at a volume that gets no name, or of which a layer gets none.
-fn check_device(
-    alloc: Global,
-    group: &str,
-    volume: &Volume,
-    layer: Option<Layer>,
-) -> Result<(), LoadFault>
-    ensures { IsChecked result (first_of (unnamed_layer group.now volume.now layer)) }
+fn check_device(group: &str, volume: &Volume, layer: Option<Layer>) -> Result<(), LoadFault>
+    ensures { result_err result ≡ first_of (unnamed_layer group.now volume.now layer) }
 {
-    match built_name(alloc, group, volume.name.as_str(), layer) {
-        Ok(_) => Ok(()),
-        Err(fault) => Err(refused_name(fault, volume.line)),
+    if device_fault(group, volume.name.as_str(), layer).is_some() {
+        return Err(source_fault(LoadKind::Name, volume.line));
     }
+    Ok(())
 }
 
-/// The fault of a volume, at this line, of which no name was built.
-fn refused_name(fault: NameFault, line: u64) -> LoadFault
-    ensures memory { fault ≡ names.Memory → IsMemoryFault Source result }
-    ensures other { fault ≢ names.Memory → result ≡ fault_at Source loads.Name line }
+/// Why a volume gets no name, or a layer of it, if it gets none.
+fn device_fault(group: &str, volume: &str, layer: Option<Layer>) -> Option<NameFault>
+    ensures { result ≡ fault_of (device_parts group.now volume.now layer) }
 {
-    match fault {
-        NameFault::Memory => memory_fault(),
-        NameFault::Letter | NameFault::HyphenFirst | NameFault::Empty | NameFault::Long => {
-            source_fault(LoadKind::Name, line)
-        }
+    match layer {
+        Some(layer) => name_fault(group, volume, Some(layer.text())),
+        None => name_fault(group, volume, None),
     }
 }
 

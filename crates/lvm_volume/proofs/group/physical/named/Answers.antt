@@ -5,7 +5,7 @@ use Rattle.dm_table.specs.declared.load.load_fault.LoadFault.{LoadFault}
 use Rattle.dm_table.specs.words.Name.{is_disk_name}
 use Rattle.lvm_volume.specs.declared.group.physical.Physical.{Physical}
 use Rattle.lvm_volume.specs.group.Group.{chosen}
-use Rattle.lvm_volume.specs.group.PhysicalFields.{Fields, fields_view}
+use Rattle.lvm_volume.specs.group.PhysicalFields.{fields_view}
 use Rattle.lvm_volume.specs.group.PhysicalFields as spec
 use Rattle.lvm_volume.proofs.group.PhysicalLemmas.{named, unnamed}
 use Rattle.lvm_volume.proofs.group.physical.named.Goals as goal

@@ -1,23 +1,22 @@
-use Rattle.std.proofs.Common.{◌≡◌, ◌++◌, [], List, Option, Some, None, sym, ap, subst, ◌∙◌}
+use Rattle.std.proofs.Common.{◌≡◌, ◌++◌, [], List, None, Some, sym, ap, ◌∙◌}
 use Rattle.std.proofs.lemmas.List.{append-nil}
 use Rattle.std.proofs.lemmas.Result.{err_from_is_err_and}
 use Rattle.dm_table.specs.declared.load.load_fault.LoadFault.{LoadFault}
 use Rattle.dm_table.specs.load.LoadFault.{first_or}
-use Rattle.lvm_volume.specs.fields.Fields.{IsChecked}
 use Rattle.lvm_volume.specs.tables.Tables.{unnamed_layer}
-use Rattle.lvm_volume.proofs.fields.Faults.{first_after, first_here, found_more}
+use Rattle.lvm_volume.proofs.fields.Faults.{first_after, first_here}
 use Rattle.lvm_volume.proofs.tables.device_names.check_layer.Goals as goal
 
 pub returns-in_err-check_device : goal.returns-in_err-check_device
 returns-in_err-check_device c =
     let layer = unnamed_layer c.args.group.now c.args.volume.now (Some c.args.layer) in
     let p = err_from_is_err_and c.from_residual.result c.from_residual.ensures.1 in
-    rw (p.1, p.2) (found_more (first_here layer (unnamed_layer c.args.group.now c.args.volume.now None ++ []) None _) c.in_err-check_device.ensures)
+    rw (p.1, p.2) (sym (first_here layer (unnamed_layer c.args.group.now c.args.volume.now None ++ []) None _ (sym c.in_err-check_device.ensures)))
 
 pub returns : goal.returns
 returns c =
     let layer = unnamed_layer c.args.group.now c.args.volume.now (Some c.args.layer) in
     let own = unnamed_layer c.args.group.now c.args.volume.now None in
     let both : first_or (layer ++ (own ++ [])) None ≡ first_or own None =
-    first_after layer (own ++ []) None c.in_ok-check_device.ensures ∙ ap (λ (faults : List LoadFault). first_or faults None) (append-nil own) in
-    subst (λ (o : Option LoadFault). IsChecked c.check_device-2.result o) (sym both) c.check_device-2.ensures
+    first_after layer (own ++ []) None (sym c.in_ok-check_device.ensures) ∙ ap (λ (faults : List LoadFault). first_or faults None) (append-nil own) in
+    c.check_device-2.ensures ∙ sym both

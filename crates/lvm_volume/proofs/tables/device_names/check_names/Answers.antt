@@ -11,4 +11,4 @@ use Rattle.lvm_volume.proofs.tables.device_names.check_names.Goals as goal
 pub returns : goal.returns
 returns c =
     let none = none_left _ _ (either_empty_from_Zip c.loop-role.role-iterator c.next.new.self c.next.result c.in-None.is c.next.ensures.steps) in
-    sym (ap (λ (left : List (Role × Volume)). first_or (flat_map (unnamed_volume c.args.group.now) left) None) (sym none) ∙ c.loop-role.invariant)
+    ap (λ (left : List (Role × Volume)). first_or (flat_map (unnamed_volume c.args.group.now) left) None) (sym none) ∙ c.loop-role.invariant

@@ -4,7 +4,7 @@ use Rattle.dm_table.specs.load.LoadFault.{first_or}
 use Rattle.lvm_volume.specs.group.Group.{Group}
 use Rattle.lvm_volume.specs.group.Roles.{roles_of}
 use Rattle.lvm_volume.specs.tables.Tables.{tables_of, unnamed}
-use Rattle.lvm_volume.proofs.GroupLemmas.{at_unnamed, refused_by}
+use Rattle.lvm_volume.proofs.GroupLemmas.{at_unnamed}
 use Rattle.lvm_volume.proofs.tables.MadeLemmas.{all_made, made_of, names_of}
 use Rattle.lvm_volume.proofs.volume_group.VolumeGroup.tables.Goals as goal
 
@@ -15,8 +15,7 @@ returns-in_err-check_names c =
     let names = names_of group _ _ _ c.as_str.ensures roles c.deref-3.ensures.value in
     let p = err_from_is_err_and c.from_residual.result c.from_residual.ensures.1 in
     rw (p.1, p.2)
-    (refused_by (λ found. at_unnamed c.args.self.now (tables_of c.args.self.now) _ (sym (ap (λ (g : Group). first_or (unnamed g) None) c.self.view_is) ∙ sym names ∙ found))
-    c.in_err-check_names.ensures)
+    (at_unnamed c.args.self.now (tables_of c.args.self.now) _ (sym (ap (λ (g : Group). first_or (unnamed g) None) c.self.view_is) ∙ sym names ∙ sym c.in_err-check_names.ensures))
 
 pub devices_of-requires : goal.devices_of-requires
 devices_of-requires c =
@@ -24,4 +23,4 @@ devices_of-requires c =
     let roles = c.in-Ok.ensures ∙ ap roles_of c.deref.ensures.value in
     let names = names_of group _ _ _ c.as_str.ensures (c.deref-2.ensures.value ∙ roles) c.deref-3.ensures.value in
     made_of group _ _ _ _ c.as_str-2.ensures c.deref-4.ensures.value c.deref-5.ensures.value (c.deref-6.ensures.value ∙ roles)
-    (all_made group c.self.invariant (sym names ∙ c.in_ok-check_names.ensures))
+    (all_made group c.self.invariant (sym names ∙ sym c.in_ok-check_names.ensures))
