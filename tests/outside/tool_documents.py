@@ -91,7 +91,7 @@ def check_packed(tally, program, top):
 
 def check_started(tally, program, top):
     """The script at the top works by a link, from any folder."""
-    link = os.path.join(program.room, "a link")
+    link = os.path.join(program.room, "a link to the tool")
     os.symlink(os.path.join(top, TOOL), link)
     wanted = run([os.path.join(top, TOOL), "--help"])
     tally.same("the tool by a link", run([link, "--help"], folder="/"), 0, wanted.out)
