@@ -71,6 +71,7 @@ def check_refusals(tally, program, top):
         ("d x = home 46\n", "home", path + ":1: not a line of owner: d x = home 46"),
         ("refused\n", "home", path + ":1: neither DISK SECTOR nor DISK SECTOR COUNT: refused"),
         ("d 0 9000000 = home 0\n", "home", path + ": more than 1000000 blocks"),
+        ("home 0 18446744073709551615\n", "home", path + ": more than 1000000 blocks"),
         ("dm-4 0\n", "home", path + ":1: which device is /dev/dm-4? Give --ls LS"),
         ("home 0\n", "ho/me", "VOLUME: no name of a device: 'ho/me'"),
     ]

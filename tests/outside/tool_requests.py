@@ -250,6 +250,8 @@ LOGS = [
     bad("cut", [], ["R a 0 4398046511105\n"], "1:1: longer than 2 PiB: R a 0 4398046511105"),
     bad("cut", [], ["R a 0 1\nR a 0 0\n"], "1:2: no sectors: R a 0 0", "R a 0 1\n"),
     bad("cut", [], ["r a 0 1\n"], "1:1: not a request: r a 0 1"),
+    # Letters at which some would begin a line anew.
+    bad("cut", [], ["R a\x85b\u2028 0 1\n"], "1:1: not a request: R a\\x85b\\u2028 0 1"),
     bad("cut", [], ["R a,b 0 1\n"], "1:1: no name of a device: 'a,b'"),
 ]
 

@@ -293,13 +293,14 @@ def check_words(tally, top):
     usage = "usage: %s COMMAND ..\n%s: " % (TOOL, TOOL)
     tally.same("no command", call(top, []), 2, "", usage + "--help lists the commands\n")
     tally.same("another command", call(top, ["x\x1b"]), 2, "", usage + "no command 'x\\x1b'; --help lists them\n")
+    tally.same("a command of two lines", call(top, ["x\ny"]), 2, "", usage + "no command 'x\\ny'; --help lists them\n")
     for words, reason in ((["cut", "--nothing"], "unrecognized arguments: --nothing"),
                           (["cut", "a", "b"], "unrecognized arguments: b"),
-                          (["whole"], "the following arguments are required: VOLUME"),
-                          (["trace", "-", "-"], "standard input can't be two files")):
+                          (["whole"], "the following arguments are required: VOLUME")):
         got = call(top, words)
         is_so = (got.status, got.out) == (2, b"refused\n") and got.err.decode().endswith("\n%s %s: %s\n" % (TOOL, words[0], reason))
-        tally.holds(" ".join(words), is_so or words[0] == "trace" and got.status in (1, 2), "%s, %r, %r" % (got.status, got.out, got.err))
+        tally.holds(" ".join(words), is_so, "%s, %r, %r" % (got.status, got.out, got.err))
+    tally.same("two files from one input", call(top, ["times", "-", "-"]), 2, "", TOOL + " times: standard input can't be two files\n")
     got = run(tool(top) + ["--help"])
     tally.holds("--help", got.status == 0 and b"\nanswers:\n" in got.out and got.err == b"", "%s, %r" % (got.status, got.err))
 

@@ -16,7 +16,7 @@ TABLE = "o: 0 64 snapshot-origin base\ns: 0 64 snapshot base cow P 8\n"
 DISKS = "base 64\ncow 160\nlost 64\n"
 READ = "R s 0 64\n"
 ANSWER = "1 R cow 24 8\n1 R base 8 16\n1 R cow 16 8\n1 R base 32 32\n"
-TOLD = "s: used, 2 chunks of its store taken\n"
+TOLD = "s: used, with 2 of its chunks in the store\n"
 PAIRS = [(3, 2), (0, 3)]
 FRESH = "1 R base 0 64\n"
 STORE = ["--store", "s=image"]
@@ -76,11 +76,11 @@ def check_states(case):
               given="R s 0 8\nW s 9 1\nR s 8 8\n")
     case.same("the origin", "1 copy base 8 8 cow 32\n1 W base 9 1\n2 W base 1 1\n", TOLD, given="W o 9 1\nW o 1 1\n")
     for name, content, out, err in (
-            ("a store of zeros", bytes(80 * SECTOR), FRESH, "s: fresh, 0 chunks of its store taken\n"),
-            ("a store without pairs", store([]), FRESH, "s: used, 0 chunks of its store taken\n"),
-            ("a free pair before others", store([(0, 0), (3, 2)]), FRESH, "s: used, 0 chunks of its store taken\n"),
+            ("a store of zeros", bytes(80 * SECTOR), FRESH, "s: fresh, with 0 of its chunks in the store\n"),
+            ("a store without pairs", store([]), FRESH, "s: used, with 0 of its chunks in the store\n"),
+            ("a free pair before others", store([(0, 0), (3, 2)]), FRESH, "s: used, with 0 of its chunks in the store\n"),
             ("a store that is valid by another number", store(PAIRS, valid=2), ANSWER, TOLD),
-            ("a store that isn't valid", store(PAIRS, valid=0), "1 error 64\n", "s: invalid, 0 chunks of its store taken\n")):
+            ("a store that isn't valid", store(PAIRS, valid=0), "1 error 64\n", "s: invalid, with 0 of its chunks in the store\n")):
         case.put("image", content)
         case.same(name, out, err)
     case.put("image", store(PAIRS))
@@ -90,7 +90,7 @@ def check_states(case):
     case.put("many.table", "s: 0 80 snapshot base cow P 1\n")
     case.put("many.disks", "base 80\ncow 80\n")
     case.put("many", store(many, chunk=1, chunks=80))
-    case.same("three areas", "1 R cow 3 1\n2 R cow 35 1\n3 R cow 73 1\n4 R base 70 10\n", "s: used, 70 chunks of its store taken\n",
+    case.same("three areas", "1 R cow 3 1\n2 R cow 35 1\n3 R cow 73 1\n4 R base 70 10\n", "s: used, with 70 of its chunks in the store\n",
               ["--store", "s=many"], ("table", "many.table", "many.disks"), "R s 0 1\nR s 33 1\nR s 68 1\nR s 70 10\n")
 
 
@@ -146,7 +146,7 @@ def check_places(case):
         it.seek(206848 * SECTOR)
         it.write(store([(1001, 2), (7, 3)], chunks=2048))
     case.put("group.paths", "/dev/sda1 sda1.img\n")
-    case.same("a group", "1 R /dev/sda1 10048 8\n1 R /dev/sda1 206864 8\n", "vg0-snap: used, 2 chunks of its store taken\n",
+    case.same("a group", "1 R /dev/sda1 10048 8\n1 R /dev/sda1 206864 8\n", "vg0-snap: used, with 2 of its chunks in the store\n",
               ["--paths", "group.paths"], ("lvm", "group"), "R vg0-snap 8000 16\n")
     case.put("hole.img", store(PAIRS)[:8 * SECTOR])
     case.put("hole", "c: 0 8 linear z 0\nc: 8 152 linear z 8\ns: 0 64 snapshot base /dev/mapper/c P 8\n")
@@ -167,9 +167,9 @@ def check_changes(case):
     case.put("image", store(PAIRS + [(6, 4)]))
     case.refused("an origin that fails", "the store of s: it has what was written from sector 48 on, and the origin fails to be read there, so dmremap would take the snapshot "
                  "for invalid. Put a disk in the place of what is lost: in FILE write `linear lost 0` for `error`, and in DISKS `lost` with that line's length",
-                 source=source, told="s: used, 3 chunks of its store taken\n")
+                 source=source, told="s: used, with 3 of its chunks in the store\n")
     case.put("mended", "z: 0 40 linear base 0\nz: 40 24 linear lost 0\ns: 0 64 snapshot /dev/mapper/z cow P 8\n")
-    case.same("the way out", "1 R lost 0 8\n2 R cow 32 8\n", "s: used, 3 chunks of its store taken\n", source=("table", "mended", "disks"),
+    case.same("the way out", "1 R lost 0 8\n2 R cow 32 8\n", "s: used, with 3 of its chunks in the store\n", source=("table", "mended", "disks"),
               given="R s 40 8\nR s 48 8\n")
     # A snapshot of one, and one that isn't valid below another.
     case.put("image", store(PAIRS))
@@ -178,12 +178,12 @@ def check_changes(case):
     case.put("two.disks", DISKS + "cow2 160\n")
     both = ["--store", "t=upper", *STORE]
     case.same("a snapshot of one", "1 R cow 24 8\n1 R cow2 16 8\n1 R base 16 8\n1 R cow 16 8\n1 R base 32 32\n",
-              "t: used, 1 chunks of its store taken\n" + TOLD, both, ("table", "two", "two.disks"), "R t 0 64\n")
+              "t: used, with 1 of its chunks in the store\n" + TOLD, both, ("table", "two", "two.disks"), "R t 0 64\n")
     case.put("image", store(PAIRS, valid=0))
     case.refused("an origin that isn't valid", "the store of t: it has what was written from sector 8 on, and the origin fails to be read there, so dmremap would take the "
                  "snapshot for invalid. Put a disk in the place of what is lost: in FILE write `linear lost 0` for `error`, and in DISKS `lost` with "
                  "that line's length", both, ("table", "two", "two.disks"),
-                 told="t: used, 1 chunks of its store taken\ns: invalid, 0 chunks of its store taken\n")
+                 told="t: used, with 1 of its chunks in the store\ns: invalid, with 0 of its chunks in the store\n")
     case.put("image", store(PAIRS))
 
 
@@ -234,7 +234,7 @@ def check_kept(case):
     got = case.program.run(["map", "concise", "FILE", "DISKS", "--before", "BEFORE"], given=READ, folder=os.path.join(case.folder, "kept", "here"))
     case.tally.same("a map of what is kept", got, 0, ANSWER)
     case.put("joined", store([(2, 2), (3, 3), (4, 4), (7, 5), (0, 6)]))
-    case.same("neighbours", "1 R cow 48 8\n", "s: used, 5 chunks of its store taken\n", ["--store", "s=joined", "--keep", "kept/here"], given="R s 0 8\n")
+    case.same("neighbours", "1 R cow 48 8\n", "s: used, with 5 of its chunks in the store\n", ["--store", "s=joined", "--keep", "kept/here"], given="R s 0 8\n")
     with open(os.path.join(case.folder, "kept", "here", "BEFORE"), encoding="ascii") as it:
         before = it.read()
     case.tally.holds("writes of neighbours", before == "W s 16 17\nW s 56 1\nW s 0 1\n", "it is %r" % before)

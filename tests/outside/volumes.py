@@ -161,6 +161,7 @@ def check_holes(case):
     rows = [it.split()[:3] for it in got.out.decode().splitlines()]
     wanted = [["0", "8192", "0"], ["8192", "1048576", "3"], ["1056768", "20480", "0"]]
     case.tally.holds("what reads as zeros", rows == wanted, "%s, %r" % (rows, got.err))
+    case.tally.holds("an image that is short", b"the image of e has 25700 bytes of 32768: what lies after them fails to be read\n" in got.err, got.err)
     case.tally.holds("a disk without an image", b"no image of f: what lies there fails to be read\n" in got.err, got.err)
     for name, at, count, is_read in (("before an error", 0, 8, True), ("an error", 8, 1, False), ("up to an error", 0, 9, False), ("zeros", 16, 2048, True),
                                      ("after zeros", 2063, 2, True), ("the end of an image", 2064, 18, True), ("past the end of an image", 2082, 1, False),

@@ -8,8 +8,12 @@ from dmremap_tools.base import numbers, streams
 
 # Most pieces are of one form, and their numbers are short enough to be below 2^64 in any case.
 _MOST = re.compile(r"^([1-9][0-9]{0,17}) ([RW]) (\S+) %s ([1-9][0-9]{0,17})$" % numbers.SHORT, re.M)
-# The same, with what `uses` needs of it alone.
-_MOST_USES = re.compile(r"^[1-9][0-9]{0,17} ([RW]) (\S+) (?:0|[1-9][0-9]{0,17}) ([1-9][0-9]{0,17})$", re.M)
+# The same, with what `uses` needs of it alone, and all other pieces with such numbers.
+_MOVE_USE = r"([RW]) (\S+) (?:0|[1-9][0-9]{0,17}) ([1-9][0-9]{0,17})"
+_OTHER_USES = (r"copy (\S+) (?:0|[1-9][0-9]{0,17}) ([1-9][0-9]{0,17}) (\S+) (?:0|[1-9][0-9]{0,17})"
+               r"|fill ([1-9][0-9]{0,17}) (\S+) (?:0|[1-9][0-9]{0,17})|(zero|drop|error) ([1-9][0-9]{0,17})")
+_MOST_USES = re.compile(r"^[1-9][0-9]{0,17} %s$" % _MOVE_USE, re.M)
+_ALL_USES = re.compile(r"^[1-9][0-9]{0,17} (?:%s|%s)$" % (_MOVE_USE, _OTHER_USES), re.M)
 _N = "(0|[1-9][0-9]{0,19})"
 _MOVED = re.compile(r"%s ([RW]) (\S+) %s %s" % (_N, _N, _N))
 _COPY = re.compile(r"%s copy (\S+) %s %s (\S+) %s" % (_N, _N, _N, _N))
@@ -55,18 +59,16 @@ class Answers(streams.Lines):
     def uses(self) -> Iterator[Tuple[str, str, int]]:
         """For each piece the disk, what is done with it, and the number of sectors: R or W, for a copy both. There is no
         disk where that is `zero`, `drop` or `error`."""
-        for fields in self.rows(_MOST_USES):
-            if isinstance(fields, tuple):
-                what, disk, count = fields
-                yield disk, what, int(count)
-                continue
-            piece = self._read(fields)
-            if piece and piece.to:
-                if piece.disk:
-                    yield piece.disk, "R", piece.count
-                yield piece.to, "W", piece.count
-            elif piece:
-                yield piece.disk, piece.what, piece.count
+        for fields in self.rows(_MOST_USES, _ALL_USES):
+            if isinstance(fields, str):
+                piece = self._read(fields)
+                if piece:
+                    yield from _uses(piece.what, piece.disk, piece.count, piece.to)
+            elif fields[0]:
+                yield fields[1], fields[0], int(fields[2])
+            else:
+                _, _, _, disk, copied, to, filled, filled_to, what, count = fields
+                yield from _uses(what, disk, int(copied or filled or count), to or filled_to)
 
     def tell_if_none(self) -> None:
         """Tells at the end if there was no piece."""
@@ -82,6 +84,16 @@ class Answers(streams.Lines):
         if not piece or not piece.request or not piece.count or max(piece.start, piece.to_start) + piece.count > numbers.LIMIT:
             self.refuse_line("not a piece of an answer")
         return piece
+
+
+def _uses(what: str, disk: str, count: int, to: str) -> Iterator[Tuple[str, str, int]]:
+    """What a piece reads and writes: from a disk, to a disk, or as `what` says."""
+    if disk:
+        yield disk, what if not to else "R", count
+    if to:
+        yield to, "W", count
+    if not disk and not to:
+        yield "", what, count
 
 
 def _piece_of(line: str) -> Optional[Piece]:

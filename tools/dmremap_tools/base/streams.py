@@ -95,12 +95,15 @@ class Lines:
                 self.number += 1
                 yield line
 
-    def rows(self, form: Pattern[str]) -> "Iterator[Tuple[str, ...] | str]":
+    def rows(self, form: Pattern[str], wider: "Pattern[str] | None" = None) -> "Iterator[Tuple[str, ...] | str]":
         """For each line what the groups of a form have, or the line itself where it is of another form. The form has
-        several groups, is compiled with re.M, and begins with ^ and ends with $: so many lines are read at once."""
+        several groups, is compiled with re.M, and begins with ^ and ends with $: so many lines are read at once. Where it
+        isn't the form of all of them, a wider one is tried, which has more groups."""
         for block in self._blocks():
-            found = form.findall(block)
-            if len(found) != block.count("\n"):
+            found, count = form.findall(block), block.count("\n")
+            if wider and len(found) != count:
+                found = wider.findall(block)
+            if len(found) != count:
                 found = [match.groups() if match else line
                          for line in block[:-1].split("\n") for match in (form.match(line),)]
             for self.number, fields in enumerate(found, self.number + 1):

@@ -96,7 +96,7 @@ class Member:
         if any(it in self.fields for it in JOURNAL) or others & 0x200:
             self.refuse("it has a journal, where the newest data may be")
         if others or any(it in self.fields for it in CHANGING):
-            self.refuse("it is being reshaped or rebuilt: feature map " + quoting.shown(self.fields.get("Feature Map", "0x0")))
+            self.refuse("it is being reshaped or rebuilt, or has features that aren't known: feature map " + quoting.shown(self.fields.get("Feature Map", "0x0")))
         if features and int(features[1], 16) & BAD_BLOCKS:
             streams.tell("%s has bad blocks: a kernel reads another copy there" % self.path)
 

@@ -36,6 +36,14 @@ class Volume:
         self._files = {name: os.open(path, os.O_RDONLY) for name, path in images.items()}
         self._idle: List[Mapper] = []
 
+    def tell_short(self, sizes: Dict[str, int]) -> None:
+        """Tells the files that end before their disks do."""
+        for disk, file in self._files.items():
+            size = os.lseek(file, 0, os.SEEK_END)
+            if size < sizes[disk] * numbers.SECTOR:
+                streams.tell("the image of %s has %d bytes of %d: what lies after them fails to be read"
+                             % (disk, size, sizes[disk] * numbers.SECTOR))
+
     def read(self, view: memoryview, first: int, skipped: int) -> None:
         """Fills a view from a sector on, less some of its first bytes. What can't be read is an OSError."""
         count = -(-(skipped + len(view)) // numbers.SECTOR)
@@ -152,6 +160,7 @@ def get_ready() -> None:
         _volume = Volume(name, device.end(), prepared.words, {disk: path for disk, path in images.items() if disk in disks})
     except OSError as fault:
         raise Refusal(quoting.shown(str(fault.filename)), streams.why(fault))
+    _volume.tell_short(loaded.sizes)
 
 
 def _stack() -> stack.Given:
