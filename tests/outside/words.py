@@ -83,7 +83,7 @@ HELPED = [
     ("-h", "Usage: dmremap [OPTIONS] <COMMAND>"),
     ("-h", "  concise    Checks"),
     ("help", "Usage: dmremap [OPTIONS] <COMMAND>"),
-    ("help", "  6  out of memory\n\nManual: man -l docs/dmremap.1\n"),
+    ("help", "  6  out of memory\n\nManual: man dmremap\n"),
     ("-h", "      --version            Print the version\n"),
     ("help map", "map [OPTIONS] <FORMAT> <FILE> [DISKS]"),
     ("help map", "FORMAT is one of\n  lvm      the"),

@@ -18,7 +18,7 @@ Exit status
   5  the output could not be written
   6  out of memory
 
-Manual: man -l docs/dmremap.1";
+Manual: man dmremap";
 
 pub(crate) const MAP_ABOUT: &str = "Maps the requests of the standard input to pieces on the disks";
 
