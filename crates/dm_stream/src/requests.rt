@@ -60,6 +60,26 @@ fn before_read<H: Handler>(handler: &mut H, lines: &Lines)
     }
 }
 
+/// Looks up the device of a request, and hands both on. Apart from the loop, which has room for one of a request
+/// whose device was found where its name stands.
+#[inline(never)]
+fn handle_named<H: Handler>(
+    stack: &Stack,
+    handler: &mut H,
+    source: &mut H::Source,
+    request: &Request<'_>,
+) -> Result<(), H::Fault>
+    requires { H.ready stack.now handler.old source.old }
+    ensures answered { OnOk result
+        (H.answered stack.now handler.old source.old (numbered request.now ∷ []) handler.new source.new) }
+    ensures ready { OnOk result (H.ready stack.now handler.new source.new) }
+    ensures stopped { IfErr result
+        (λ fault. H.stopped stack.now handler.old source.old (numbered request.now ∷ []) fault handler.new source.new) }
+{
+    let device = stack.device(request.device);
+    handler.handle(stack, source, request, device)
+}
+
 /// Hands requests to the devices of a stack on, one after the other, up to the first bad line, an end or a fault.
 ///
 /// `Ok` says which of these it was; all requests before it were answered. Cost: time linear in the
@@ -114,8 +134,7 @@ pub fn handle_requests<R: Input, H: Handler>(
         match lines.next(requests) {
             Next::Line(line) => match request_of(line, number) {
                 Ok(request) => {
-                    let device = stack.device(request.device);
-                    if let Err(fault) = handler.handle(stack, &mut *source, &request, device) {
+                    if let Err(fault) = handle_named(stack, handler, &mut *source, &request) {
                         return Err(fault);
                     }
                 }

@@ -55,7 +55,7 @@ lines-preserved g c =
       few = c.in-Ok-request_of.ensures.few;
       turned = record {
         done = so_far.done ++ more;
-        answered = g.met.H.Handler.answered_then_answered c.args.stack.now c.args.handler.now c.before_read.new.handler c.handle.new.self c.args.source.now c.answer_fronts.new.source c.handle.new.source so_far.done more so_far.answered c.in_default.ensures.answered;
+        answered = g.met.H.Handler.answered_then_answered c.args.stack.now c.args.handler.now c.before_read.new.handler c.handle_named.new.handler c.args.source.now c.answer_fronts.new.source c.handle_named.new.source so_far.done more so_far.answered c.in_default.ensures.answered;
         reads = grows_more h0 h1 h2 so_far.reads c.in-Line.ensures.reads.grows;
         faults = c.in-Line.ensures.quiet.0 ∙ so_far.faults;
         ends = c.in-Line.ensures.quiet.1 ∙ so_far.ends;
@@ -97,8 +97,8 @@ returns-in-ReadFault-clause-answered g c =
     let turned = after_batch _ c.in-Ok.fronts.len _ _ (g.met.H.Handler.answered_then_answered c.args.stack.now) c.lines.invariant.turned c.in-Ok.ensures.answered c.held-held.ensures c.skip.ensures in
     ended (g.H.Handler.answered c.args.stack.now) (g.R.Input.past c.next.new.reader) AFault ending.TheVariants.ReadFault (g.met.H.Handler.answered_then_answered c.args.stack.now) turned (c.before_read.ensures.answered c.args.stack.now c.answer_fronts.new.source) c.in-ReadFault.ensures.reads.grows c.in-ReadFault.ensures.answer (λ rest. refl)
 
-pub returns-in-Err-handle-clause-stopped : goal.returns-in-Err-handle-clause-stopped
-returns-in-Err-handle-clause-stopped g c =
+pub returns-in-Err-handle_named-clause-stopped : goal.returns-in-Err-handle_named-clause-stopped
+returns-in-Err-handle_named-clause-stopped g c =
     let turned = after_batch _ c.in-Ok.fronts.len _ _ (g.met.H.Handler.answered_then_answered c.args.stack.now) c.lines.invariant.turned c.in-Ok.ensures.answered c.held-held.ensures c.skip.ensures in
     let so_far = after_waiting (g.met.H.Handler.answered_then_answered c.args.stack.now) turned (c.before_read.ensures.answered c.args.stack.now c.answer_fronts.new.source) in
     let first = g.R.Input.past c.args.requests.now in
@@ -107,4 +107,4 @@ returns-in-Err-handle-clause-stopped g c =
     let more = numbered c.in-Ok-request_of.request ∷ [] in
     among first mid last c.skip.new.self (c.lines.number + c.in-Ok.fronts.count + 1) so_far.done more c.in-Line.line.now _
     so_far.told so_far.reads c.in-Line.ensures.reads.grows so_far.faults so_far.ends c.in-Line.ensures.answer c.in-Ok-request_of.ensures.good
-    (g.met.H.Handler.answered_then_stopped c.args.stack.now c.args.handler.now c.before_read.new.handler c.handle.new.self c.args.source.now c.answer_fronts.new.source c.handle.new.source so_far.done more _ so_far.answered c.in-Err-handle.ensures.stopped)
+    (g.met.H.Handler.answered_then_stopped c.args.stack.now c.args.handler.now c.before_read.new.handler c.handle_named.new.handler c.args.source.now c.answer_fronts.new.source c.handle_named.new.source so_far.done more _ so_far.answered c.in-Err-handle_named.ensures.stopped)
