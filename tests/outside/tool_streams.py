@@ -113,6 +113,7 @@ def check(tally, program, top):
     check_terminal(tally, top, folder)
     check_live(tally, top, folder)
     check_interrupt(tally, top, folder)
+    check_unsaid(tally, top, folder)
     check_words(tally, top)
     check_mutations(tally, top, folder, tried, MUTATIONS)
 
@@ -286,6 +287,18 @@ def check_interrupt(tally, top, folder):
     tally.same("an interrupt", Outcome(ran.returncode, first + out, err), INTERRUPTED, "R vg0-lv0 8 16\nrefused\n")
     found = bytes_of(os.path.join(folder, "beside"))
     tally.holds("what an interrupt leaves beside", found == b"0.5\nrefused\n", "it is %r" % found)
+
+
+def check_unsaid(tally, top, folder):
+    """Where the message of a refusal can't be written either, what was printed is spoiled all the same."""
+    words = ["trace", "--times", "beside", "ls.txt", "vg0.table"]
+    for closed, wanted in (2, b"refused\n"), (1, b""):
+        got = run(tool(top) + words, given=b"253,0 0 7 0.5 4101 Q R x + 16 [fio]\n", folder=folder, before=lambda it=closed: os.close(it))
+        tally.holds("a refusal without stream %d" % closed, (got.status, got.out) == (FULL, wanted), "%s, %r" % (got.status, got.out))
+        found = bytes_of(os.path.join(folder, "beside"))
+        tally.holds("what it leaves beside", found == b"refused\n", "it is %r" % found)
+    got = run(tool(top) + ["cut"], folder=folder, stdin=subprocess.DEVNULL, before=lambda: os.close(0))
+    tally.same("no input", got, REFUSED, "refused\n", TOOL + " cut: standard input: Bad file descriptor\n")
 
 
 def check_words(tally, top):

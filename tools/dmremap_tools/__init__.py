@@ -9,11 +9,13 @@ How to add a command:
        run(words), which does it: `words` has what was typed, by the names of these arguments. It may return the
            status INCOMPLETE of `refusal`, where the answer is there but has gaps that were told.
 2. Add a line to the list in `commands.py`: name, group, summary, and whether dmremap reads what it prints.
-3. Add rows to a module in `tests/outside`, a task to `docs/RECIPES.md` and a line to `docs/dmremap-tools.1`.
+3. Add rows to a module in `tests/outside`, a call to those in `tests/outside/tool_streams.py`, and a task to
+   `docs/RECIPES.md`. Run `tools/derive`, which writes the manual and the completions.
 
 What a command uses of `base`, so that all behave alike:
 
-    streams.Lines(path)         the lines of a file or of `-`, as they come, with .refuse(why) and .number(text)
+    streams.Lines(path)         the lines of a file or of `-`, as they come, with .refuse(why) and .whole(word);
+                                .rows(form) reads many lines of one form at once
     streams.read(path)          the whole text of a file or of `-`
     streams.out.write(text)     standard output; it is flushed before an input is waited for
     streams.beside(path)        a file that is written beside it, as PLACES

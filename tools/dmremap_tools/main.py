@@ -6,7 +6,7 @@ import importlib
 import os
 import signal
 from types import ModuleType
-from typing import List, NoReturn
+from typing import Callable, List, NoReturn
 
 from dmremap_tools import commands
 from dmremap_tools.base import quoting, streams
@@ -48,8 +48,6 @@ def run(words: List[str]) -> int:
         status = _run(command, name, words)
         streams.finish()
         return status
-    except SystemExit:
-        return _end(0, "", False)
     except WrongWords as wrong:
         return _end(WRONG_WORDS, "%s: %s" % (name, wrong), is_fed, wrong.usage)
     except Refusal as refusal:
@@ -70,7 +68,11 @@ def _run(command: "commands.Command | None", name: str, words: List[str]) -> int
     if command:
         module = importlib.import_module("dmremap_tools." + command.module)
         parser = parser_of(command, module, name)
-        typed = _parsed(parser, words[1:])
+        try:
+            typed = _parsed(parser, words[1:])
+        except SystemExit:
+            # After its help.
+            return 0
         if signal.getsignal(signal.SIGINT) is signal.SIG_DFL:
             signal.signal(signal.SIGINT, signal.default_int_handler)
         return module.run(typed) or 0
@@ -98,26 +100,20 @@ def parser_of(command: "commands.Command", module: ModuleType, name: str) -> Par
 
 
 def _end(status: int, message: str, is_fed: bool, usage: str = "") -> int:
-    """Says why, and spoils the outputs unless all went well. An output that fails only now is told, too."""
+    """Says why, and spoils the outputs. One that fails only now is told, too, unless messages fail."""
+    unsaid = _failure_of(lambda: [streams.tell(line) for line in usage.split("\n") + [message] if line])
+    failed = _failure_of(lambda: streams.spoil(is_fed))
+    if failed and status != OUTPUT_FAILED:
+        _failure_of(lambda: streams.tell("%s: %s" % (message.split(":")[0] or TOOL, failed)))
+    return OUTPUT_FAILED if failed or unsaid else status
+
+
+def _failure_of(action: Callable[[], object]) -> str:
+    """How an output failed in what is done here, or nothing."""
     try:
-        for line in usage.split("\n") + [message]:
-            if line:
-                streams.tell(line)
-        if status:
-            streams.spoil(is_fed)
-        else:
-            streams.finish()
-        return status
-    except streams.ReaderGone:
-        return status or READER_GONE
+        action()
     except streams.OutputFailed as failed:
-        return _end_at_failure(status, str(failed), message)
-
-
-def _end_at_failure(status: int, failed: str, said: str) -> int:
-    try:
-        if status != OUTPUT_FAILED:
-            streams.tell("%s: %s" % ((said.split(":")[0] or TOOL), failed))
-    except (streams.OutputFailed, streams.ReaderGone):
+        return str(failed)
+    except streams.ReaderGone:
         pass
-    return OUTPUT_FAILED
+    return ""

@@ -242,7 +242,9 @@ def flush() -> None:
 
 
 def spoil(is_fed: bool) -> None:
-    """Spoils what stands beside standard output, and that itself if dmremap reads it. Else what was written there stays."""
+    """Spoils what stands beside standard output, and that itself if dmremap reads it; else what was written there stays.
+    Each is tried, whatever becomes of the others."""
+    failed = None
     for each in [*_besides, out]:
         try:
             if is_fed or each is not out:
@@ -251,6 +253,10 @@ def spoil(is_fed: bool) -> None:
                 each.flush()
         except ReaderGone:
             pass
+        except OutputFailed as fault:
+            failed = fault
+    if failed:
+        raise failed
 
 
 def why(fault: OSError) -> str:
