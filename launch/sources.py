@@ -51,7 +51,7 @@ def state():
     found = []
     for name in names_in(TOP):
         with contextlib.suppress(FileNotFoundError):
-            it = os.lstat(os.path.join(TOP, name))
+            it = os.stat(os.path.join(TOP, name))
             found.append((name, it.st_dev, it.st_ino, it.st_size, it.st_mtime_ns, it.st_ctime_ns))
     return found
 
