@@ -1,5 +1,4 @@
-//! Requests at the front of held bytes that are answered at once, or in batches, so that their waits for memory
-//! overlap.
+//! Requests that are answered in batches, so that their waits for memory overlap.
 //!
 //! Over long tables an answer spends most of its time waiting for memory. So the requests at the front of the
 //! held bytes are all read, the handler is told of each, and only then is the first one answered. No input is
@@ -27,10 +26,10 @@ pub(crate) struct Answered {
     pub(crate) len: usize,
 }
 
-/// Answers requests at the front of the held bytes that are quickly read, after `done` others: a batch, if requests
-/// are gathered, and else the first one.
+/// Answers the requests at the front of the held bytes that are quickly read, after `done` others, if requests are
+/// gathered.
 #[inline(always)]
-pub(crate) fn answer_fronts<H: Handler>(
+pub(crate) fn answer_gathered<H: Handler>(
     gathers: bool,
     stack: &Stack,
     handler: &mut H,
@@ -46,34 +45,8 @@ pub(crate) fn answer_fronts<H: Handler>(
     if gathers {
         answer_batch(stack, handler, source, held, done)
     } else {
-        answer_front(stack, handler, source, held, done)
+        Ok(Answered { count: 0, len: 0 })
     }
-}
-
-/// Answers the request at the front of the held bytes, after `done` others, if it is quickly read.
-#[inline(always)]
-fn answer_front<H: Handler>(
-    stack: &Stack,
-    handler: &mut H,
-    source: &mut H::Source,
-    held: &[u8],
-    done: u64,
-) -> Result<Answered, H::Fault>
-    requires ready { H.ready stack.now handler.old source.old }
-    requires few { done ≤ MOST_REQUESTS }
-    ensures { AnswersFronts (H.ready stack.now) (H.answered stack.now) (H.stopped stack.now) done held.now
-        handler.old source.old handler.new source.new result }
-{
-    let Some(front) = front_of(stack, held, done + 1) else {
-        return Ok(Answered { count: 0, len: 0 });
-    };
-    if let Err(fault) = handler.handle(stack, source, &front.request, Some(front.device)) {
-        return Err(fault);
-    }
-    Ok(Answered {
-        count: 1,
-        len: front.len + 1,
-    })
 }
 
 /// Answers a batch of the requests at the front of the held bytes, after `done` others.

@@ -9,8 +9,9 @@ ghost use Rattle.dm_table.specs.io.DeviceIo.{delivery};
 ghost use Rattle.dm_table.specs.io.Progress.{IsReadOn, MetNothing};
 ghost use Rattle.dm_stream.specs.Requests.{HasMet, IsAmong, Requests, after_requests, is_bad, line_requests, numbered, requests_of, word_for};
 
-use crate::batch::{Answered, answer_fronts};
+use crate::batch::{Answered, answer_gathered};
 use crate::ending::{Ending, RequestWord};
+use crate::front::{Front, front_of};
 use crate::handler::Handler;
 use crate::lines::{Lines, Next};
 use dm_stack::Stack;
@@ -60,8 +61,7 @@ fn before_read<H: Handler>(handler: &mut H, lines: &Lines)
     }
 }
 
-/// Looks up the device of a request, and hands both on. Apart from the loop, which has room for one of a request
-/// whose device was found where its name stands.
+/// Looks up the device of a request, and hands both on.
 #[inline(never)]
 fn handle_named<H: Handler>(
     stack: &Stack,
@@ -119,17 +119,29 @@ pub fn handle_requests<R: Input, H: Handler>(
     let mut number = 0;
     'lines: loop {
         let held = lines.held();
-        let fronts = match answer_fronts(gathers, stack, handler, &mut *source, held, number) {
-            Ok(fronts) => fronts,
+        let batch = match answer_gathered(gathers, stack, handler, &mut *source, held, number) {
+            Ok(batch) => batch,
             Err(fault) => return Err(fault),
         };
-        let Answered { count, len } = fronts;
+        let Answered { count, len } = batch;
         lines.skip(len);
         number += count;
         if count > 0 {
             continue;
         }
         number += 1;
+        if let Some(front) = front_of(stack, lines.held(), number) {
+            let Front {
+                request,
+                device,
+                len,
+            } = front;
+            if let Err(fault) = handler.handle(stack, &mut *source, &request, Some(device)) {
+                return Err(fault);
+            }
+            lines.skip(len + 1);
+            continue;
+        }
         before_read(handler, &lines);
         match lines.next(requests) {
             Next::Line(line) => match request_of(line, number) {
