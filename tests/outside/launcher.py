@@ -1,6 +1,7 @@
 """The script ./dmremap: from any folder, through links, with any words. It runs the program that is made of exactly the
 sources that are there, and no other one, whatever the times of files say."""
 
+import contextlib
 import os
 import re
 import shutil
@@ -176,6 +177,7 @@ def check_times(tally, tree):
             tally.same("./dmremap after %s, %s" % (name, is_seen), got, 0, ANSWER, BUILDING + told())
             tree.write(SOURCES[0], "and back\n")
             tree.run([], tree.build)
+    check_linked(tally, tree, source)
     for name, path, time in (("every source is newer", "crates", None), ("the program is older", tree.built, (1, 1))):
         for at, _, files in [*os.walk(tree.path(path)), (os.path.dirname(tree.path(path)), (), [os.path.basename(path)])]:
             for it in files:
@@ -188,6 +190,25 @@ def check_times(tally, tree):
         it.write("more\n")
     got = tree.run(words, os.path.join(copied, "dmremap"), given=REQUESTS)
     tally.same("./dmremap in a copy, after a change", got, 0, ANSWER, BUILDING + told())
+
+
+def check_linked(tally, tree, source):
+    """A source may be a link: what it leads to is looked at."""
+    words, aside, seen = tree.words(), os.path.join(tree.room, "aside"), tree.path("out/seen")
+    shutil.move(source, aside)
+    os.symlink(aside, source)
+    tree.run([], tree.build)
+    with contextlib.suppress(FileNotFoundError):
+        os.remove(seen)
+    is_kept = lambda: tree.run(words, given=REQUESTS).out and os.path.exists(seen)
+    tally.holds("what ./dmremap has seen of a link is kept", becomes(is_kept), "it isn't")
+    with open(aside, "a", encoding="utf-8") as it:
+        it.write("more\n")
+    got = tree.run(words, given=REQUESTS)
+    tally.same("./dmremap after a change of what a link leads to", got, 0, ANSWER, BUILDING + told())
+    os.remove(source)
+    shutil.move(aside, source)
+    tree.run([], tree.build)
 
 
 def check_kept(tally, tree):
