@@ -249,6 +249,8 @@ LOGS = [
     good("cut", [], ["R a 0 1048576\nW b 5 1048577\n"], "R a 0 1048576\nW b 5 1048576\nW b 1048581 1\n"),
     bad("cut", [], ["R a 0 4398046511105\n"], "1:1: longer than 2 PiB: R a 0 4398046511105"),
     bad("cut", [], ["R a 0 1\nR a 0 0\n"], "1:2: no sectors: R a 0 0", "R a 0 1\n"),
+    good("cut", [], [""], "", "no line came\n"),
+    good("bytes", [], [""], "", "no line came\n"),
     bad("cut", [], ["r a 0 1\n"], "1:1: not a request: r a 0 1"),
     # Letters at which some would begin a line anew.
     bad("cut", [], ["R a\x85b\u2028 0 1\n"], "1:1: not a request: R a\\x85b\\u2028 0 1"),
@@ -265,5 +267,8 @@ OTHERS = [
     bad("whole", ["c"], ["a: 0 8 zero\n"], "1: no device c"),
     bad("whole", ["a"], ["a: 0 4398046511105 zero\n"], "1: a is longer than 2 PiB"),
     bad("whole", ["/dev/sda"], ["a: 0 8 zero\n"], "VOLUME: no name of a device: '/dev/sda'"),
+    # A text that is cut off within a number.
+    bad("whole", ["a"], ["a: 0 8 linear sda 12"], "1:1: the text ends within a line: a: 0 8 linear sda 12"),
+    bad("whole", ["a"], ["a,,,rw,0 8 linear sda 12"], "1:1: the text ends within a line: a,,,rw,0 8 linear sda 12"),
     bad("whole", ["a"], ["a 0 8 zero\n"], "1:1: not table text: a 0 8 zero"),
 ]
