@@ -115,7 +115,7 @@ def check_sizes(tally, program, top):
 def check_stack(tally, program, top, dice):
     """A random stack: each clash, the owners of each sector of a disk, and where each device lies."""
     stack = small_stack(dice)
-    source, disks = program.file("stack/source", concise(stack)), program.file("stack/disks", disks_of(stack))
+    source, disks = program.file("stack/source", concise(stack) + "\n"), program.file("stack/disks", disks_of(stack))
     tables = program.file("stack/tables", program.run(["table", "concise", source, disks]).out)
 
     def tool(*words, given=""):

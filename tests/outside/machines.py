@@ -140,6 +140,8 @@ def check_containers(tally, program, top):
         ("a second header", bytes(4096) + second[4096:], ["--name", "home"], "home: 0 7936 linear /dev/sda2 256\n"),
         ("a header alone", containers.version_2(), ["--length", "8192"], line % (7936, 256)),
         ("a text of version 1", containers.DUMP_1, ["--length", "8192"], line % (4096, 4096)),
+        ("a text with a byte order mark", "\ufeff" + containers.DUMP_1, ["--length", "8192"], line % (4096, 4096)),
+        ("a text with carriage returns", (containers.DUMP_2 % "(whole device)").replace("\n", "\r\n"), ["--length", "65536"], line % (32768, 32768)),
         ("a text of version 2", containers.DUMP_2 % "(whole device)", ["--length", "65536"], line % (32768, 32768)),
         ("a text of a fixed size", containers.DUMP_2 % "4096 [bytes]", [], line % (8, 32768)),
     ]:

@@ -144,8 +144,11 @@ KEPT = "vg0-lv0: 0 8 zero\nvg0-lv0: 8 8 error\nvg0-lv--1: 0 8 zero\n"
 QUEUED = "253,0    0        7     0.000000000  4101  Q %s [fio]\n"
 
 
+NO_REQUEST = "no request came to a device of the tables: what a trace of the disks below has, `owner --trace` says\n"
+
+
 def traced(lines, output="", message="", names=LS, tables=KEPT):
-    return good("trace", [], [names, tables, lines], output, message)
+    return good("trace", [], [names, tables, lines], output, message + ("" if output else NO_REQUEST))
 
 
 def no_trace(lines, message, output="", names=LS, tables=KEPT):
@@ -199,6 +202,7 @@ FIO = "fio version 2 iolog\n/dev/mapper/a add\n/dev/mapper/a open\n"
 
 
 def logged(log, output, message="", variables=(), before=()):
+    message += "" if output else "no request came to a device of the tables\n"
     return good("fio", list(variables), list(before) + ["a: 0 8 zero\nb--c-d: 0 8 zero\n", log], output, message)
 
 
@@ -217,6 +221,7 @@ LOGS = [
            "left out: 1 requests to /dev/dm-7, which the tables have not\nleft out: 1 requests to /dev/dm-6, which the tables have not\n",
            ["--ls", "1"], ["a\t(253:5)\nz\t(253:6)\n"]),
     no_log(FIO + "/dev/dm-5 read 0 512\n", "2:4: which device is /dev/dm-5? Give --ls LS"),
+    logged("fio version 3 iolog\n", ""),
     no_log("fio version 1 iolog\n", "2:1: not the first line of a log: fio version 1 iolog"),
     no_log(FIO + "1 /dev/mapper/a read 0 512\n", "2:4: not a line of a log: 1 /dev/mapper/a read 0 512"),
     no_log(FIO.replace("2", "3"), "2:2: not a line of a log: /dev/mapper/a add"),
@@ -249,6 +254,8 @@ LOGS = [
     good("cut", [], ["R a 0 1048576\nW b 5 1048577\n"], "R a 0 1048576\nW b 5 1048576\nW b 1048581 1\n"),
     bad("cut", [], ["R a 0 4398046511105\n"], "1:1: longer than 2 PiB: R a 0 4398046511105"),
     bad("cut", [], ["R a 0 1\nR a 0 0\n"], "1:2: no sectors: R a 0 0", "R a 0 1\n"),
+    good("cut", [], [""], "", "no line came\n"),
+    good("bytes", [], [""], "", "no line came\n"),
     bad("cut", [], ["r a 0 1\n"], "1:1: not a request: r a 0 1"),
     # Letters at which some would begin a line anew.
     bad("cut", [], ["R a\x85b\u2028 0 1\n"], "1:1: not a request: R a\\x85b\\u2028 0 1"),
@@ -265,5 +272,8 @@ OTHERS = [
     bad("whole", ["c"], ["a: 0 8 zero\n"], "1: no device c"),
     bad("whole", ["a"], ["a: 0 4398046511105 zero\n"], "1: a is longer than 2 PiB"),
     bad("whole", ["/dev/sda"], ["a: 0 8 zero\n"], "VOLUME: no name of a device: '/dev/sda'"),
+    # A text that is cut off within a number.
+    bad("whole", ["a"], ["a: 0 8 linear sda 12"], "1:1: the text ends within a line: a: 0 8 linear sda 12"),
+    bad("whole", ["a"], ["a,,,rw,0 8 linear sda 12"], "1:1: the text ends within a line: a,,,rw,0 8 linear sda 12"),
     bad("whole", ["a"], ["a 0 8 zero\n"], "1:1: not table text: a 0 8 zero"),
 ]

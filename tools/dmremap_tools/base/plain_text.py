@@ -10,11 +10,13 @@ WIDE = (b"\xff\xfe", b"\xfe\xff")
 LOOKED_AT = 512
 
 
-def check_compressed(name: str, beginning: bytes) -> None:
-    """Refuses an input that is compressed."""
+def check_kind(name: str, beginning: bytes) -> None:
+    """Refuses an input that is compressed, or of another encoding."""
     kind = compression(beginning)
     if kind:
         raise Refusal(name, "it is compressed (%s)" % kind)
+    if beginning.startswith(WIDE):
+        raise Refusal(name, "it is UTF-16, and not UTF-8")
 
 
 def compression(beginning: bytes) -> str:
@@ -24,9 +26,7 @@ def compression(beginning: bytes) -> str:
 
 def begun(name: str, beginning: bytes) -> bytes:
     """The beginning of a text without a byte order mark; what is no text is refused."""
-    check_compressed(name, beginning)
-    if beginning.startswith(WIDE):
-        raise Refusal(name, "it is UTF-16, and not UTF-8")
+    check_kind(name, beginning)
     if b"\0" in beginning[:LOOKED_AT]:
         raise Refusal(name, "it is no text")
     return beginning[len(MARK):] if beginning.startswith(MARK) else beginning

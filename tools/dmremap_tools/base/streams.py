@@ -16,6 +16,7 @@ MOST_PARTS = 1 << 10
 LONGEST_LINE = 1 << 16
 MOST_TEXT = 64 << 20
 SPOILED = "refused\n"
+UNENDED = "the text ends within a line: "
 NO_NUMBER = "not a whole number below 2^64: '%s'"
 
 
@@ -114,6 +115,11 @@ class Lines:
         """The line that was read last."""
         return self._block.split("\n")[self.number - self._before - 1]
 
+    def tell_if_none(self) -> None:
+        """Tells at the end if there was no line."""
+        if not self.number:
+            tell("no line came")
+
     def refuse(self, reason: str) -> NoReturn:
         """Refuses the line that was read last."""
         raise Refusal("%s:%d" % (self.name, self.number), reason)
@@ -148,7 +154,7 @@ class Lines:
                 self.refuse("a line of more than %d bytes" % LONGEST_LINE)
         if rest:
             self.number += 1
-            self.refuse("the text ends within a line: " + quoting.shown(rest.decode("utf-8", "surrogateescape")))
+            self.refuse(UNENDED + quoting.shown(rest.decode("utf-8", "surrogateescape")))
 
 
 def whole(where: str, text: str) -> int:
@@ -172,7 +178,7 @@ def read_bytes(path: str, most: int = MOST_TEXT) -> bytes:
             raise Refusal(name, "it has more than %d bytes" % most)
     if descriptor:
         os.close(descriptor)
-    plain_text.check_compressed(name, chunks[0] if chunks else b"")
+    plain_text.check_kind(name, chunks[0] if chunks else b"")
     return b"".join(chunks)
 
 
@@ -183,9 +189,12 @@ def read(path: str, most: int = MOST_TEXT) -> str:
 
 
 def rows(path: str, most: int = MOST_TEXT) -> List[str]:
-    """The lines of the whole text of a file, the last of which may lack its end."""
+    """The lines of the whole text of a file. As in `Lines`, a text that ends within one is refused."""
     found = read(path, most).split("\n")
-    return found[:-1] if found[-1] == "" else found
+    last = found.pop()
+    if last:
+        raise Refusal("%s:%d" % ("standard input" if path == "-" else path, len(found) + 1), UNENDED + quoting.shown(last))
+    return found
 
 
 def beside(path: str) -> Output:

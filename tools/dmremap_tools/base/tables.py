@@ -83,9 +83,9 @@ class Device:
 
 def read(path: str) -> Tuple[List[Device], bool]:
     """The devices of table text or concise text, as dmremap prints it, and whether it is the latter."""
-    text = streams.read(path)
+    text = "\n".join(streams.rows(path)).rstrip("\n")
     is_concise = "," in text.split(" ", 1)[0]
-    rows = text.rstrip("\n").split(";" if is_concise else "\n") if text else []
+    rows = text.split(";" if is_concise else "\n") if text else []
     return (_concise if is_concise else _table)(path, rows), is_concise
 
 

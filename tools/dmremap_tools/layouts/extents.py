@@ -32,6 +32,7 @@ def run(words: argparse.Namespace) -> None:
             at, count, begun = at + count, 0, (piece.what, piece.disk, piece.start)
         count += piece.count
     write(at, count, begun)
+    answers.tell_if_none()
 
 
 def write(at: int, count: int, begun: "tuple[str, str, int] | None") -> None:

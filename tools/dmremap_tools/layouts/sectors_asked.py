@@ -70,6 +70,7 @@ def queries_in(path: str, unit: Unit) -> Iterator[Query]:
             yield query
         else:
             passed += 1
+    source.tell_if_none()
     if passed:
         streams.tell("left out: %d lines of a kernel's log that name no sector" % passed)
 

@@ -34,3 +34,4 @@ def spans_in(path: str) -> Iterator[Span]:
         if span.first > span.end:
             source.refuse("not a line of spans: " + quoting.shown(row))
         yield span
+    source.tell_if_none()

@@ -38,6 +38,8 @@ def run(words: Namespace) -> None:
     """Prints the ranges."""
     devices = tables.read(words.file)[0]
     spans = Spans(disks.read(words.disks), devices)
+    if not devices and not spans.disks:
+        streams.tell("no disk and no device came")
     for path in words.metadata:
         for physical in physical_volumes(path, {it.name for it in devices}):
             spans.add_physical(physical)

@@ -43,6 +43,7 @@ def run(words: Namespace) -> None:
         first, count = int(match[3]), int(match[4])
         if match[1] == "W" and count and not taken.take(match[2], first // chunk, (first + count - 1) // chunk + 1):
             source.refuse("the chunks lie too far apart to be counted in %d MiB" % (MOST_PAGES * PAGE >> 20))
+    source.tell_if_none()
     for name, count in taken.counts().items():
         own = (count // (32 * chunk) + 2) * chunk if words.kind in AREAS else 0
         streams.out.write("%s %d %d %d\n" % (name, count, count * chunk + own, own))

@@ -26,6 +26,8 @@ def run(words: argparse.Namespace) -> None:
     lines: Dict[str, List[tables.Line]] = {}
     for device in tables.read(words.file)[0]:
         lines.setdefault(device.name, []).extend(device.lines)
+    if not lines:
+        streams.tell("no device came")
     under = {lower for some in lines.values() for line in some for lower in line.lowers()}
     shown: Set[str] = set()
     for name in lines:

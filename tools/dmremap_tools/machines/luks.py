@@ -13,7 +13,7 @@ import argparse
 
 from dmremap_tools.base import disk_image, names, numbers, quoting, streams
 from dmremap_tools.base.refusal import Refusal
-from dmremap_tools.machines.luks_header import DUMP, container_in
+from dmremap_tools.machines.luks_header import container_in, is_text
 
 EXAMPLE = "dmremap-tools luks /dev/sda2 sda2.img > luks.table && dmremap-tools under --disk pv0 home vg0.table luks.table"
 
@@ -35,8 +35,7 @@ def run(words: argparse.Namespace) -> None:
         raise Refusal("NAME", "no name of a device: '%s'" % quoting.shown(name))
     if not names.DISK.fullmatch(words.disk) and not words.disk.startswith(names.MAPPER):
         raise Refusal("DISK", "no name of a disk: '%s'" % quoting.shown(words.disk))
-    is_text = image.read(0, len(DUMP)) == DUMP
-    length = words.length if words.length is not None or is_text else image.size // numbers.SECTOR
+    length = words.length if words.length is not None or is_text(image) else image.size // numbers.SECTOR
     count = container.length if container.length is not None else (length or 0) - container.start
     if count <= 0:
         raise Refusal(image.path, "how long is the disk? Its data begins at sector %d: give --length" % container.start)

@@ -7,7 +7,7 @@ import re
 import struct
 from typing import NamedTuple, Optional
 
-from dmremap_tools.base import numbers
+from dmremap_tools.base import numbers, plain_text
 from dmremap_tools.base.disk_image import Image
 from dmremap_tools.base.numbers import SECTOR
 from dmremap_tools.base.refusal import Refusal
@@ -33,7 +33,7 @@ class Container(NamedTuple):
 def container_in(image: Image) -> Container:
     """The container whose header, or the text of luksDump, is at the beginning of an image."""
     head = image.read(0, BINARY)
-    if head.startswith(DUMP):
+    if is_text(image):
         return _dumped(image)
     version = int.from_bytes(head[6:8], "big")
     if head.startswith(MAGIC) and version == 1 and len(head) >= 208:
@@ -46,9 +46,14 @@ def container_in(image: Image) -> Container:
     raise Refusal(image.path, "no header of LUKS, and no text of luksDump" if not head.startswith(MAGIC) else "its header of LUKS is damaged")
 
 
+def is_text(image: Image) -> bool:
+    """Whether an image is the text of luksDump."""
+    return image.read(0, len(plain_text.MARK + DUMP)).replace(plain_text.MARK, b"", 1).startswith(DUMP)
+
+
 def _dumped(image: Image) -> Container:
     """The container that luksDump tells of."""
-    text = image.read(0, 1 << 20).decode("utf-8", "replace")
+    text = plain_text.with_plain_ends(image.read(0, 1 << 20)).decode("utf-8", "replace")
     uuid, payload, segments = FIELDS["uuid"].search(text), FIELDS["payload"].search(text), FIELDS["segments"].findall(text)
     if uuid and payload and int(payload[1]) < numbers.LIMIT:
         return Container(uuid[1], int(payload[1]), None)

@@ -21,3 +21,4 @@ def run(words: Namespace) -> None:
     source = streams.Lines(words.file)
     for asked in requests.read(source, names.Names(words.ls), "not R or W, a device, an offset and a length"):
         requests.write_bytes(source, *asked)
+    source.tell_if_none()

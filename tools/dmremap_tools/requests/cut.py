@@ -22,3 +22,4 @@ def run(words: Namespace) -> None:
     source = streams.Lines(words.file)
     for asked in requests.read(source, names.Names(words.ls), "not a request"):
         requests.write(source, *asked)
+    source.tell_if_none()

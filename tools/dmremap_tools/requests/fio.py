@@ -42,7 +42,7 @@ class Reader:
 
     def __init__(self, source: streams.Lines, kept: Kept, known: names.Names) -> None:
         self.source, self.kept, self.known = source, kept, known
-        self.version = self.trims = 0
+        self.version = self.trims = self.made = 0
 
     def take(self, time: str, path: str, what: str, begin: str, count: str) -> None:
         """Takes a read or a write of the usual form, with a time or without one."""
@@ -50,6 +50,7 @@ class Reader:
             self._refuse_line()
         name = self.known.known(path, self.source)
         if name in self.kept.names:
+            self.made += 1
             requests.write_bytes(self.source, OPERATIONS[what], name, int(begin), int(count))
         else:
             self.kept.leave("%s, which the tables have not" % path)
@@ -79,6 +80,8 @@ class Reader:
         self.kept.tell()
         if self.trims:
             streams.tell("left out: %d trims" % self.trims)
+        if not self.made:
+            streams.tell("no request came to a device of the tables")
 
     def _refuse_line(self) -> NoReturn:
         self.source.refuse_line("not a line of a log" if self.version else "not the first line of a log")

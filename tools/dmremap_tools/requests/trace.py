@@ -107,7 +107,7 @@ class RequestMaker(Reader):
     def __init__(self, source: streams.Lines, names: Dict[str, str], kept: Kept, times: Optional[streams.Output]) -> None:
         super().__init__(source)
         self.names, self.kept, self.times = names, kept, times
-        self.dropped = 0
+        self.dropped = self.made = 0
 
     def take(self, number: str, what: str, first: int, count: int, time: str) -> None:
         """Prints a request, or leaves it out."""
@@ -125,6 +125,7 @@ class RequestMaker(Reader):
             self.dropped += 1
             return
         made = requests.write(self.source, operation, name, first, count)
+        self.made += made
         if self.times:
             self.times.write((time + "\n") * made)
 
@@ -135,6 +136,8 @@ class RequestMaker(Reader):
         self.kept.tell()
         if self.dropped:
             streams.tell("left out: %d requests that are neither reads nor writes" % self.dropped)
+        if not self.made:
+            streams.tell("no request came to a device of the tables: what a trace of the disks below has, `owner --trace` says")
 
 
 @lru_cache(maxsize=1024)
