@@ -313,6 +313,7 @@ def check_words(tally, top):
         got = call(top, words)
         is_so = (got.status, got.out) == (2, b"refused\n") and got.err.decode().endswith("\n%s %s: %s\n" % (TOOL, words[0], reason))
         tally.holds(" ".join(words), is_so, "%s, %r, %r" % (got.status, got.out, got.err))
+    tally.same("tables that are given", call(top, ["whole", "a"], given="b: 0 8 zero\n"), REFUSED, "refused\n", TOOL + " whole: standard input: no device a\n")
     tally.same("two files from one input", call(top, ["times", "-", "-"]), 2, "", TOOL + " times: standard input can't be two files\n")
     got = run(tool(top) + ["--help"])
     tally.holds("--help", got.status == 0 and b"\nanswers:\n" in got.out and got.err == b"", "%s, %r" % (got.status, got.err))

@@ -121,6 +121,12 @@ def check_stores_refused(case):
     case.refused("a store on a disk that isn't here", "cow: No such file or directory", [])
     case.refused("another snapshot", "x: FILE has no such snapshot", STORE + ["--store", "x=image"])
     case.refused("a fresh one that isn't there", "o: FILE has no such snapshot", STORE + ["--fresh", "o"])
+    case.put("po.table", TABLE.replace(" P ", " PO "))
+    case.refused("kind PO", "po.table: a kernel lets reads of kind PO go on when the store is full, and dmremap has no such kind; write P, whose stores are the "
+                 "same: snapshot base cow PO 8", source=("table", "po.table", "disks"))
+    case.put("merge.table", TABLE.replace("0 64 snapshot ", "0 64 snapshot-merge "))
+    case.refused("a merge", "merge.table: a kernel writes this snapshot back to its origin as it goes, which dmremap can't follow: snapshot-merge base cow P 8",
+                 source=("table", "merge.table", "disks"))
     case.put("n.table", "n: 0 64 snapshot base cow N 8\n")
     case.refused("kind N", "the store of n: it isn't persistent, so no disk says what is in it; --fresh n takes it as fresh", [], ("table", "n.table", "disks"))
     case.same("kind N as fresh", FRESH, "", ["--fresh", "n"], ("table", "n.table", "disks"), "R n 0 64\n")

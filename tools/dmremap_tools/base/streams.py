@@ -85,7 +85,7 @@ class Lines:
     that ends within a line is refused, as nobody can tell what the rest of it was. `number` is that of the line that was read last, from 1."""
 
     def __init__(self, path: str) -> None:
-        self.name = "standard input" if path == "-" else path
+        self.name = name_of(path)
         self.number = 0
         self._descriptor = _open(path)
         self._block, self._before = "", 0
@@ -157,6 +157,11 @@ class Lines:
             self.refuse(UNENDED + quoting.shown(rest.decode("utf-8", "surrogateescape")))
 
 
+def name_of(path: str) -> str:
+    """What an input is called in messages."""
+    return "standard input" if path == "-" else path
+
+
 def whole(where: str, text: str) -> int:
     """The whole number below 2^64 that a text is."""
     value = numbers.read(text)
@@ -167,7 +172,7 @@ def whole(where: str, text: str) -> int:
 
 def read_bytes(path: str, most: int = MOST_TEXT) -> bytes:
     """The bytes of a file, or of standard input for `-`, which has at most so many."""
-    name, descriptor, chunks, size = "standard input" if path == "-" else path, _open(path), [], 0
+    name, descriptor, chunks, size = name_of(path), _open(path), [], 0
     while True:
         chunk = _read_some(descriptor, name)
         if not chunk:
@@ -184,7 +189,7 @@ def read_bytes(path: str, most: int = MOST_TEXT) -> bytes:
 
 def read(path: str, most: int = MOST_TEXT) -> str:
     """The same as text. Bytes that are no UTF-8 stay what they are, and are written as they were."""
-    text = plain_text.begun("standard input" if path == "-" else path, read_bytes(path, most))
+    text = plain_text.begun(name_of(path), read_bytes(path, most))
     return plain_text.with_plain_ends(text).decode("utf-8", "surrogateescape")
 
 
@@ -193,7 +198,7 @@ def rows(path: str, most: int = MOST_TEXT) -> List[str]:
     found = read(path, most).split("\n")
     last = found.pop()
     if last:
-        raise Refusal("%s:%d" % ("standard input" if path == "-" else path, len(found) + 1), UNENDED + quoting.shown(last))
+        raise Refusal("%s:%d" % (name_of(path), len(found) + 1), UNENDED + quoting.shown(last))
     return found
 
 

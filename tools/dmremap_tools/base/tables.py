@@ -86,13 +86,13 @@ def read(path: str) -> Tuple[List[Device], bool]:
     text = "\n".join(streams.rows(path)).rstrip("\n")
     is_concise = "," in text.split(" ", 1)[0]
     rows = text.split(";" if is_concise else "\n") if text else []
-    return (_concise if is_concise else _table)(path, rows), is_concise
+    return (_concise if is_concise else _table)(streams.name_of(path), rows), is_concise
 
 
-def _concise(path: str, rows: List[str]) -> List[Device]:
+def _concise(name_of_text: str, rows: List[str]) -> List[Device]:
     devices = []
     for number, row in enumerate(rows, 1):
-        place = "%s:%d" % (path, number)
+        place = "%s:%d" % (name_of_text, number)
         name, *fields = row.split(",")
         if len(fields) < 4 or fields[2] not in ("", "ro", "rw"):
             raise Refusal(place, "not a device of concise text: " + quoting.shown(row))
@@ -102,10 +102,10 @@ def _concise(path: str, rows: List[str]) -> List[Device]:
     return devices
 
 
-def _table(path: str, rows: List[str]) -> List[Device]:
+def _table(name_of_text: str, rows: List[str]) -> List[Device]:
     devices: List[Device] = []
     for number, row in enumerate(rows, 1):
-        place = "%s:%d" % (path, number)
+        place = "%s:%d" % (name_of_text, number)
         name, is_named, line = row.partition(": ")
         if not name or not is_named:
             raise Refusal(place, "not table text: " + quoting.shown(row))

@@ -85,7 +85,8 @@ class Member:
             others = [it for key, it in self.states.items() if key != "this"]
             return any(other == role and not state.startswith("active sync") for other, state in others)
         state = self.fields.get("Array State", "").split(" ")[0]
-        return role < len(state) and state[role] != "A"
+        # R is one that is being replaced, and whole until it is.
+        return role < len(state) and state[role] not in "AR"
 
     def check(self) -> None:
         """Refuses it if its sum is wrong, or data lies elsewhere than its fields say."""

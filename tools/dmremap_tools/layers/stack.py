@@ -1,13 +1,18 @@
 """A stack as dmremap loads it from FILE and DISKS."""
 
 import os
+import re
 from typing import Dict, Iterable, List, NamedTuple, Optional
 
-from dmremap_tools.base import disks, names, program, streams, tables
+from dmremap_tools.base import disks, names, program, quoting, streams, tables
+from dmremap_tools.base.refusal import Refusal
 from dmremap_tools.machines.disks import of_group
 
 MOST_TEXT = 1 << 20
 FORMATS = ("table", "concise", "lvm")
+OTHERS = {r" snapshot-merge [^\n,;]*": "a kernel writes this snapshot back to its origin as it goes, which dmremap can't follow",
+          r" snapshot \S+ \S+ PO [^\n,;]*": "a kernel lets reads of kind PO go on when the store is full, and dmremap has no such kind; "
+                                          "write P, whose stores are the same"}
 
 
 class Given(NamedTuple):
@@ -46,6 +51,8 @@ def load(asked: str, given: Given, room: str) -> Stack:
     """Loads it by asking dmremap, which is `asked`. FILE and DISKS are read once, so they may be pipes."""
     file, listed = os.path.join(room, "given"), os.path.join(room, "given.disks")
     _copy(given.file, file)
+    if given.form != "lvm":
+        _check_kinds(given.file, file)
     source = [given.form, file]
     if given.disks is not None:
         _copy(given.disks, listed)
@@ -54,6 +61,15 @@ def load(asked: str, given: Given, room: str) -> Stack:
     put(text, [program.ask([asked, "concise", *source])])
     devices = tables.read(text)[0]
     return Stack(devices, dict(of_group(file)) if given.disks is None else disks.read(listed))
+
+
+def _check_kinds(name: str, path: str) -> None:
+    """Refuses snapshots that dmremap doesn't read at all, with what a kernel does with them."""
+    text = streams.read(path)
+    for form, why in OTHERS.items():
+        found = re.search(form, text)
+        if found:
+            raise Refusal(quoting.shown(name), "%s: %s" % (why, quoting.shown(found[0].strip())))
 
 
 def put(path: str, parts: Iterable[str]) -> None:

@@ -13,7 +13,7 @@ class Kept:
         self.names = {it.name for it in tables.read(path)[0]}
         self._left: Dict[str, int] = {}
         if not self.names:
-            raise Refusal(path, "no device in it")
+            raise Refusal(streams.name_of(path), "no device in it")
 
     def leave(self, to: str) -> None:
         """Counts a request that is left out."""

@@ -24,8 +24,8 @@ def run(words: Namespace) -> None:
     name = names.Names(words.ls).device(words.volume, names.Word("VOLUME"))
     ends = [device.end() for device in tables.read(words.tables)[0] if device.name == name]
     if not ends:
-        raise Refusal(words.tables, "no device " + name)
+        raise Refusal(streams.name_of(words.tables), "no device " + name)
     if ends[-1] > requests.LONGEST:
-        raise Refusal(words.tables, "%s is %s" % (name, requests.TOO_LONG))
+        raise Refusal(streams.name_of(words.tables), "%s is %s" % (name, requests.TOO_LONG))
     for at, part in requests.parts(0, ends[-1]):
         streams.out.write("R %s %d %d\n" % (name, at, part))
