@@ -71,11 +71,15 @@ pub returns-in-Ok-play_earlier-clause-earlier : goal.returns-in-Ok-play_earlier-
 returns-in-Ok-play_earlier-clause-earlier g c =
     let before = delivery (g.B.Input.past c.args.earlier.now) (g.B.Input.past c.play_earlier.new.requests) in
     let starts : c.in-Ok-new.mapper.state ≡ start_state c.in-Ok.stack = c.in-Ok-new.ensures.state ∙ ap start_state c.looker.ensures.stack in
-    inr (c.in-Ok.stack, c.in-Ok.ensures.gives.sound, record {
-      end = endings.Done;
-      ends = played_ending c.in-Ok.stack _ before endings.Done starts c.in-Ok-play_earlier.ensures.played.done.0;
-      met = c.in-Ok-play_earlier.ensures.met;
-    })
+    inr (
+      c.in-Ok.stack,
+      c.in-Ok.ensures.gives.sound,
+      record {
+        end = endings.Done;
+        ends = played_ending c.in-Ok.stack _ before endings.Done starts c.in-Ok-play_earlier.ensures.played.done.0;
+        met = c.in-Ok-play_earlier.ensures.met;
+      },
+    )
 
 pub returns-in-Ok-play_earlier-clause-memory : goal.returns-in-Ok-play_earlier-clause-memory
 returns-in-Ok-play_earlier-clause-memory g c = λ six. absurd (never_memory c.run.result (sym c.status.ensures ∙ six))
@@ -106,11 +110,15 @@ returns-clause-earlier g c =
     let before = delivery (g.B.Input.past c.args.earlier.now) (g.B.Input.past c.play_earlier.new.requests) in
     let starts : c.in-Ok-new.mapper.state ≡ start_state c.in-Ok.stack = c.in-Ok-new.ensures.state ∙ ap start_state c.looker.ensures.stack in
     let fault = c.in-Err-play_earlier.fault in
-    inr (c.in-Ok.stack, c.in-Ok.ensures.gives.sound, record {
-      end = refused_ending fault;
-      ends = played_ending c.in-Ok.stack _ before (refused_ending fault) starts c.in-Err-play_earlier.ensures.played.refused;
-      met = c.in-Err-play_earlier.ensures.met;
-    })
+    inr (
+      c.in-Ok.stack,
+      c.in-Ok.ensures.gives.sound,
+      record {
+        end = refused_ending fault;
+        ends = played_ending c.in-Ok.stack _ before (refused_ending fault) starts c.in-Err-play_earlier.ensures.played.refused;
+        met = c.in-Err-play_earlier.ensures.met;
+      },
+    )
 
 pub returns-clause-requests : goal.returns-clause-requests
 returns-clause-requests g c = unasked_requests (refusals.Earlier c.in-Err-play_earlier.fault) _ _ _ c.tell-in-Err-play_earlier.ensures.is (read_on_none _) refl
