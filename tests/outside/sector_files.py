@@ -108,7 +108,7 @@ def check_odd_names(tally, program, top):
     """Names with line feeds, escapes and quotes, and folders that look as if the next line were about another inode."""
     contents = {name: os.urandom(3000) for name in ODD}
     contents.update({"d\n%d\t/victim%d" % (inode, inode): os.urandom(1024) for inode in range(11, 30)})
-    image = made(tally, program, "odd", contents)
+    image = made(tally, program, "odd names", contents)
     if not image:
         return
     got, said = all_files(program, top, image)
