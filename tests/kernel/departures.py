@@ -2,7 +2,7 @@
 says of them and of what was compared.
 
 Each departure is a row of the table there, which says what both answer, why, and what to do. The place is the heading of
-FORMATS or MAPPING below which the program's own rule stands; the row links to it.
+FORMATS or MAPPING below which the program's own rule stands; the row begins with a link to it.
 """
 
 import os
@@ -47,6 +47,7 @@ PLACES = {
     "extent sizes of 0, or of no whole chunks": "FORMATS.md#when-it-is-refused",
 }
 
+# A row of a table. The title of a group of rows follows its bar without a space, and is none.
 ROW = re.compile(r"^\| ([^|]+) \|(.*)\|$", re.M)
 
 
@@ -58,12 +59,17 @@ def check(found, top, departed):
         is_there = anchor in anchors(text_of(os.path.join(top, "docs", document)))
         found.holds("departures", departure, departed[departure] > 0, "it occurs nowhere any more")
         found.holds("departures", departure, is_there, "there is no %s" % place)
-        found.holds("departures", departure, "](%s)" % place in rows.get(departure, ""),
+        found.holds("departures", departure, link_of(departure) in rows,
                     "docs/KERNEL.md has no row of it that links to %s" % place)
     for it in sorted(set(departed) - set(PLACES)):
         found.fail(it, "departures.py doesn't have it")
-    for it in sorted(set(rows) - set(PLACES)):
+    for it in sorted(set(rows) - set(map(link_of, PLACES))):
         found.fail(it, "docs/KERNEL.md has it, and departures.py doesn't")
+
+
+def link_of(departure):
+    """The first cell of a departure's row."""
+    return "[%s](%s)" % (departure, PLACES[departure])
 
 
 def check_figures(found, top, passed):

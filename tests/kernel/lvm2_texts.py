@@ -33,7 +33,7 @@ def jobs(_):
 
 def compare(found, program, vectors):
     for vector in vectors:
-        what, source, theirs = "texts as they are", vector.file("text"), loaded(vector)
+        what, source, theirs = "texts as they are", vector.file(program, "text"), loaded(vector)
         got = answers.of(program, ["table", "lvm", source])
         if got.status == 1:
             what = "texts through a copy"

@@ -22,11 +22,11 @@ def compare(found, program, vector):
         found.aside["stacks that the kernel refused"] += 1
         return
     below = departing(vector)
-    singles = [it for letter, file in (("R", "reads.tsv"), ("W", "writes.tsv")) for it in single(vector, letter, file)]
+    singles = [it for letter, section in (("R", "reads.tsv"), ("W", "writes.tsv")) for it in single(vector, letter, section)]
     asked = singles + ranges(singles, random.Random(vector.name))
     lines = ["%s %s %d %d" % (letter, device, sector, len(units)) for letter, device, sector, units in asked]
-    for form, source in forms(vector):
-        got = answers.of(program, ["map", form, source, vector.file("disks.txt")], lines)
+    for form in forms(vector):
+        got = answers.of(program, ["map", form, vector.file(program, form + ".txt"), vector.file(program, "disks.txt")], lines)
         where = "%s as %s" % (vector.name, form)
         if not found.holds("texts of stacks", where, got.status == 0, got.message):
             continue
@@ -41,14 +41,13 @@ def compare(found, program, vector):
 
 def forms(vector):
     """The forms of the text to ask for; table text can't say that a device is read-only."""
-    found = [("concise", vector.file("concise.txt"))]
-    return found if vector.read_only() else found + [("table", vector.file("table.txt"))]
+    return ["concise"] if vector.read_only() else ["concise", "table"]
 
 
-def single(vector, letter, file):
+def single(vector, letter, section):
     """Each sector that was read or written: letter, device, sector, and its unit."""
     tables = vector.tables()
-    for device, sector, landed in vector.rows(file):
+    for device, sector, landed in vector.rows(section):
         if sector == "-":
             for it in range(min(end_of(tables[device]), NOT_OPENED)):
                 yield letter, device, it, [("error",)]
@@ -100,5 +99,5 @@ def check_table(found, program, vector):
         return names.get(word) or (":" in word and minors.get(word.split(":")[1])) or word
 
     theirs = [" ".join(it if it.endswith(":") else named(it) for it in line.split()) for line in vector.lines("kernel-table.txt")]
-    got = answers.of(program, ["table", "concise", vector.file("concise.txt"), vector.file("disks.txt")])
+    got = answers.of(program, ["table", "concise", vector.file(program, "concise.txt"), vector.file(program, "disks.txt")])
     found.same("tables", vector.name, sorted(got.others), sorted(theirs))

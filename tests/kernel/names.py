@@ -11,17 +11,17 @@ ALLOWED = "names that LVM doesn't allow"
 
 
 def jobs(folder):
-    return [(vector, file, at) for vector in in_folder(folder, "splitname") for file in ("splitname.tsv", "build_name.jsonl")
-            for at in range(0, len(vector.lines(file)), ROWS)]
+    return [(vector, section, at) for vector in in_folder(folder, "splitname") for section in ("splitname.tsv", "build_name.jsonl")
+            for at in range(0, len(vector.lines(section)), ROWS)]
 
 
 def compare(found, program, job):
-    vector, file, at = job
-    if file == "splitname.tsv":
-        for name, *parts in vector.rows(file)[at:at + ROWS]:
+    vector, section, at = job
+    if section == "splitname.tsv":
+        for name, *parts in vector.rows(section)[at:at + ROWS]:
             check_split(found, program, name, parts[:3])
     else:
-        for row in vector.records(file)[at:at + ROWS]:
+        for row in vector.records(section)[at:at + ROWS]:
             layer = [row["layer"]] if row["layer"] is not None else []
             check_built(found, program, [row["vg"], row["lv"]] + layer, row["real"])
 

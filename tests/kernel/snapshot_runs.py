@@ -34,7 +34,7 @@ def jobs(folder):
 
 
 class Run:
-    """A vector with what its files say: requests, snapshots, and what was seen after each request."""
+    """A vector with what its sections say: requests, snapshots, and what was seen after each request."""
 
     def __init__(self, vector):
         self.vector, self.tables = vector, vector.tables()
@@ -81,8 +81,7 @@ def compare(found, program, vector):
         found.aside["runs that the kernel refused"] += 1
         return
     run = Run(vector)
-    form, source = ("concise", "concise.txt") if vector.read_only() else ("table", "table.txt")
-    words = [form, vector.file(source), vector.file("disks.txt")]
+    words = vector.stack(program)
     got = answers.of(program, ["map"] + words, run.requests)
     if any(it.kind == "PO" for it in run.snapshots.values()):
         found.departs(OVERFLOW, vector.name, got.word(), "field", "")

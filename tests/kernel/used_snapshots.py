@@ -47,8 +47,7 @@ def compare(found, program, vector):
     if any(it.kind != "P" for it in run.snapshots.values()):
         found.aside["runs of snapshots whose stores say nothing"] += 1
         return
-    form, source = ("concise", "concise.txt") if vector.read_only() else ("table", "table.txt")
-    words = ["map", form, vector.file(source), vector.file("disks.txt"), "--status"]
+    words = ["map", *vector.stack(program), "--status"]
     whole, count = answers.of(program, words, run.requests), len(run.requests)
     for cut in sorted({1, count // 3, count // 2, count - 2, count - 1} & set(range(1, count))):
         check_cut(found, program, run, words, whole, cut)

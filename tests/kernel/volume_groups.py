@@ -5,7 +5,6 @@ Beside them, dmsetup's own texts of the same devices are read; and the text of o
 or refused as `vgcfgrestore` did, and read as lvm2 did where it was restored and activated.
 """
 
-import os
 import re
 
 import answers
@@ -88,8 +87,8 @@ def jobs(folder):
 def compare(found, program, vector):
     if not vector.has("table.txt"):
         return
-    for file in sorted(it for it in os.listdir(vector.path) if it.startswith("backup")):
-        check_text(found, program, vector, file)
+    for section in sorted(it for it in vector.sections if it.startswith("backup")):
+        check_text(found, program, vector, section)
     for form in ("table", "concise"):
         check_dmsetup(found, program, vector, form)
     for edit in vector.records("edits.jsonl"):
@@ -98,10 +97,10 @@ def compare(found, program, vector):
         check_restored(found, program, vector, restored)
 
 
-def check_text(found, program, vector, file):
+def check_text(found, program, vector, section):
     """The text of a group, and the other text of it that stood in the metadata area; if it is refused, a copy of it."""
-    where, source = "%s/%s" % (vector.name, file), vector.file(file)
-    types = set(re.findall(r'^\s*type = "([^"]*)"', vector.text(file), re.M))
+    where, source = "%s/%s" % (vector.name, section), vector.file(program, section)
+    types = set(re.findall(r'^\s*type = "([^"]*)"', vector.text(section), re.M))
     got = answers.of(program, ["table", "lvm", source])
     is_copy = bool(types - PLAIN) or vector.name in SHORTENED
     if is_copy:
@@ -109,15 +108,15 @@ def check_text(found, program, vector, file):
         found.departs(departure, where, got.word(), word, "")
         source, said = copy_of(program, source)
         if not source:
-            found.holds("texts of which nothing is left", where, not on_disks(vector, prefix_of(vector.text(file))), said)
+            found.holds("texts of which nothing is left", where, not on_disks(vector, prefix_of(vector.text(section))), said)
             return
         got = answers.of(program, ["table", "lvm", source])
     if found.holds("texts of groups", where, got.status == 0, got.message):
-        check_tables(found, vector, where, prefix_of(vector.text(file)), tables_of("\n".join(got.others)), is_copy)
+        check_tables(found, vector, where, prefix_of(vector.text(section)), tables_of("\n".join(got.others)), is_copy)
         check_flags(found, program, vector, where, source)
         check_probes(found, program, vector, where, source)
         if not is_copy:
-            other = answers.of(program, ["table", "lvm", vector.file(file.replace("backup", "ondisk"))])
+            other = answers.of(program, ["table", "lvm", vector.file(program, section.replace("backup", "ondisk"))])
             found.same("texts of metadata areas", where, sorted(other.others), sorted(got.others))
 
 
@@ -217,7 +216,7 @@ def check_dmsetup(found, program, vector, form):
     lengths = {"/dev/mapper/" + device: end_of(lines) for device, lines in tables.items()}
     numbers = sorted(set(re.findall(r"\b\d+:\d+\b", vector.text("table.txt"))))
     disks = program.file("disks", "".join("%s %d\n" % (it, lengths.get(names.get(it), LONG)) for it in numbers))
-    got = answers.of(program, ["table", form, vector.file(form + ".txt"), disks])
+    got = answers.of(program, ["table", form, vector.file(program, form + ".txt"), disks])
     targets = {line[2] for lines in tables.values() for line in lines}
     if targets - PLAIN:
         found.departs(OTHER, where, got.word(), "field", "")

@@ -1,12 +1,13 @@
 """Compares two folders of vectors, apart from what differs between any two recordings.
 
 That is ids, times, how often the kernel repeats a warning, how many sectors it writes to a store, as it gathers those of
-its metadata, and the order of the cases of a file; and the name of the kernel, where lvm2 writes it into a comment.
+its metadata, and the order of the cases of a section; and the name of the kernel, where lvm2 writes it into a comment.
 """
 
 import json
-import os
 import re
+
+from vectors import in_folder
 
 # What is taken to be the same. In a text that is a value in JSON, tabs and the ends of lines are written with backslashes.
 ALIKE = [
@@ -17,48 +18,44 @@ ALIKE = [
     (r"(\tio\t\S+ read \d+ wrote) \d+", r"\1"),
     (r'(creation_host = \\?"[^"\n]*")(?:\t|\\t)# [^\\\n]*', r"\1"),
 ]
-# The files whose lines are cases, which may come in any order.
+# The sections whose lines are cases, which may come in any order.
 CASES = {"cases.jsonl", "build_name.jsonl", "splitname.tsv", "cases.tsv"}
-# What is not compared: it says what was recorded with.
-ABOUT = {"versions.txt", "README.md"}
 
 
 def differences(first, second):
-    """A line for each file that only one has, and for the first line of each file that differs."""
-    files = files_of(first), files_of(second)
-    for folder, others, missing in ((first, files[0] - files[1], second), (second, files[1] - files[0], first)):
-        for it in sorted(others):
-            yield "%s has %s, and %s hasn't" % (folder, it, missing)
-    for it in sorted(files[0] & files[1]):
-        ours, theirs = (lines_of(os.path.join(folder, it)) for folder in (first, second))
+    """A line for each section that only one has, and for the first line of each section that differs."""
+    sections = sections_of(first), sections_of(second)
+    for folder, own, others, missing in (first, *sections, second), (second, *sections[::-1], first):
+        for name, section in sorted(set(own) - set(others)):
+            yield "%s has %s of %s, and %s hasn't" % (folder, section, name, missing)
+    for name, section in sorted(set(sections[0]) & set(sections[1])):
+        ours, theirs = (lines_of(section, it[name, section]) for it in sections)
         if ours != theirs:
             at = next((number for number, pair in enumerate(zip(ours, theirs)) if pair[0] != pair[1]), min(len(ours), len(theirs)))
-            yield "%s, line %d:\n  %s\n  %s" % (it, at + 1, *((lines + ["the end"] * (at + 1))[at][:400] for lines in (ours, theirs)))
+            yield "%s, line %d of %s:\n  %s\n  %s" % (
+                name, at + 1, section, *((lines + ["the end"] * (at + 1))[at][:400] for lines in (ours, theirs)))
 
 
-def files_of(folder):
-    found = {os.path.relpath(os.path.join(place, it), folder) for place, _, files in os.walk(folder) for it in files}
-    return found - ABOUT
+def sections_of(folder):
+    """All sections of the vectors in a folder; what was recorded with has none."""
+    return {(it.name, section): text for it in in_folder(folder, "") for section, text in it.sections.items()}
 
 
-def lines_of(path):
-    """The lines of a file without what may differ."""
-    with open(path, encoding="utf-8", errors="surrogateescape", newline="") as it:
-        text = it.read()
+def lines_of(section, text):
+    """The lines of a section without what may differ."""
     for pattern, same in ALIKE:
         text = re.sub(pattern, same, text)
-    name = os.path.basename(path)
     lines = text.split("\n")
-    if name == "cases.jsonl":
+    if section == "cases.jsonl":
         lines = [without_repeats(it) for it in lines if it]
-    if name in CASES:
+    if section in CASES:
         lines = sorted(lines)
-    return [it for number, it in enumerate(lines) if number == 0 or not (is_message(name, it) and it == lines[number - 1])]
+    return [it for number, it in enumerate(lines) if number == 0 or not (is_message(section, it) and it == lines[number - 1])]
 
 
-def is_message(name, line):
+def is_message(section, line):
     """Whether a line is a message of the kernel, which may be repeated."""
-    return name == "dmesg.txt" or (name == "observed.tsv" and line.split("\t")[1:2] == ["dmesg"])
+    return section == "dmesg.txt" or (section == "observed.tsv" and line.split("\t")[1:2] == ["dmesg"])
 
 
 def without_repeats(line):

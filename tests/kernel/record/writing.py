@@ -1,31 +1,34 @@
-"""Writes what the guests saw as vectors. tests/kernel/vectors/README.md says what each file has."""
+"""Writes what the guests saw as vectors. tests/kernel/vectors/README.md says what each section has."""
 
 import json
 import os
 import re
-import shutil
 
 from stacks import concise_of, disks_text, text_of
+from vectors import END, joined
 
 # Of more places than this the file has the third and the last three.
 ALL_PLACES = 80
 
 
 class Writer:
-    """The folder of the vectors."""
+    """The folder of the vectors, each of which is a file with sections."""
 
     def __init__(self, folder):
         self.folder, self.faults = folder, []
         os.makedirs(folder, exist_ok=True)
 
-    def fresh(self, vector):
-        """Makes a vector's folder, in place of the one that may be there."""
-        shutil.rmtree(os.path.join(self.folder, vector), ignore_errors=True)
-        os.makedirs(os.path.join(self.folder, vector))
-
-    def put(self, vector, name, text):
-        with open(os.path.join(self.folder, vector, name), "w", encoding="utf-8", errors="surrogateescape", newline="") as it:
+    def put(self, name, text):
+        """Writes a file, in place of the one that may be there."""
+        with open(os.path.join(self.folder, name), "w", encoding="utf-8", errors="surrogateescape", newline="") as it:
             it.write(text)
+
+    def put_vector(self, name, sections):
+        """Writes a vector. Sections that can't be told apart in one file are a fault."""
+        try:
+            self.put(name + END, joined(sections))
+        except ValueError as why:
+            self.faults.append("%s: %s" % (name, why))
 
     def write(self, job, results):
         """Writes a guest's results; an experiment that has none, or failed, is a fault."""
@@ -48,95 +51,89 @@ class Writer:
                 found[it["name"]] = (it, result)
         return found
 
-    def write_stack(self, name, experiment):
-        self.fresh(name)
-        self.put(name, "table.txt", text_of(experiment["devices"]))
-        self.put(name, "concise.txt", concise_of(experiment["devices"]))
-        self.put(name, "disks.txt", disks_text(experiment["disks"]))
-
-    def write_messages(self, name, messages):
-        if messages:
-            self.put(name, "dmesg.txt", "".join(it + "\n" for it in messages))
-
     def write_mappings(self, done):
         for name, (experiment, result) in done.items():
-            self.write_stack(name, experiment)
-            self.put(name, "kernel-table.txt", result["table"])
-            self.put(name, "kernel-concise.txt", result["concise"])
-            self.put(name, "majmin.txt", "".join("%s %s\n" % it for it in sorted(result["numbers"].items())))
+            sections = {**stack_sections(experiment), "kernel-table.txt": result["table"], "kernel-concise.txt": result["concise"],
+                        "majmin.txt": "".join("%s %s\n" % it for it in sorted(result["numbers"].items()))}
             if not result["refused"]:
-                for file, seen in (("reads.tsv", result["reads"]), ("writes.tsv", result["writes"])):
-                    self.put(name, file, table("device sector lands", landed(seen)))
-            self.write_messages(name, result["messages"])
+                for section, seen in (("reads.tsv", result["reads"]), ("writes.tsv", result["writes"])):
+                    sections[section] = table("device sector lands", landed(seen))
+            self.put_vector(name, {**sections, **message_sections(result)})
 
     def write_snapshots(self, done):
         for name, (experiment, result) in done.items():
-            self.write_stack(name, experiment)
-            self.put(name, "requests.txt", "".join("%s %s %d %d\n" % tuple(it) for it in experiment["requests"]))
-            self.write_messages(name, result["messages"])
-            if result["refused"]:
-                continue
-            steps = list(enumerate(result["steps"], 1))
-            starts = {number: experiment["requests"][number - 1][2] for number, _ in steps}
-            self.put(name, "observed.tsv", table("request what values", observed(steps)))
-            self.put(name, "answers.txt", "".join(it for number, step in steps for it in answered(number, starts[number], step)))
-            self.put(name, "status-each.txt", "".join("%d\t%s: %s\n" % (number, snapshot, status) for number, step in steps
-                                                      for snapshot, status in step["status"].items()))
-            self.put(name, "final.txt", "".join("%s %d %d = %s\n" % (disk, *it) for disk in sorted(result["final"])
-                                                for it in runs(result["final"][disk])))
+            sections = stack_sections(experiment)
+            sections["requests.txt"] = "".join("%s %s %d %d\n" % tuple(it) for it in experiment["requests"])
+            if not result["refused"]:
+                sections.update(run_sections(experiment, result))
+            self.put_vector(name, {**sections, **message_sections(result)})
 
     def write_stores(self, done):
-        self.fresh("store-full")
         head = "case chunk store how create ok_writes last_status_ok status_end fail read0 valid exceptions places dmesg"
-        self.put("store-full", "cases.tsv", table(head, [store_row(*it) for it in done.values()]))
+        self.put_vector("store-full", {"cases.tsv": table(head, [store_row(*it) for it in done.values()])})
 
     def write_tables(self, done):
-        self.fresh("accept")
         lines = []
         for name, (experiment, result) in done.items():
             at, message = result["refused"] or (None, "")
             lines.append({"case": name, "table": text_of(experiment["devices"]), "concise": concise_of(experiment["devices"]),
                           "disks": disks_text(experiment["disks"]), "kernel": "refused" if at else "accepted", "at": at,
                           "message": message, "dmesg": result["messages"], "kernel_table": result["table"]})
-        self.put("accept", "cases.jsonl", json_lines(lines))
+        self.put_vector("accept", {"cases.jsonl": json_lines(lines)})
 
     def write_names(self, result):
-        self.fresh("splitname")
-        self.fresh("lvm-text")
         split = [[name, *out.split("|")] + ([said] if status else []) for name, status, out, said in result["split"]]
-        self.put("splitname", "splitname.tsv", table("name vg lv layer", split))
-        self.put("splitname", "build_name.jsonl", json_lines(
-            {"vg": group, "lv": volume, "layer": layer, "real": name} for group, volume, layer, name in result["build"]))
-        self.put("lvm-text", "cases.jsonl", json_lines(
-            {"text": text, "accepted": tree is not None, "tree": tree} for text, tree in result["text"]))
+        built = [{"vg": group, "lv": volume, "layer": layer, "real": name} for group, volume, layer, name in result["build"]]
+        parsed = [{"text": text, "accepted": tree is not None, "tree": tree} for text, tree in result["text"]]
+        self.put_vector("splitname", {"splitname.tsv": table("name vg lv layer", split), "build_name.jsonl": json_lines(built)})
+        self.put_vector("lvm-text", {"cases.jsonl": json_lines(parsed)})
 
     def write_groups(self, done):
         for name, (_, result) in done.items():
-            self.fresh(name)
-            self.put(name, "commands.txt", "".join(command_text(*it) for it in result["commands"]))
+            sections = {"commands.txt": "".join(command_text(*it) for it in result["commands"])}
+            sections.update((it + ".txt", result[it]) for it in ("table", "concise", "info"))
+            sections["majmin.txt"] = "".join("%s %s\n" % it for it in sorted(result["numbers"].items())
+                                             if it[1].startswith("/dev/mapper/") or it[0] in result["table"].split())
+            sections["probe.tsv"] = table("device sector disk disk_sector", result["probes"])
             for number, (group, texts) in enumerate(result["groups"].items()):
-                for file, text in texts.items():
-                    self.put(name, file + ("-" + group if number else "") + ".txt", text or "")
-            for it in ("table", "concise", "info"):
-                self.put(name, it + ".txt", result[it])
-            self.put(name, "majmin.txt", "".join("%s %s\n" % it for it in sorted(result["numbers"].items())
-                                                 if it[1].startswith("/dev/mapper/") or it[0] in result["table"].split()))
-            self.put(name, "probe.tsv", table("device sector disk disk_sector", result["probes"]))
+                sections.update((it + ("-" + group if number else "") + ".txt", text or "") for it, text in texts.items())
             if "edits" in result:
-                self.write_edits(name, *result["edits"])
-
-    def write_edits(self, name, tested, restored):
-        self.put(name, "edits.jsonl", json_lines(
-            {"edit": edit, "places": places, "text": text, "status": status, "said": (out + said).strip()}
-            for edit, places, text, status, out, said in tested))
-        self.put(name, "restored.jsonl", json_lines(
-            {"edit": edit, "text": text, "status": status, "said": said.strip(), "table": tables, "info": info}
-            for edit, text, status, said, tables, info in restored))
+                sections.update(edit_sections(*result["edits"]))
+            self.put_vector(name, sections)
 
     def write_versions(self, versions, packages):
         said = "".join(versions[it] for it in ("dmsetup", "targets", "lvm"))
-        self.put("", "versions.txt", "%s\n%s\nDebian packages in the guest:\n%s" % (
+        self.put("versions.txt", "%s\n%s\nDebian packages in the guest:\n%s" % (
             versions["kernel"], said, "".join(it + "\n" for it in sorted(packages))))
+
+
+def stack_sections(experiment):
+    return {"table.txt": text_of(experiment["devices"]), "concise.txt": concise_of(experiment["devices"]),
+            "disks.txt": disks_text(experiment["disks"])}
+
+
+def run_sections(experiment, result):
+    """What was seen of each request, and of all disks after the last."""
+    steps = list(enumerate(result["steps"], 1))
+    starts = {number: experiment["requests"][number - 1][2] for number, _ in steps}
+    return {"observed.tsv": table("request what values", observed(steps)),
+            "answers.txt": "".join(it for number, step in steps for it in answered(number, starts[number], step)),
+            "status-each.txt": "".join("%d\t%s: %s\n" % (number, snapshot, status) for number, step in steps
+                                       for snapshot, status in step["status"].items()),
+            "final.txt": "".join("%s %d %d = %s\n" % (disk, *it) for disk in sorted(result["final"])
+                                 for it in runs(result["final"][disk]))}
+
+
+def edit_sections(tested, restored):
+    edits = [{"edit": edit, "places": places, "text": text, "status": status, "said": (out + said).strip()}
+             for edit, places, text, status, out, said in tested]
+    loaded = [{"edit": edit, "text": text, "status": status, "said": said.strip(), "table": tables, "info": info}
+              for edit, text, status, said, tables, info in restored]
+    return {"edits.jsonl": json_lines(edits), "restored.jsonl": json_lines(loaded)}
+
+
+def message_sections(result):
+    return {"dmesg.txt": "".join(it + "\n" for it in result["messages"])} if result["messages"] else {}
 
 
 def table(head, rows):
