@@ -1,5 +1,5 @@
 -- What a halting player has played of a request: the first of its units, or all of them.
-use Rattle.std.proofs.Common.{◌≡◌, ℕ, zero, suc, ◌+◌, ◌<◌, ◌≤◌, true, false, List, [], ◌∷◌, length, take, refl, sym, ap, subst, ◌∙◌, arith}
+use Rattle.std.proofs.Common.{◌≡◌, ℕ, zero, suc, ◌+◌, ◌<◌, ◌≤◌, true, false, List, [], length, take, refl, sym, ap, subst, ◌∙◌, arith}
 use Rattle.std.proofs.lemmas.List.{take_all, take-append-le}
 use Rattle.dm_stack.specs.Description.{Description}
 use Rattle.dm_map.specs.declared.pieces.piece.Piece.{Piece}
@@ -7,7 +7,6 @@ use Rattle.dm_map.specs.declared.pieces.piece.Piece.TheVariants as pieces
 use Rattle.dm_map.specs.pieces.Sink.{OfBeginning}
 use Rattle.dm_map.specs.pieces.Units.{BlockUnit, ReadOf, WriteOf, CopyOf, FillOf, IsOnDisk, IsOnDisks, first_unit, next_unit, piece_len, units_in, units_of}
 use Rattle.dm_replay.specs.declared.halting.Halting.{Halting}
-use Rattle.dm_replay.specs.declared.player.Player.{Player}
 use Rattle.dm_replay.specs.Halting.{HasHalted, HasTaken}
 use Rattle.dm_replay.specs.OfDisks.{AreUnitsOf}
 use Rattle.dm_replay.specs.laws.Play.{played_nothing}
@@ -19,7 +18,7 @@ use Rattle.dm_replay.proofs.OfDiskLemmas.{piece_of}
 pub front_in : (unit : BlockUnit) (n len : ℕ) → n ≤ len → take n (units_in unit len) ≡ units_in unit n
 front_in unit zero len few = refl
 front_in unit (suc n) zero few = absurd (omega (arith, few))
-front_in unit (suc n) (suc len) few = ap (λ (rest : List BlockUnit). unit ∷ rest) (front_in (next_unit unit) n len (omega (arith, few)))
+front_in unit (suc n) (suc len) few = rw (front_in (next_unit unit) n len (omega (arith, few)))
 
 pub length_in : (unit : BlockUnit) (len : ℕ) → length (units_in unit len) ≡ len
 length_in unit zero = refl
@@ -58,7 +57,7 @@ cut_lies stack piece cut first few lies =
 
 -- and its units
 pub cut_units : (piece cut : Piece) → first_unit cut ≡ first_unit piece → piece_len cut ≤ piece_len piece → units_of cut ≡ take (piece_len cut) (units_of piece)
-cut_units piece cut first few = ap (λ (unit : BlockUnit). units_in unit (piece_len cut)) first ∙ sym (front_in (first_unit piece) (piece_len cut) (piece_len piece) few)
+cut_units piece cut first few = rw first (sym (front_in (first_unit piece) (piece_len cut) (piece_len piece) few))
 
 -- What is played of a piece
 
@@ -68,7 +67,7 @@ pub taken_piece : (old new : Halting) (piece : Piece) → IsOnDisks old.player.s
 taken_piece old new piece lies has fewer same halted = record {
   played = has;
   of = piece_of old.player.stack.now piece lies;
-  fewer = ap (λ (n : ℕ). new.left + n) (length_in (first_unit piece) (piece_len piece)) ∙ fewer;
+  fewer = rw (length_in (first_unit piece) (piece_len piece)) fewer;
   stack = same;
   halted = halted;
 }
@@ -78,10 +77,10 @@ pub halted_piece : (old new : Halting) (piece cut : Piece) → IsOnDisks old.pla
     → HasPlayed old.player.playing (units_of cut) new.player.playing → new.player.stack.now ≡ old.player.stack.now → HasHalted old (units_of piece) new
 halted_piece old new piece cut lies first len more has same =
     let few : piece_len cut ≤ piece_len piece = omega (arith, len, more) in
-    let front : units_of cut ≡ take old.left (units_of piece) = cut_units piece cut first few ∙ ap (λ (n : ℕ). take n (units_of piece)) len in
+    let front : units_of cut ≡ take old.left (units_of piece) = rw (← len) (cut_units piece cut first few) in
     record {
-      played = subst (λ (us : List BlockUnit). HasPlayed old.player.playing us new.player.playing) front has;
-      of = subst (λ (us : List BlockUnit). AreUnitsOf (length old.player.stack.now.disks) us) front (piece_of old.player.stack.now cut (cut_lies old.player.stack.now piece cut first few lies));
+      played = rw (← front) has;
+      of = rw (← front) (piece_of old.player.stack.now cut (cut_lies old.player.stack.now piece cut first few lies));
       more = omega (arith, more, length_in (first_unit piece) (piece_len piece));
       stack = same;
     }
@@ -89,12 +88,12 @@ halted_piece old new piece cut lies first len more has same =
 -- none
 pub halted_none : (old new : Halting) (piece : Piece) → old.left ≡ 0 → 1 ≤ piece_len piece → new.player ≡ old.player → HasHalted old (units_of piece) new
 halted_none old new piece none some same =
-    let front : [] ≡ take old.left (units_of piece) = ap (λ (n : ℕ). take n (units_of piece)) (sym none) in
+    let front : [] ≡ take old.left (units_of piece) = cc (none) in
     record {
-      played = subst (λ (us : List BlockUnit). HasPlayed old.player.playing us new.player.playing) front (subst (λ (p : Player). HasPlayed old.player.playing [] p.playing) (sym same) (played_nothing old.player.playing));
-      of = subst (λ (us : List BlockUnit). AreUnitsOf (length old.player.stack.now.disks) us) front tt;
+      played = rw (← front, same) (played_nothing old.player.playing);
+      of = rw (← front) tt;
       more = omega (arith, none, some, length_in (first_unit piece) (piece_len piece));
-      stack = ap (λ (p : Player). p.stack.now) same;
+      stack = rw same;
     }
 
 -- The first of a request's units
@@ -109,8 +108,8 @@ pub front_all : (old new : Halting) (units : List BlockUnit) → HasTaken old un
 front_all old new units taken =
     let all : take old.left units ≡ units = take_all old.left units (omega (arith, taken.fewer)) in
     record {
-      played = subst (λ (us : List BlockUnit). HasPlayed old.player.playing us new.player.playing) (sym all) taken.played;
-      of = subst (λ (us : List BlockUnit). AreUnitsOf (length old.player.stack.now.disks) us) (sym all) taken.of;
+      played = rw all taken.played;
+      of = rw all taken.of;
       stack = taken.stack;
     }
 
@@ -120,7 +119,7 @@ front_halted old new units left going halted =
     let same : take old.left units ≡ take old.left left.front =
     ap (take old.left) (sym left.whole) ∙ take-append-le old.left left.front left.rest (omega (arith, was.more)) in
     record {
-      played = subst (λ (us : List BlockUnit). HasPlayed old.player.playing us new.player.playing) (sym same) was.played;
-      of = subst (λ (us : List BlockUnit). AreUnitsOf (length old.player.stack.now.disks) us) (sym same) was.of;
+      played = rw same was.played;
+      of = rw same was.of;
       stack = was.stack;
     }

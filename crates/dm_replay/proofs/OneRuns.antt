@@ -15,7 +15,7 @@ Begins (answer ∷ rest) first = answer ≡ first
 
 begins_with : (first : Answer) (n : ℕ) (rest all : List Answer) → 0 < n → answers_in first n ++ rest ≡ all → Begins all first
 begins_with first zero rest all some e = absurd (omega (arith, some))
-begins_with first (suc n) rest all some e = subst (λ (l : List Answer). Begins l first) e refl
+begins_with first (suc n) rest all some e = rw (← e)
 
 begins_as : (first other : Answer) (n : ℕ) (rest : List Answer) → 0 < n → Begins (answers_in first n ++ rest) other → first ≡ other
 begins_as first other zero rest some e = absurd (omega (arith, some))
@@ -71,9 +71,11 @@ one (run ∷ rest) (other ∷ others) some apart some' apart' e =
     (ends_there run rest some.1 apart)
     (λ begins. ends_there other others some'.1 apart' (subst (λ (x : Answer). Begins (flat others) (further_answer x (run_len other))) (sym first) begins)) in
     let same : run ≡ other = same_run run other (sym first) len in
-    ap (λ (x : ValueRun). x ∷ rest) same
-    ∙ ap (λ (xs : List ValueRun). other ∷ xs) (one rest others some.1 (apart_rest run rest apart) some'.1 (apart_rest other others apart')
-    (append_cancel_left (run_answers run) (flat rest) (flat others) (e ∙ ap (λ (x : ValueRun). run_answers x ++ flat others) (sym same))))
+    rw (
+      same,
+      (one rest others some.1 (apart_rest run rest apart) some'.1 (apart_rest other others apart')
+          (append_cancel_left (run_answers run) (flat rest) (flat others) (e ∙ ap (λ (x : ValueRun). run_answers x ++ flat others) (sym same)))),
+    )
 
 pub one_runs : (a b : List ValueRun) → AreMaximal a → AreMaximal b → flat a ≡ flat b → a ≡ b
 one_runs a b are others e = one a b are.some are.apart others.some others.apart e

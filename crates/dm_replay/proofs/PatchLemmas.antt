@@ -1,5 +1,5 @@
 -- Ranges of stored values.
-use Rattle.std.proofs.Common.{◌≡◌, ℕ, suc, ◌+◌, ◌-◌, ◌<◌, ◌≤◌, Bool, true, false, cond, List, [], ◌∷◌, ◌++◌, length, take, get_or, refl, sym, ap, ◌∙◌, arith}
+use Rattle.std.proofs.Common.{◌≡◌, ℕ, suc, ◌+◌, ◌-◌, ◌<◌, ◌≤◌, true, false, cond, List, [], ◌∷◌, ◌++◌, length, take, get_or, refl, sym, ap, ◌∙◌, arith}
 use Rattle.std.proofs.Math.Seq.{take-suc}
 use Rattle.std.specs.Prelude.{◌==◌, ◌&&◌, nat_le, nat_lt}
 use Rattle.std.proofs.lemmas.Bool.Decides.{nat_tests}
@@ -12,19 +12,19 @@ use Rattle.dm_replay.specs.Ranges.{HoldOn, is_within, ranged}
 use Rattle.dm_replay.specs.Values.{Values, further, next_value, old_values}
 
 pub further_next : (first : Value) (n : ℕ) → further (next_value first) n ≡ further first (suc n)
-further_next (value.Old disk sector) n = ap (λ (s : ℕ). value.Old disk s) (let e : suc sector + n ≡ sector + suc n = omega arith in e)
+further_next (value.Old disk sector) n = rw (let e : suc sector + n ≡ sector + suc n = omega arith in e)
 further_next value.Zero n = refl
-further_next (value.Wrote request sector) n = ap (λ (s : ℕ). value.Wrote request s) (let e : suc sector + n ≡ sector + suc n = omega arith in e)
+further_next (value.Wrote request sector) n = rw (let e : suc sector + n ≡ sector + suc n = omega arith in e)
 
 pub further_none : (first : Value) → further first 0 ≡ first
-further_none (value.Old disk sector) = ap (λ (s : ℕ). value.Old disk s) (let e : sector + 0 ≡ sector = omega arith in e)
+further_none (value.Old disk sector) = rw (let e : sector + 0 ≡ sector = omega arith in e)
 further_none value.Zero = refl
-further_none (value.Wrote request sector) = ap (λ (s : ℕ). value.Wrote request s) (let e : sector + 0 ≡ sector = omega arith in e)
+further_none (value.Wrote request sector) = rw (let e : sector + 0 ≡ sector = omega arith in e)
 
 pub further_twice : (first : Value) (m n : ℕ) → further (further first m) n ≡ further first (m + n)
-further_twice (value.Old disk sector) m n = ap (λ (s : ℕ). value.Old disk s) (let e : sector + m + n ≡ sector + (m + n) = omega arith in e)
+further_twice (value.Old disk sector) m n = rw (let e : sector + m + n ≡ sector + (m + n) = omega arith in e)
 further_twice value.Zero m n = refl
-further_twice (value.Wrote request sector) m n = ap (λ (s : ℕ). value.Wrote request s) (let e : sector + m + n ≡ sector + (m + n) = omega arith in e)
+further_twice (value.Wrote request sector) m n = rw (let e : sector + m + n ≡ sector + (m + n) = omega arith in e)
 
 -- A range inside and outside
 
@@ -89,15 +89,11 @@ pub in_patch : (values : Values) (patch : Patch) (disk start n : ℕ) (first : V
     → HoldOn (patched values patch) disk start n first
 in_patch values patch disk start n first has fits is i more =
     let from = within_from patch.disk patch.start patch.values.len disk start has in
-    ap (λ (on : ℕ). patched values patch on (start + i)) (within_disk patch.disk patch.start patch.values.len disk start has)
-    ∙ ranged_in values patch.disk patch.start patch.values.len patch.values.first (start + i) (omega (arith, from)) (omega (arith, fits, more))
-    ∙ ap (further patch.values.first) (let e : start + i - patch.start ≡ start - patch.start + i = omega (arith, from) in e)
-    ∙ sym (further_twice patch.values.first (start - patch.start) i)
-    ∙ ap (λ (x : Value). further x i) (sym is)
+    rw (within_disk patch.disk patch.start patch.values.len disk start has, is) (ranged_in values patch.disk patch.start patch.values.len patch.values.first (start + i) (omega (arith, from)) (omega (arith, fits, more)) ∙ ap (further patch.values.first) (let e : start + i - patch.start ≡ start - patch.start + i = omega (arith, from) in e) ∙ sym (further_twice patch.values.first (start - patch.start) i))
 
 -- a sector that it doesn't have holds what it did
 pub out_of_patch : (values : Values) (patch : Patch) (disk sector : ℕ) → is_within patch.disk patch.start patch.values.len disk sector ≡ false → patched values patch disk sector ≡ values disk sector
-out_of_patch values patch disk sector out = ap (λ (b : Bool). cond b (further patch.values.first (sector - patch.start)) (values disk sector)) out
+out_of_patch values patch disk sector out = rw out
 
 -- the last of the first patches counts
 pub newest : (patches : List Patch) (older : ℕ) (patch : Patch) → 0 < older → older ≤ length patches → patch ≡ get_or patches (older - 1) patch → values_in (take older patches) ≡ patched (values_in (take (older - 1) patches)) patch
@@ -109,4 +105,4 @@ newest patches older patch some within is =
 -- without any, sectors hold what they held at the start
 pub none_older : (patches : List Patch) (older : ℕ) (disk start i : ℕ) → older ≤ 0 → values_in (take older patches) disk (start + i) ≡ further (value.Old disk start) i
 unfolding values_in
-none_older patches older disk start i none = ap (λ (n : ℕ). overlaid old_values (take n patches) disk (start + i)) (let e : older ≡ 0 = omega (arith, none) in e)
+none_older patches older disk start i none = rw (let e : older ≡ 0 = omega (arith, none) in e)

@@ -1,5 +1,5 @@
 -- The playback of a request whose first sector isn't taken beyond its device.
-use Rattle.std.proofs.Common.{◌≡◌, inl, inr, ℕ, zero, suc, ◌+◌, ◌<◌, ◌≤◌, true, length, min, List, [], ◌∷◌, ◌++◌, take, refl, sym, ap, subst, ◌∙◌, arith}
+use Rattle.std.proofs.Common.{◌≡◌, inl, inr, ℕ, zero, suc, ◌+◌, ◌<◌, ◌≤◌, true, length, min, List, [], ◌∷◌, take, refl, sym, ap, subst, ◌∙◌, arith}
 use Rattle.std.specs.Prelude.{nat_lt}
 use Rattle.std.proofs.lemmas.Bool.{cases_lt}
 use Rattle.std.proofs.lemmas.Bool.Decides.{nat_tests}
@@ -65,7 +65,7 @@ front_from stack op device start len count number state values some = elim (case
       (fails_anywhere (halted_units stack op device start len count state) front.0 number (min start (device_len stack device)) start values
       (front.1 ∙ ap (λ (step : Step). take count step.units) (step_past_end stack op device start len state (is_past (device_len stack device) start len some beyond)))).0
   | inr within ↦
-      let same : min start (device_len stack device) ≡ start = omega (arith, within) in rw same refl
+      let same : min start (device_len stack device) ≡ start = omega (arith, within) in rw same
 ]
 
 abbrev pub units_asked : Description → Request → (device : ℕ) → State → List BlockUnit
@@ -97,9 +97,7 @@ front_values : (old begun ended : Playing) (stack : Description) (request : Requ
     → (disk sector : ℕ) → held ended disk sector ≡ played request.number request.start (halted_units stack request.op device request.start request.len count state) (held old) disk sector
 front_values old begun ended stack request device count first state first_is begun_is has disk sector =
     let units = halted_units stack request.op device request.start request.len count state in
-    begun_values old begun ended request.number first units begun_is has disk sector
-    ∙ ap (λ (k : ℕ). played request.number k units (held old) disk sector) first_is
-    ∙ ap (λ (values : Values). values disk sector) (front_from stack request.op device request.start request.len count request.number state (held old) request.at_least)
+    rw (← front_from stack request.op device request.start request.len count request.number state (held old) request.at_least, ← first_is) (begun_values old begun ended request.number first units begun_is has disk sector)
 
 -- and what it answers
 pub playback_answers : (old begun ended : Playing) (runs : List ValueRun) (stack : Description) (request : Request) (device first : ℕ) (state : State) → first ≡ min request.start (device_len stack device)
@@ -107,11 +105,7 @@ pub playback_answers : (old begun ended : Playing) (runs : List ValueRun) (stack
     → flat runs ≡ played_answers request.number request.start (units_asked stack request device state) (values_of old.values.disks.items)
 playback_answers old begun ended runs stack request device first state first_is begun_is runs_is has =
     let units = units_asked stack request device state in
-    ap flat runs_is
-    ∙ has.answers_are
-    ∙ ap (λ (p : Playing). flat p.runs ++ played_answers p.number p.next units (held p)) begun_is
-    ∙ ap (λ (k : ℕ). played_answers request.number k units (held old)) first_is
-    ∙ (played_from stack request.op device request.start request.len request.number state (held old) request.at_least).1
+    cc (ap flat runs_is, has.answers_are, begun_is, first_is, (played_from stack request.op device request.start request.len request.number state (held old) request.at_least).1)
 
 -- what is known of a player after the first units of a request, or all of them
 pub record IsFrontPlayed (stack : Description) (request : Request) (device count : ℕ) (state : State) (old : Playing) (later : Player) : Type 0 where
@@ -126,12 +120,12 @@ pub front_played : (stack : Description) (request : Request) (device count first
 front_played stack request device count first state old begun later before after first_is begun_is stack_is before_is left_is were front later_is =
     let all = units_asked stack request device state in
     let units = halted_units stack request.op device request.start request.len count state in
-    let playing_is : before.player.playing ≡ record { values = old.values; number = request.number; next = first; runs = [] } = ap (λ (p : Player). p.playing) before_is ∙ begun_is in
-    let same : before.player.stack.now ≡ stack = ap (λ (p : Player). p.stack.now) before_is ∙ stack_is in
-    let has : HasPlayed before.player.playing units after.player.playing = subst (λ (n : ℕ). HasPlayed before.player.playing (take n all) after.player.playing) left_is front.played in
+    let playing_is : before.player.playing ≡ record { values = old.values; number = request.number; next = first; runs = [] } = rw before_is begun_is in
+    let same : before.player.stack.now ≡ stack = rw before_is stack_is in
+    let has : HasPlayed before.player.playing units after.player.playing = rw (← left_is) front.played in
     let of : AreUnitsOf (length stack.disks) units = subst (λ (n : ℕ). AreUnitsOf (length stack.disks) (take n all)) left_is (subst (λ (s : Description). AreUnitsOf (length s.disks) (take before.left all)) same front.of) in
     let values = front_values old before.player.playing after.player.playing stack request device count first state first_is playing_is has in
-    subst (λ (p : Player). IsFrontPlayed stack request device count state old p) (sym later_is) (record {
+    rw later_is (record {
       stack_is = front.stack ∙ same;
       next = has.next_is ∙ ap (λ (p : Playing). sector_past units p.next) playing_is ∙ ap (sector_past units) first_is;
       values = values;

@@ -1,5 +1,5 @@
 -- What a player has played.
-use Rattle.std.proofs.Common.{◌≡◌, ℕ, zero, suc, ◌+◌, List, [], ◌∷◌, ◌++◌, refl, sym, ap, subst, ◌∙◌, arith}
+use Rattle.std.proofs.Common.{◌≡◌, ℕ, zero, suc, ◌+◌, List, [], ◌∷◌, ◌++◌, refl, sym, ap, ◌∙◌, arith}
 use Rattle.std.proofs.lemmas.List.{append-nil}
 use Rattle.dm_map.specs.own.Contents.{sector_past}
 use Rattle.dm_map.specs.pieces.Units.{BlockUnit, ReadOf, WriteOf, Zeros, Drops, Fails, CopyOf, FillOf, units_in}
@@ -29,16 +29,16 @@ pub record HasAnswered (old new : Playing) (first : Answer) (n : ℕ) : Type 0 w
 pub run_answered : (old new : Playing) (run : ValueRun) (first : Answer) (n : ℕ) → first_answer run ≡ first → run_len run ≡ n → new.values ≡ old.values → flat new.runs ≡ flat old.runs ++ run_answers run → new.next ≡ old.next + run_len run → new.number ≡ old.number → HasAnswered old new first n
 run_answered old new run first n first_is len_is values_is runs_is next_is number_is = record {
   values_same = values_is;
-  runs_are = runs_is ∙ ap (λ (x : Answer). flat old.runs ++ answers_in x (run_len run)) first_is ∙ ap (λ (k : ℕ). flat old.runs ++ answers_in first k) len_is;
-  next_more = next_is ∙ ap (λ (k : ℕ). old.next + k) len_is;
+  runs_are = rw (← len_is, ← first_is) runs_is;
+  next_more = rw (← len_is) next_is;
   number_same = number_is;
 }
 
 -- units that change no values and answer this
 answered : (old new : Playing) (units : List BlockUnit) (first : Answer) (n : ℕ) → HasAnswered old new first n → played old.number old.next units (held old) ≡ held old → played_answers old.number old.next units (held old) ≡ answers_in first n → sector_past units old.next ≡ old.next + n → HasPlayed old units new
 answered old new units first n has none answers past = record {
-  values_are = λ disk sector. ap (λ (values : DiskValues). values_of values.disks.items disk sector) has.values_same ∙ ap (λ (values : Values). values disk sector) (sym none);
-  answers_are = has.runs_are ∙ ap (λ (rest : List Answer). flat old.runs ++ rest) (sym answers);
+  values_are = λ disk sector. cc (has.values_same, none);
+  answers_are = rw answers has.runs_are;
   next_is = has.next_more ∙ sym past;
   number_is = has.number_same;
 }
@@ -64,10 +64,8 @@ pub write_played : (old between : Playing) (after : DiskValues) (disk start n : 
     → HasPlayed old (units_in (WriteOf disk start) n) (record { values = after; number = between.number; next = between.next; runs = between.runs })
 write_played old between after disk start n has stores = record {
   values_are = λ on sector.
-      stores on sector
-      ∙ ap (λ (values : DiskValues). ranged (values_of values.disks.items) disk start n (value.Wrote old.number old.next) on sector) has.values_same
-      ∙ sym (writes_played old.number old.next disk start n (held old) on sector);
-  answers_are = has.runs_are ∙ ap (λ (rest : List Answer). flat old.runs ++ rest) (sym (writes_answer old.number old.next disk start n (held old)));
+      cc (stores on sector, has.values_same, sym (writes_played old.number old.next disk start n (held old) on sector));
+  answers_are = rw (writes_answer old.number old.next disk start n (held old)) has.runs_are;
   next_is = has.next_more ∙ sym (writes_past disk start n old.next);
   number_is = has.number_same;
 }
@@ -76,7 +74,7 @@ pub fill_played : (old : Playing) (after : DiskValues) (disk start n : ℕ) → 
     → HasPlayed old (units_in (FillOf disk start) n) (record { values = after; number = old.number; next = old.next; runs = old.runs })
 fill_played old after disk start n stores = record {
   values_are = λ on sector. stores on sector ∙ sym (fills_played old.number old.next disk start n (held old) on sector);
-  answers_are = sym (append-nil (flat old.runs)) ∙ ap (λ (rest : List Answer). flat old.runs ++ rest) (sym (fills_answer old.number old.next disk start n (held old)));
+  answers_are = rw (fills_answer old.number old.next disk start n (held old)) (sym (append-nil (flat old.runs)));
   next_is = sym (fills_past disk start n old.next);
   number_is = refl;
 }
@@ -85,7 +83,7 @@ pub copy_played : (old : Playing) (after : DiskValues) (disk start to to_start n
     → HasPlayed old (units_in (CopyOf disk start to to_start) n) (record { values = after; number = old.number; next = old.next; runs = old.runs })
 copy_played old after disk start to to_start n first hold at_once stores = record {
   values_are = λ on sector. stores on sector ∙ sym (copies_played old.number old.next disk start to to_start n (held old) first hold at_once on sector);
-  answers_are = sym (append-nil (flat old.runs)) ∙ ap (λ (rest : List Answer). flat old.runs ++ rest) (sym (copies_answer old.number old.next disk start to to_start n (held old)));
+  answers_are = rw (copies_answer old.number old.next disk start to to_start n (held old)) (sym (append-nil (flat old.runs)));
   next_is = sym (copies_past disk start to to_start n old.next);
   number_is = refl;
 }
@@ -93,27 +91,25 @@ copy_played old after disk start to to_start n first hold at_once stores = recor
 -- Units in two parts
 
 reads-append : (disk start m n : ℕ) → units_in (ReadOf disk start) (m + n) ≡ units_in (ReadOf disk start) m ++ units_in (ReadOf disk (start + m)) n
-reads-append disk start zero n = let e : 0 + n ≡ n = omega arith in let k : start + 0 ≡ start = omega arith in rw (e, k) refl
+reads-append disk start zero n = let e : 0 + n ≡ n = omega arith in let k : start + 0 ≡ start = omega arith in rw (e, k)
 reads-append disk start (suc m) n =
     let e : suc m + n ≡ suc (m + n) = omega arith in let k : start + suc m ≡ suc start + m = omega arith in
     rw (e, k) (ap (λ (rest : List BlockUnit). ReadOf disk start ∷ rest) (reads-append disk (suc start) m n))
 
 copies-append : (disk start to to_start m n : ℕ) → units_in (CopyOf disk start to to_start) (m + n) ≡ units_in (CopyOf disk start to to_start) m ++ units_in (CopyOf disk (start + m) to (to_start + m)) n
-copies-append disk start to to_start zero n = let e : 0 + n ≡ n = omega arith in let k : start + 0 ≡ start = omega arith in let j : to_start + 0 ≡ to_start = omega arith in rw (e, k, j) refl
+copies-append disk start to to_start zero n = let e : 0 + n ≡ n = omega arith in let k : start + 0 ≡ start = omega arith in let j : to_start + 0 ≡ to_start = omega arith in rw (e, k, j)
 copies-append disk start to to_start (suc m) n =
     let e : suc m + n ≡ suc (m + n) = omega arith in let k : start + suc m ≡ suc start + m = omega arith in let j : to_start + suc m ≡ suc to_start + m = omega arith in
     rw (e, k, j) (ap (λ (rest : List BlockUnit). CopyOf disk start to to_start ∷ rest) (copies-append disk (suc start) to (suc to_start) m n))
 
 pub read_more : (old now new : Playing) (disk start m n k : ℕ) → m + n ≡ k → HasPlayed old (units_in (ReadOf disk start) m) now → HasPlayed now (units_in (ReadOf disk (start + m)) n) new → HasPlayed old (units_in (ReadOf disk start) k) new
 read_more old now new disk start m n k is first second =
-    subst (λ (units : List BlockUnit). HasPlayed old units new) (sym (reads-append disk start m n) ∙ ap (units_in (ReadOf disk start)) is)
-    (played_both old now new (units_in (ReadOf disk start) m) (units_in (ReadOf disk (start + m)) n) first second)
+    rw (← (sym (reads-append disk start m n) ∙ ap (units_in (ReadOf disk start)) is)) (played_both old now new (units_in (ReadOf disk start) m) (units_in (ReadOf disk (start + m)) n) first second)
 
 pub copy_more : (old now new : Playing) (disk start to to_start m n k : ℕ) → m + n ≡ k → HasPlayed old (units_in (CopyOf disk start to to_start) m) now → HasPlayed now (units_in (CopyOf disk (start + m) to (to_start + m)) n) new → HasPlayed old (units_in (CopyOf disk start to to_start) k) new
 copy_more old now new disk start to to_start m n k is first second =
-    subst (λ (units : List BlockUnit). HasPlayed old units new) (sym (copies-append disk start to to_start m n) ∙ ap (units_in (CopyOf disk start to to_start)) is)
-    (played_both old now new (units_in (CopyOf disk start to to_start) m) (units_in (CopyOf disk (start + m) to (to_start + m)) n) first second)
+    rw (← (sym (copies-append disk start to to_start m n) ∙ ap (units_in (CopyOf disk start to to_start)) is)) (played_both old now new (units_in (CopyOf disk start to to_start) m) (units_in (CopyOf disk (start + m) to (to_start + m)) n) first second)
 
 -- no units are played where nothing changes
 pub none_played : (old : Playing) (unit : BlockUnit) (n : ℕ) → n ≡ 0 → HasPlayed old [] old → HasPlayed old (units_in unit n) old
-none_played old unit n none nothing = subst (λ (k : ℕ). HasPlayed old (units_in unit k) old) (sym none) nothing
+none_played old unit n none nothing = rw none nothing

@@ -80,7 +80,7 @@ rerun_halted stack op device start len count next whole state is few whole_is = 
   where
     by_end : (past : Bool) → nat_lt (device_len stack device) (start + len) ≡ past → whole ≡ cond past 0 (next - start)
         → (request_step stack op device start whole state).state ≡ cond past state (steps (sector_step stack op MOST_DEPTH (Device device)) state start (sector_past (halted_units stack op device start len count state) 0)).state
-    by_end true e none = ap (λ (n : ℕ). (request_step stack op device start n state).state) none ∙ none_mapped stack op device start state
+    by_end true e none = rw none (none_mapped stack op device start state)
     by_end false e some =
         let end = device_len stack device in
         let units = halted_units stack op device start len count state in
@@ -90,8 +90,7 @@ rerun_halted stack op device start len count next whole state is few whole_is = 
         let at : next ≡ start + sector_past units 0 = next_inside end start len next units is fits in
         let same : whole ≡ sector_past units 0 = omega (arith, rest, at) in
         let within : start + whole ≤ end = omega (arith, fits, same, few) in
-        ap (λ (past : Bool). (cond past (keep (replicate whole Fails) state) (steps step state start whole)).state) (not_past end start whole within)
-        ∙ ap (λ (n : ℕ). (steps step state start n).state) same
+        rw (not_past end start whole within, same)
 
 -- Writes in a row
 
@@ -124,9 +123,5 @@ rerun_next stack sink newer mapper later all i kept within is was going of same 
   going = going;
   of = of ∙ was.of;
   same = same ∙ was.same;
-  state = state
-      ∙ ap (λ (of : Description). rerun_step of kept mapper.state) was.of
-      ∙ ap (rerun_step stack kept) was.state
-      ∙ sym (rerun-push stack (start_state stack) (take i all) kept)
-      ∙ ap (rerun_from stack (start_state stack)) (sym (take_more all i kept within ∙ ap (λ (x : KeptWrite). take i all ++ x ∷ []) (sym is)));
+  state = cc (state, was.of, ap (rerun_step stack kept) was.state, sym (rerun-push stack (start_state stack) (take i all) kept), ap (rerun_from stack (start_state stack)) (sym (take_more all i kept within ∙ ap (λ (x : KeptWrite). take i all ++ x ∷ []) (sym is))));
 }

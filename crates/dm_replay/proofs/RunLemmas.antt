@@ -19,24 +19,19 @@ answer_none (Gives first) = ap Gives (further_none first)
 answer_none Failed = refl
 
 answers_in-append : (first : Answer) (m n : ℕ) → answers_in first m ++ answers_in (further_answer first m) n ≡ answers_in first (m + n)
-answers_in-append first zero n = ap (λ (x : Answer). answers_in x n) (answer_none first) ∙ ap (answers_in first) (let e : n ≡ 0 + n = omega arith in e)
+answers_in-append first zero n = rw (answer_none first) (ap (answers_in first) (let e : n ≡ 0 + n = omega arith in e))
 answers_in-append first (suc m) n =
-    ap (λ (rest : List Answer). first ∷ rest)
-    (ap (λ (x : Answer). answers_in (next_answer first) m ++ answers_in x n) (sym (answer_next first m)) ∙ answers_in-append (next_answer first) m n)
-    ∙ ap (answers_in first) (let e : suc (m + n) ≡ suc m + n = omega arith in e)
+    rw (ap (λ (x : Answer). answers_in (next_answer first) m ++ answers_in x n) (sym (answer_next first m)) ∙ answers_in-append (next_answer first) m n) (ap (answers_in first) (let e : suc (m + n) ≡ suc m + n = omega arith in e))
 
 pub flat_one : (runs : List ValueRun) (run : ValueRun) → flat (runs ++ run ∷ []) ≡ flat runs ++ run_answers run
-flat_one runs run = flat_map-append run_answers runs (run ∷ []) ∙ ap (λ (rest : List Answer). flat runs ++ rest) (append-nil (run_answers run))
+flat_one runs run = rw (← append-nil (run_answers run)) (flat_map-append run_answers runs (run ∷ []))
 
 -- a run that another one joins answers what both do
 pub flat_longer : (runs : List ValueRun) (last run longer : ValueRun) → Joins last run → first_answer longer ≡ first_answer last → run_len longer ≡ run_len last + run_len run
     → flat (runs ++ longer ∷ []) ≡ flat (runs ++ last ∷ []) ++ run_answers run
 flat_longer runs last run longer joins first len =
-    flat_one runs longer
-    ∙ ap (λ (rest : List Answer). flat runs ++ rest) (ap (λ (x : Answer). answers_in x (run_len longer)) first ∙ ap (answers_in (first_answer last)) len
-    ∙ sym (answers_in-append (first_answer last) (run_len last) (run_len run)) ∙ ap (λ (x : Answer). run_answers last ++ answers_in x (run_len run)) joins)
-    ∙ sym (append_assoc (flat runs) (run_answers last) (run_answers run))
-    ∙ ap (λ (front : List Answer). front ++ run_answers run) (sym (flat_one runs last))
+    rw (flat_one runs last) (flat_one runs longer ∙ ap (λ (rest : List Answer). flat runs ++ rest) (ap (λ (x : Answer). answers_in x (run_len longer)) first ∙ ap (answers_in (first_answer last)) len
+    ∙ sym (answers_in-append (first_answer last) (run_len last) (run_len run)) ∙ ap (λ (x : Answer). run_answers last ++ answers_in x (run_len run)) joins) ∙ sym (append_assoc (flat runs) (run_answers last) (run_answers run)))
 
 -- Maximal runs
 

@@ -70,13 +70,13 @@ has_not : (start len sector : ℕ) → (nat_le start sector && nat_lt sector (st
 has_not start len sector e from before = let g : true ≡ false = sym (has_true start len sector from before) ∙ e in absurd cc
 
 pub spanned_in : (stored : Stored) (start len : ℕ) (first : Value) (sector : ℕ) → start ≤ sector → sector < start + len → spanned stored start len first sector ≡ Some (further first (sector - start))
-spanned_in stored start len first sector from before = ap (λ (b : Bool). cond b (Some (further first (sector - start))) (stored sector)) (has_true start len sector from before)
+spanned_in stored start len first sector from before = rw (has_true start len sector from before)
 
 pub spanned_out : (stored : Stored) (start len : ℕ) (first : Value) (sector : ℕ) → (start ≤ sector → sector < start + len → ⊥) → spanned stored start len first sector ≡ stored sector
 spanned_out stored start len first sector out = by_test (nat_le start sector && nat_lt sector (start + len)) refl where
   by_test : (b : Bool) → (nat_le start sector && nat_lt sector (start + len)) ≡ b → spanned stored start len first sector ≡ stored sector
   by_test true e = absurd (out (has_from start len sector e) (has_before start len sector e))
-  by_test false e = ap (λ (b : Bool). cond b (Some (further first (sector - start))) (stored sector)) e
+  by_test false e = rw e
 
 -- What ranges show
 
@@ -113,7 +113,7 @@ none_by_key : (entry : ℕ × RangeValues) (later : List (ℕ × RangeValues)) (
 none_by_key entry later sector start range rest t true e found from before =
     let key = at_entry start entry.0 e in
     let same : entry.1 ≡ range = cc in
-    let len : entry.1.len ≡ range.len = ap (λ (r : RangeValues). r.len) same in
+    let len : entry.1.len ≡ range.len = rw same in
     has_not entry.0 entry.1.len sector t (omega (arith, key, from)) (omega (arith, key, len, before))
 none_by_key entry later sector start range rest t false e found from before = rest found from before
 
@@ -218,7 +218,7 @@ module _ (old between new : BTreeMap ℕ RangeValues) (start sector : ℕ) (rang
     by_rest (inr other) = by_front other (cases_eq at start)
 
   len_is : (a b : RangeValues) → a ≡ b → a.len ≡ b.len
-  len_is a b e = ap (λ (x : RangeValues). x.len) e
+  len_is a b e = rw e
 
   -- no other range begins where the range is, and what begins before it ends there
   other_before : (at : ℕ) (r : RangeValues) → (at ≡ start → ⊥) → get nat_cmp old at ≡ Some r → at < sector → at + r.len ≤ start
@@ -305,7 +305,7 @@ module _ (old between new : BTreeMap ℕ RangeValues) (start sector : ℕ) (rang
   joined_is at r is same = same_range (get nat_cmp new at) r joined is (ap (get nat_cmp new) same ∙ p.set_joined.here)
 
   joined_len : (at : ℕ) (r : RangeValues) → get nat_cmp new at ≡ Some r → at ≡ start → r.len ≡ joined.len
-  joined_len at r is same = ap (λ (x : RangeValues). x.len) (joined_is at r is same)
+  joined_len at r is same = rw (joined_is at r is same)
 
   other_is : (at : ℕ) (r : RangeValues) → get nat_cmp new at ≡ Some r → (at ≡ start → ⊥) → get nat_cmp old at ≡ Some r
   other_is at r is other = taken_out old between sector at r p.set_none (sym (p.set_joined.others at other) ∙ is)
@@ -367,10 +367,10 @@ module _ (old between new : BTreeMap ℕ RangeValues) (start sector : ℕ) (rang
 
     bare_at : (s : ℕ) → ((a : ℕ) (r : RangeValues) → get nat_cmp new a ≡ Some r → a ≤ s → s < a + r.len → ⊥) → (a : ℕ) (r : RangeValues) → get nat_cmp old a ≡ Some r → a ≤ s → s < a + r.len → (a ≡ start) ⊎ (a ≡ start → ⊥) → (a ≡ sector) ⊎ (a ≡ sector → ⊥) → ⊥
     bare_at s none a r is from before (inl same) at =
-        let len : r.len ≡ range.len = ap (λ (x : RangeValues). x.len) (same_range (get nat_cmp old a) r range is (ap (get nat_cmp old) same ∙ p.is)) in
+        let len : r.len ≡ range.len = rw (same_range (get nat_cmp old a) r range is (ap (get nat_cmp old) same ∙ p.is)) in
         none start joined p.set_joined.here (omega (arith, same, from)) (omega (arith, same, before, len, p.meets, p.len))
     bare_at s none a r is from before (inr other) (inl same) =
-        let len : r.len ≡ after.len = ap (λ (x : RangeValues). x.len) (same_range (get nat_cmp old a) r after is (ap (get nat_cmp old) same ∙ p.is_after)) in
+        let len : r.len ≡ after.len = rw (same_range (get nat_cmp old a) r after is (ap (get nat_cmp old) same ∙ p.is_after)) in
         none start joined p.set_joined.here (omega (arith, same, from, start_less)) (omega (arith, same, before, len, p.len))
     bare_at s none a r is from before (inr other) (inr not_after) = none a r (p.set_joined.others a other ∙ p.set_none.others a not_after ∙ is) from before
 
@@ -392,7 +392,7 @@ module _ (old cleared new : BTreeMap ℕ RangeValues) (start : ℕ) (range : Ran
   range_is at r is same = same_range (get nat_cmp new at) r range is (ap (get nat_cmp new) same ∙ p.set.here)
 
   range_len : (at : ℕ) (r : RangeValues) → get nat_cmp new at ≡ Some r → at ≡ start → r.len ≡ range.len
-  range_len at r is same = ap (λ (x : RangeValues). x.len) (range_is at r is same)
+  range_len at r is same = rw (range_is at r is same)
 
   kept_is : (at : ℕ) (r : RangeValues) → get nat_cmp new at ≡ Some r → (at ≡ start → ⊥) → get nat_cmp cleared at ≡ Some r
   kept_is at r is other = sym (p.set.others at other) ∙ is
@@ -465,20 +465,17 @@ first_held ranges disk start len from range result are has some most within firs
   some = some;
   most = most;
   hold = λ i less.
-      ap (λ (o : Option Value). held disk o (start + i)) ((view_shows ranges are).hold from range (start + i) has.is (omega (arith, has.from)) (omega (arith, has.from, within, less)))
-      ∙ ap (further range.first) (let n : start + i - from ≡ start - from + i = omega (arith, has.from) in n)
-      ∙ sym (further_twice range.first (start - from) i)
-      ∙ ap (λ (x : Value). further x i) (sym first);
+      rw (((view_shows ranges are).hold from range (start + i) has.is (omega (arith, has.from)) (omega (arith, has.from, within, less))), first) (ap (further range.first) (let n : start + i - from ≡ start - from + i = omega (arith, has.from) in n) ∙ sym (further_twice range.first (start - from) i));
 }
 
 pub bare_hold : (ranges : BTreeMap ℕ RangeValues) (disk start n : ℕ) → AreApart ranges → ((i : ℕ) → i < n → IsBare ranges (start + i)) → HoldOn (λ (on sector : ℕ). held on (stored_in ranges.entries sector) sector) disk start n (value.Old disk start)
-bare_hold ranges disk start n are bare i less = ap (λ (o : Option Value). held disk o (start + i)) ((view_shows ranges are).bare (start + i) (bare i less))
+bare_hold ranges disk start n are bare i less = rw ((view_shows ranges are).bare (start + i) (bare i less))
 
 -- Disks
 
 pub none_hold : (disks : List (List (ℕ × RangeValues))) (disk start n : ℕ) → length disks ≤ disk → HoldOn (values_of disks) disk start n (value.Old disk start)
 unfolding stored_in
-none_hold disks disk start n past i less = ap (λ (entries : List (ℕ × RangeValues)). held disk (stored_in entries (start + i)) (start + i)) (get_or_past disks disk [] past)
+none_hold disks disk start n past i less = rw (get_or_past disks disk [] past)
 
 -- a disk of which nothing is stored
 pub nothing_held : (disk sector : ℕ) → values_of [] disk sector ≡ value.Old disk sector

@@ -1,5 +1,5 @@
 -- What units in a row do to the values of disks, and answer.
-use Rattle.std.proofs.Common.{◌≡◌, ℕ, zero, suc, ◌+◌, ◌<◌, ◌≤◌, List, [], ◌∷◌, refl, sym, ap, ◌∙◌, arith}
+use Rattle.std.proofs.Common.{◌≡◌, ℕ, zero, suc, ◌+◌, ◌<◌, ◌≤◌, [], refl, sym, ap, ◌∙◌, arith}
 use Rattle.dm_map.specs.own.Contents.{sector_past, stored, played as contents_played}
 use Rattle.dm_map.specs.pieces.Units.{ReadOf, WriteOf, Zeros, Drops, Fails, CopyOf, FillOf, units_in}
 use Rattle.dm_replay.specs.declared.value.Value.{Value}
@@ -7,7 +7,7 @@ use Rattle.dm_replay.specs.declared.value.Value.TheVariants as value
 use Rattle.dm_replay.specs.Ranges.{CanCopyAtOnce, HoldOn, ranged}
 use Rattle.dm_replay.specs.laws.Play.{AreSame}
 use Rattle.dm_replay.specs.Runs.{answers_in}
-use Rattle.dm_replay.specs.Values.{Answer, Gives, Failed, Values, next_value, played, played_answers}
+use Rattle.dm_replay.specs.Values.{Gives, Failed, Values, next_value, played, played_answers}
 use Rattle.dm_replay.proofs.PatchLemmas.{hold_here, hold_later, ranged_none, ranged_step, stored_other}
 
 -- Units that change nothing
@@ -38,29 +38,28 @@ pub reads_answer : (request sector disk start n : ℕ) (values : Values) (first 
 unfolding played_answers
 reads_answer request sector disk start zero values first hold = refl
 reads_answer request sector disk start (suc n) values first hold =
-    ap (λ (x : Value). Gives x ∷ played_answers request (suc sector) (units_in (ReadOf disk (suc start)) n) values) (hold_here values disk start n first hold)
-    ∙ ap (λ (rest : List Answer). Gives first ∷ rest) (reads_answer request (suc sector) disk (suc start) n values (next_value first) (hold_later values disk start n first hold))
+    rw (hold_here values disk start n first hold, reads_answer request (suc sector) disk (suc start) n values (next_value first) (hold_later values disk start n first hold))
 
 pub zeros_answer : (request sector n : ℕ) (values : Values) → played_answers request sector (units_in Zeros n) values ≡ answers_in (Gives value.Zero) n
 unfolding played_answers
 zeros_answer request sector zero values = refl
-zeros_answer request sector (suc n) values = ap (λ (rest : List Answer). Gives value.Zero ∷ rest) (zeros_answer request (suc sector) n values)
+zeros_answer request sector (suc n) values = rw (zeros_answer request (suc sector) n values)
 
 pub drops_answer : (request sector n : ℕ) (values : Values) → played_answers request sector (units_in Drops n) values ≡ answers_in (Gives value.Zero) n
 unfolding played_answers
 drops_answer request sector zero values = refl
-drops_answer request sector (suc n) values = ap (λ (rest : List Answer). Gives value.Zero ∷ rest) (drops_answer request (suc sector) n values)
+drops_answer request sector (suc n) values = rw (drops_answer request (suc sector) n values)
 
 pub fails_answer : (request sector n : ℕ) (values : Values) → played_answers request sector (units_in Fails n) values ≡ answers_in Failed n
 unfolding played_answers
 fails_answer request sector zero values = refl
-fails_answer request sector (suc n) values = ap (λ (rest : List Answer). Failed ∷ rest) (fails_answer request (suc sector) n values)
+fails_answer request sector (suc n) values = rw (fails_answer request (suc sector) n values)
 
 pub writes_answer : (request sector on at n : ℕ) (values : Values) → played_answers request sector (units_in (WriteOf on at) n) values ≡ answers_in (Gives (value.Wrote request sector)) n
 unfolding played_answers
 writes_answer request sector on at zero values = refl
 writes_answer request sector on at (suc n) values =
-    ap (λ (rest : List Answer). Gives (value.Wrote request sector) ∷ rest) (writes_answer request (suc sector) on (suc at) n (stored values on at (value.Wrote request sector)))
+    rw (writes_answer request (suc sector) on (suc at) n (stored values on at (value.Wrote request sector)))
 
 pub fills_answer : (request sector on at n : ℕ) (values : Values) → played_answers request sector (units_in (FillOf on at) n) values ≡ []
 unfolding played_answers

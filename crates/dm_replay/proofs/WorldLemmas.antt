@@ -58,10 +58,7 @@ next_values : (stack : Description) (mapper : MapperView) (ranges newer : List (
     → ((disk sector : ℕ) → values_of newer disk sector ≡ played request.number request.start (played_of stop (units_asked mapper.stack request device mapper.state)) (values_of ranges) disk sector)
     → (disk sector : ℕ) → values_of newer disk sector ≡ (next_world stack world (kept_request request device stop)).values disk sector
 next_values stack mapper ranges newer world request device stop of state_is same is disk sector =
-    is disk sector
-    ∙ ap (λ (of : Description). played request.number request.start (played_of stop (units_asked of request device mapper.state)) (values_of ranges) disk sector) of
-    ∙ ap (λ (state : State). played request.number request.start (played_of stop (units_asked stack request device state)) (values_of ranges) disk sector) state_is
-    ∙ played_cong request.number request.start (played_of stop (units_asked stack request device world.state)) (values_of ranges) world.values same disk sector
+    cc (is disk sector, of, state_is, played_cong request.number request.start (played_of stop (units_asked stack request device world.state)) (values_of ranges) world.values same disk sector)
 
 -- after one request more
 going_next : (stack disks later_disks : Description) (mapper later : MapperView) (ranges newer : List (List (ℕ × RangeValues))) (all : List Asked) (writes more : List KeptWrite) (request : Request) (device : ℕ) (stop : Option ℕ)
@@ -78,14 +75,13 @@ going_next stack disks later_disks mapper later ranges newer all writes more req
       maps = maps;
       mapper_stack = same;
       player_stack = same_disks ∙ was.player_stack;
-      state_is = state_is ∙ ap (λ (world : World). world.state) (sym pushed);
+      state_is = rw pushed state_is;
       values_are = λ disk sector.
-          next_values stack mapper ranges newer (world_after stack all) request device stop was.mapper_stack was.state_is was.values_are values_are disk sector
-          ∙ ap (λ (world : World). world.values disk sector) (sym pushed);
-      disks_are = subst (λ (of : Description). AreValuesOf (length of.disks) (values_of newer)) was.mapper_stack disks_are;
+          rw pushed (next_values stack mapper ranges newer (world_after stack all) request device stop was.mapper_stack was.state_is was.values_are values_are disk sector);
+      disks_are = rw (← was.mapper_stack) disks_are;
       asked_are = all_append (λ (asked : Asked). IsTop stack asked.device) all (one ∷ []) was.asked_are (top, tt);
       kept_are = kept;
-      rerun_is = again ∙ ap (λ (world : World). world.state) (sym pushed);
+      rerun_is = rw pushed again;
     }
 
 -- the writes that are kept then
@@ -122,9 +118,7 @@ pub few_whole : (stack : Description) (mapper : MapperView) (all : List Asked) (
     → sector_past (halted_units mapper.stack request.op device request.start request.len units mapper.state) 0 ≤ request.len
 few_whole stack mapper all request device units law tidy each top of state_is =
     let own = own_after stack all law tidy each in let before = world_after stack all in
-    subst (λ (of : Description). sector_past (halted_units of request.op device request.start request.len units mapper.state) 0 ≤ request.len) (sym of)
-    (subst (λ (state : State). sector_past (halted_units stack request.op device request.start request.len units state) 0 ≤ request.len) (sym state_is)
-    (law.few _ request.op before.state device request.start request.len units before.values _ tidy top own))
+    rw (of, state_is) (law.few _ request.op before.state device request.start request.len units before.values _ tidy top own)
 
 -- what is known of the whole sectors of a halted request, where the one that is answered next is given
 pub record AreWhole (mapper : MapperView) (request : Request) (device units whole : ℕ) : Type 0 where
@@ -137,7 +131,7 @@ pub are_whole : (stack : Description) (mapper : MapperView) (request : Request) 
     → whole ≡ cond (nat_lt (device_len stack device) (request.start + request.len)) 0 (next - request.start) → AreWhole mapper request device units whole
 are_whole stack mapper request device units next whole of next_is few whole_is =
     let same : whole ≡ cond (nat_lt (device_len mapper.stack device) (request.start + request.len)) 0 (next - request.start) =
-    whole_is ∙ ap (λ (s : Description). cond (nat_lt (device_len s device) (request.start + request.len)) 0 (next - request.start)) (sym of) in
+    rw of whole_is in
     record {
       few = whole_few (device_len mapper.stack device) request.start request.len next whole (halted_units mapper.stack request.op device request.start request.len units mapper.state) next_is few same;
       again = rerun_halted mapper.stack request.op device request.start request.len units next whole mapper.state next_is few same;
@@ -148,7 +142,7 @@ pub next_start : (stack : Description) (mapper : MapperView) (request : Request)
     → next ≡ sector_past (halted_units mapper.stack request.op device request.start request.len units mapper.state) (min request.start (device_len mapper.stack device))
     → request.start + request.len ≤ device_len stack device → request.start ≤ next
 next_start stack mapper request device units next of next_is fits =
-    let inside : request.start + request.len ≤ device_len mapper.stack device = subst (λ (s : Description). request.start + request.len ≤ device_len s device) (sym of) fits in
+    let inside : request.start + request.len ≤ device_len mapper.stack device = rw of fits in
     let at = next_inside (device_len mapper.stack device) request.start request.len next (halted_units mapper.stack request.op device request.start request.len units mapper.state) next_is inside in
     omega (arith, at)
 
@@ -180,7 +174,4 @@ pub answers_after : (stack disks : Description) (mapper : MapperView) (ranges : 
     → flat runs ≡ asked_answers stack (world_after stack all) (whole_request request device)
 answers_after stack disks mapper ranges all writes request device runs was is =
     let before = world_after stack all in
-    is
-    ∙ ap (λ (of : Description). played_answers request.number request.start (units_asked of request device mapper.state) (values_of ranges)) was.mapper_stack
-    ∙ ap (λ (state : State). played_answers request.number request.start (units_asked stack request device state) (values_of ranges)) was.state_is
-    ∙ answers_cong request.number request.start (units_asked stack request device before.state) (values_of ranges) before.values was.values_are
+    cc (is, was.mapper_stack, was.state_is, answers_cong request.number request.start (units_asked stack request device before.state) (values_of ranges) before.values was.values_are)

@@ -81,7 +81,7 @@ pub record IsFirstFrom (ranges : BTreeMap ℕ RangeValues) (start end first : �
 abbrev pub NoneFrom : BTreeMap ℕ RangeValues → (start end : ℕ) → Type 0
 NoneFrom ranges start end = (other : ℕ) (after : RangeValues) → get nat_cmp ranges other ≡ Some after → start ≤ other → other < end → ⊥
 
--- the ranges that begin from a sector on, before an end, are taken out, and no others
+-- only ranges that begin from a sector on, before an end, were taken out, and none was put in
 pub record IsCleared (old new : BTreeMap ℕ RangeValues) (start end : ℕ) : Type 0 where
   pub some : (at : ℕ) (range : RangeValues) → get nat_cmp old at ≡ Some range → (start ≤ at → at < end → ⊥) → get nat_cmp new at ≡ Some range
   pub only : (at : ℕ) (range : RangeValues) → get nat_cmp new at ≡ Some range → get nat_cmp old at ≡ Some range

@@ -1,7 +1,7 @@
 //! The values of consecutive sectors, which go on from that of the first.
 
-ghost use Rattle.std.specs.Prelude.{◌≡◌, ◌+◌, ◌<◌, ◌≤◌, ◌^◌};
-ghost use Rattle.std.specs.Bool.{OnTrue};
+ghost use Rattle.std.specs.Prelude.{◌≡◌, ◌≢◌, ◌+◌, ◌<◌, ◌≤◌, ◌^◌};
+ghost use Rattle.std.specs.Bool.{OnTrue, OnFalse};
 ghost use Rattle.dm_replay.specs.Values.{further, value_end};
 
 use crate::value::Value;
@@ -33,7 +33,8 @@ impl RangeValues {
 
     /// Whether other values go on where these end.
     pub(crate) fn joins(&self, after: &RangeValues) -> bool
-        ensures { OnTrue result (further self.now.first self.now.len ≡ after.now.first) }
+        ensures joins { OnTrue result (further self.now.first self.now.len ≡ after.now.first) }
+        ensures apart { OnFalse result (further self.now.first self.now.len ≢ after.now.first) }
     {
         self.first.further(self.len) == after.first
     }

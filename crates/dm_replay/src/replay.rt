@@ -28,7 +28,7 @@ use crate::value::Value;
 use crate::value_run::ValueRun;
 use dm_map::{Mapper, Taken, requests_are_alone};
 use dm_stack::{DeviceId, Stack};
-use dm_table::Request;
+use dm_table::{Request, Reserved};
 use std::alloc::Global;
 use std::marker::Model;
 
@@ -38,7 +38,7 @@ use std::marker::Model;
 pub struct Replay<'s, T: Taken> {
     stack: &'s Stack,
     /// For each device, whether it is a top device.
-    tops: Vec<bool>,
+    tops: Reserved<bool>,
     mapper: Mapper<'s, T>,
     player: Player<'s>,
     asked: GhostAsked,
@@ -79,7 +79,7 @@ impl<'s, T: Taken> Replay<'s, T> {
         match Mapper::new(alloc, stack.looker()) {
             Ok(mapper) => Ok(Replay {
                 stack,
-                tops,
+                tops: Reserved::from_vec(tops),
                 mapper,
                 player: Player::new(alloc, stack),
                 asked: GhostAsked::new(),
@@ -232,7 +232,7 @@ impl<'s, T: Taken> Replay<'s, T> {
         if failed {
             return Err(ReplayFault::Stopped);
         }
-        let Some(device) = top_device(stack, &tops, request.device) else {
+        let Some(device) = top_device(stack, tops.as_slice(), request.device) else {
             return Err(ReplayFault::NotTop);
         };
         requests_are_alone::<Value>(stack);

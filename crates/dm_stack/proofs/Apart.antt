@@ -69,7 +69,7 @@ by_device stack d e p q i j l m x y same pairs on_p on_q at_i at_j never neither
 pub one_via : (stack : Description) (d e p q i j : ℕ) (l m : Line) (lower : Lower) (at : ℕ) (one other : Use) → IsTidy stack → IsVia stack d p i l lower at one → IsVia stack e q j m lower at other → may_share one other ≡ false → AreOne d e i j l m
 one_via stack d e p q i j l m lower at one other tidy a b rivals =
     let x = span_claim stack d a.span in let y = span_claim stack e b.span in
-    let clash : may_share x.kind y.kind ≡ false = ap (λ (kind : Use). may_share kind y.kind) a.used ∙ ap (may_share one) b.used ∙ rivals in
+    let clash : may_share x.kind y.kind ≡ false = rw a.used (ap (may_share one) b.used ∙ rivals) in
     let has_x = has_it stack d p i l lower at one a in let has_y = has_it stack e q j m lower at other b in
     let never : NeverMeet x y → ⊥ = λ apart. apart lower at (record { here = has_x; there = has_y; rivals = clash }) in
     let neither : NeverMeet y x → ⊥ = λ apart. apart lower at (record { here = has_y; there = has_x; rivals = share_turn y.kind x.kind ∙ clash }) in

@@ -1,6 +1,6 @@
 -- Devices whose names are told apart: each is the first of its name.
-use Rattle.std.proofs.Common.{◌≡◌, ℕ, ◌+◌, Bool, true, false, cond, List, [], Some, None, arith, refl, sym, ap, subst, ◌∙◌, drop, get_or, length, take}
-use Rattle.std.specs.Prelude.{nat_lt, position, slice_get}
+use Rattle.std.proofs.Common.{◌≡◌, ℕ, ◌+◌, Bool, true, false, List, [], Some, None, arith, refl, sym, ap, subst, ◌∙◌, drop, get_or, length, take}
+use Rattle.std.specs.Prelude.{position, slice_get}
 use Rattle.std.specs.List.{All, list_any, position_or_len}
 use Rattle.std.proofs.lemmas.Bool.{lt-ltb}
 use Rattle.std.proofs.lemmas.List.{get_or-take, length-take-le}
@@ -35,7 +35,7 @@ first_of devices id device at none =
     let any : list_any same (take id devices) ≡ true = list_any_at same (take id devices) k device (omega (arith, length-take-le id devices (omega (arith, within)), before)) (ap same read ∙ found) in
     absurd (let e : true ≡ false = sym any ∙ none in cc)))
     (λ there. ap same is ∙ one) in
-    ap (λ (k : ℕ). cond (nat_lt k (length devices)) (Some k) None) place ∙ ap (λ (b : Bool). cond b (Some id) None) (lt-ltb id (length devices) within)
+    rw (place, lt-ltb id (length devices) within)
 
 -- where no name stands twice
 none_before : (devices : List DeviceSpec) (id : ℕ) (device : DeviceSpec) → twice_in (λ d. d.name) (λ d. d.at) devices ≡ [] → slice_get devices id ≡ Some device → list_any (λ other. is_same other.name device.name) (take id devices) ≡ false

@@ -1,5 +1,5 @@
 -- What is made of the lines of devices, one device after the other.
-use Rattle.std.proofs.Common.{◌≡◌, ℕ, ◌+◌, ◌<◌, List, [], ◌∷◌, ◌++◌, Some, refl, sym, ap, ◌∙◌, get_or, length}
+use Rattle.std.proofs.Common.{◌≡◌, ℕ, ◌+◌, ◌<◌, List, [], ◌∷◌, ◌++◌, Some, refl, sym, ap, get_or, length}
 use Rattle.std.specs.Prelude.{slice_get}
 use Rattle.std.specs.List.{flat_map, range_with_len}
 use Rattle.std.proofs.lemmas.Grind.{flat_map-append}
@@ -16,7 +16,5 @@ pub device_next : {X : Type 0} (make : ℕ → Line → List X) (stack : Descrip
 device_next {X} make stack id device before after within is so_far e =
     let all : ℕ → List X = λ d. flat_map (make d) (lines_at stack d) in
     let at : slice_get stack.devices id ≡ Some device = slice_get_read stack.devices (length stack.devices) id device refl within is in
-    let one : flat_map all (id ∷ []) ≡ flat_map (make id) device.lines = append-nil (all id) ∙ ap (λ (lines : List Line). flat_map (make id) lines) (ap lines_or_none at) in
-    e ∙ ap (λ (xs : List X). xs ++ flat_map (make id) device.lines) so_far
-    ∙ ap (λ (more : List X). flat_map all (range_with_len 0 id) ++ more) (sym one)
-    ∙ sym (flat_map-append all (range_with_len 0 id) (id ∷ [])) ∙ ap (flat_map all) (sym (range_more id))
+    let one : flat_map all (id ∷ []) ≡ flat_map (make id) device.lines = rw (← ap lines_or_none at) (append-nil (all id)) in
+    cc (e, so_far, one, sym (flat_map-append all (range_with_len 0 id) (id ∷ [])), ap (flat_map all) (sym (range_more id)))

@@ -1,5 +1,5 @@
 -- The places of all stores, counted line by line.
-use Rattle.std.proofs.Common.{◌≡◌, ℕ, ◌+◌, ◌<◌, ◌≤◌, Bool, false, cond, nat_lt, List, [], ◌∷◌, None, arith, refl, sym, ap, ◌∙◌, zero-add, map, ◌++◌, drop, get_or, length}
+use Rattle.std.proofs.Common.{◌≡◌, ℕ, ◌+◌, ◌<◌, ◌≤◌, Bool, false, nat_lt, List, [], ◌∷◌, None, arith, refl, sym, ap, ◌∙◌, zero-add, map, ◌++◌, drop, get_or, length}
 use Rattle.std.specs.List.{sum_by}
 use Rattle.std.proofs.lemmas.Bool.{le-ltb, ltb-false}
 use Rattle.std.proofs.lemmas.List.Sums.{sum_by-cons}
@@ -21,11 +21,11 @@ use Rattle.dm_stack.proofs.WithBefore.{further_on}
 
 by_made : {X Y : Type 0} (kind : LoadKind) (place : Y → Place) (bad : Y → Bool) (f : X → Y) (xs : List X) → faults_by kind place bad (map f xs) ≡ faults_by kind (λ x. place (f x)) (λ x. bad (f x)) xs
 by_made kind place bad f [] = refl
-by_made kind place bad f (x ∷ xs) = ap (λ (later : List LoadFault). cond (bad (f x)) (fault kind (place (f x)) ∷ later) later) (by_made kind place bad f xs)
+by_made kind place bad f (x ∷ xs) = rw (by_made kind place bad f xs)
 
 pub by_same : {X : Type 0} (kind : LoadKind) (place : X → Place) (bad worse : X → Bool) (xs : List X) → ((x : X) → bad x ≡ worse x) → faults_by kind place bad xs ≡ faults_by kind place worse xs
 by_same kind place bad worse [] same = refl
-by_same kind place bad worse (x ∷ xs) same = let here = same x in let later = by_same kind place bad worse xs same in rw (here, later) refl
+by_same kind place bad worse (x ∷ xs) same = let here = same x in let later = by_same kind place bad worse xs same in rw (here, later)
 
 -- The lines from one on, where those before have used this many places
 
@@ -48,14 +48,13 @@ crowded_next stack used line lines few =
 -- The next line of a device, before the lines of later devices
 
 next_line : (items rest : List Line) (i : ℕ) (line : Line) → i < length items → line ≡ get_or items i line → drop i items ++ rest ≡ line ∷ (drop (i + 1) items ++ rest)
-next_line items rest i line within is = ap (λ (lines : List Line). lines ++ rest) (next_of items i line within is)
+next_line items rest i line within is = rw (next_of items i line within is)
 
 pub crowded_passes : (stack : Description) (used places : ℕ) (items rest : List Line) (i : ℕ) (line : Line) → i < length items → line ≡ get_or items i line → places ≡ line_places stack line → used + places ≤ 4194304
     → first_or (crowded_from stack (used + places) (drop (i + 1) items ++ rest)) None ≡ first_or (crowded_from stack used (drop i items ++ rest)) None
 crowded_passes stack used places items rest i line within is are few =
-    ap (λ (n : ℕ). first_or (crowded_from stack (used + n) (drop (i + 1) items ++ rest)) None) are
-    ∙ sym (ap (λ (lines : List Line). first_or (crowded_from stack used lines) None) (next_line items rest i line within is)
-    ∙ ap (λ (faults : List LoadFault). first_or faults None) (crowded_next stack used line (drop (i + 1) items ++ rest) (omega (arith, are, few))))
+    rw are (sym (ap (λ (lines : List Line). first_or (crowded_from stack used lines) None) (next_line items rest i line within is)
+    ∙ ap (λ (faults : List LoadFault). first_or faults None) (crowded_next stack used line (drop (i + 1) items ++ rest) (omega (arith, are, few)))))
 
 -- Where no line is found
 

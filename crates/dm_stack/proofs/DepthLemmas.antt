@@ -1,5 +1,5 @@
 -- Depths: what is named is less deep, a depth below its bound is final, and what reaches itself has none.
-use Rattle.std.proofs.Common.{◌≡◌, ℕ, zero, suc, ◌<◌, ◌≤◌, List, [], ◌∷◌, length, get_or, map, refl, ap, subst, sym, ◌∙◌, arith}
+use Rattle.std.proofs.Common.{◌≡◌, ℕ, zero, suc, ◌<◌, ◌≤◌, List, [], ◌∷◌, length, get_or, map, refl, ap, sym, ◌∙◌, arith}
 use Rattle.std.specs.List.{Contains}
 use Rattle.dm_stack.specs.Graph.{links_of, Names, Reaches, greatest, depth_to}
 use Rattle.dm_stack.proofs.PathLemmas.{Reaches-turned}
@@ -12,7 +12,7 @@ greatest-at f (x ∷ xs) zero d below = omega arith
 greatest-at f (x ∷ xs) (suc k) d below = omega (arith, greatest-at f xs k d (omega arith))
 
 pub greatest-above : (f : ℕ → ℕ) (xs : List ℕ) (x : ℕ) → Contains xs x → f x ≤ greatest (map f xs)
-greatest-above f xs x (k, below, is_x) = subst (λ (y : ℕ). f y ≤ greatest (map f xs)) is_x (greatest-at f xs k x below)
+greatest-above f xs x (k, below, is_x) = rw (← is_x) (greatest-at f xs k x below)
 
 pub greatest-le : (f : ℕ → ℕ) (xs : List ℕ) (most : ℕ) → ((x : ℕ) → f x ≤ most) → greatest (map f xs) ≤ most
 greatest-le f [] most each = omega arith

@@ -50,7 +50,7 @@ spans_depth stack (span ∷ named) =
 lines_links : (stack : Description) (lines : List Line) → flat_map (λ span. ref_link stack span.to) (flat_map spans lines) ≡ flat_map (line_links stack) lines
 lines_links stack [] = refl
 lines_links stack (line ∷ lines) =
-    flat_map-append (λ span. ref_link stack span.to) (spans line) (flat_map spans lines) ∙ ap (λ (ids : List ℕ). line_links stack line ++ ids) (lines_links stack lines)
+    rw (← lines_links stack lines) (flat_map-append (λ span. ref_link stack span.to) (spans line) (flat_map spans lines))
 
 device_named : (stack : Description) (id : ℕ) (device : DeviceSpec) → slice_get stack.devices id ≡ Some device → links_of (links stack) id ≡ flat_map (line_links stack) device.lines
 device_named stack id device at =
@@ -60,7 +60,4 @@ pub deeper_by_one : (stack : Description) → IsSound stack → IsDeeperByOne st
 deeper_by_one stack sound device within =
     let d = there stack.devices device within in
     let named : links_of (links stack) device ≡ flat_map (line_links stack) d.it.lines = device_named stack device d.it d.at in
-    depth_to-deeper (links stack) 32 device (shallow_device stack device sound within)
-    ∙ ap (λ (ids : List ℕ). suc (greatest (map (depth_of stack) ids))) (named ∙ sym (lines_links stack d.it.lines))
-    ∙ ap suc (spans_depth stack (flat_map spans d.it.lines))
-    ∙ ap (λ (lines : List Line). suc (greatest (map (lower_depth stack) (map (λ span. lower_of stack span.to) (flat_map spans lines))))) (sym (lines_there stack device d.it d.at))
+    rw (lines_there stack device d.it d.at) (depth_to-deeper (links stack) 32 device (shallow_device stack device sound within) ∙ ap (λ (ids : List ℕ). suc (greatest (map (depth_of stack) ids))) (named ∙ sym (lines_links stack d.it.lines)) ∙ ap suc (spans_depth stack (flat_map spans d.it.lines)))

@@ -23,7 +23,7 @@ first_append [] more later = refl
 first_append (fault ∷ faults) more later = refl
 
 by_append_step : (at : LoadFault) (xs ys more : List LoadFault) (b : Bool) → xs ≡ ys ++ more → cond b (at ∷ xs) xs ≡ cond b (at ∷ ys) ys ++ more
-by_append_step at xs ys more true e = ap (λ (later : List LoadFault). at ∷ later) e
+by_append_step at xs ys more true e = rw e
 by_append_step at xs ys more false e = e
 
 pub by_append : {X : Type 0} (kind : LoadKind) (place : X → Place) (bad : X → Bool) (xs ys : List X) → faults_by kind place bad (xs ++ ys) ≡ faults_by kind place bad xs ++ faults_by kind place bad ys
@@ -52,8 +52,7 @@ many_disks stack found few e = many_parts stack ∙ first_or-passed (past 1024 (
 
 pub many_lines : (stack : Description) (found : Option Line) → first_or (past 1024 (λ device. device.at) stack.devices) None ≡ None → first_or (past 1024 (λ disk. disk.at) stack.disks) None ≡ None → found ≡ slice_get (all_lines stack.devices) 65536 → first_or (too_many stack) None ≡ at_found Limit (λ line. line.at) found None
 many_lines stack found few_devices few_disks is =
-    many_parts stack ∙ first_or-passed (past 1024 (λ device. device.at) stack.devices) _ few_devices ∙ first_or-passed (past 1024 (λ disk. disk.at) stack.disks) _ few_disks
-    ∙ first_past 65536 (λ line. line.at) (all_lines stack.devices) None ∙ ap (λ (line : Option Line). at_found Limit (λ l. l.at) line None) (sym is)
+    rw is (many_parts stack ∙ first_or-passed (past 1024 (λ device. device.at) stack.devices) _ few_devices ∙ first_or-passed (past 1024 (λ disk. disk.at) stack.disks) _ few_disks ∙ first_past 65536 (λ line. line.at) (all_lines stack.devices) None)
 
 -- An element of lists in a row
 
@@ -63,24 +62,24 @@ get_left (x ∷ xs) ys zero within = refl
 get_left (x ∷ xs) ys (suc n) within = get_left xs ys n (omega arith)
 
 get_right : {X : Type 0} (xs ys : List X) (n : ℕ) → slice_get (xs ++ ys) (length xs + n) ≡ slice_get ys n
-get_right [] ys n = let e : 0 + n ≡ n = omega arith in rw e refl
+get_right [] ys n = let e : 0 + n ≡ n = omega arith in rw e
 get_right (x ∷ xs) ys n = let e : suc (length xs) + n ≡ suc (length xs + n) = omega arith in rw e (get_right xs ys n)
 
 pub line_in : (devices : List DeviceSpec) (i left : ℕ) (device : DeviceSpec) → i < length devices → device ≡ get_or devices i device → left < length device.lines → slice_get (all_lines (drop i devices)) left ≡ slice_get device.lines left
 line_in devices i left device within is inside =
-    let at : drop i devices ≡ device ∷ drop (i + 1) devices = drop_more devices i device within ∙ ap (λ (y : DeviceSpec). y ∷ drop (i + 1) devices) (sym is) in
+    let at : drop i devices ≡ device ∷ drop (i + 1) devices = rw is (drop_more devices i device within) in
     rw at (get_left device.lines (all_lines (drop (i + 1) devices)) left inside)
 
 pub line_later : (devices : List DeviceSpec) (i left : ℕ) (device : DeviceSpec) → i < length devices → device ≡ get_or devices i device → length device.lines ≤ left → slice_get (all_lines (drop (i + 1) devices)) (left - length device.lines) ≡ slice_get (all_lines (drop i devices)) left
 line_later devices i left device within is after =
-    let at : drop i devices ≡ device ∷ drop (i + 1) devices = drop_more devices i device within ∙ ap (λ (y : DeviceSpec). y ∷ drop (i + 1) devices) (sym is) in
+    let at : drop i devices ≡ device ∷ drop (i + 1) devices = rw is (drop_more devices i device within) in
     let sum : length device.lines + (left - length device.lines) ≡ left = omega arith in
     rw at (sym (get_right device.lines (all_lines (drop (i + 1) devices)) (left - length device.lines)) ∙ ap (λ (n : ℕ). slice_get (device.lines ++ all_lines (drop (i + 1) devices)) n) sum)
 
 -- The end of lines
 
 last_end : (first line : Line) (lines : List Line) → slice_get (first ∷ lines) (length lines) ≡ Some line → end_of (first ∷ lines) ≡ line.start + line.len
-last_end first line [] e = let same : first ≡ line = cc in ap (λ (other : Line). other.start + other.len) same
+last_end first line [] e = let same : first ≡ line = cc in rw same
 last_end first line (next ∷ lines) e = last_end next line lines e
 
 pub end_of_last : (lines : List Line) (line : Line) → slice_get lines (length lines - 1) ≡ Some line → end_of lines ≡ line.start + line.len

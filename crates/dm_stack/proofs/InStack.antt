@@ -6,7 +6,7 @@ use Rattle.std.proofs.lemmas.Option.{slice_get_past}
 use Rattle.dm_table.specs.declared.tables.disk.Disk.{Disk}
 use Rattle.dm_stack.specs.declared.id.Lower.{Lower}
 use Rattle.dm_stack.specs.declared.id.Lower.TheVariants as lowers
-use Rattle.dm_stack.specs.Description.{Description, device_len, disk_len, lower_len, len_or_none, lines_or_none, end_of}
+use Rattle.dm_stack.specs.Description.{Description, device_len, disk_len, lower_len, len_or_none}
 use Rattle.dm_stack.specs.Soundness.{IsSound}
 use Rattle.dm_stack.proofs.SoundLines.{device_small, disk_small}
 
@@ -15,7 +15,7 @@ pub device_there : (stack : Description) (device sector : ℕ) → sector < devi
 device_there stack device sector inside =
     elim (cases_lt device (length stack.devices)) [
       | inl there ↦ there
-      | inr past ↦ absurd (let none : device_len stack device ≡ 0 = ap (λ o. end_of (lines_or_none o)) (slice_get_past stack.devices device past) in omega arith)
+      | inr past ↦ absurd (let none : device_len stack device ≡ 0 = rw (slice_get_past stack.devices device past) in omega arith)
     ]
 
 -- and so is a disk
@@ -35,6 +35,6 @@ disk_within stack id (Some disk) sound at = disk_small stack id disk sound at
 pub lower_small : (stack : Description) (lower : Lower) → IsSound stack → lower_len stack lower ≤ 2 ^ 50
 lower_small stack (lowers.Device device) sound = elim (cases_lt device (length stack.devices)) [
   | inl there ↦ device_small stack device sound there
-  | inr past ↦ let none : device_len stack device ≡ 0 = ap (λ o. end_of (lines_or_none o)) (slice_get_past stack.devices device past) in omega arith
+  | inr past ↦ let none : device_len stack device ≡ 0 = rw (slice_get_past stack.devices device past) in omega arith
 ]
 lower_small stack (lowers.Disk disk) sound = disk_within stack disk (slice_get stack.disks disk) sound refl

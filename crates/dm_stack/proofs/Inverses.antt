@@ -1,5 +1,5 @@
 -- Division by an inverse: the quotient is right, or one too small.
-use Rattle.std.proofs.Common.{◌≡◌, ℕ, ◌+◌, ◌*◌, ◌/◌, ◌%◌, ◌<◌, ◌≤◌, ◌^◌, sym, ap, subst, ◌∙◌, arith}
+use Rattle.std.proofs.Common.{◌≡◌, ℕ, ◌+◌, ◌*◌, ◌/◌, ◌%◌, ◌<◌, ◌≤◌, ◌^◌, sym, ap, ◌∙◌, arith}
 use Rattle.std.proofs.lemmas.Nat.{div-add-mod', div-mul-add, mod-mul-add, mod_below}
 use Rattle.std.proofs.Math.Nat.{mul-le-mul_left, mul-le-mul_right, le_of_mul-le-mul_right, lt_of_mul-lt-mul_right}
 
@@ -10,13 +10,13 @@ pub record IsNear (x d q : ℕ) : Type 0 where
 
 near_below : (x d b inverse q m : ℕ) → 0 < b → q * b + m ≡ x * inverse → inverse * d ≤ b → q * d ≤ x
 near_below x d b inverse q m some whole low =
-    let up : (q * b + m) * d ≤ x * b = subst (λ n. n * d ≤ x * b) (sym whole) (omega (arith, mul-le-mul_left x low)) in
+    let up : (q * b + m) * d ≤ x * b = rw whole (omega (arith, mul-le-mul_left x low)) in
     le_of_mul-le-mul_right (omega (arith, up)) some
 
 near_above : (x d b inverse q m : ℕ) → 0 < b → 0 < d → q * b + m ≡ x * inverse → m + 1 ≤ b → x + 1 ≤ b → b ≤ inverse * d + d → x < q * d + d + d
 near_above x d b inverse q m some divides whole rest small high =
     let up : x * b ≤ x * (inverse * d + d) = mul-le-mul_left x high in
-    let same : (q * b + m) * d ≡ x * inverse * d = ap (λ n. n * d) whole in
+    let same : (q * b + m) * d ≡ x * inverse * d = rw whole in
     let first : (m + 1) * d ≤ b * d = mul-le-mul_right d rest in
     let second : (x + 1) * d ≤ b * d = mul-le-mul_right d small in
     let out : (x + 1) * b ≡ x * b + b = omega arith in

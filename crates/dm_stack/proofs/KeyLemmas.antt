@@ -23,10 +23,10 @@ and_kept [] (suc some) none long within = absurd (omega (arith, long))
 and_kept [] zero (suc none) long within = absurd (omega (arith, long))
 and_kept (byte ∷ bytes) (suc some) none long within =
     let rest = and_kept bytes some none (omega (arith, long)) (λ i. within (suc i)) in
-    rw (kept_byte byte (within 0), rest) refl
+    rw (kept_byte byte (within 0), rest)
 and_kept (byte ∷ bytes) zero (suc none) long within =
     let rest = and_kept bytes zero none (omega (arith, long)) (λ i. within (suc i)) in
-    rw (no_byte byte, rest) refl
+    rw (no_byte byte, rest)
 and_kept (byte ∷ bytes) zero zero long within = absurd (omega (arith, long))
 
 -- The first lane of some
@@ -64,5 +64,4 @@ part_of xs ahead part from n is_ahead is_part =
 -- a space where it stands
 pub space_cut : (text : List ℕ) (len : ℕ) → len < length text → get_or text len 0 ≡ 32 → text ≡ take len text ++ 32 ∷ drop (len + 1) text
 space_cut text len within is =
-    sym (take-append-drop len text)
-    ∙ ap (λ (rest : List ℕ). take len text ++ rest) (drop_more text len 0 within ∙ ap (λ (byte : ℕ). byte ∷ drop (len + 1) text) is)
+    rw (← (drop_more text len 0 within ∙ ap (λ (byte : ℕ). byte ∷ drop (len + 1) text) is)) (sym (take-append-drop len text))

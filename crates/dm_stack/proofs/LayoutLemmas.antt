@@ -22,7 +22,7 @@ end_of-more (first ∷ next ∷ lines) line = end_of-more (next ∷ lines) line
 
 pub end_of-next : (lines : List Line) (i : ℕ) (line : Line) → i < length lines → line ≡ get_or lines i line → end_of (take (i + 1) lines) ≡ line.start + line.len
 end_of-next lines i line within is =
-    ap end_of (take_more lines i line within) ∙ end_of-more (take i lines) (get_or lines i line) ∙ ap (λ (l : Line). l.start + l.len) (sym is)
+    rw is (ap end_of (take_more lines i line within) ∙ end_of-more (take i lines) (get_or lines i line))
 
 -- Where a walk over the lines stands
 
@@ -39,23 +39,23 @@ gap_here lines i end line within is ends after =
     let at = drop-with_before lines i line within is in
     let bad : is_misplaced (line_here lines i line) ≡ true = ap not (ne_eqb line.start (end_of (take i lines)) (λ same. omega arith)) in
     let kind : nat_lt (end_of (take i lines)) line.start ≡ true = lt-ltb (end_of (take i lines)) line.start (omega arith) in
-    rw (at, bad, kind) refl
+    rw (at, bad, kind)
 
 pub overlap_here : (lines : List Line) (i end : ℕ) (line : Line) → i < length lines → line ≡ get_or lines i line → end ≡ end_of (take i lines) → line.start < end → first_or (misplaced_from lines i) None ≡ Some (fault Overlap line.at)
 overlap_here lines i end line within is ends before =
     let at = drop-with_before lines i line within is in
     let bad : is_misplaced (line_here lines i line) ≡ true = ap not (ne_eqb line.start (end_of (take i lines)) (λ same. omega arith)) in
     let kind : nat_lt (end_of (take i lines)) line.start ≡ false = le-ltb (end_of (take i lines)) line.start (omega arith) in
-    rw (at, bad, kind) refl
+    rw (at, bad, kind)
 
 pub placed_here : (lines : List Line) (i end : ℕ) (line : Line) → i < length lines → line ≡ get_or lines i line → end ≡ end_of (take i lines) → line.start ≤ end → end ≤ line.start → misplaced_from lines (i + 1) ≡ misplaced_from lines i
 placed_here lines i end line within is ends low high =
     let at = drop-with_before lines i line within is in
     let good : is_misplaced (line_here lines i line) ≡ false = ap not (eq-eqb line.start (end_of (take i lines)) (omega arith)) in
-    rw (at, good) refl
+    rw (at, good)
 
 pub placed_all : (lines : List Line) (i : ℕ) → length lines ≤ i → misplaced_from lines i ≡ []
-placed_all lines i past = let none = none-with_before lines i past in rw none refl
+placed_all lines i past = let none = none-with_before lines i past in rw none
 
 -- Lines of which none is misplaced
 

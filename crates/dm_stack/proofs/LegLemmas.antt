@@ -62,8 +62,8 @@ striped_leg chunk_size distance most n sector columns position column some has a
       within = omega (arith, len_is);
       is = record {
         plain = refl;
-        below = λ i within. below_chunk chunk_size distance i columns column position stripes.some chunk_some at (omega (arith, within, len_is)) read ∙ ap (λ (p : ℕ). Lies column.to (p + i)) (sym sector_is);
-        chunk = λ i within. ap (λ (c : ℕ). Some c) (in_chunk chunk_size distance i chunk_some (omega (arith, within, len_is, at.past))).number;
+        below = λ i within. rw sector_is (below_chunk chunk_size distance i columns column position stripes.some chunk_some at (omega (arith, within, len_is)) read);
+        chunk = λ i within. rw (in_chunk chunk_size distance i chunk_some (omega (arith, within, len_is, at.past))).number;
       };
       striped = λ less. refl;
       next = λ less. other_chunk chunk_size distance n chunk_some (omega (arith, len_is, less, at.past));
@@ -83,7 +83,7 @@ striped_next chunk_size distance most n columns position next within len_is has 
 row_inside : (stack : Description) (len distance offset sector : ℕ) (lower to : Lower) → offset + len ≤ lower_len stack lower → distance < len → Lies lower (offset + distance) ≡ Lies to sector → sector < lower_len stack to
 row_inside stack len distance offset sector lower to there inside is =
     let lower_is : lower ≡ to = cc in let at : offset + distance ≡ sector = cc in
-    subst (λ (l : Lower). sector < lower_len stack l) lower_is (omega (arith, there, inside, at))
+    rw (← lower_is) (omega (arith, there, inside, at))
 
 pub plain_inside : (stack : Description) (device start len distance : ℕ) (target : FoundTarget) (to : Lower) (sector : ℕ) → IsTargetSound stack device start len target → distance < len → has_state target ≡ false → below_plain target distance ≡ Lies to sector → sector < lower_len stack to
 plain_inside stack device start len distance (found.Striped chunk_size columns) to sector sound inside plain is = column_of_sector (slice_get columns (column_of chunk_size (length columns) distance)) refl is
@@ -94,7 +94,7 @@ plain_inside stack device start len distance (found.Striped chunk_size columns) 
         let lower_is : column.to ≡ to = cc in let sector_is : column.offset + in_column chunk_size (length columns) distance ≡ sector = cc in
         let room = column_inside stack len chunk_size distance _ columns column sound inside at in
         let some = sound.chunk_some in
-        subst (λ (l : Lower). sector < lower_len stack l) lower_is (omega (arith, room, sector_is, some))
+        rw (← lower_is) (omega (arith, room, sector_is, some))
 plain_inside stack device start len distance target to sector sound inside plain is = first_of (search row_inside, cc)
 
 -- a device or a disk that it lies on is no longer than a line may be

@@ -44,7 +44,7 @@ few_digits number k few = few_to number number k (omega arith) few
 
 digits_none : (most number : ℕ) → number ≡ 0 → digits_to most number ≡ 0
 digits_none zero number none = refl
-digits_none (suc most) number none = rw none refl
+digits_none (suc most) number none = rw none
 
 one_more : (most number k : ℕ) (b : Bool) → (number == 0) ≡ b → digits_to most (number / 2) ≤ k → digits_to (suc most) number ≤ suc k
 one_more most number k true none rest = rw none (omega arith)
@@ -91,10 +91,10 @@ past_end stack end (line ∷ lines) (suc index) sector row from =
     let past = past_end stack (line.start + line.len) lines index sector row.1 from in omega (arith, row.0, past)
 
 held : (stack : Description) (line : Line) (lines : List Line) (sector : ℕ) → line.start ≤ sector → sector < line.start + line.len → Some (found_line stack line) ≡ option_map (found_line stack) (line_of (line ∷ lines) sector)
-held stack line lines sector from before = rw (holds_from line sector from before) refl
+held stack line lines sector from before = rw (holds_from line sector from before)
 
 not_held : (stack : Description) (line : Line) (lines : List Line) (sector : ℕ) → line.start + line.len ≤ sector → option_map (found_line stack) (line_of (line ∷ lines) sector) ≡ option_map (found_line stack) (line_of lines sector)
-not_held stack line lines sector past = rw (holds_none line sector past) refl
+not_held stack line lines sector past = rw (holds_none line sector past)
 
 -- the line that starts at a sector or before it, where the next one starts after it, has the sector
 in_row_held : (stack : Description) (end : ℕ) (lines : List Line) (index sector : ℕ) → AreInRow end lines → sector < end_of lines
@@ -205,8 +205,8 @@ next_after stack last id sector sound within inside is here at =
 
 -- another line of a device that becomes the last one
 pub last_kept : (stack : Description) (id : ℕ) (old new : LastLine) → IsLast stack old → (new ≡ old) ⊎ ((new.device ≡ id) × EndsAt (found_lines stack id) new.index new.end) → IsLast stack new
-last_kept stack id old new is (inl same) = subst (λ (last : LastLine). IsLast stack last) (sym same) is
-last_kept stack id old new is (inr found) = λ small. subst (λ (d : ℕ). EndsAt (found_lines stack d) new.index new.end) (sym found.0) found.1
+last_kept stack id old new is (inl same) = rw same is
+last_kept stack id old new is (inr found) = λ small. rw found.0 found.1
 
 small_found : (stack : Description) (lines : List Line) → AllByRecursion (λ line. is_large line ≡ false) lines → AllByRecursion (λ line. line.start + line.len ≤ 2 ^ 50) (map (found_line stack) lines)
 small_found stack [] small = tt

@@ -1,7 +1,7 @@
 -- Checks in a row, what is named among devices that are there, and the first ring.
-use Rattle.std.proofs.Common.{◌≡◌, ◌≢◌, ◌⊎◌, ℕ, zero, suc, ◌+◌, ◌<◌, Bool, true, false, cond, inl, inr, not, List, [], ◌∷◌, ◌++◌, Option, Some, None, Result, Ok, Vec, Global, arith, refl, sym, ap, subst, ◌∙◌, drop, get_or, length, map, take}
+use Rattle.std.proofs.Common.{◌≡◌, ◌≢◌, ◌⊎◌, ℕ, zero, suc, ◌+◌, ◌<◌, Bool, true, false, cond, inl, inr, not, List, [], ◌∷◌, Option, Some, None, Result, Ok, Vec, Global, arith, refl, sym, ap, subst, ◌∙◌, drop, get_or, length, map, take}
 use Rattle.std.specs.Prelude.{IfOk, IfSome, IfNone, find, is_none}
-use Rattle.std.specs.List.{AllByRecursion, flat_map, list_any, position_or_len, range_with_len}
+use Rattle.std.specs.List.{AllByRecursion, flat_map, list_any, position_or_len}
 use Rattle.std.proofs.lemmas.Bool.{or_parts}
 use Rattle.std.proofs.lemmas.List.{drop_more, length-map, length-take-le, take-append-drop}
 use Rattle.std.proofs.lemmas.List.Elements.{All-from_recursion}
@@ -17,7 +17,7 @@ use Rattle.dm_table.specs.load.LoadFault.{IsMemoryFault, fault, first_or, first_
 use Rattle.dm_stack.specs.Description.{Description, device_links, is_same, line_links, links, ref_link}
 use Rattle.dm_stack.specs.Graph.{IsClosed, IsFirstRing, Reaches, depths_to, greatest, links_in, links_of}
 use Rattle.dm_stack.specs.Depth.{stack_depth}
-use Rattle.dm_stack.specs.Soundness.{Early, HasNoCycle, IsFirstCycle, IsRefusedBy, IsSound, Late, all_lines, checks_after, checks_before, depth_of, is_unknown, is_unknown_ref, unknown}
+use Rattle.dm_stack.specs.Soundness.{Early, HasNoCycle, IsFirstCycle, IsRefusedBy, IsSound, Late, all_lines, checks_after, checks_before, is_unknown, is_unknown_ref, unknown}
 use Rattle.dm_table.specs.tables.Span.{Span, spans}
 use Rattle.dm_stack.proofs.HandedOn.{all_append, refused_not_memory}
 use Rattle.dm_table.proofs.FaultLemmas.{first_or-found, first_or-none, first_or-passed}
@@ -140,9 +140,9 @@ ring_fault stack d device other ring is =
       before = take d stack.devices;
       device = device;
       after = drop (d + 1) stack.devices;
-      split = sym (take-append-drop d stack.devices) ∙ ap (λ (rest : List DeviceSpec). take d stack.devices ++ rest) (drop_more stack.devices d other within ∙ ap (λ (y : DeviceSpec). y ∷ drop (d + 1) stack.devices) (sym is));
+      split = rw (← (drop_more stack.devices d other within ∙ ap (λ (y : DeviceSpec). y ∷ drop (d + 1) stack.devices) (sym is))) (sym (take-append-drop d stack.devices));
       none_before = λ earlier below. ring.2 earlier (omega (arith, here));
-      cycle = subst (λ (i : ℕ). Reaches (links stack) i i) (sym here) ring.1;
+      cycle = rw here ring.1;
       is = refl;
     }
 
@@ -151,4 +151,4 @@ no_ring stack none = λ device below. none device (omega (arith, length-map stac
 
 pub deepest_is : (stack : Description) (depths : List ℕ) → depths ≡ depths_to (links stack) 33 → greatest depths ≡ stack_depth stack
 deepest_is stack depths e =
-    ap greatest e ∙ ap (λ (n : ℕ). greatest (map (depth_of stack) (range_with_len 0 n))) (length-map stack.devices (device_links stack))
+    rw (← length-map stack.devices (device_links stack)) (ap greatest e)

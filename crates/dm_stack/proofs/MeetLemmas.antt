@@ -13,10 +13,10 @@ use Rattle.dm_stack.specs.Description.{is_same_lower}
 use Rattle.dm_stack.specs.Sweep.{meets, rivals}
 
 pub same_is : (one other : Lower) → is_same_lower one other ≡ true → one ≡ other
-same_is (Device one) (Device other) e = ap (λ (id : ℕ). Device id) (eqb-true one other e)
+same_is (Device one) (Device other) e = rw (eqb-true one other e)
 same_is (Device one) (Disk other) e = absurd (true≢false (sym e))
 same_is (Disk one) (Device other) e = absurd (true≢false (sym e))
-same_is (Disk one) (Disk other) e = ap (λ (id : ℕ). Disk id) (eqb-true one other e)
+same_is (Disk one) (Disk other) e = rw (eqb-true one other e)
 
 pub self_same : (lower : Lower) → is_same_lower lower lower ≡ true
 self_same (Device id) = eq-eqb id id refl
@@ -52,7 +52,7 @@ min_turn a b = omega arith
 
 meets_turn : (one other : Claim) → meets one other ≡ meets other one
 meets_turn one other =
-    rw (same_turn one.to other.to, max_turn one.start other.start, min_turn one.end other.end, share_turn one.kind other.kind) refl
+    rw (same_turn one.to other.to, max_turn one.start other.start, min_turn one.end other.end, share_turn one.kind other.kind)
 
 and_turn : (a b : Bool) → (a && b) ≡ (b && a)
 and_turn true true = refl
@@ -61,7 +61,7 @@ and_turn false true = refl
 and_turn false false = refl
 
 pub rivals_turn : (count : ℕ) (one other : Numbered) → rivals count one other ≡ rivals count other one
-rivals_turn count one other = rw (and_turn (nat_lt one.number count) (nat_lt other.number count), meets_turn one.claim other.claim) refl
+rivals_turn count one other = rw (and_turn (nat_lt one.number count) (nat_lt other.number count), meets_turn one.claim other.claim)
 
 -- They meet exactly where some sector is in both, first of all at the greater start
 

@@ -4,7 +4,6 @@ use Rattle.std.specs.Prelude.{◌⊎◌}
 use Rattle.std.proofs.lemmas.Bool.{cases_order}
 use Rattle.std.proofs.Math.Seq.{get_or-append_seam}
 use Rattle.std.proofs.lemmas.List.{length-append}
-use Rattle.dm_table.specs.declared.load.load_fault.LoadKind.TheVariants.{Cycle}
 use Rattle.dm_table.specs.declared.load.load_fault.LoadFault.{LoadFault}
 use Rattle.dm_table.specs.declared.tables.table.DeviceSpec.{DeviceSpec}
 use Rattle.dm_table.specs.load.LoadFault.{fault}
@@ -29,9 +28,9 @@ same_place m n above below = by_order m n above below (cases_order m n)
 one_ring : (stack : Description) (a b : LoadFault) → IsFirstCycle stack a → IsFirstCycle stack b → a ≡ b
 one_ring stack a b p q =
     let place : length p.before ≡ length q.before = same_place _ _ (λ earlier. q.none_before (length p.before) earlier p.cycle) (λ earlier. p.none_before (length q.before) earlier q.cycle) in
-    let left : p.device ≡ get_or stack.devices (length p.before) p.device = sym (get_or-append_seam p.before p.device p.after p.device) ∙ ap (λ (devices : List DeviceSpec). get_or devices (length p.before) p.device) (sym p.split) in
-    let right : get_or stack.devices (length q.before) p.device ≡ q.device = ap (λ (devices : List DeviceSpec). get_or devices (length q.before) p.device) q.split ∙ get_or-append_seam q.before q.device q.after p.device in
-    p.is ∙ ap (λ (device : DeviceSpec). fault Cycle device.at) (left ∙ ap (λ (i : ℕ). get_or stack.devices i p.device) place ∙ right) ∙ sym q.is
+    let left : p.device ≡ get_or stack.devices (length p.before) p.device = rw p.split (sym (get_or-append_seam p.before p.device p.after p.device)) in
+    let right : get_or stack.devices (length q.before) p.device ≡ q.device = rw q.split (get_or-append_seam q.before q.device q.after p.device) in
+    cc (p.is, (left ∙ ap (λ (i : ℕ). get_or stack.devices i p.device) place ∙ right), sym q.is)
 
 same_fault : (found : Option LoadFault) (a b : LoadFault) → found ≡ Some a → found ≡ Some b → a ≡ b
 same_fault None a b e f = absurd cc

@@ -38,8 +38,8 @@ all_is stack = refl
 pub origin_is : (stack : Description) (origin : DevRef) (to : Lower) (all over : List FoundOver) → to ≡ lower_of stack origin → all ≡ all_over stack → over ≡ filter (λ one. is_same_lower one.snapshot.origin to) all
     → found.Origin (record { to = to; over = over }) ≡ found_target stack (targets.Origin origin)
 origin_is stack origin to all over at are is =
-    let served : over ≡ snapshots_over stack to = is ∙ ap (λ (xs : List FoundOver). filter (λ one. is_same_lower one.snapshot.origin to) xs) are ∙ over_is stack to in
-    ap (λ (xs : List FoundOver). found.Origin (record { to = to; over = xs })) served ∙ ap (λ (l : Lower). found.Origin (record { to = l; over = snapshots_over stack l })) at
+    let served : over ≡ snapshots_over stack to = cc (is, are, over_is stack to) in
+    rw (served, at)
 
 -- From the list to the devices
 
@@ -52,7 +52,7 @@ record IsTargetOf (stack : Description) (device : ℕ) (target : Target) (one : 
 target_one : (stack : Description) (device : ℕ) (target : Target) (one : FoundOver) → Contains (over_of stack device target) one → IsTargetOf stack device target one
 target_one stack device (targets.Snapshot origin store kind chunk) one named =
     let same = only one (record { device = device; snapshot = found_snapshot stack origin store kind chunk }) named in
-    record { here = sym (ap (λ (o : FoundOver). o.device) same); over = refl; is = ap (λ (o : FoundOver). found.Snapshot o.snapshot) same }
+    record { here = sym (ap (λ (o : FoundOver). o.device) same); over = refl; is = cc (same) }
 target_one stack device _ one named = absurd (none_there one named)
 
 has_one : (stack : Description) (device : ℕ) (lines : List Line) (one : FoundOver) → Contains (flat_map (λ line. over_of stack device line.target) lines) one → has_snapshot lines ≡ true
@@ -121,5 +121,4 @@ over_all stack device line snapshot at is =
     let all : Contains (all_over stack) one =
     subst (λ (all : List FoundOver). Contains all one) (all_is stack)
     (flat_there (device_over stack) (range_with_len 0 (length stack.devices)) device one (in_range (length stack.devices) device within) (found_over stack device (holds 0) lines line snapshot at is)) in
-    subst (λ (all : List FoundOver). Contains all one) (over_is stack snapshot.origin)
-    (kept (λ (o : FoundOver). is_same_lower o.snapshot.origin snapshot.origin) (all_over stack) one (self_same snapshot.origin) all)
+    rw (← over_is stack snapshot.origin) (kept (λ (o : FoundOver). is_same_lower o.snapshot.origin snapshot.origin) (all_over stack) one (self_same snapshot.origin) all)

@@ -55,8 +55,8 @@ before_swap xs i j now d p q within =
     by s (same_or_not now i) (same_or_not now j)
   where
     by : Swapped (λ k. get_or xs k d) (λ k. get_or (swap xs i j) k d) i j → (now ≡ i) ⊎ (now ≡ i → ⊥) → (now ≡ j) ⊎ (now ≡ j → ⊥) → Before xs i j now d
-    by s (inl e) other = record { place = j; within = q; stood = First e refl; is = ap (λ (k : ℕ). get_or (swap xs i j) k d) e ∙ s.0 }
-    by s (inr a) (inl e) = record { place = i; within = p; stood = Second e refl; is = ap (λ (k : ℕ). get_or (swap xs i j) k d) e ∙ s.1 }
+    by s (inl e) other = record { place = j; within = q; stood = First e refl; is = rw e s.0 }
+    by s (inr a) (inl e) = record { place = i; within = p; stood = Second e refl; is = rw e s.1 }
     by s (inr a) (inr b) = record { place = now; within = within; stood = Other a b refl; is = s.2 now a b }
 
 no_pair_swapped : {X : Type 0} (test : X → X → Bool) (xs : List X) (i j : ℕ) → i < length xs → j < length xs → HasNoPair test xs → HasNoPair test (swap xs i j)
@@ -65,8 +65,7 @@ no_pair_swapped test xs i j p q none = record {
       let long = length-swap xs i j in
       let m = before_swap xs i j a d p q (omega (arith, long)) in
       let n = before_swap xs i j b d p q (omega (arith, long)) in
-      ap (λ x. test x (get_or (swap xs i j) b d)) m.is ∙ ap (λ x. test (get_or xs m.place d) x) n.is
-      ∙ none.at m.place n.place d m.within n.within (stood_apart i j a b m.place n.place m.stood n.stood apart);
+      rw (m.is, n.is) (none.at m.place n.place d m.within n.within (stood_apart i j a b m.place n.place m.stood n.stood apart));
 }
 
 -- so of a list in any other order
@@ -104,12 +103,11 @@ pairs_from_search test before (x ∷ xs) none pairs =
 
 met_none : {X : Type 0} (test : X → X → Bool) (before : List X) (x : X) (xs : List X) → AllPairs (λ x y. test x y ≡ false) (before ++ x ∷ xs) → (k : ℕ) (d : X) → k < length before → test (get_or before k d) x ≡ false
 met_none test before x xs pairs k d within =
-    ap (λ y. test y x) (sym (get_or_append_left before (x ∷ xs) d k within)) ∙ ap (test (get_or (before ++ x ∷ xs) k d)) (sym (get_or-append_seam before x xs d))
-    ∙ pairs k (length before) d within (omega (arith, length-append before (x ∷ xs)))
+    rw (← get_or_append_left before (x ∷ xs) d k within) (ap (test (get_or (before ++ x ∷ xs) k d)) (sym (get_or-append_seam before x xs d)) ∙ pairs k (length before) d within (omega (arith, length-append before (x ∷ xs))))
 
 pub search_from_pairs : {X : Type 0} (test : X → X → Bool) (before xs : List X) → AllPairs (λ x y. test x y ≡ false) (before ++ xs) → has_pair test before xs ≡ false
 search_from_pairs test before [] pairs = refl
 search_from_pairs test before (x ∷ xs) pairs =
     let here : list_any (λ earlier. test earlier x) before ≡ false = list_any_none (λ earlier. test earlier x) before (λ k d within. met_none test before x xs pairs k d within) in
     let later = search_from_pairs test (before ++ x ∷ []) xs (subst (AllPairs (λ x y. test x y ≡ false)) (sym (append_assoc before (x ∷ []) xs)) pairs) in
-    rw (here, later) refl
+    rw (here, later)

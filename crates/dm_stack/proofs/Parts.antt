@@ -1,5 +1,5 @@
 -- What holds of each two elements of a list, where the list is made of parts: two elements of which it does not hold stand at one place.
-use Rattle.std.proofs.Common.{◌≡◌, ℕ, zero, suc, ◌+◌, ◌<◌, inl, inr, Bool, true, false, cond, List, [], ◌∷◌, ◌++◌, Option, Some, length, get_or, refl, ap, subst, ◌∙◌, arith}
+use Rattle.std.proofs.Common.{◌≡◌, ℕ, zero, suc, ◌+◌, ◌<◌, inl, inr, Bool, true, false, cond, List, [], ◌∷◌, ◌++◌, Option, Some, length, refl, ap, subst, ◌∙◌, arith}
 use Rattle.std.specs.Prelude.{find, slice_get}
 use Rattle.std.specs.List.{AllPairs, flat_map, range_with_len}
 use Rattle.std.proofs.lemmas.Bool.{cases_order}
@@ -13,7 +13,7 @@ PairsAt {X} R xs = (i j : ℕ) (a b : X) → slice_get xs i ≡ Some a → slice
 pub pairs_at : {X : Type 0} (R : X → X → Type 0) (xs : List X) → AllPairs R xs → PairsAt R xs
 pairs_at {X = X} R xs pairs i j a b at on less =
     let held = pairs i j a less (slice_get_within xs j b on) in
-    subst (λ (x : X). R x b) (get_or_from_slice_get xs i a a at) (subst (λ (y : X). R (get_or xs i a) y) (get_or_from_slice_get xs j b a on) held)
+    rw (← get_or_from_slice_get xs i a a at, ← get_or_from_slice_get xs j b a on) held
 
 -- one place, where neither order holds
 pub same_place : {X : Type 0} (R : X → X → Type 0) (xs : List X) (i j : ℕ) (a b : X) → PairsAt R xs → slice_get xs i ≡ Some a → slice_get xs j ≡ Some b → (R a b → ⊥) → (R b a → ⊥) → i ≡ j
@@ -31,10 +31,10 @@ get_left (u ∷ us) vs zero a at = at
 get_left (u ∷ us) vs (suc i) a at = get_left us vs i a at
 
 pub get_right : {X : Type 0} (us vs : List X) (i : ℕ) (a : X) → slice_get vs i ≡ Some a → slice_get (us ++ vs) (length us + i) ≡ Some a
-get_right {X = X} [] vs i a at = let e : i ≡ length {A = X} [] + i = omega arith in subst (λ (n : ℕ). slice_get vs n ≡ Some a) e at
+get_right {X = X} [] vs i a at = let e : i ≡ length {A = X} [] + i = omega arith in rw (← e) at
 get_right (u ∷ us) vs i a at =
     let e : suc (length us + i) ≡ length (u ∷ us) + i = omega arith in
-    subst (λ (n : ℕ). slice_get (u ∷ us ++ vs) n ≡ Some a) e (get_right us vs i a at)
+    rw (← e) (get_right us vs i a at)
 
 pairs_left : {X : Type 0} (R : X → X → Type 0) (us vs : List X) → PairsAt R (us ++ vs) → PairsAt R us
 pairs_left R us vs pairs i j a b at on less = pairs i j a b (get_left us vs i a at) (get_left us vs j b on) less
@@ -56,7 +56,7 @@ part_there f (first ∷ xs) (suc p) k x a at on =
 
 pub pairs_part : {X Y : Type 0} (R : Y → Y → Type 0) (f : X → List Y) (xs : List X) (p : ℕ) (x : X) → PairsAt R (flat_map f xs) → slice_get xs p ≡ Some x → PairsAt R (f x)
 pairs_part R f [] p x pairs at = absurd cc
-pairs_part {X = X} R f (first ∷ xs) zero x pairs at = let same : first ≡ x = cc in subst (λ (y : X). PairsAt R (f y)) same (pairs_left R (f first) (flat_map f xs) pairs)
+pairs_part {X = X} R f (first ∷ xs) zero x pairs at = let same : first ≡ x = cc in rw (← same) (pairs_left R (f first) (flat_map f xs) pairs)
 pairs_part R f (first ∷ xs) (suc p) x pairs at = pairs_part R f xs p x (pairs_right R (f first) (flat_map f xs) pairs) at
 
 pub same_part : {X Y : Type 0} (R : Y → Y → Type 0) (f : X → List Y) (xs : List X) (p q k l : ℕ) (x y : X) (a b : Y) → PairsAt R (flat_map f xs) → slice_get xs p ≡ Some x → slice_get xs q ≡ Some y → slice_get (f x) k ≡ Some a → slice_get (f y) l ≡ Some b

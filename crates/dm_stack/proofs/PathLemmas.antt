@@ -1,12 +1,12 @@
 -- Paths go on at their ends, and a device that reaches itself names one that does.
-use Rattle.std.proofs.Common.{◌≡◌, ℕ, ◌<◌, List, [], ◌∷◌, ◌++◌, length, get_or, Vec, sym, ap, ◌∙◌}
+use Rattle.std.proofs.Common.{◌≡◌, ℕ, ◌<◌, List, [], ◌∷◌, ◌++◌, length, get_or, Vec}
 use Rattle.std.specs.Global.{Global}
 use Rattle.std.proofs.lemmas.List.{get_or-map}
 use Rattle.dm_stack.specs.Graph.{links_in, links_of, Names, IsPath, Reaches}
 
 -- what a device names, where its own list is at hand
 pub links_of-at : (links : List (Vec ℕ Global)) (d : ℕ) (named : Vec ℕ Global) → d < length links → named ≡ get_or links d named → links_of (links_in links) d ≡ named.items
-links_of-at links d named below is_named = get_or-map (λ (v : Vec ℕ Global). v.items) links d named [] below ∙ ap (λ (v : Vec ℕ Global). v.items) (sym is_named)
+links_of-at links d named below is_named = rw is_named (get_or-map (λ (v : Vec ℕ Global). v.items) links d named [] below)
 
 -- a path goes on by what its end names
 path_more : (g : List (List ℕ)) (d : ℕ) (between : List ℕ) (e f : ℕ) → IsPath g d between e → Names g e f → IsPath g d (between ++ e ∷ []) f

@@ -1,5 +1,5 @@
 -- The lines of a report, put together from their parts.
-use Rattle.std.proofs.Common.{◌≡◌, ℕ, List, [], ◌∷◌, ◌++◌, sym, ap, ◌∙◌, append_assoc}
+use Rattle.std.proofs.Common.{◌≡◌, ℕ, List, [], ◌∷◌, ◌++◌, append_assoc}
 use Rattle.std.specs.Prelude.{Option, codes, decimal, length}
 use Rattle.dm_stack.specs.declared.clash.Clash.{Clash}
 use Rattle.dm_stack.specs.Description.{Description}
@@ -9,7 +9,7 @@ use Rattle.dm_stack.specs.Report.{report_text, tidiness_text}
 pub clash_line : (front name lower sector first second : List ℕ) → front ++ name ≡ lower
     → codes "clash " ++ lower ++ 32 ∷ sector ++ 32 ∷ first ++ 32 ∷ second ≡ codes "clash " ++ (front ++ (name ++ (32 ∷ (sector ++ (32 ∷ (first ++ (32 ∷ second)))))))
 clash_line front name lower sector first second is =
-    ap (λ (text : List ℕ). codes "clash " ++ text ++ 32 ∷ sector ++ 32 ∷ first ++ 32 ∷ second) (sym is) ∙ simp append_assoc
+    rw (← is) (simp append_assoc)
 
 line_up : (devices disks depth last : List ℕ)
     → codes "devices " ++ devices ++ 10 ∷ codes "disks " ++ disks ++ 10 ∷ codes "depth " ++ depth ++ 10 ∷ last ++ 10 ∷ []
@@ -19,8 +19,4 @@ line_up devices disks depth last = simp append_assoc
 pub report_lines : (stack : Description) (found : Option Clash) (devices disks depth : ℕ) (last : List ℕ) → devices ≡ length stack.devices → disks ≡ length stack.disks → depth ≡ stack_depth stack → tidiness_text stack found ≡ last
     → report_text stack found ≡ codes "devices " ++ (decimal devices ++ (10 ∷ (codes "disks " ++ (decimal disks ++ (10 ∷ (codes "depth " ++ (decimal depth ++ (10 ∷ (last ++ 10 ∷ [])))))))))
 report_lines stack found devices disks depth last devices_are disks_are depth_is last_is =
-    line_up (decimal (length stack.devices)) (decimal (length stack.disks)) (decimal (stack_depth stack)) (tidiness_text stack found)
-    ∙ ap (λ (text : List ℕ). codes "devices " ++ (decimal (length stack.devices) ++ (10 ∷ (codes "disks " ++ (decimal (length stack.disks) ++ (10 ∷ (codes "depth " ++ (decimal (stack_depth stack) ++ (10 ∷ (text ++ 10 ∷ [])))))))))) last_is
-    ∙ ap (λ (n : ℕ). codes "devices " ++ (decimal (length stack.devices) ++ (10 ∷ (codes "disks " ++ (decimal (length stack.disks) ++ (10 ∷ (codes "depth " ++ (decimal n ++ (10 ∷ (last ++ 10 ∷ [])))))))))) (sym depth_is)
-    ∙ ap (λ (n : ℕ). codes "devices " ++ (decimal (length stack.devices) ++ (10 ∷ (codes "disks " ++ (decimal n ++ (10 ∷ (codes "depth " ++ (decimal depth ++ (10 ∷ (last ++ 10 ∷ [])))))))))) (sym disks_are)
-    ∙ ap (λ (n : ℕ). codes "devices " ++ (decimal n ++ (10 ∷ (codes "disks " ++ (decimal disks ++ (10 ∷ (codes "depth " ++ (decimal depth ++ (10 ∷ (last ++ 10 ∷ [])))))))))) (sym devices_are)
+    rw (devices_are, disks_are, depth_is, ← last_is) (line_up (decimal (length stack.devices)) (decimal (length stack.disks)) (decimal (stack_depth stack)) (tidiness_text stack found))

@@ -35,7 +35,7 @@ pub depths_to-last : (g : List (List ℕ)) (n k : ℕ) → IsClosed g → depths
 depths_to-last g n zero closed last = ap (λ (m : ℕ). depths_to g m) (omega arith)
 depths_to-last g n (suc k) closed last =
     let e : n + suc k ≡ suc (n + k) = omega arith in
-    ap (λ (m : ℕ). depths_to g m) e ∙ sym (depths_to-round g (n + k) closed) ∙ ap (λ (xs : List ℕ). map (depth_over xs) g) (depths_to-last g n k closed last) ∙ depths_to-round g n closed ∙ last
+    rw e (sym (depths_to-round g (n + k) closed) ∙ ap (λ (xs : List ℕ). map (depth_over xs) g) (depths_to-last g n k closed last) ∙ depths_to-round g n closed ∙ last)
 
 -- no level gives no depth
 get_or-zeros : (n k : ℕ) → ◌≡◌ {A = ℕ} (get_or (replicate n 0) k 0) 0
@@ -66,7 +66,7 @@ named_within links n d named below is_named closed named_items is_items k defaul
 pub round_after : (g : List (List ℕ)) (n : ℕ) (before passed after : List ℕ) → IsClosed g → before ≡ depths_to g n → passed ≡ before → after ≡ map (depth_over passed) g → after ≡ depths_to g (n + 1)
 round_after g n before passed after closed is_before is_passed is_after =
     let e : suc n ≡ n + 1 = omega arith in
-    is_after ∙ ap (λ (xs : List ℕ). map (depth_over xs) g) (is_passed ∙ is_before) ∙ depths_to-round g n closed ∙ ap (λ (m : ℕ). depths_to g m) e
+    rw (← e) (is_after ∙ ap (λ (xs : List ℕ). map (depth_over xs) g) (is_passed ∙ is_before) ∙ depths_to-round g n closed)
 
 -- and one that changes nothing is that of each greater number of levels
 pub round_last : (g : List (List ℕ)) (n most : ℕ) (before after : List ℕ) → IsClosed g → n < most → before ≡ depths_to g n → after ≡ depths_to g (n + 1) → after ≡ before → before ≡ depths_to g most

@@ -64,8 +64,8 @@ same_found stack id sector other line sound within is from before =
     let s = device_sound stack id d.it sound d.at in
     let lines = lines_there stack id d.it d.at in
     let m = mapped (found_line stack) (line_of (lines_at stack id) sector) line is in
-    let start : m.x.start ≡ line.start = ap (λ (l : FoundLine). l.start) m.value in
-    let len : m.x.len ≡ line.len = ap (λ (l : FoundLine). l.len) m.value in
+    let start : m.x.start ≡ line.start = cc (m.value) in
+    let len : m.x.len ≡ line.len = cc (m.value) in
     let held : line_of d.it.lines sector ≡ Some m.x = sym (ap (λ (ls : List Line). line_of ls sector) lines) ∙ m.is in
     let same = same_line 0 d.it.lines sector other m.x s.placed held (omega (arith, start, from)) (omega (arith, start, len, before)) in
     ap (option_map (found_line stack)) (ap (λ (ls : List Line). line_of ls other) lines ∙ same) ∙ ap Some m.value

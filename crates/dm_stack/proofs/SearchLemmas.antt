@@ -36,7 +36,7 @@ marked_only visited d e is = elim (cases_eq e d) [ inl same ↦ inr (sym same) |
 
 marked_left : (visited : List Bool) (d : ℕ) → d < length visited → get_or visited d false ≡ false → unvisited (set visited d true) + 1 ≡ unvisited visited
 marked_left visited d below fresh =
-    let one : ◌≡◌ {A = ℕ} (cond (not (get_or visited d false)) 1 0) 1 = ap (λ (b : Bool). cond (not b) 1 0) fresh in
+    let one : ◌≡◌ {A = ℕ} (cond (not (get_or visited d false)) 1 0) 1 = rw fresh in
     omega (arith, sum_by-set (λ b. cond (not b) 1 0) visited d true false below, one)
 
 -- the marks that a visit leaves are all that there are
@@ -161,13 +161,13 @@ named_inside g d n passed closed is_passed is_n e there = omega (arith, closed d
 -- one that waits is a device
 pub Searched-below : (links : List (Vec ℕ Global)) (d next : ℕ) (marks : List Bool) (waited rest : List ℕ) → Searched (links_in links) d marks waited → waited ≡ rest ++ next ∷ [] → next < length links
 Searched-below links d next marks waited rest search waited_is =
-    let waits : Contains waited next = subst (λ (xs : List ℕ). Contains xs next) (sym waited_is) (Contains-push rest next) in
+    let waits : Contains waited next = rw waited_is (Contains-push rest next) in
     omega (arith, IsVisited-below marks next (search.waits next waits), search.size, length-map links (λ v. v.items))
 
 -- a mark that was read as none
 pub Searched-none : (g : List (List ℕ)) (d : ℕ) (visited : List Bool) (waiting : List ℕ) (read : Bool) → Searched g d visited waiting → waiting ≡ [] → read ≡ get_or visited d read → read ≡ false → Reaches g d d → ⊥
 Searched-none g d visited waiting read search none is_read unread reaches =
-    let at_end : Searched g d visited [] = subst (λ (xs : List ℕ). Searched g d visited xs) none search in
+    let at_end : Searched g d visited [] = rw (← none) search in
     let is : IsVisited visited d = Searched-last g d d visited at_end reaches in
     let not_is : get_or visited d false ≡ false = sym (subst (λ (b : Bool). b ≡ get_or visited d b) unread is_read) in
     absurd (true≢false (sym is ∙ not_is))

@@ -11,11 +11,11 @@ use Rattle.dm_stack.specs.Snapshots.{has_snapshot}
 
 map_same : (xs : List ℕ) → map (λ x. x) xs ≡ xs
 map_same [] = refl
-map_same (x ∷ xs) = ap (λ (ys : List ℕ). x ∷ ys) (map_same xs)
+map_same (x ∷ xs) = rw (map_same xs)
 
 pub range_more : (n : ℕ) → range_with_len 0 (n + 1) ≡ range_with_len 0 n ++ n ∷ []
 range_more n =
-    sym (map_same (range_with_len 0 (n + 1))) ∙ map-range_with_len_more (λ (x : ℕ). x) 0 n n (omega arith) ∙ ap (λ (xs : List ℕ). xs ++ n ∷ []) (map_same (range_with_len 0 n))
+    rw (← map_same (range_with_len 0 n)) (sym (map_same (range_with_len 0 (n + 1))) ∙ map-range_with_len_more (λ (x : ℕ). x) 0 n n (omega arith))
 
 -- whether a device of a list has a snapshot's line
 abbrev pub is_over : List DeviceSpec → ℕ → Bool
@@ -25,5 +25,4 @@ pub ids_next : (devices : List DeviceSpec) (id : ℕ) (device : DeviceSpec) → 
     → filter (is_over devices) (range_with_len 0 (id + 1)) ≡ filter (is_over devices) (range_with_len 0 id) ++ cond (has_snapshot device.lines) (id ∷ []) []
 ids_next devices id device within is =
     let at : slice_get devices id ≡ Some device = slice_get_read devices (length devices) id device refl within is in
-    ap (λ (ids : List ℕ). filter (is_over devices) ids) (range_more id) ∙ filter-append (is_over devices) (range_with_len 0 id) (id ∷ [])
-    ∙ ap (λ (lines : List _). filter (is_over devices) (range_with_len 0 id) ++ cond (has_snapshot lines) (id ∷ []) []) (ap lines_or_none at)
+    rw (range_more id, ← ap lines_or_none at) (filter-append (is_over devices) (range_with_len 0 id) (id ∷ []))

@@ -10,10 +10,9 @@ use Rattle.dm_table.specs.declared.tables.table.Target.{Target}
 use Rattle.dm_table.specs.declared.tables.table.Target.TheVariants as targets
 use Rattle.dm_stack.specs.declared.found_line.FoundLine.{FoundLine}
 use Rattle.dm_stack.specs.declared.found_line.FoundSnapshot.{FoundSnapshot}
-use Rattle.dm_stack.specs.declared.found_line.FoundTarget.{FoundTarget}
 use Rattle.dm_stack.specs.declared.found_line.FoundTarget.TheVariants as found
 use Rattle.dm_stack.specs.Below.{found_at, found_line, found_target, holds, line_of}
-use Rattle.dm_stack.specs.Description.{Description, device_len, end_of, lines_at, lines_or_none, lower_len, lower_of}
+use Rattle.dm_stack.specs.Description.{Description, device_len, end_of, lines_at, lower_len, lower_of}
 use Rattle.dm_stack.specs.Snapshots.{AreSnapshots, IsSnapshot, has_snapshot, is_snapshot, snapshots}
 use Rattle.dm_stack.specs.Over.{found_snapshot}
 use Rattle.dm_stack.specs.Soundness.{IsSound, is_bad_chunk, is_bad_snapshot}
@@ -72,7 +71,7 @@ alone (line ∷ []) one is = record { line = line; is = refl; over = by_part (or
 alone (line ∷ next ∷ lines) one is = absurd (omega (arith, one))
 
 line_from : (line : Line) → 0 < line.len → line.start ≡ 0 → line_of (line ∷ []) 0 ≡ Some line
-line_from line some from = let here = holds_from line 0 (omega (arith, from)) (omega (arith, some)) in rw here refl
+line_from line some from = let here = holds_from line 0 (omega (arith, from)) (omega (arith, some)) in rw here
 
 -- the line of a snapshot: it is all of its device
 pub record IsSnapshotLine (stack : Description) (device : ℕ) : Type 0 where
@@ -114,7 +113,7 @@ each_snapshot stack sound device within is =
     record {
       there = within;
       snapshot = target.snapshot;
-      line = line.at ∙ ap (λ (t : FoundTarget). Some (record { start = 0; len = device_len stack device; target = t })) target.is;
+      line = rw (← target.is) line.at;
     }
 
 -- A device whose first sector lies in a snapshot's line has one
@@ -140,7 +139,7 @@ lines_within stack device is = by_place (cases_lt device (length stack.devices))
     by_place (inl within) = within
     by_place (inr past) =
         let none = slice_get_past stack.devices device past in
-        let no : has_snapshot (lines_at stack device) ≡ false = ap (λ found. has_snapshot (lines_or_none found)) none in
+        let no : has_snapshot (lines_at stack device) ≡ false = rw none in
         absurd (let both = sym no ∙ is in cc)
 
 pub are_snapshots : (stack : Description) → IsSound stack → AreSnapshots stack (snapshots stack)

@@ -32,13 +32,13 @@ use Rattle.dm_stack.proofs.Passes.{append_none, all_parts, faults_by_none, passe
 
 pub position_or_len-map : {X Y : Type 0} (f : X → Y) (test : Y → Bool) (xs : List X) → position_or_len test (map f xs) ≡ position_or_len (λ x. test (f x)) xs
 position_or_len-map f test [] = refl
-position_or_len-map f test (x ∷ xs) = ap (λ (n : ℕ). cond (not (test (f x))) (1 + n) 0) (position_or_len-map f test xs)
+position_or_len-map f test (x ∷ xs) = rw (position_or_len-map f test xs)
 
 pub position-map : {X Y : Type 0} (f : X → Y) (test : Y → Bool) (xs : List X) → position test (map f xs) ≡ position (λ x. test (f x)) xs
-position-map f test xs = rw (position_or_len-map f test xs, length-map xs f) refl
+position-map f test xs = rw (position_or_len-map f test xs, length-map xs f)
 
 cond_found : {X : Type 0} (P : X → Type 0) (test : X → Bool) (first x : X) (later : Option X) (b : Bool) → test first ≡ b → P first → (later ≡ Some x → (test x ≡ true) × P x) → cond b (Some first) later ≡ Some x → (test x ≡ true) × P x
-cond_found {X = X} P test first x later true is here more e = let same : first ≡ x = cc in subst (λ (z : X). (test z ≡ true) × P z) same (is, here)
+cond_found {X = X} P test first x later true is here more e = let same : first ≡ x = cc in rw (← same) (is, here)
 cond_found P test first x later false is here more e = more e
 
 -- what a search found passes its test, and shares what all elements have
@@ -58,7 +58,7 @@ held_here line lines sector true is later = record { line = line; is = rw is ref
 held_here line lines sector false is later = let rest = later refl in record { line = rest.line; is = rw is rest.is }
 
 pub holds_from : (line : Line) (sector : ℕ) → line.start ≤ sector → sector < line.start + line.len → holds sector line ≡ true
-holds_from line sector from before = rw (le-leb line.start sector from, lt-ltb sector (line.start + line.len) before) refl
+holds_from line sector from before = rw (le-leb line.start sector from, lt-ltb sector (line.start + line.len) before)
 
 passed : (line : Line) (sector : ℕ) → line.start ≤ sector → holds sector line ≡ false → line.start + line.len ≤ sector
 passed line sector from none =
@@ -78,7 +78,7 @@ pub of_device : (P : Line → Type 0) (devices : List DeviceSpec) (id : ℕ) (de
 of_device P [] id device h e = absurd cc
 of_device P (first ∷ devices) zero device h e =
     let same : first ≡ device = cc in
-    subst (λ (d : DeviceSpec). AllByRecursion P d.lines) same (all_parts P first.lines (all_lines devices) h).0
+    rw (← same) (all_parts P first.lines (all_lines devices) h).0
 of_device P (first ∷ devices) (suc id) device h e = of_device P devices id device (all_parts P first.lines (all_lines devices) h).1 e
 
 -- Targets within what they name
@@ -107,13 +107,13 @@ stripes_sound stack len chunk columns good inside =
     let few : length columns ≤ 128 = ltb-false _ _ b.0 in
     let same : length (found_columns stack columns) ≡ length columns = length-map columns _ in
     record {
-      some = subst (λ (n : ℕ). 0 < n) (sym same) some;
-      few = subst (λ (n : ℕ). n ≤ 128) (sym same) few;
+      some = rw same some;
+      few = rw same few;
       chunk_some = positive chunk c.0;
       chunk_small = ltb-false _ _ d.0;
       column_len = len / length columns;
       chunks = len / length columns / chunk;
-      shares = share len (length columns) (not-false _ f.0) ∙ ap (λ (n : ℕ). n * (len / length columns)) (sym same);
+      shares = rw same (share len (length columns) (not-false _ f.0));
       whole = share (len / length columns) chunk (not-false _ f.1) ∙ mul_comm chunk (len / length columns / chunk);
       inside = columns_inside stack (len / length columns) columns inside;
     }
@@ -172,7 +172,7 @@ pub record IsDeviceSound (stack : Description) (device : DeviceSpec) : Type 0 wh
 part_of : {X : Type 0} (check : DeviceSpec → List X) (devices : List DeviceSpec) (id : ℕ) (device : DeviceSpec) → flat_map check devices ≡ [] → slice_get devices id ≡ Some device → check device ≡ []
 part_of check [] id device e at = absurd cc
 part_of {X} check (first ∷ devices) zero device e at =
-    let same : first ≡ device = cc in subst (λ (d : DeviceSpec). check d ≡ []) same (append_none (check first) _ e).0
+    let same : first ≡ device = cc in rw (← same) (append_none (check first) _ e).0
 part_of check (first ∷ devices) (suc id) device e at = part_of check devices id device (append_none (check first) _ e).1 at
 
 pub device_sound : (stack : Description) (id : ℕ) (device : DeviceSpec) → IsSound stack → slice_get stack.devices id ≡ Some device → IsDeviceSound stack device
@@ -203,7 +203,7 @@ lines_there stack id device at = ap lines_or_none at
 
 -- the only line of a device is all of it
 alone_by : (first line : Line) (b : Bool) → cond b (Some first) None ≡ Some line → first ∷ [] ≡ line ∷ []
-alone_by first line true e = let same : first ≡ line = cc in ap (λ (l : Line). l ∷ []) same
+alone_by first line true e = let same : first ≡ line = cc in rw same
 alone_by first line false e = absurd cc
 
 alone : (test : Line → Bool) (lines : List Line) (line : Line) → find test lines ≡ Some line → length lines ≡ 1 → lines ≡ line ∷ []
@@ -274,21 +274,19 @@ device_some stack id sound within =
     let d = there stack.devices id within in
     let s = device_sound stack id d.it sound d.at in
     let parts = append_none (without_lines d.it d.it.lines) _ s.filled in
-    subst (λ (ls : List Line). 0 < end_of ls) (sym (lines_there stack id d.it d.at))
-    (filled_lines d.it d.it.lines parts.0 (faults_by_none Empty (λ line. line.at) (λ line. line.len == 0) d.it.lines parts.1))
+    rw (lines_there stack id d.it d.at) (filled_lines d.it d.it.lines parts.0 (faults_by_none Empty (λ line. line.at) (λ line. line.len == 0) d.it.lines parts.1))
 
 pub lines_filled : (stack : Description) (id : ℕ) → IsSound stack → id < length stack.devices → AllByRecursion (λ line. (line.len == 0) ≡ false) (lines_at stack id)
 lines_filled stack id sound within =
     let d = there stack.devices id within in
     let s = device_sound stack id d.it sound d.at in
     let parts = append_none (without_lines d.it d.it.lines) _ s.filled in
-    subst (λ (ls : List Line). AllByRecursion (λ line. (line.len == 0) ≡ false) ls) (sym (lines_there stack id d.it d.at))
-    (faults_by_none Empty (λ line. line.at) (λ line. line.len == 0) d.it.lines parts.1)
+    rw (lines_there stack id d.it d.at) (faults_by_none Empty (λ line. line.at) (λ line. line.len == 0) d.it.lines parts.1)
 
 pub device_small : (stack : Description) (id : ℕ) → IsSound stack → id < length stack.devices → device_len stack id ≤ 2 ^ 50
 device_small stack id sound within =
     let d = there stack.devices id within in
-    subst (λ (ls : List Line). end_of ls ≤ 2 ^ 50) (sym (lines_there stack id d.it d.at)) (end_small d.it.lines (device_sound stack id d.it sound d.at).small)
+    rw (lines_there stack id d.it d.at) (end_small d.it.lines (device_sound stack id d.it sound d.at).small)
 
 -- The length of a disk
 

@@ -1,5 +1,5 @@
 -- The spans of a line that are left, one by one.
-use Rattle.std.proofs.Common.{◌≡◌, ℕ, zero, suc, ◌+◌, List, [], ◌∷◌, Some, None, arith, refl, ap, drop}
+use Rattle.std.proofs.Common.{◌≡◌, ℕ, zero, suc, ◌+◌, List, [], ◌∷◌, Some, None, arith, refl, drop}
 use Rattle.std.specs.Prelude.{slice_get}
 use Rattle.std.specs.Iterator.{YieldsFirstBy}
 use Rattle.std.proofs.lemmas.Iterator.{YieldsList}
@@ -10,7 +10,7 @@ use Rattle.dm_table.specs.tables.Span.{Span, spans}
 
 pub drop_at : {X : Type 0} (xs : List X) (i : ℕ) (x : X) → Some x ≡ slice_get xs i → drop i xs ≡ x ∷ drop (i + 1) xs
 drop_at [] i x e = absurd cc
-drop_at {X} (first ∷ xs) zero x e = let same : first ≡ x = cc in ap (λ (y : X). y ∷ xs) same
+drop_at {X} (first ∷ xs) zero x e = let same : first ≡ x = cc in rw same
 drop_at {X} (first ∷ xs) (suc i) x e = let next : suc i + 1 ≡ suc (i + 1) = omega arith in rw next (drop_at xs i x e)
 
 pub drop_past : {X : Type 0} (xs : List X) (i : ℕ) → None ≡ slice_get xs i → drop i xs ≡ []

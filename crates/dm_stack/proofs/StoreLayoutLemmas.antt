@@ -1,5 +1,5 @@
 -- The layout of a store, of each kind: which places it has, that they are apart, and how far it is used.
-use Rattle.std.proofs.Common.{◌≡◌, ℕ, zero, suc, ◌+◌, ◌-◌, ◌*◌, ◌/◌, ◌%◌, ◌<◌, ◌≤◌, false, arith, refl, ap, ◌∙◌, inl, inr, ◌⊎◌}
+use Rattle.std.proofs.Common.{◌≡◌, ℕ, zero, suc, ◌+◌, ◌-◌, ◌*◌, ◌/◌, ◌%◌, ◌<◌, ◌≤◌, false, arith, refl, inl, inr, ◌⊎◌}
 use Rattle.std.specs.Prelude.{◌↔◌, ◌==◌}
 use Rattle.std.proofs.lemmas.Nat.{div-add-mod', div-mul-add, mod-mul-add}
 use Rattle.std.proofs.Math.Nat.{mod-lt, mul-le-mul_right, le-div_iff_mul-le}
@@ -80,10 +80,10 @@ data_apart chunk i some =
     let small : i % e < e = omega (arith, some) in
     let parts : (i / e) * (e + 1) ≡ i / e * e + i / e = grind arith in
     let sum : at - 1 ≡ (i / e) * (e + 1) + (i % e + 1) = omega (arith, whole, parts) in
-    let rest : (at - 1) % (e + 1) ≡ i % e + 1 = ap (λ n. n % (e + 1)) sum ∙ mod-mul-add (i / e) (e + 1) (i % e + 1) (omega (arith, small)) in
+    let rest : (at - 1) % (e + 1) ≡ i % e + 1 = rw sum (mod-mul-add (i / e) (e + 1) (i % e + 1) (omega (arith, small))) in
     let first : (at == 0) ≡ false = ne_eqb at 0 (λ is. omega (arith, is)) in
     let later : ((at - 1) % (32 * chunk + 1) == 0) ≡ false = ne_eqb ((at - 1) % (e + 1)) 0 (λ is. omega (arith, is, rest)) in
-    rw (first, later) refl
+    rw (first, later)
 
 pub place_data : (kind : StoreKind) (chunk i : ℕ) → 0 < chunk → is_metadata kind chunk (place kind chunk i) ≡ false
 place_data Persistent chunk i some = data_apart chunk i some
@@ -98,7 +98,7 @@ quotient_next i e some =
     let whole : i / e * e + i % e ≡ i = div-add-mod' i e in
     let small : i % e < e = omega (arith, some) in
     let at : i + e ≡ (i / e + 1) * e + i % e = omega (arith, whole) in
-    let next : (i + e) / e ≡ i / e + 1 = ap (λ n. n / e) at ∙ div-mul-add (i / e + 1) e (i % e) small in
+    let next : (i + e) / e ≡ i / e + 1 = rw at (div-mul-add (i / e + 1) e (i % e) small) in
     let low = quotient_le (suc i) (i + e) e (omega (arith, some)) in
     omega (arith, low, next)
 
@@ -150,7 +150,7 @@ pub metadata_within : (kind : StoreKind) (chunk taken : ℕ) → (place kind chu
 metadata_within kind chunk taken = mul-le-mul_right chunk (omega arith)
 
 metadata_apart : (chunk taken : ℕ) → (place Persistent chunk taken - taken) * chunk ≡ metadata Persistent chunk taken
-metadata_apart chunk taken = let left : place Persistent chunk taken - taken ≡ taken / (32 * chunk) + 2 = omega arith in ap (λ (n : ℕ). n * chunk) left
+metadata_apart chunk taken = let left : place Persistent chunk taken - taken ≡ taken / (32 * chunk) + 2 = omega arith in rw left
 
 pub metadata_is : (kind : StoreKind) (chunk taken : ℕ) → (place kind chunk taken - taken) * chunk ≡ metadata kind chunk taken
 metadata_is Persistent chunk taken = metadata_apart chunk taken

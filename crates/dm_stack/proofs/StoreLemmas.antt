@@ -1,5 +1,5 @@
 -- A device is a store exactly where its depth is within the limit, once those that no store may be made of name themselves.
-use Rattle.std.proofs.Common.{◌≡◌, ℕ, zero, suc, ◌+◌, ◌<◌, ◌≤◌, Bool, true, false, cond, not, nat_le, List, [], ◌∷◌, ◌++◌, arith, inl, inr, ◌⊎◌, refl, sym, ap, subst, ◌∙◌, get_or, length, map, max, Option, Some, Vec, Global}
+use Rattle.std.proofs.Common.{◌≡◌, ℕ, zero, suc, ◌+◌, ◌<◌, ◌≤◌, Bool, true, false, cond, not, nat_le, List, [], ◌∷◌, ◌++◌, arith, inl, inr, ◌⊎◌, refl, sym, ap, subst, ◌∙◌, get_or, length, map, max, Some, Vec, Global}
 use Rattle.std.specs.Prelude.{◌&&◌, slice_get}
 use Rattle.std.specs.List.{Contains, flat_map, list_all, range_with_len}
 use Rattle.std.proofs.lemmas.Bool.{cases_lt, le-leb, lt-leb}
@@ -18,7 +18,7 @@ use Rattle.dm_table.specs.declared.load.load_fault.LoadKind.TheVariants.{Store}
 use Rattle.dm_table.specs.load.LoadFault.{faults_by}
 use Rattle.dm_stack.specs.declared.id.Lower.{Lower}
 use Rattle.dm_stack.specs.declared.id.Lower.TheVariants.{Device, Disk}
-use Rattle.dm_stack.specs.Description.{Description, device_links, is_read_only, is_ro_at, line_links, lines_at, lines_or_none, links, lower_of, ref_link}
+use Rattle.dm_stack.specs.Description.{Description, device_links, is_ro_at, line_links, lines_at, lines_or_none, links, lower_of, ref_link}
 use Rattle.dm_stack.specs.Graph.{IsClosed, depth_to, depths_to, greatest, links_in, links_of}
 use Rattle.dm_table.specs.tables.Span.{Span, spans}
 use Rattle.dm_stack.specs.Soundness.{all_lines, has_bad_store, store}
@@ -31,7 +31,7 @@ use Rattle.dm_stack.proofs.RoundLemmas.{depths_to-at, depths_to-length}
 
 all_flat : {X Y : Type 0} (p : Y → Bool) (f : X → List Y) (xs : List X) → list_all p (flat_map f xs) ≡ list_all (λ x. list_all p (f x)) xs
 all_flat p f [] = refl
-all_flat p f (x ∷ xs) = list_all-append p (f x) (flat_map f xs) ∙ ap (λ (rest : Bool). list_all p (f x) && rest) (all_flat p f xs)
+all_flat p f (x ∷ xs) = rw (← all_flat p f xs) (list_all-append p (f x) (flat_map f xs))
 
 both_swapped : (a b c d : Bool) → ((a && b) && (c && d)) ≡ ((a && c) && (b && d))
 both_swapped true true c d = refl
@@ -41,11 +41,11 @@ both_swapped false b c d = refl
 
 all_both : {X : Type 0} (p q : X → Bool) (xs : List X) → list_all (λ x. p x && q x) xs ≡ (list_all p xs && list_all q xs)
 all_both p q [] = refl
-all_both p q (x ∷ xs) = ap (λ (rest : Bool). (p x && q x) && rest) (all_both p q xs) ∙ both_swapped (p x) (q x) (list_all p xs) (list_all q xs)
+all_both p q (x ∷ xs) = rw (all_both p q xs) (both_swapped (p x) (q x) (list_all p xs) (list_all q xs))
 
 all_same : {X : Type 0} (p q : X → Bool) (xs : List X) → ((x : X) → p x ≡ q x) → list_all p xs ≡ list_all q xs
 all_same p q [] same = refl
-all_same p q (x ∷ xs) same = let here = same x in let rest = all_same p q xs same in rw (here, rest) refl
+all_same p q (x ∷ xs) same = let here = same x in let rest = all_same p q xs same in rw (here, rest)
 
 -- What a device names is a store, by its links
 
@@ -81,12 +81,10 @@ unfolding is_store_to
 store_step stack levels device =
     let lines = lines_at stack device in
     let named = named_lines stack stack.devices device in
-    ap (λ (all : Bool). not (is_ro_at stack device) && all)
-    (all_both (λ line. is_plain line.target) (λ line. list_all (λ span. is_store_to stack levels (lower_of stack span.to)) (spans line)) lines
+    rw (all_both (λ line. is_plain line.target) (λ line. list_all (λ span. is_store_to stack levels (lower_of stack span.to)) (spans line)) lines
     ∙ ap (λ (all : Bool). list_all (λ line. is_plain line.target) lines && all)
     (all_same (λ line. list_all (λ span. is_store_to stack levels (lower_of stack span.to)) (spans line)) (λ line. list_all (is_store_device stack levels) (line_links stack line)) lines (λ line. sym (line_store stack levels line))
-    ∙ sym (all_flat (is_store_device stack levels) (line_links stack) lines) ∙ ap (λ (ids : List ℕ). list_all (is_store_device stack levels) ids) (sym named)))
-    ∙ and_assoc (not (is_ro_at stack device)) (list_all (λ line. is_plain line.target) lines) _
+    ∙ sym (all_flat (is_store_device stack levels) (line_links stack) lines) ∙ ap (λ (ids : List ℕ). list_all (is_store_device stack levels) ids) (sym named))) (and_assoc (not (is_ro_at stack device)) (list_all (λ line. is_plain line.target) lines) _)
 
 -- Depths within a limit
 
@@ -95,7 +93,7 @@ max_within a b n = grind arith
 
 greatest_within : (f : ℕ → ℕ) (xs : List ℕ) (n : ℕ) → nat_le (greatest (map f xs)) n ≡ list_all (λ x. nat_le (f x) n) xs
 greatest_within f [] n = le-leb 0 n (omega arith)
-greatest_within f (x ∷ xs) n = max_within (f x) (greatest (map f xs)) n ∙ ap (λ (rest : Bool). nat_le (f x) n && rest) (greatest_within f xs n)
+greatest_within f (x ∷ xs) n = rw (← greatest_within f xs n) (max_within (f x) (greatest (map f xs)) n)
 
 le_suc : (a b : ℕ) → nat_le (suc a) (suc b) ≡ nat_le a b
 le_suc a b = by_order (cases_lt b a)
@@ -116,7 +114,7 @@ depth_first g device = lt-leb _ 0 (omega arith)
 
 -- a device that names itself where it may not be in a store
 marked : (p : ℕ → Bool) (device : ℕ) (ids : List ℕ) (may : Bool) → (may ≡ false → p device ≡ false) → list_all p (ids ++ cond may [] (device ∷ [])) ≡ (may && list_all p ids)
-marked p device ids true barred = ap (λ (all : List ℕ). list_all p all) (append-nil ids)
+marked p device ids true barred = rw (append-nil ids)
 marked p device ids false barred =
     list_all-append p ids (device ∷ []) ∙ ap (λ (b : Bool). list_all p ids && (b && true)) (barred refl) ∙ and_no (list_all p ids)
   where
@@ -146,7 +144,7 @@ all_marked stack levels device = by_place (cases_lt device (length stack.devices
     by_place (inr past) =
         let none = slice_get_past stack.devices device past in
         let named = named_lines stack stack.devices device in
-        ap (λ (ids : List ℕ). list_all (is_store_device stack levels) ids) (links_past stack device past) ∙ rw (named, none) refl
+        ap (λ (ids : List ℕ). list_all (is_store_device stack levels) ids) (links_past stack device past) ∙ rw (named, none)
 
 pub store_depth : (stack : Description) (levels device : ℕ) → nat_le (depth_to (store_links stack) (suc levels) device) levels ≡ is_store_device stack levels device
 unfolding is_store_to
@@ -189,7 +187,7 @@ past_store : (stack : Description) (device : ℕ) → length stack.devices ≤ d
 past_store stack device past =
     let none = slice_get_past stack.devices device past in
     let named = named_lines stack stack.devices device in
-    store_step stack 31 device ∙ rw (named, none) refl
+    store_step stack 31 device ∙ rw (named, none)
 
 shallow_same : (stack : Description) (depths : List ℕ) (lower : Lower) → depths ≡ depths_to (store_links stack) 33 → is_shallow depths lower ≡ is_store_to stack 32 lower
 unfolding is_store_to
@@ -200,10 +198,9 @@ shallow_same stack depths (Device device) is = ap (λ (all : List ℕ). nat_le (
     count = length-map-range_with_len (store_links_at stack) 0 (length stack.devices)
 
     by_place : (device < length stack.devices) ⊎ (length stack.devices ≤ device) → nat_le (get_or (depths_to (store_links stack) 33) device 0) 32 ≡ is_store_device stack 32 device
-    by_place (inl within) = ap (λ (depth : ℕ). nat_le depth 32) (depths_to-at (store_links stack) 33 device (omega (arith, within, count))) ∙ store_depth stack 32 device
+    by_place (inl within) = rw (depths_to-at (store_links stack) 33 device (omega (arith, within, count))) (store_depth stack 32 device)
     by_place (inr past) =
-        ap (λ (depth : ℕ). nat_le depth 32) (get_or_past (depths_to (store_links stack) 33) device 0 (omega (arith, past, count, depths_to-length (store_links stack) 33)))
-        ∙ sym (past_store stack device past)
+        rw (get_or_past (depths_to (store_links stack) 33) device 0 (omega (arith, past, count, depths_to-length (store_links stack) 33))) (sym (past_store stack device past))
 
 deep_same : (stack : Description) (depths : List ℕ) (target : Target) → depths ≡ depths_to (store_links stack) 33 → has_deep_store stack depths target ≡ has_bad_store stack target
 deep_same stack depths (targets.Snapshot origin store kind chunk) is = ap not (shallow_same stack depths (lower_of stack store) is)
@@ -219,8 +216,7 @@ store_links_here : (stack : Description) (id : ℕ) (device : DeviceSpec) (named
 store_links_here stack id device named links_at within is below is_links are =
     let at : slice_get stack.devices id ≡ Some device = slice_get_read stack.devices (length stack.devices) id device refl within is in
     let here = sym (links_of-at named id links_at below is_links) ∙ ap (λ (g : List (List ℕ)). links_of g id) are in
-    ap (λ (ids : List ℕ). store_links_of (may_store device.ro device.lines) id ids) here
-    ∙ ap (λ (found : Option DeviceSpec). store_links_of (may_store (is_read_only found) (lines_or_none found)) id (links_of (links stack) id)) (sym at)
+    cc (here, at)
 
 pub store_links_next : (stack : Description) (id : ℕ) (device : DeviceSpec) (named before : List (Vec ℕ Global)) (links_at new : Vec ℕ Global) → id < length stack.devices → device ≡ get_or stack.devices id device → id < length named → links_at ≡ get_or named id links_at → links_in named ≡ links stack
     → links_in before ≡ map (store_links_at stack) (range_with_len 0 id) → new.items ≡ store_links_of (may_store device.ro device.lines) id links_at.items → links_in (before ++ new ∷ []) ≡ map (store_links_at stack) (range_with_len 0 (id + 1))
@@ -232,4 +228,4 @@ store_links_next stack id device named before links_at new within is below is_li
 
 pub links_length : (stack : Description) (named : List (Vec ℕ Global)) → links_in named ≡ links stack → length named ≡ length stack.devices
 links_length stack named are =
-    sym (length-map named (λ v. v.items)) ∙ ap (λ (g : List (List ℕ)). length g) are ∙ length-map stack.devices (device_links stack)
+    cc (sym (length-map named (λ v. v.items)), are, length-map stack.devices (device_links stack))

@@ -1,5 +1,5 @@
 -- Stripes: the column of a sector is one of the line's, its sector there is one of the column's share, and the next chunk is on the next column.
-use Rattle.std.proofs.Common.{◌≡◌, ℕ, zero, suc, false, ◌+◌, ◌-◌, ◌*◌, ◌/◌, ◌%◌, ◌<◌, ◌≤◌, List, [], ◌∷◌, Option, Some, length, get_or, refl, sym, ap, subst, ◌∙◌, arith}
+use Rattle.std.proofs.Common.{◌≡◌, ℕ, zero, suc, false, ◌+◌, ◌-◌, ◌*◌, ◌/◌, ◌%◌, ◌<◌, ◌≤◌, List, [], ◌∷◌, Some, length, get_or, refl, sym, ap, subst, arith}
 use Rattle.std.specs.Prelude.{◌==◌, slice_get}
 use Rattle.std.proofs.lemmas.Bool.{ne_eqb}
 use Rattle.std.specs.List.{AllByRecursion}
@@ -8,7 +8,7 @@ use Rattle.std.proofs.lemmas.Option.{slice_get_read}
 use Rattle.std.proofs.Math.Nat.{div-lt_iff_lt-mul}
 use Rattle.dm_stack.specs.declared.found_columns.FoundColumn.{FoundColumn}
 use Rattle.dm_stack.specs.Description.{Description, lower_len}
-use Rattle.dm_stack.specs.Below.{AreStripes, column_of, in_column, below_stripes, below_column, Lies}
+use Rattle.dm_stack.specs.Below.{AreStripes, column_of, in_column, below_stripes, Lies}
 use Rattle.dm_stack.specs.declared.stripe_position.StripePosition.{StripePosition}
 use Rattle.dm_stack.specs.StripePosition.{IsStripePosition}
 
@@ -33,14 +33,14 @@ in_chunk chunk_size distance i some within =
     let at : distance + i ≡ distance / chunk_size * chunk_size + (distance % chunk_size + i) = omega (arith, whole) in
     let small : distance % chunk_size + i < chunk_size = omega (arith, within) in
     record {
-      number = ap (λ n. n / chunk_size) at ∙ div-mul-add (distance / chunk_size) chunk_size (distance % chunk_size + i) small;
-      position = ap (λ n. n % chunk_size) at ∙ mod-mul-add (distance / chunk_size) chunk_size (distance % chunk_size + i) small;
+      number = rw at (div-mul-add (distance / chunk_size) chunk_size (distance % chunk_size + i) small);
+      position = rw at (mod-mul-add (distance / chunk_size) chunk_size (distance % chunk_size + i) small);
     }
 
 -- what holds of each element holds of one
 pub at_index : {X : Type 0} (P : X → Type 0) (xs : List X) (i : ℕ) (x : X) → AllByRecursion P xs → slice_get xs i ≡ Some x → P x
 at_index P [] i x each e = absurd cc
-at_index P (y ∷ ys) zero x each e = let same : y ≡ x = cc in subst (λ z. P z) same each.0
+at_index P (y ∷ ys) zero x each e = let same : y ≡ x = cc in rw (← same) each.0
 at_index P (y ∷ ys) (suc i) x each e = at_index P ys i x each.1 e
 
 -- the column of a sector, as one of the columns
@@ -65,8 +65,7 @@ below_chunk chunk_size distance i columns column position some chunk_some at wit
     let same = in_chunk chunk_size distance i chunk_some left in
     let there : column ≡ get_or columns (column_of chunk_size (length columns) (distance + i)) column = rw same.number (subst (λ (k : ℕ). column ≡ get_or columns k column) at.column is) in
     let sum : in_column chunk_size (length columns) (distance + i) ≡ position.chunk_start + position.past + i = rw (same.number, same.position) (omega (arith, at.chunk_start, at.past)) in
-    ap (λ (c : Option FoundColumn). below_column c (in_column chunk_size (length columns) (distance + i))) (column_got chunk_size (distance + i) columns column some there)
-    ∙ ap (Lies column.to) (rw sum (omega arith))
+    rw (column_got chunk_size (distance + i) columns column some there) (ap (Lies column.to) (rw sum (omega arith)))
 
 -- The position of the next chunk
 
@@ -81,8 +80,8 @@ after_chunk chunk_size distance some =
     let small : distance % chunk_size < chunk_size = omega arith in
     let at : distance + (chunk_size - distance % chunk_size) ≡ (distance / chunk_size + 1) * chunk_size + 0 = omega (arith, whole, small) in
     record {
-      number = ap (λ n. n / chunk_size) at ∙ div-mul-add (distance / chunk_size + 1) chunk_size 0 some;
-      past = ap (λ n. n % chunk_size) at ∙ mod-mul-add (distance / chunk_size + 1) chunk_size 0 some;
+      number = rw at (div-mul-add (distance / chunk_size + 1) chunk_size 0 some);
+      past = rw at (mod-mul-add (distance / chunk_size + 1) chunk_size 0 some);
     }
 
 -- the first sector after a chunk is in another one
@@ -91,8 +90,8 @@ other_chunk chunk_size at n some is =
     let next = (after_chunk chunk_size at some).number in
     let last = (in_chunk chunk_size at (n - 1) some (omega (arith, is))).number in
     let e : at + n - 1 ≡ at + (n - 1) = omega (arith, is) in
-    let here : (at + n) / chunk_size ≡ at / chunk_size + 1 = ap (λ (k : ℕ). (at + k) / chunk_size) is ∙ next in
-    let before : (at + n - 1) / chunk_size ≡ at / chunk_size = ap (λ (k : ℕ). k / chunk_size) e ∙ last in
+    let here : (at + n) / chunk_size ≡ at / chunk_size + 1 = rw is next in
+    let before : (at + n - 1) / chunk_size ≡ at / chunk_size = rw e last in
     ne_eqb ((at + n - 1) / chunk_size) ((at + n) / chunk_size) (λ same. omega (arith, here, before, same))
 
 -- on the next column
@@ -103,8 +102,8 @@ position_within chunk_size count distance position some at within =
     let whole : distance / chunk_size / count * count + distance / chunk_size % count ≡ distance / chunk_size = div-add-mod' (distance / chunk_size) count in
     let on : distance / chunk_size + 1 ≡ distance / chunk_size / count * count + (distance / chunk_size % count + 1) = omega (arith, whole) in
     let small : distance / chunk_size % count + 1 < count = omega (arith, within, at.column) in
-    let quotient : (distance / chunk_size + 1) / count ≡ distance / chunk_size / count = ap (λ n. n / count) on ∙ div-mul-add (distance / chunk_size / count) count _ small in
-    let rest : (distance / chunk_size + 1) % count ≡ distance / chunk_size % count + 1 = ap (λ n. n % count) on ∙ mod-mul-add (distance / chunk_size / count) count _ small in
+    let quotient : (distance / chunk_size + 1) / count ≡ distance / chunk_size / count = rw on (div-mul-add (distance / chunk_size / count) count _ small) in
+    let rest : (distance / chunk_size + 1) % count ≡ distance / chunk_size % count + 1 = rw on (mod-mul-add (distance / chunk_size / count) count _ small) in
     rw at.past (record {
       column = rw (next.number, rest) (ap (λ (n : ℕ). n + 1) at.column);
       chunk_start = rw (next.number, quotient) at.chunk_start;
@@ -119,10 +118,10 @@ position_after chunk_size count distance position some at last =
     let whole : distance / chunk_size / count * count + distance / chunk_size % count ≡ distance / chunk_size = div-add-mod' (distance / chunk_size) count in
     let on : distance / chunk_size + 1 ≡ (distance / chunk_size / count + 1) * count + 0 = omega (arith, whole, last, at.column) in
     let some_columns : 0 < count = omega (arith, last) in
-    let quotient : (distance / chunk_size + 1) / count ≡ distance / chunk_size / count + 1 = ap (λ n. n / count) on ∙ div-mul-add (distance / chunk_size / count + 1) count 0 some_columns in
-    let rest : (distance / chunk_size + 1) % count ≡ 0 = ap (λ n. n % count) on ∙ mod-mul-add (distance / chunk_size / count + 1) count 0 some_columns in
+    let quotient : (distance / chunk_size + 1) / count ≡ distance / chunk_size / count + 1 = rw on (div-mul-add (distance / chunk_size / count + 1) count 0 some_columns) in
+    let rest : (distance / chunk_size + 1) % count ≡ 0 = rw on (mod-mul-add (distance / chunk_size / count + 1) count 0 some_columns) in
     rw at.past (record {
-      column = rw (next.number, rest) refl;
+      column = rw (next.number, rest);
       chunk_start = rw (next.number, quotient) (omega (arith, at.chunk_start));
       past = sym next.past;
     })

@@ -51,8 +51,7 @@ one_more : (counts same : Bool) (kind other : Use) (start first end last : ℕ) 
 one_more false same kind other start first end last reach le = refl
 one_more true false kind other start first end last reach le = refl
 one_more true true kind other start first end last reach le =
-    one_meets (may_share kind other) start first end last (rival_end other reach) le
-    ∙ ap (λ (n : ℕ). nat_lt start end && nat_lt start n) (sym (rival_more kind other last reach))
+    rw (rival_more kind other last reach) (one_meets (may_share kind other) start first end last (rival_end other reach) le)
 
 or_swap : (a b c : Bool) → ((a || b) || c) ≡ (b || (a || c))
 or_swap true true c = refl
@@ -63,16 +62,13 @@ or_swap false false c = refl
 step : (count : ℕ) (one next : Numbered) (reach : Reach) → one.claim.start ≤ next.claim.start → nat_lt next.number count ≡ true
     → (rivals count one next || reach_meets reach next.claim) ≡ reach_meets (reach_next count next.claim.to reach one) next.claim
 step count one next reach le below =
-    ap (λ (b : Bool). ((nat_lt one.number count && b) && meets one.claim next.claim) || reach_meets reach next.claim) below
-    ∙ one_more (nat_lt one.number count) (is_same_lower one.claim.to next.claim.to) one.claim.kind next.claim.kind next.claim.start one.claim.start next.claim.end one.claim.end reach le
+    rw below (one_more (nat_lt one.number count) (is_same_lower one.claim.to next.claim.to) one.claim.kind next.claim.kind next.claim.start one.claim.start next.claim.end one.claim.end reach le)
 
 met_from : (count : ℕ) (next : Numbered) → nat_lt next.number count ≡ true → (reach : Reach) (before : List Numbered) → AllByRecursion (λ one. one.claim.start ≤ next.claim.start) before
     → (list_any (λ one. rivals count one next) before || reach_meets reach next.claim) ≡ reach_meets (fold (reach_next count next.claim.to) reach before) next.claim
 met_from count next below reach [] starts = refl
 met_from count next below reach (one ∷ before) starts =
-    or_swap (rivals count one next) (list_any (λ one. rivals count one next) before) (reach_meets reach next.claim)
-    ∙ ap (λ (b : Bool). list_any (λ one. rivals count one next) before || b) (step count one next reach starts.0 below)
-    ∙ met_from count next below (reach_next count next.claim.to reach one) before starts.1
+    cc (or_swap (rivals count one next) (list_any (λ one. rivals count one next) before) (reach_meets reach next.claim), step count one next reach starts.0 below, met_from count next below (reach_next count next.claim.to reach one) before starts.1)
 
 none_held : (kind : Use) → rival_end kind no_reach ≡ 0
 none_held Own = refl
@@ -83,7 +79,7 @@ below_none : (start end : ℕ) → (nat_lt start end && nat_lt start 0) ≡ fals
 below_none start end = grind arith
 
 none_reached : (start end : ℕ) (kind : Use) → (nat_lt start end && nat_lt start (rival_end kind no_reach)) ≡ false
-none_reached start end kind = ap (λ (n : ℕ). nat_lt start end && nat_lt start n) (none_held kind) ∙ below_none start end
+none_reached start end kind = rw (none_held kind) (below_none start end)
 
 or_false : (b : Bool) → (b || false) ≡ b
 or_false true = refl
@@ -102,9 +98,7 @@ starts_before order k next sorted within is =
 pub met : (count : ℕ) (order : List Numbered) (k : ℕ) (next : Numbered) → IsNonDecreasingBy (λ one. one.claim.start) order → k < length order → next ≡ get_or order k next → next.number < count
     → list_any (λ one. rivals count one next) (take k order) ≡ reach_meets (reach_of count next.claim.to (take k order)) next.claim
 met count order k next sorted within is below =
-    sym (or_false (list_any (λ one. rivals count one next) (take k order)))
-    ∙ ap (λ (b : Bool). list_any (λ one. rivals count one next) (take k order) || b) (sym (none_reached next.claim.start next.claim.end next.claim.kind))
-    ∙ met_from count next (lt-ltb next.number count below) no_reach (take k order) (starts_before order k next sorted within is)
+    cc (sym (or_false (list_any (λ one. rivals count one next) (take k order))), none_reached next.claim.start next.claim.end next.claim.kind, met_from count next (lt-ltb next.number count below) no_reach (take k order) (starts_before order k next sorted within is))
 
 not_counted : (a b : Bool) → ((a && false) && b) ≡ false
 not_counted true b = refl
@@ -114,11 +108,11 @@ not_counted false b = refl
 pub not_met : (count : ℕ) (next : Numbered) (before : List Numbered) → count ≤ next.number → list_any (λ one. rivals count one next) before ≡ false
 not_met count next [] past = refl
 not_met count next (one ∷ before) past =
-    let here : rivals count one next ≡ false = ap (λ (b : Bool). (nat_lt one.number count && b) && meets one.claim next.claim) (le-ltb next.number count past) ∙ not_counted (nat_lt one.number count) (meets one.claim next.claim) in
-    rw (here, not_met count next before past) refl
+    let here : rivals count one next ≡ false = rw (le-ltb next.number count past) (not_counted (nat_lt one.number count) (meets one.claim next.claim)) in
+    rw (here, not_met count next before past)
 
 taken_next : (order : List Numbered) (k : ℕ) (next : Numbered) → k < length order → next ≡ get_or order k next → take (k + 1) order ≡ take k order ++ next ∷ []
-taken_next order k next within is = take_more order k next within ∙ ap (λ (one : Numbered). take k order ++ one ∷ []) (sym is)
+taken_next order k next within is = rw is (take_more order k next within)
 
 pub reach_more : (count : ℕ) (lower : Lower) (order : List Numbered) (k : ℕ) (next : Numbered) → k < length order → next ≡ get_or order k next
     → reach_of count lower (take (k + 1) order) ≡ reach_next count lower (reach_of count lower (take k order)) next
@@ -126,10 +120,10 @@ reach_more count lower order k next within is =
     ap (fold (reach_next count lower) no_reach) (taken_next order k next within is) ∙ fold-append (reach_next count lower) no_reach (take k order) (next ∷ [])
 
 pub counted : (count : ℕ) (lower : Lower) (reach : Reach) (next : Numbered) → next.number < count → cond (is_same_lower next.claim.to lower) (reach_with reach next.claim) reach ≡ reach_next count lower reach next
-counted count lower reach next below = ap (λ (b : Bool). cond (b && is_same_lower next.claim.to lower) (reach_with reach next.claim) reach) (sym (lt-ltb next.number count below))
+counted count lower reach next below = cc (lt-ltb next.number count below)
 
 pub uncounted : (count : ℕ) (lower : Lower) (reach : Reach) (next : Numbered) → count ≤ next.number → reach ≡ reach_next count lower reach next
-uncounted count lower reach next past = ap (λ (b : Bool). cond (b && is_same_lower next.claim.to lower) (reach_with reach next.claim) reach) (sym (le-ltb next.number count past))
+uncounted count lower reach next past = cc (le-ltb next.number count past)
 
 -- the search for a pair, from the next claim on
 search_here : (count : ℕ) (order : List Numbered) (k : ℕ) (next : Numbered) → k < length order → next ≡ get_or order k next

@@ -20,8 +20,8 @@ use Rattle.dm_stack.proofs.SweepLemmas.{not_met}
 -- Numbered claims
 
 numbered_append : (number : ℕ) (xs ys : List Claim) (later : ℕ) → later ≡ number + length xs → numbered number (xs ++ ys) ≡ numbered number xs ++ numbered later ys
-numbered_append number [] ys later e = let same : later ≡ number = omega (arith, e) in ap (λ (n : ℕ). numbered n ys) (sym same)
-numbered_append number (x ∷ xs) ys later e = ap (λ (more : List Numbered). record { number = number; claim = x } ∷ more) (numbered_append (suc number) xs ys later (omega (arith, e)))
+numbered_append number [] ys later e = let same : later ≡ number = omega (arith, e) in rw (← same)
+numbered_append number (x ∷ xs) ys later e = rw (numbered_append (suc number) xs ys later (omega (arith, e)))
 
 pub numbered_next : (claims : List Claim) (k : ℕ) (claim : Claim) → k < length claims → claim ≡ get_or claims k claim → numbered 0 (take (k + 1) claims) ≡ numbered 0 (take k claims) ++ record { number = k; claim = claim } ∷ []
 numbered_next claims k claim within is =
@@ -35,7 +35,7 @@ numbered_length number (x ∷ xs) = ap suc (numbered_length (suc number) xs)
 
 numbered_at : (number : ℕ) (claims : List Claim) (k index : ℕ) (d : Numbered) → k < length claims → index ≡ number + k → get_or (numbered number claims) k d ≡ record { number = index; claim = get_or claims k d.claim }
 numbered_at number [] k index d within e = absurd (omega (arith, within))
-numbered_at number (x ∷ xs) zero index d within e = let same : number ≡ index = omega (arith, e) in ap (λ (n : ℕ). record { number = n; claim = x }) same
+numbered_at number (x ∷ xs) zero index d within e = let same : number ≡ index = omega (arith, e) in rw same
 numbered_at number (x ∷ xs) (suc k) index d within e = numbered_at (suc number) xs k index d (omega (arith, within)) (omega (arith, e))
 
 numbered_all : (P : Claim → Type 0) (number : ℕ) (claims : List Claim) → All P claims → All (λ next. P next.claim) (numbered number claims)
@@ -55,7 +55,7 @@ no_pairs : {X : Type 0} (R : X → X → Type 0) → AllPairs R []
 no_pairs R i j d less within = absurd (omega (arith, within))
 
 counted_pair : (count i j : ℕ) (b : Bool) → i < count → j < count → ((nat_lt i count && nat_lt j count) && b) ≡ b
-counted_pair count i j b p q = rw (lt-ltb i count p, lt-ltb j count q) refl
+counted_pair count i j b p q = rw (lt-ltb i count p, lt-ltb j count q)
 
 late_pair : (count i j : ℕ) (b : Bool) → count ≤ j → ((nat_lt i count && nat_lt j count) && b) ≡ false
 late_pair count i j b past = rw (le-ltb j count past) (none (nat_lt i count) b)
@@ -66,7 +66,7 @@ late_pair count i j b past = rw (le-ltb j count past) (none (nat_lt i count) b)
 
 rivals_at : (count : ℕ) (claims : List Claim) (i j : ℕ) (d : Numbered) → i < length claims → j < length claims
     → rivals count (get_or (numbered 0 claims) i d) (get_or (numbered 0 claims) j d) ≡ ((nat_lt i count && nat_lt j count) && meets (get_or claims i d.claim) (get_or claims j d.claim))
-rivals_at count claims i j d p q = rw (numbered_at 0 claims i i d p (omega arith), numbered_at 0 claims j j d q (omega arith)) refl
+rivals_at count claims i j d p q = rw (numbered_at 0 claims i i d p (omega arith), numbered_at 0 claims j j d q (omega arith))
 
 never_meet_below : (count : ℕ) (claims : List Claim) → AllPairs (λ x y. rivals count x y ≡ false) (numbered 0 claims) → AllPairs NeverMeet (take count claims)
 never_meet_below count claims pairs i j d less within =
@@ -75,8 +75,7 @@ never_meet_below count claims pairs i j d less within =
     let none : meets (get_or claims i d) (get_or claims j d) ≡ false =
     sym (counted_pair count i j (meets (get_or claims i d) (get_or claims j d)) (omega arith) (omega arith)) ∙ sym (rivals_at count claims i j (record { number = 0; claim = d }) (omega arith) (omega arith))
     ∙ pairs i j (record { number = 0; claim = d }) less (omega arith) in
-    subst (λ (one : Claim). NeverMeet one (get_or (take count claims) j d)) (sym (get_or-take count claims i d (omega arith)))
-    (subst (λ (other : Claim). NeverMeet (get_or claims i d) other) (sym (get_or-take count claims j d (omega arith))) (never_meet_from _ _ none))
+    rw (get_or-take count claims i d (omega arith), get_or-take count claims j d (omega arith)) (never_meet_from _ _ none)
 
 no_rivals_below : (count : ℕ) (claims : List Claim) → AllPairs NeverMeet (take count claims) → AllPairs (λ x y. rivals count x y ≡ false) (numbered 0 claims)
 no_rivals_below count claims pairs i j d less within =
@@ -89,9 +88,7 @@ no_rivals_below count claims pairs i j d less within =
         let long = length-take count claims in
         let one = get_or-take count claims i d.claim (omega arith) in
         let other = get_or-take count claims j d.claim below in
-        counted_pair count i j (meets (get_or claims i d.claim) (get_or claims j d.claim)) (omega arith) below
-        ∙ ap (λ (x : Claim). meets x (get_or claims j d.claim)) (sym one) ∙ ap (meets (get_or (take count claims) i d.claim)) (sym other)
-        ∙ none_from _ _ (pairs i j d.claim less (omega arith))
+        cc (counted_pair count i j (meets (get_or claims i d.claim) (get_or claims j d.claim)) (omega arith) below, one, ap (meets (get_or (take count claims) i d.claim)) (sym other), none_from _ _ (pairs i j d.claim less (omega arith)))
     by false e within = late_pair count i j (meets (get_or claims i d.claim) (get_or claims j d.claim)) (ltb-false j count e)
 
 tidy_pairs : (b : Bool) → not b ≡ true → b ≡ false
@@ -113,7 +110,7 @@ clash_below count claims order moved clash pairs =
 
 none_to : (before order : List Numbered) → has_pair (rivals 0) before order ≡ false
 none_to before [] = refl
-none_to before (next ∷ order) = rw (not_met 0 next before (omega arith), none_to (before ++ next ∷ []) order) refl
+none_to before (next ∷ order) = rw (not_met 0 next before (omega arith), none_to (before ++ next ∷ []) order)
 
 pub tidy_to_none : (order : List Numbered) → is_tidy_to 0 order ≡ true
 tidy_to_none order = ap not (none_to [] order)
@@ -125,12 +122,11 @@ some_order (next ∷ order) clash = omega arith
 -- The clash with the claim at an index
 
 pub clash_none : (before : List Claim) (k : ℕ) (later : Claim) → length before ≤ k → clash_with (drop k before) later ≡ None
-clash_none before k later past = ap (λ (left : List Claim). clash_with left later) (drop_all k before past)
+clash_none before k later past = rw (drop_all k before past)
 
 pub clash_here : (before : List Claim) (k : ℕ) (earlier later : Claim) → k < length before → earlier ≡ get_or before k earlier → meets earlier later ≡ true → clash_with (drop k before) later ≡ Some (clash_of earlier later)
 clash_here before k earlier later within is met =
-    ap (λ (left : List Claim). clash_with left later) (drop-cons before k earlier within ∙ ap (λ (one : Claim). one ∷ drop (suc k) before) (sym is))
-    ∙ ap (λ (b : Bool). option_map (λ one. clash_of one later) (cond b (Some earlier) (find (λ one. meets one later) (drop (suc k) before)))) met
+    rw ((drop-cons before k earlier within ∙ ap (λ (one : Claim). one ∷ drop (suc k) before) (sym is)), met)
 
 -- what a search found, and what it passed
 record Found (test : Claim → Bool) (xs : List Claim) (x : Claim) : Type 0 where
@@ -150,10 +146,10 @@ passed_more test x before is passed (suc k) d within = passed k d (omega (arith,
 found_in : (test : Claim → Bool) (y : Claim) (xs : List Claim) (x : Claim) (b : Bool) → test y ≡ b → (find test xs ≡ Some x → Found test xs x) → cond b (Some y) (find test xs) ≡ Some x → Found test (y ∷ xs) x
 found_in test y xs x true is later e =
     let same = some_is y x e in
-    record { before = []; after = xs; split = ap (λ (one : Claim). one ∷ xs) same; here = ap test (sym same) ∙ is; passed = λ k d within. absurd (omega (arith, within)) }
+    record { before = []; after = xs; split = rw same; here = ap test (sym same) ∙ is; passed = λ k d within. absurd (omega (arith, within)) }
 found_in test y xs x false is later e =
     let rest = later e in
-    record { before = y ∷ rest.before; after = rest.after; split = ap (λ (more : List Claim). y ∷ more) rest.split; here = rest.here; passed = passed_more test y rest.before is rest.passed }
+    record { before = y ∷ rest.before; after = rest.after; split = rw rest.split; here = rest.here; passed = passed_more test y rest.before is rest.passed }
 
 found : (test : Claim → Bool) (xs : List Claim) (x : Claim) → find test xs ≡ Some x → Found test xs x
 found test [] x e = absurd cc
@@ -188,10 +184,10 @@ first_is claims order index later moved within is tidy clash = by (find (λ one.
     pairs = tidy_below index claims order moved tidy
 
     more : take (index + 1) claims ≡ take index claims ++ later ∷ []
-    more = take_more claims index later within ∙ ap (λ (one : Claim). take index claims ++ one ∷ []) (sym is)
+    more = rw is (take_more claims index later within)
 
     whole : claims ≡ take index claims ++ later ∷ drop (suc index) claims
-    whole = sym (take-append-drop index claims) ∙ ap (λ (left : List Claim). take index claims ++ left) (drop-cons claims index later within ∙ ap (λ (one : Claim). one ∷ drop (suc index) claims) (sym is))
+    whole = rw (← (drop-cons claims index later within ∙ ap (λ (one : Claim). one ∷ drop (suc index) claims) (sym is))) (sym (take-append-drop index claims))
 
     by : (result : Option Claim) → find (λ one. meets one later) (take index claims) ≡ result → IsFirstClash claims (option_map (λ one. clash_of one later) result)
     by None e =
@@ -206,7 +202,7 @@ first_is claims order index later moved within is tidy clash = by (find (λ one.
           between = f.after;
           later = later;
           after = drop (suc index) claims;
-          split = whole ∙ ap (λ (front : List Claim). front ++ later ∷ drop (suc index) claims) f.split;
+          split = rw (← f.split) whole;
           first = subst (AllPairs NeverMeet) f.split pairs;
           earliest = λ k d below. never_meet_from _ _ (f.passed k d below);
           meet = met;

@@ -72,15 +72,15 @@ any_append test (x ∷ xs) ys = by (test x) (any_append test xs ys)
 
 any_flat : {X Y : Type 0} (test : Y → Bool) (f : X → List Y) (xs : List X) → list_any test (flat_map f xs) ≡ list_any (λ x. list_any test (f x)) xs
 any_flat test f [] = refl
-any_flat test f (x ∷ xs) = any_append test (f x) (flat_map f xs) ∙ ap (λ (b : Bool). list_any test (f x) || b) (any_flat test f xs)
+any_flat test f (x ∷ xs) = rw (← any_flat test f xs) (any_append test (f x) (flat_map f xs))
 
 any_map : {X Y : Type 0} (test : Y → Bool) (f : X → Y) (xs : List X) → list_any test (map f xs) ≡ list_any (λ x. test (f x)) xs
 any_map test f [] = refl
-any_map test f (x ∷ xs) = ap (λ (b : Bool). test (f x) || b) (any_map test f xs)
+any_map test f (x ∷ xs) = rw (any_map test f xs)
 
 any_same : {X : Type 0} (p q : X → Bool) (xs : List X) → ((x : X) → p x ≡ q x) → list_any p xs ≡ list_any q xs
 any_same p q [] same = refl
-any_same p q (x ∷ xs) same = rw (same x, any_same p q xs same) refl
+any_same p q (x ∷ xs) same = rw (same x, any_same p q xs same)
 
 by_ids : (stack : Description) (test : List Line → Bool) (before devices : List DeviceSpec) (id : ℕ) → stack.devices ≡ before ++ devices → id ≡ length before
     → list_any (λ device. test (lines_at stack device)) (range_with_len id (length devices)) ≡ list_any (λ device. test device.lines) devices
@@ -92,7 +92,7 @@ by_ids stack test before (device ∷ devices) id split is =
     (sym (get_or-append_seam before device devices device) ∙ ap (λ (n : ℕ). get_or (before ++ device ∷ devices) n device) (sym is) ∙ ap (λ (all : List DeviceSpec). get_or all id device) (sym split)) in
     let here : test (lines_at stack id) ≡ test device.lines = ap test (ap lines_or_none at) in
     let later = by_ids stack test (before ++ device ∷ []) devices (id + 1) (split ∙ sym (append_assoc before (device ∷ []) devices)) (omega (arith, is, length-append before (device ∷ []))) in
-    rw (here, later) refl
+    rw (here, later)
 
 named_by_claims : (stack : Description) (device : ℕ) → list_any (λ claim. is_device device claim.to) (claims stack) ≡ is_named stack device
 named_by_claims stack device =
@@ -105,7 +105,7 @@ named_by_claims stack device =
     ∙ by_ids stack (list_any (line_names stack device)) [] stack.devices 0 refl refl
 
 device_is : (device : ℕ) (lower : Lower) → is_device device lower ≡ true → lower ≡ Device device
-device_is device (Device id) e = ap (λ (n : ℕ). Device n) (eqb-true id device e)
+device_is device (Device id) e = rw (eqb-true id device e)
 device_is device (Disk id) e = absurd (true≢false (sym e))
 
 top_from : (stack : Description) (device : ℕ) → is_named stack device ≡ false → IsTop stack device
@@ -127,7 +127,7 @@ top_is stack device = top_by stack device (is_named stack device) refl
 
 -- the claims that were made are those of the stack
 pub are_claims : (stack described : Description) (slice items : List Claim) → slice ≡ items → items ≡ claims described → described ≡ stack → slice ≡ claims stack
-are_claims stack described slice items same made is = same ∙ made ∙ ap (λ (one : Description). claims one) is
+are_claims stack described slice items same made is = rw (← is) (same ∙ made)
 
 -- what is noted of the claims of a stack tells which devices are top
 pub noted_tops : {X : Type 0} (stack : Description) (all : List Claim) (count : ℕ) (items : X → List Bool) (result : Result X AllocError) → all ≡ claims stack → count ≡ length stack.devices → IfOk result (λ free. length (items free) ≡ count)
@@ -137,7 +137,7 @@ noted_tops stack all count items (Ok free) made counted len each = record {
   all = len ∙ counted;
   each = λ device within.
       let is = each device (omega (arith, within, counted)) ∙ ap (λ (list : List Claim). not (list_any (λ claim. is_device device claim.to) list)) made ∙ ap not (named_by_claims stack device) in
-      subst (λ (top : Bool). IsTrue top ↔ IsTop stack device) (sym is) (top_is stack device);
+      rw is (top_is stack device);
 }
 
 -- claims with a clash are not tidy
@@ -180,7 +180,7 @@ stands all clash is =
     let front_length = length-append is.before (is.earlier ∷ is.between) in
     let whole_length = length-append front (is.later ∷ is.after) in
     let same_length = ap (λ (list : List Claim). length list) is.split in
-    let at : (i : ℕ) (d : Claim) → i < length front → get_or all i d ≡ get_or front i d = λ i d below. ap (λ (list : List Claim). get_or list i d) is.split ∙ get_or_append_left front (is.later ∷ is.after) d i below in
+    let at : (i : ℕ) (d : Claim) → i < length front → get_or all i d ≡ get_or front i d = λ i d below. rw is.split (get_or_append_left front (is.later ∷ is.after) d i below) in
     let early : (d : Claim) → is.earlier ≡ get_or all (length is.before) d = λ d. sym (at (length is.before) d (omega arith) ∙ get_or-append_seam is.before is.earlier is.between d) in
     let late : (d : Claim) → is.later ≡ get_or all (length front) d = λ d. sym (ap (λ (list : List Claim). get_or list (length front) d) is.split ∙ get_or-append_seam front is.later is.after d) in
     record {
@@ -192,8 +192,8 @@ stands all clash is =
       earliest = λ i d below. rw (at i d (omega arith), get_or_append_left is.before (is.earlier ∷ is.between) d i below, ← late d) (is.earliest i d below);
       meet = λ d. rw (← early d, ← late d) is.meet;
       least = λ d. rw (← early d, ← late d) is.least;
-      of_one = λ d. is.of_earlier ∙ ap (λ (claim : Claim). claim.device) (early d);
-      of_other = λ d. is.of_later ∙ ap (λ (claim : Claim). claim.device) (late d);
+      of_one = λ d. rw (← early d) is.of_earlier;
+      of_other = λ d. rw (← late d) is.of_later;
     }
 
 in_turn : (a b : ℕ) → (a < b → ⊥) → (b < a → ⊥) → a ≡ b
@@ -212,12 +212,12 @@ same_clash all a b d x y =
     let other : x.other ≡ y.other = in_turn x.other y.other
     (λ less. y.pairs x.one x.other d x.in_order less a.lower a.sector (x.meet d))
     (λ more. x.pairs y.one y.other d y.in_order more b.lower b.sector (y.meet d)) in
-    let there : get_or all x.other d ≡ get_or all y.other d = ap (λ (i : ℕ). get_or all i d) other in
+    let there : get_or all x.other d ≡ get_or all y.other d = rw other in
     let one : x.one ≡ y.one = in_turn x.one y.one
     (λ less. y.earliest x.one d less a.lower a.sector (subst (λ (claim : Claim). MeetAt (get_or all x.one d) claim a.lower a.sector) there (x.meet d)))
     (λ more. x.earliest y.one d more b.lower b.sector (subst (λ (claim : Claim). MeetAt (get_or all y.one d) claim b.lower b.sector) (sym there) (y.meet d))) in
-    let here : get_or all x.one d ≡ get_or all y.one d = ap (λ (i : ℕ). get_or all i d) one in
-    let lower : a.lower ≡ b.lower = sym (x.meet d).there.on ∙ ap (λ (claim : Claim). claim.to) there ∙ (y.meet d).there.on in
+    let here : get_or all x.one d ≡ get_or all y.one d = rw one in
+    let lower : a.lower ≡ b.lower = cc (sym (x.meet d).there.on, there, (y.meet d).there.on) in
     let meet_a : MeetAt (get_or all y.one d) (get_or all y.other d) b.lower a.sector = rw (← here, ← there, ← lower) (x.meet d) in
     let meet_b : MeetAt (get_or all x.one d) (get_or all x.other d) a.lower b.sector = rw (here, there, lower) (y.meet d) in
     let sector : a.sector ≡ b.sector = in_turn a.sector b.sector (λ less. y.least d a.sector less meet_a) (λ more. x.least d b.sector more meet_b) in
@@ -280,7 +280,7 @@ clash_there stack clash sound is =
     let one = all s.one d (omega (arith, s.in_order, s.within)) in
     let other = all s.other d s.within in
     let met = s.meet d in
-    let inside : clash.sector < lower_len stack clash.lower = subst (λ (lower : Lower). clash.sector < lower_len stack lower) met.there.on (omega (arith, met.there.before, other.end)) in
+    let inside : clash.sector < lower_len stack clash.lower = rw (← met.there.on) (omega (arith, met.there.before, other.end)) in
     record {
       lower = lower_there stack clash.lower (omega (arith, inside));
       inside = inside;

@@ -21,8 +21,7 @@ get_or-with_before (y ∷ ys) (suc i) other x within =
 pub drop-with_before : {X : Type 0} (xs : List X) (i : ℕ) (x : X) → i < length xs → x ≡ get_or xs i x → drop i (with_before xs) ≡ record { before = take i xs; it = x } ∷ drop (i + 1) (with_before xs)
 drop-with_before {X} xs i x within is =
     let here : WithBefore X = record { before = take i xs; it = x } in
-    drop_more (with_before xs) i here (omega (arith, length-with_before xs))
-    ∙ ap (λ (y : WithBefore X). y ∷ drop (i + 1) (with_before xs)) (get_or-with_before xs i here x within ∙ ap (λ (y : X). record { before = take i xs; it = y }) (sym is))
+    rw (← (get_or-with_before xs i here x within ∙ ap (λ (y : X). record { before = take i xs; it = y }) (sym is))) (drop_more (with_before xs) i here (omega (arith, length-with_before xs)))
 
 -- nothing is left at the end
 drop-past : {X : Type 0} (xs : List X) (i : ℕ) → length xs ≤ i → drop i xs ≡ []

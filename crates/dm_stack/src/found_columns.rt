@@ -6,7 +6,7 @@ ghost use Rattle.std.specs.Prelude.{◌≡◌, IfOk, length};
 
 use crate::divisor::Divisor;
 use crate::id::Lower;
-use dm_table::Listed;
+use dm_table::{Listed, ReservedBox};
 use std::alloc::{AllocError, Global};
 use std::marker::Model;
 
@@ -20,7 +20,7 @@ pub struct FoundColumn {
 /// The columns of a striped line in their order. A clause sees them as a list.
 #[derive(Debug, Drop)]
 pub struct FoundColumns {
-    counted: Box<CountedColumns>,
+    counted: ReservedBox<CountedColumns>,
 }
 
 /// Columns, and how many these are.
@@ -32,14 +32,13 @@ struct CountedColumns {
 
 impl Model for FoundColumns {
     ghost use Rattle.std.specs.Prelude.{◌≡◌, List, length};
-    ghost use Rattle.std.specs.Box.{box_value};
     ghost use Rattle.dm_stack.specs.declared.found_columns.FoundColumn.{FoundColumn};
 
     ghost Value = { List FoundColumn };
 
-    ghost view = { λ found. (box_value found.counted).columns };
+    ghost view = { λ found. found.counted.columns };
 
-    ghost invariant = { λ found. (box_value found.counted).count ≡ length (box_value found.counted).columns };
+    ghost invariant = { λ found. found.counted.count ≡ length found.counted.columns };
 }
 
 impl FoundColumns {
@@ -52,7 +51,7 @@ impl FoundColumns {
     {
         let count = Divisor::new(columns.len() as u64);
         let columns = Listed::from_vec(columns);
-        let counted = Box::new(alloc, CountedColumns { columns, count })?;
+        let counted = ReservedBox::new(alloc, CountedColumns { columns, count })?;
         Ok(FoundColumns { counted })
     }
 
@@ -61,7 +60,7 @@ impl FoundColumns {
     pub fn as_slice(&self) -> &[FoundColumn]
         ensures { result.now ≡ self.now }
     {
-        self.counted.columns.as_slice()
+        self.counted.as_ref().columns.as_slice()
     }
 
     /// The number of columns.
@@ -69,6 +68,6 @@ impl FoundColumns {
     pub fn count(&self) -> &Divisor
         ensures { result.now ≡ length self.now }
     {
-        &self.counted.count
+        &self.counted.as_ref().count
     }
 }

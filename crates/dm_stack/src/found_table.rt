@@ -13,7 +13,7 @@ ghost use Rattle.dm_stack.specs.LineSearch.{AreFirsts, StartsAfter, StartsBy};
 use crate::found_line::{FoundLine, FoundTarget};
 use crate::limits::MOST_LINES;
 use crate::prefetched::Prefetched;
-use dm_table::Listed;
+use dm_table::{Listed, Reserved};
 use std::alloc::{AllocError, Global};
 use std::marker::Model;
 
@@ -22,7 +22,7 @@ use std::marker::Model;
 pub(crate) struct FoundTable {
     lines: Listed<FoundLine>,
     /// The index of the line of each bucket's first sector.
-    firsts: Vec<u32>,
+    firsts: Reserved<u32>,
     /// A bucket has two to this power of sectors.
     shift: u32,
 }
@@ -57,7 +57,7 @@ impl FoundTable {
         let (firsts, shift) = firsts_of(alloc, &lines)?;
         Ok(FoundTable {
             lines: Listed::from_vec(lines),
-            firsts,
+            firsts: Reserved::from_vec(firsts),
             shift,
         })
     }
@@ -96,7 +96,7 @@ impl FoundTable {
 
     /// Whether the lines are in buckets, and not so few that they are compared one by one.
     pub(crate) fn has_buckets(&self) -> bool {
-        !self.firsts.is_empty()
+        !self.firsts.as_slice().is_empty()
     }
 
     /// Reads the lines with which a search for a sector begins, if the lines are in buckets; else finds the

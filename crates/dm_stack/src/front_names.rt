@@ -15,7 +15,7 @@ ghost use Rattle.dm_stack.specs.declared.name_key.TheConstants.{ROOM};
 
 use crate::id::DeviceId;
 use crate::name_key::{NameKey, ROOM, first_space};
-use dm_table::DeviceSpec;
+use dm_table::{DeviceSpec, Reserved};
 use std::alloc::{AllocError, Global};
 use std::marker::Model;
 
@@ -41,7 +41,7 @@ pub(crate) struct Place {
 /// The names of devices. A clause sees the places.
 #[derive(Drop)]
 pub(crate) struct FrontNames {
-    places: Vec<Place>,
+    places: Reserved<Place>,
     /// A key's product is shifted by this to its first place.
     shift: u32,
 }
@@ -71,7 +71,10 @@ impl FrontNames {
             let place = place_of(devices, index);
             put(&mut places, first_place(&place.key, shift), place);
         }
-        Ok(FrontNames { places, shift })
+        Ok(FrontNames {
+            places: Reserved::from_vec(places),
+            shift,
+        })
     }
 
     /// The device of a short name, the first bytes of a room. `None` says nothing of the name.
@@ -104,7 +107,8 @@ impl FrontNames {
     fn find(&self, key: &NameKey) -> Option<DeviceId>
         ensures { IfSome result (λ device. Contains self.now (record { key = key.now; device = device })) }
     {
-        let ahead = self.places.get(first_place(key, self.shift)..)?;
+        let places = self.places.as_slice();
+        let ahead = places.get(first_place(key, self.shift)..)?;
         for place in ahead.get(..TRIES)? {
             if place.key.is(key) {
                 return Some(place.device);

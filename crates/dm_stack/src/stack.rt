@@ -45,21 +45,21 @@ use crate::name_index::NameIndex;
 use crate::name_key::{ROOM, first_space};
 use crate::prefetched::Prefetched;
 use crate::tidy::first_clash;
-use dm_table::{DeviceSpec, Disk, LoadFault, are_same};
+use dm_table::{DeviceSpec, Disk, Listed, LoadFault, Reserved, are_same};
 use std::alloc::{AllocError, Global};
 use std::marker::Model;
 
 /// A stack in which no check of a load finds a fault.
 #[derive(Drop)]
 pub struct Stack {
-    devices: Vec<DeviceSpec>,
-    disks: Vec<Disk>,
+    devices: Listed<DeviceSpec>,
+    disks: Listed<Disk>,
     device_names: NameIndex,
     disk_names: NameIndex,
-    found: Vec<FoundDevice>,
+    found: Reserved<FoundDevice>,
     depth: u32,
-    snapshots: Vec<DeviceId>,
-    texts: Vec<DiskText>,
+    snapshots: Reserved<DeviceId>,
+    texts: Reserved<DiskText>,
     fronts: FrontNames,
 }
 
@@ -69,9 +69,9 @@ impl Model for Stack {
 
     ghost Value = { Description };
 
-    ghost view = { λ stack. record { devices = stack.devices.items; disks = stack.disks.items } };
+    ghost view = { λ stack. record { devices = stack.devices; disks = stack.disks } };
 
-    ghost invariant = { λ stack. IsLoaded (described stack.devices.items stack.disks.items)
+    ghost invariant = { λ stack. IsLoaded (described stack.devices stack.disks)
         stack.device_names stack.disk_names stack.found.items stack.depth stack.snapshots.items
         stack.texts.items stack.fronts };
 }
@@ -135,14 +135,14 @@ impl Stack {
     {
         let checked = check(alloc, &devices, &disks)?;
         Ok(Stack {
-            devices,
-            disks,
+            devices: Listed::from_vec(devices),
+            disks: Listed::from_vec(disks),
             device_names: checked.names.devices,
             disk_names: checked.names.disks,
-            found: checked.found,
+            found: Reserved::from_vec(checked.found),
             depth: checked.depth,
-            snapshots: checked.snapshots,
-            texts: checked.texts,
+            snapshots: Reserved::from_vec(checked.snapshots),
+            texts: Reserved::from_vec(checked.texts),
             fronts: checked.fronts,
         })
     }
@@ -152,7 +152,7 @@ impl Stack {
         ensures devices { result.0.items ≡ self.devices }
         ensures disks { result.1.items ≡ self.disks }
     {
-        (self.devices, self.disks)
+        (self.devices.into_vec(), self.disks.into_vec())
     }
 
     /// The device of a name.
@@ -196,7 +196,7 @@ impl Stack {
             (λ found. text.now ≡ take found.1 text.now ++ space ∷ drop (found.1 + 1) text.now) }
     {
         let (device, len) = self.fronts.find_long(text)?;
-        let spec = self.devices.get(device.index())?;
+        let spec = self.devices.as_slice().get(device.index())?;
         if are_same(spec.name.as_str().as_bytes(), &text[..len]) {
             Some((device, len))
         } else {
@@ -207,17 +207,23 @@ impl Stack {
     /// Whether `prefetch` is worth its time for some device: one that is a snapshot, or has more than three
     /// lines. Cost: linear in the devices.
     pub fn gains_by_prefetch(&self) -> bool {
-        !self.snapshots.is_empty() || self.found.iter().any(|device| device.table.has_buckets())
+        !self.snapshots().is_empty()
+            || self
+                .found
+                .as_slice()
+                .iter()
+                .any(|device| device.table.has_buckets())
     }
 
     /// Reads what a look-up of a sector reads first, so that it is in the cache by then: of a device in long
     /// tables a look-up waits most of its time for memory, and waits that are begun together overlap.
     ///
-    /// It says nothing of the stack, and counts as no search. What it read is returned, since a read of which
-    /// nothing comes is left out. No memory is taken. Cost: that of two reads.
+    /// It says nothing of the stack. What it read is returned, since a read of which nothing comes is left out.
+    /// That is at most two reads: of the index of a bucket's first line, or of a snapshot's only line, and of
+    /// the lines there. They compare nothing, and are counted nowhere. No memory is taken.
     #[inline(always)]
     pub fn prefetch(&self, device: DeviceId, sector: u64) -> Prefetched {
-        match self.found.get(device.index()) {
+        match self.found.as_slice().get(device.index()) {
             Some(found) => found.table.prefetch(sector),
             None => Prefetched::Nothing,
         }
@@ -238,21 +244,21 @@ impl Stack {
         ensures len { result ≡ disk_len self.now disk }
         ensures size { IsLength result }
     {
-        self.disks[disk.index()].len
+        self.disks.as_slice()[disk.index()].len
     }
 
     /// The number of devices, at most 1,024.
     pub fn device_count(&self) -> usize
         ensures { result ≡ length self.now.devices }
     {
-        self.devices.len()
+        self.devices.as_slice().len()
     }
 
     /// The number of disks, at most 1,024.
     pub fn disk_count(&self) -> usize
         ensures { result ≡ length self.now.disks }
     {
-        self.disks.len()
+        self.disks.as_slice().len()
     }
 
     /// The greatest depth of a device, 0 without devices. A device is one deeper than the deepest
@@ -341,7 +347,7 @@ impl Stack {
         requires { device < length self.now.devices }
         ensures { result.now ≡ name_at self.now device }
     {
-        self.devices[device.index()].name.as_str()
+        self.devices.as_slice()[device.index()].name.as_str()
     }
 
     /// The name of a disk of the stack.
@@ -350,7 +356,7 @@ impl Stack {
         ensures name { result.now ≡ disk_name_at self.now disk }
         ensures form { IsTrue (is_disk_name result.now) }
     {
-        self.disks[disk.index()].name.as_str()
+        self.disks.as_slice()[disk.index()].name.as_str()
     }
 
     /// The name of a disk of the stack and a space, as lines have them.
@@ -368,8 +374,8 @@ impl Stack {
         ensures sound { IsSound self.now }
     {
         Indexed::new(
-            &self.devices,
-            &self.disks,
+            self.devices.as_slice(),
+            self.disks.as_slice(),
             &self.device_names,
             &self.disk_names,
         )

@@ -4,3 +4,5 @@ pub mod tables
 pub mod requests
 pub mod load
 pub mod laws
+pub mod Reserved
+pub mod ReservedLends

@@ -9,6 +9,7 @@
 mod io;
 mod load;
 mod requests;
+mod reserved;
 mod tables;
 mod words;
 
@@ -26,6 +27,7 @@ pub use load::part_input::{MOST_PART_BYTES, read_part};
 pub use load::place::{Part, Place};
 pub use requests::request::{MOST_SECTORS, Op, Request, RequestFault};
 pub use requests::request_line::{first_op, front_request, parse_request};
+pub use reserved::{Reserved, ReservedBox};
 pub use tables::canonical_text::{write_concise, write_table};
 pub use tables::concise_text::parse_concise;
 pub use tables::disk::Disk;

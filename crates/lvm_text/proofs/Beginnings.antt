@@ -27,7 +27,7 @@ done = (0, at.Key)
 -- A text is run through
 
 scalar_next : (t : Token) (s : Scalar) (next : State) → scalar_of t ≡ Some s → scalar_then t next ≡ Some next
-scalar_next t s next e = ap (λ (o : Option Scalar). cond (is_some o) (Some next) None) e
+scalar_next t s next e = rw e
 
 -- a stage where a word or a text stands is left as a scalar leaves it
 scalar_step : (p : Stage) (d : ℕ) (next : State) → ((w : List ℕ) → step d p (Word w) ≡ scalar_then (Word w) next) → ((w : List ℕ) → step d p (Text w) ≡ Some next) → (t : Token) (s : Scalar) → scalar_of t ≡ Some s → step d p t ≡ Some next
@@ -165,7 +165,7 @@ one at.First ListClose n ts d ih e = ([], ts, (n, refl), ih d at.Key e)
 one at.First (Word w) n ts d ih e = first_word (Word w) n ts d ih e
 one at.First (Text w) n ts d ih e = first_word (Text w) n ts d ih e
 one at.After ListClose n ts d ih e = ([], ts, (n, refl), ih d at.Key e)
-one at.After Comma n ts d ih e = let h = ih d at.Next e in (h.3 ∷ h.4, h.5, (n, h.0, h.1, h.2, ap (λ (xs : List TokenAtLine). (Comma, n) ∷ xs) h.6, h.7, h.8), h.9)
+one at.After Comma n ts d ih e = let h = ih d at.Next e in (h.3 ∷ h.4, h.5, (n, h.0, h.1, h.2, rw h.6, h.7, h.8), h.9)
 one at.Next t n ts d ih e = next_word t n ts d ih e
 one p t n ts d ih e = absurd cc
 
@@ -263,7 +263,7 @@ shallow d p t = tt
 
 -- the end of a text
 pub over : (d : ℕ) (p : Stage) → is_over d p ≡ true → ◌≡◌ {A = State} (d, p) done
-over d at.Key h = ap (λ (n : ℕ). (n, at.Key)) (eqb-true d 0 h)
+over d at.Key h = rw (eqb-true d 0 h)
 over d p h = absurd cc
 
 pub not_over : (d : ℕ) (p : Stage) → is_over d p ≡ false → ◌≢◌ {A = State} (d, p) done

@@ -75,7 +75,7 @@ list_ends start done rest after h e d = λ ss b r.
     (x.1 ∙ ap (λ (l : List Scalar). done ++ l) n.0 ∙ append-nil done, sym n.1 ∙ sym d)
 
 pub item_none : (ts : List code.TokenAtLine) (first : code.TokenAtLine) (rest : List code.TokenAtLine) → ts ≡ first ∷ rest → None ≡ bounded_of (token_view first.token) → None ≡ scalar_first (views ts)
-item_none ts first rest e none = sym (ap (λ (xs : List code.TokenAtLine). scalar_first (views xs)) e ∙ ap (option_map (λ s. (s, views rest))) (sym none))
+item_none ts first rest e none = sym (rw e (ap (option_map (λ s. (s, views rest))) (sym none)))
 
 pub list_same : (x y : TokenAtLine) (ts us : List TokenAtLine) → ◌≡◌ {A = List TokenAtLine} (x ∷ ts) (y ∷ us) → (x ≡ y) × (ts ≡ us)
 list_same x y ts us e = (cc, cc)
@@ -93,10 +93,10 @@ no_bracket Comma s o e = cc
 pub leaf_list : (tokens : List TokenAtLine) (first : TokenAtLine) (inner : List TokenAtLine) (scalars : List Scalar) (value : Value) (rest : List TokenAtLine) → tokens ≡ first ∷ inner → is_list_open first.0 ≡ true
     → ((k : List ℕ) (n : ℕ) (v : Values) → Several k n scalars v ≡ put k n value v) → ReadsScalars inner scalars rest → ReadsLeaf tokens value rest
 leaf_list tokens first inner scalars value rest e o shows read = record {
-  single = λ t m s b same scalar. absurd (no_bracket t s (sym (ap (λ (p : TokenAtLine). is_list_open p.0) (list_same first (t, m) inner b (sym e ∙ same)).0) ∙ o) scalar);
+  single = λ t m s b same scalar. absurd (no_bracket t s (sym (rw ((list_same first (t, m) inner b (sym e ∙ same)).0)) ∙ o) scalar);
   several = λ p a ss b same list.
-      let x = read ss b (subst (λ (ts : List TokenAtLine). ReadsListBy bounded_of ts ss b) (sym (list_same first (ListOpen, p) inner a (sym e ∙ same)).1) list) in
-      (λ k n v. ap (λ (q : List Scalar). Several k n q v) x.0 ∙ shows k n v, x.1);
+      let x = read ss b (rw (← sym (list_same first (ListOpen, p) inner a (sym e ∙ same)).1) list) in
+      (λ k n v. rw x.0 (shows k n v), x.1);
 }
 
 -- Values
@@ -116,7 +116,7 @@ pub values_more : (start : List TokenAtLine) (es : List Entry) (rest tokens afte
     → ReadsValue e.node.line tokens e.node.value after → ValuesSoFar start (es ++ e ∷ []) after
 values_more start es rest tokens after e h same value = λ v more r stop.
     let x = h v more r stop in
-    let y = value e.key.now x.0 more (subst (λ (ts : List TokenAtLine). ReadsBy bounded_of ts x.0 more) same x.2) stop in
+    let y = value e.key.now x.0 more (rw (← same) x.2) stop in
     (y.0, x.1 ∙ ap (before es) y.1 ∙ sym (before_push es e y.0), y.2)
 
 -- where no key stands, no values are left
@@ -157,7 +157,7 @@ same_key k q line n ts us e =
 
 -- the second token, after the key, is no other
 not_open : (first : TokenAtLine) (after : List TokenAtLine) (tokens : List TokenAtLine) (t : Token) (n : ℕ) (us : List TokenAtLine) → tokens ≡ first ∷ after → tokens ≡ (t, n) ∷ us → is_open first.0 ≡ is_open t
-not_open first after tokens t n us e h = ap (λ (x : TokenAtLine). is_open x.0) (list_same first (t, n) after us (sym e ∙ h)).0
+not_open first after tokens t n us e h = rw ((list_same first (t, n) after us (sym e ∙ h)).0)
 
 pub value_section : (line : ℕ) (tokens : List TokenAtLine) (first : TokenAtLine) (inner : List TokenAtLine) (inside : Values) (after rest : List TokenAtLine) → tokens ≡ first ∷ inner → is_open first.0 ≡ true
     → ReadsValues inner inside after → rest ≡ drop 1 after → (k : List ℕ) (v : Values) (more : List TokenAtLine) → ReadsBy bounded_of ((Word k, line) ∷ tokens) v more → begins_key more ≡ false
@@ -166,11 +166,11 @@ value_section line tokens first inner inside after rest e o read d k Nothing mor
 value_section line tokens first inner inside after rest e o read d k (Section q n in_ later) more r stop =
     let s = same_key k q line n tokens ((Open, r.1) ∷ r.3) r.5 in
     let a : inner ≡ r.3 = (list_same first (Open, r.1) inner r.3 (sym e ∙ s.after)).1 in
-    let x = read in_ ((Close, r.2) ∷ r.4) (subst (λ (ts : List TokenAtLine). ReadsBy bounded_of ts in_ ((Close, r.2) ∷ r.4)) (sym a) r.6) refl in
+    let x = read in_ ((Close, r.2) ∷ r.4) (rw a r.6) refl in
     let b : r.4 ≡ rest = ap (drop 1) x.1 ∙ sym d in (
       later,
-      ap (λ (v : Values). Section q n v later) x.0 ∙ ap (λ (w : List ℕ). Section w n inside later) (sym s.key) ∙ ap (λ (m : ℕ). Section k m inside later) (sym s.at),
-      subst (λ (ts : List TokenAtLine). ReadsBy bounded_of ts later more) b r.7,
+      rw (x.0, ← s.key, ← s.at),
+      rw (← b) r.7,
     )
 value_section line tokens first inner inside after rest e o read d k (Single q n x later) more r stop =
     let s = same_key k q line n tokens ((Equals, r.1) ∷ (r.3, r.2) ∷ r.4) r.5 in
@@ -199,8 +199,8 @@ opened line tokens first inner e o k (Section q n in_ later) more r stop =
       inside = in_;
       later = later;
       more = (Close, r.2) ∷ r.4;
-      is = ap (λ (w : List ℕ). Section w n in_ later) (sym s.key) ∙ ap (λ (m : ℕ). Section k m in_ later) (sym s.at);
-      read = subst (λ (ts : List TokenAtLine). ReadsBy bounded_of ts in_ ((Close, r.2) ∷ r.4)) (sym a) r.6;
+      is = rw (← s.key, ← s.at);
+      read = rw a r.6;
       stop = refl;
     }
 opened line tokens first inner e o k (Single q n x later) more r stop =
@@ -223,12 +223,12 @@ value_leaf_at line tokens first after value rest e o leaf k (Single q n x later)
     let s = same_key k q line n tokens ((Equals, r.1) ∷ (r.3, r.2) ∷ r.4) r.5 in
     let a : after ≡ (r.3, r.2) ∷ r.4 = (list_same first (Equals, r.1) after ((r.3, r.2) ∷ r.4) (sym e ∙ s.after)).1 in
     let l = leaf.single r.3 r.2 x r.4 a r.6 in
-    (later, ap (λ (w : List ℕ). Single w n x later) (sym s.key) ∙ ap (λ (m : ℕ). Single k m x later) (sym s.at) ∙ l.0 k line later, subst (λ (ts : List TokenAtLine). ReadsBy bounded_of ts later more) l.1 r.7)
+    (later, rw (← s.key, ← s.at) (l.0 k line later), rw (← l.1) r.7)
 value_leaf_at line tokens first after value rest e o leaf k (Several q n xs later) more r stop =
     let s = same_key k q line n tokens ((Equals, r.1) ∷ (ListOpen, r.2) ∷ r.3) r.5 in
     let a : after ≡ (ListOpen, r.2) ∷ r.3 = (list_same first (Equals, r.1) after ((ListOpen, r.2) ∷ r.3) (sym e ∙ s.after)).1 in
     let l = leaf.several r.2 r.3 xs r.4 a r.6 in
-    (later, ap (λ (w : List ℕ). Several w n xs later) (sym s.key) ∙ ap (λ (m : ℕ). Several k m xs later) (sym s.at) ∙ l.0 k line later, subst (λ (ts : List TokenAtLine). ReadsBy bounded_of ts later more) l.1 r.7)
+    (later, rw (← s.key, ← s.at) (l.0 k line later), rw (← l.1) r.7)
 
 pub value_leaf : (line : ℕ) (tokens : List TokenAtLine) (first : TokenAtLine) (after : List TokenAtLine) (value : Value) (rest : List TokenAtLine) → tokens ≡ first ∷ after → is_open first.0 ≡ false → ReadsLeaf after value rest
     → ReadsValue line tokens value rest

@@ -22,7 +22,7 @@ pub record Sign (b : ℕ) (t : Token) : Type 0 where
 sign_if : (b n : ℕ) (t : Token) (later : Option Token) → n ∷ [] ≡ token_spelling t → ((after : List ℕ) → IsToken t after) → MatchOption later (Unit {0}) (Sign b) → MatchOption (cond (eqb b n) (Some t) later) (Unit {0}) (Sign b)
 sign_if b n t later e any h =
     cond_elim (eqb b n) (λ r. MatchOption r (Unit {0}) (Sign b)) (Some t) later
-    (λ is. record { spelled = ap (λ (x : ℕ). x ∷ []) (eqb-true b n is) ∙ e; any = any })
+    (λ is. record { spelled = rw (eqb-true b n is) e; any = any })
     (λ no. h)
 
 sign_found : (b : ℕ) → MatchOption (sign_of b) (Unit {0}) (Sign b)
@@ -106,12 +106,12 @@ white_again b after h = rw h refl
 token_again : (t : Token) (after : List ℕ) → IsToken t after → element_at (token_spelling t ++ after) ≡ Some (Lexeme t, after)
 unfolding element_at
 token_again (Word w) after h = word_again' w after h
-token_again (Text t) after h = ap (λ (xs : List ℕ). element_at (quote ∷ xs)) (append_assoc t (quote ∷ []) after) ∙ text_again t after h
+token_again (Text t) after h = rw (append_assoc t (quote ∷ []) after) (text_again t after h)
 token_again _ after h = refl
 
 spelled_again : (p : Element) (after : List ℕ) → IsElement p after → element_at (spelling p ++ after) ≡ Some (p, after)
 spelled_again (White b) after h = white_again b after h
-spelled_again (Comment c) after h = ap (λ (xs : List ℕ). element_at (hash ∷ xs)) (append_assoc c (newline ∷ []) after) ∙ comment_again c after h
+spelled_again (Comment c) after h = rw (append_assoc c (newline ∷ []) after) (comment_again c after h)
 spelled_again (Lexeme t) after h = token_again t after h
 
 pub element_again : (bs : List ℕ) (p : Element) (after : List ℕ) → Begins bs p after → element_at bs ≡ Some (p, after)
@@ -179,7 +179,7 @@ one_bad text m n h k = h.at ∙ ap (line_after 1) (one_cut text h.elements k.ele
 -- One more element
 
 pub cut_more : (text : List ℕ) (ps : List Element) (r : List ℕ) (p : Element) (after : List ℕ) → Cut text ps r → Begins r p after → Cut text (ps ++ p ∷ []) after
-cut_more text [] r p after h b = (after, subst (λ (x : List ℕ). Begins x p after) (sym h) b, refl)
+cut_more text [] r p after h b = (after, rw h b, refl)
 cut_more text (q ∷ ps) r p after h b = (h.0, h.1, cut_more h.0 ps r p after h.2 b)
 
 pub line_more : (n : ℕ) (ps : List Element) (p : Element) → line_after n (ps ++ p ∷ []) ≡ line_after n ps + newlines (spelling p)
@@ -211,7 +211,7 @@ pub before_more : (text : List ℕ) (line : ℕ) (tokens : List TokenAtLine) (re
 before_more text line tokens rest p after h b = record {
   elements = h.elements ++ p ∷ [];
   cut = cut_more text h.elements rest p after h.cut b;
-  at = ap (λ (n : ℕ). n + newlines (spelling p)) h.at ∙ sym (line_more 1 h.elements p);
+  at = rw h.at (sym (line_more 1 h.elements p));
   cut_tokens = rw (h.cut_tokens, h.at) (sym (tokens_more 1 h.elements p));
 }
 

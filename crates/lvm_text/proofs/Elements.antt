@@ -5,10 +5,10 @@ use Rattle.std.proofs.lemmas.Bool.{and_parts, or_cases, not-true, eqb-true}
 use Rattle.std.proofs.lemmas.Bool.Decides.{nat_tests}
 use Rattle.std.proofs.lemmas.Option.{MatchOption-at_some}
 use Rattle.lvm_text.specs.Bytes.{backslash, close_brace, close_bracket, comma, equals, hash, newline, open_brace, open_bracket, quote}
-use Rattle.lvm_text.specs.Token.{Token, Word, Text, Open, Close, ListOpen, ListClose, Equals, Comma}
-use Rattle.lvm_text.specs.Spelling.{Element, White, Comment, Lexeme, spelling, token_spelling, IsToken, IsElement, Begins, is_white, is_line, is_word_byte, is_raw, is_plain, is_escapable, newlines}
+use Rattle.lvm_text.specs.Token.{Token, Word, Text, Open, Close, ListOpen, ListClose, Equals, Comma, TokenAtLine}
+use Rattle.lvm_text.specs.Spelling.{Element, White, Comment, Lexeme, spelling, token_spelling, IsToken, IsElement, Begins, is_white, is_line, is_word_byte, is_raw, is_plain, is_escapable, newlines, put_token}
 use Rattle.lvm_text.specs.Scan.{element_at, element_from}
-use Rattle.lvm_text.proofs.Cuts.{Found, element_found}
+use Rattle.lvm_text.proofs.Cuts.{Found, element_found, Before, before_more}
 
 -- The front
 
@@ -33,6 +33,11 @@ element_beyond (b ∷ bs) h =
     let t = beyond b h in
     let s = beyond_sign b h in
     rw (t.0, t.1, t.2, t.3, s.0, s.1, s.2, s.3, s.4, s.5) refl
+
+pub element_white : (bs rest : List ℕ) (b : ℕ) → 0 < length bs → b ≡ get_or bs 0 b → rest ≡ drop 1 bs → is_white b ≡ true → Some (White b, rest) ≡ element_at bs
+unfolding element_at
+element_white [] rest b lt first e white = absurd (omega arith)
+element_white (a ∷ bs) rest b lt first e white = rw (← first, white, e) refl
 
 pub element_cons : (bs rest : List ℕ) → 0 < length bs → rest ≡ drop 1 bs → element_from (get_or bs 0 0) rest ≡ element_at bs
 unfolding element_at
@@ -129,6 +134,19 @@ shorter bs p after h =
     let some : 0 < length (spelling p) = spelling_some p after h.1 in
     let most : newlines (spelling p) ≤ length (spelling p) = newlines-le-length (spelling p) in
     (omega (arith, length-append (spelling p) after), omega (arith, length-append (spelling p) after))
+
+-- the text up to here: its tokens, and a line that is no more than the bytes before
+pub record Reached (text : List ℕ) (line : ℕ) (tokens : List TokenAtLine) (rest : List ℕ) : Type 0 where
+  pub before : Before text line tokens rest
+  pub most : line + length rest ≤ 1 + length text
+
+-- and up to the end of the next element
+pub reached_more : {text rest after : List ℕ} {line lines : ℕ} {tokens more : List TokenAtLine} {p : Element} → Reached text line tokens rest → Some (p, after) ≡ element_at rest
+    → more ≡ tokens ++ put_token p line [] → lines ≡ newlines (spelling p) → Reached text (line + lines) more after × (length after < length rest)
+reached_more {text} {rest} {after} {line} {lines} {tokens} {more} {p} h e m l =
+    let b = begins rest p after e in
+    let s = shorter rest p after b in
+    (rw (m, l) (record { before = before_more text line tokens rest p after h.before b; most = omega (arith, s.1, h.most) }), s.0)
 
 pub some_bytes : (bs : List ℕ) → false ≡ eqb (length bs) 0 → 0 < length bs
 some_bytes [] h = absurd (true_false (sym h))

@@ -123,7 +123,7 @@ pub stands_at : (es : List Entry) (key : List ℕ) (at : ℕ) → lines_agree es
 stands_at es key at agree is =
     let s = stands es key 0 at agree is in
     let same : s.after ≡ at = omega (arith, s.is) in
-    (omega (arith, same, s.within), λ d. s.node d ∙ ap (λ (n : ℕ). Some (node_view (get_or es n d).node)) same)
+    (omega (arith, same, s.within), λ d. rw (← same) (s.node d))
 
 -- a key with no position has no node
 pub absent : (es : List Entry) (key : List ℕ) (first : ℕ) → lines_agree es ≡ true → position_of key first es ≡ None → node_of key (values_of es) ≡ None

@@ -21,7 +21,7 @@ or_true false = refl
 
 -- a key that none of these values has
 has_more : (k q : List ℕ) (ks : List (List ℕ)) → has_key q ks ≡ true → has_key q (k ∷ ks) ≡ true
-has_more k q ks h = ap (λ (b : Bool). bytes_eq k q || b) h ∙ or_true (bytes_eq k q)
+has_more k q ks h = rw h (or_true (bytes_eq k q))
 
 apart_from : (k q : List ℕ) (ks : List (List ℕ)) → has_key k ks ≡ false → has_key q ks ≡ true → q ≢ k
 apart_from k q ks new old = λ e. let wrong : false ≡ true = sym new ∙ ap (λ (w : List ℕ). has_key w ks) (sym e) ∙ old in cc
@@ -42,7 +42,7 @@ same_bytes : (k : List ℕ) → bytes_eq k k ≡ true
 same_bytes k = (bytes_eq-Decides k k).1 refl
 
 has_first : (k : List ℕ) (ks : List (List ℕ)) → has_key k (k ∷ ks) ≡ true
-has_first k ks = ap (λ (b : Bool). b || has_key k ks) (same_bytes k)
+has_first k ks = rw (same_bytes k)
 
 -- no two keys are alike
 pub keys_differ : (v : Values) (ks : List (List ℕ)) → twice_lines ks v ≡ [] → AllPairs (λ j k. j ≢ k) (keys_of v)

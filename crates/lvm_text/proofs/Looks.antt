@@ -1,25 +1,25 @@
 -- Looking a key up, and going over the sections.
-use Rattle.std.proofs.Common.{◌≡◌, ℕ, true, cond, List, [], ◌∷◌, Some, refl, sym, ap, ◌∙◌}
+use Rattle.std.proofs.Common.{◌≡◌, ℕ, true, cond, List, [], ◌∷◌, Some, refl, ap, ◌∙◌}
 use Rattle.std.specs.Prelude.{bytes_eq}
 use Rattle.std.proofs.lemmas.Bool.{and_parts, eqb-true}
-use Rattle.lvm_text.specs.Tree.{Values, Tree, Shown, Inner, node_of, sections_of}
+use Rattle.lvm_text.specs.Tree.{Values, Tree, node_of, sections_of}
 use Rattle.lvm_text.specs.View.{put, values_of, has_line, lines_agree, content_view, put_section, sections_in}
 use Rattle.lvm_text.specs.declared.tree.Value.{Value}
 use Rattle.lvm_text.specs.declared.tree.Value.TheVariants as variants
 use Rattle.lvm_text.specs.declared.tree.Entry.{Entry}
 
 same_line : (s : Tree) (n : ℕ) → (s.line ≡ n) → ◌≡◌ {A = Tree} (record { line = n; values = s.values }) s
-same_line s n e = ap (λ (m : ℕ). let t : Tree = record { line = m; values = s.values } in t) (sym e)
+same_line s n e = rw (← e)
 
 pub node_put : (key k : List ℕ) (n : ℕ) (value : Value) (rest : Values) → has_line n value ≡ true → node_of key (put k n value rest) ≡ cond (bytes_eq k key) (Some (record { line = n; content = content_view value })) (node_of key rest)
 node_put key k n (variants.Section s) rest h =
-    ap (λ (t : Tree). let shown : Shown = record { line = n; content = Inner t } in cond (bytes_eq k key) (Some shown) (node_of key rest)) (same_line s n (eqb-true s.line n h))
+    rw (same_line s n (eqb-true s.line n h))
 node_put key k n (variants.Int i) rest h = refl
 node_put key k n (variants.Text t) rest h = refl
 node_put key k n (variants.List v) rest h = refl
 
 sections_put : (k : List ℕ) (n : ℕ) (value : Value) (rest : Values) → has_line n value ≡ true → sections_of (put k n value rest) ≡ put_section k value (sections_of rest)
-sections_put k n (variants.Section s) rest h = ap (λ (t : Tree). (k, t) ∷ sections_of rest) (same_line s n (eqb-true s.line n h))
+sections_put k n (variants.Section s) rest h = rw (same_line s n (eqb-true s.line n h))
 sections_put k n (variants.Int i) rest h = refl
 sections_put k n (variants.Text t) rest h = refl
 sections_put k n (variants.List v) rest h = refl

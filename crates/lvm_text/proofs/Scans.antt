@@ -102,7 +102,7 @@ pub raw_found : (bs : List ℕ) → MatchOption (raw_length bs) (Unit {0}) (Raw 
 raw_found [] = tt
 raw_found (b ∷ []) =
     cond_elim (eqb b quote) (λ r. MatchOption r (Unit {0}) (Raw (b ∷ []))) (Some 0) None
-    (λ is. record { cut = ap (λ (x : ℕ). x ∷ []) (eqb-true b quote is); raw = refl })
+    (λ is. record { cut = rw (eqb-true b quote is); raw = refl })
     (λ no. tt)
 raw_found (b ∷ c ∷ bs) =
     let P : Option ℕ → Type 0 = λ r. MatchOption r (Unit {0}) (Raw (b ∷ c ∷ bs)) in

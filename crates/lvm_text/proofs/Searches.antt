@@ -1,5 +1,5 @@
 -- The first position of a byte, as a length of what stands before it.
-use Rattle.std.proofs.Common.{◌≡◌, ◌≢◌, ℕ, zero, suc, ◌+◌, ◌-◌, ◌<◌, ◌≤◌, Bool, true, false, cond, not, ◌&&◌, ◌||◌, eqb, List, [], ◌∷◌, length, get_or, take, drop, Option, Some, None, refl, sym, ap, subst, ◌∙◌, arith, length-drop}
+use Rattle.std.proofs.Common.{◌≡◌, ◌≢◌, ℕ, zero, suc, ◌+◌, ◌-◌, ◌<◌, ◌≤◌, Bool, true, false, cond, not, ◌&&◌, ◌||◌, eqb, List, [], ◌∷◌, length, get_or, take, drop, Option, Some, None, refl, sym, ap, ◌∙◌, arith, length-drop}
 use Rattle.std.specs.Prelude.{option_map, is_some, is_none}
 use Rattle.std.proofs.lemmas.Bool.{and_parts, false_from_ne_true, eqb-true, ne_eqb}
 use Rattle.std.proofs.lemmas.List.{take_rest, drop-drop}
@@ -130,14 +130,14 @@ pub record At (bs : List ℕ) (k : ℕ) : Type 0 where
 
 pub stop_at : (bs : List ℕ) (i p : ℕ) → plus i (raw_length (drop i bs)) ≡ raw_length bs → Stop bs i (Some p) → At bs (i + p)
 stop_at bs i p inv h =
-    let k : IsFirstByte (is_byte3 quote backslash newline) (drop i bs) (Some p) = subst (λ (xs : List ℕ). IsFirstByte (is_byte3 quote backslash newline) xs (Some p)) (take_rest bs i) h in
+    let k : IsFirstByte (is_byte3 quote backslash newline) (drop i bs) (Some p) = rw (← take_rest bs i) h in
     let lt : p < length (drop i bs) = k.0.high in
     let at : drop p (drop i bs) ≡ drop (i + p) bs = drop-drop p i bs in
     let hit : is_byte3 quote backslash newline (get_or (drop p (drop i bs)) 0 0) ≡ true = rw (first_of_drop (drop i bs) p) k.1 in
     record {
       same = sym (plus_plus i p (raw_length (drop (i + p) bs))) ∙ ap (λ (xs : List ℕ). plus i (plus p (raw_length xs))) (sym at) ∙ ap (plus i) (sym (raw_skip (drop i bs) p k)) ∙ inv;
       within = omega (arith, length-drop i bs);
-      stops = subst (λ (b : ℕ). is_byte3 quote backslash newline b ≡ true) (ap (λ (xs : List ℕ). get_or xs 0 0) at ∙ first_of_drop bs (i + p)) hit;
+      stops = rw (← (ap (λ (xs : List ℕ). get_or xs 0 0) at ∙ first_of_drop bs (i + p))) hit;
     }
 
 rest_some : (bs : List ℕ) (k : ℕ) → k < length bs → 0 < length (drop k bs)
@@ -161,5 +161,5 @@ escape_at bs k h e =
 
 pub ended_at : (bs : List ℕ) (i : ℕ) → plus i (raw_length (drop i bs)) ≡ raw_length bs → Stop bs i None → None ≡ raw_length bs
 ended_at bs i inv h =
-    let k : IsFirstByte (is_byte3 quote backslash newline) (drop i bs) None = subst (λ (xs : List ℕ). IsFirstByte (is_byte3 quote backslash newline) xs None) (take_rest bs i) h in
+    let k : IsFirstByte (is_byte3 quote backslash newline) (drop i bs) None = rw (← take_rest bs i) h in
     ap (plus i) (sym (raw_none (drop i bs) k)) ∙ inv

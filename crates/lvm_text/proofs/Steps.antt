@@ -1,9 +1,8 @@
 -- The tokens before a position, at it and after it.
-use Rattle.std.proofs.Common.{◌≡◌, ℕ, zero, suc, ◌+◌, ◌<◌, ◌≤◌, true, false, List, [], ◌∷◌, ◌++◌, length, get_or, take, drop, Some, None, refl, sym, ap, subst, ◌∙◌, arith, inl, inr, add-one}
+use Rattle.std.proofs.Common.{◌≡◌, ℕ, zero, suc, ◌+◌, ◌<◌, ◌≤◌, false, List, [], ◌∷◌, ◌++◌, length, get_or, take, drop, Some, None, refl, sym, ap, ◌∙◌, arith, inl, inr, add-one}
 use Rattle.std.specs.Prelude.{option_and_then}
 use Rattle.std.proofs.lemmas.Option.{MatchOption-at_some}
-use Rattle.lvm_text.specs.Token as spec
-use Rattle.lvm_text.specs.Grammar.{IsBreak, IsSyntaxLine}
+use Rattle.lvm_text.specs.Grammar.{IsSyntaxLine}
 use Rattle.lvm_text.specs.Machine.{State, step, run, is_over}
 use Rattle.lvm_text.specs.TokenView.{token_view, view, views}
 use Rattle.lvm_text.specs.declared.token.TokenAtLine.{TokenAtLine}
@@ -14,20 +13,20 @@ use Rattle.lvm_text.proofs.Beginnings.{broken, unfinished, last_run, shallow, no
 pub views_at : (ts : List TokenAtLine) (i : ℕ) (d : TokenAtLine) → i < length ts → views ts ≡ views (take i ts) ++ view (get_or ts i d) ∷ views (drop (suc i) ts)
 views_at [] i d lt = absurd (omega arith)
 views_at (t ∷ ts) zero d lt = refl
-views_at (t ∷ ts) (suc i) d lt = ap (λ (xs : List spec.TokenAtLine). view t ∷ xs) (views_at ts i d (omega arith))
+views_at (t ∷ ts) (suc i) d lt = rw (views_at ts i d (omega arith))
 
 views_suc : (ts : List TokenAtLine) (i : ℕ) (d : TokenAtLine) → i < length ts → views (take (suc i) ts) ≡ views (take i ts) ++ view (get_or ts i d) ∷ []
 views_suc [] i d lt = absurd (omega arith)
 views_suc (t ∷ ts) zero d lt = refl
-views_suc (t ∷ ts) (suc i) d lt = ap (λ (xs : List spec.TokenAtLine). view t ∷ xs) (views_suc ts i d (omega arith))
+views_suc (t ∷ ts) (suc i) d lt = rw (views_suc ts i d (omega arith))
 
 pub views_more : (ts : List TokenAtLine) (i : ℕ) (d : TokenAtLine) → i < length ts → views (take (i + 1) ts) ≡ views (take i ts) ++ view (get_or ts i d) ∷ []
-views_more ts i d lt = ap (λ (n : ℕ). views (take n ts)) (add-one i) ∙ views_suc ts i d lt
+views_more ts i d lt = rw (add-one i) (views_suc ts i d lt)
 
 pub refused : (ts : List TokenAtLine) (i : ℕ) (x : TokenAtLine) (depth : ℕ) (stage : Stage) (end : ℕ) → i < length ts → run 0 at.Key (views (take i ts)) ≡ Some (depth, stage)
     → None ≡ step depth stage (token_view (get_or ts i x).token) → IsSyntaxLine (views ts) end (get_or ts i x).line
 refused ts i x depth stage end lt e none =
-    inl (subst (λ (xs : List spec.TokenAtLine). IsBreak xs (get_or ts i x).line) (sym (views_at ts i x lt)) (broken (views (take i ts)) (views (drop (suc i) ts)) (token_view (get_or ts i x).token) (get_or ts i x).line (depth, stage) e (sym none)))
+    inl (rw (views_at ts i x lt) (broken (views (take i ts)) (views (drop (suc i) ts)) (token_view (get_or ts i x).token) (get_or ts i x).line (depth, stage) e (sym none)))
 
 pub stepped : (ts : List TokenAtLine) (i : ℕ) (x : TokenAtLine) (depth : ℕ) (stage : Stage) (next : State) → i < length ts → run 0 at.Key (views (take i ts)) ≡ Some (depth, stage)
     → Some next ≡ step depth stage (token_view (get_or ts i x).token) → (run 0 at.Key (views (take (i + 1) ts)) ≡ Some next) × (next.0 ≤ suc depth)
@@ -40,10 +39,10 @@ take_whole : (ts : List TokenAtLine) (n : ℕ) → length ts ≤ n → take n ts
 take_whole [] zero h = refl
 take_whole [] (suc n) h = refl
 take_whole (t ∷ ts) zero h = absurd (omega arith)
-take_whole (t ∷ ts) (suc n) h = ap (λ (xs : List TokenAtLine). t ∷ xs) (take_whole ts n (omega arith))
+take_whole (t ∷ ts) (suc n) h = rw (take_whole ts n (omega arith))
 
 whole_run : (ts : List TokenAtLine) (n : ℕ) (s : State) → length ts ≤ n → run 0 at.Key (views (take n ts)) ≡ Some s → run 0 at.Key (views ts) ≡ Some s
-whole_run ts n s h e = sym (ap (λ (xs : List TokenAtLine). run 0 at.Key (views xs)) (take_whole ts n h)) ∙ e
+whole_run ts n s h e = sym (rw (take_whole ts n h)) ∙ e
 
 pub unended : (ts : List TokenAtLine) (n depth : ℕ) (stage : Stage) (end : ℕ) → length ts ≤ n → run 0 at.Key (views (take n ts)) ≡ Some (depth, stage) → is_over depth stage ≡ false → IsSyntaxLine (views ts) end end
 unended ts n depth stage end h e o = inr (unfinished (views ts) (depth, stage) (whole_run ts n (depth, stage) h e) (not_over depth stage o), refl)

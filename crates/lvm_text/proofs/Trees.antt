@@ -70,13 +70,12 @@ no_head (n ∷ ns) e = absurd cc
 
 first_head : (ns : List ℕ) (n : ℕ) (fault : ℕ → TextFault) → head_line ns ≡ Some n → first_line fault ns None ≡ Some (fault n)
 first_head [] n fault e = absurd cc
-first_head (m ∷ ns) n fault e = ap (λ (l : ℕ). Some (fault l)) (same_Some _ _ e)
+first_head (m ∷ ns) n fault e = rw (same_Some _ _ e)
 
 -- the fault of keys, where no other check hits
 fault_twice : (ts : List TokenAtLine) (v : Values) → None ≡ head_line (deep_lines 0 ts) → None ≡ head_line (number_lines Close ts) → fault_of ts v ≡ first_line (λ n. fault.KeyTwice n) (twice_lines [] v) None
 fault_twice ts v deep number =
-    ap (λ (ns : List ℕ). first_line (λ l. fault.Deep l) ns (first_line (λ l. fault.Number l) (number_lines Close ts) (first_line (λ l. fault.KeyTwice l) (twice_lines [] v) None))) (no_head (deep_lines 0 ts) deep)
-    ∙ ap (λ (ns : List ℕ). first_line (λ l. fault.Number l) ns (first_line (λ l. fault.KeyTwice l) (twice_lines [] v) None)) (no_head (number_lines Close ts) number)
+    rw (no_head (deep_lines 0 ts) deep, no_head (number_lines Close ts) number)
 
 pub tree_twice : (ts : List TokenAtLine) (f : TextFault) → None ≡ head_line (deep_lines 0 ts) → None ≡ head_line (number_lines Close ts) → IsTwice ts f → (v : Values) → IsText ts v → TreeOf ts v (Err f)
 tree_twice ts (fault.KeyTwice n) deep number twice v h =

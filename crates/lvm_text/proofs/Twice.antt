@@ -1,5 +1,5 @@
 -- Keys that stand twice: those of the entries read so far, and the first that a new key hits.
-use Rattle.std.proofs.Common.{◌≡◌, ℕ, ◌+◌, Bool, true, false, cond, ◌||◌, List, [], ◌∷◌, ◌++◌, Option, Some, refl, sym, ap, subst, ◌∙◌, append_assoc}
+use Rattle.std.proofs.Common.{◌≡◌, ℕ, ◌+◌, Bool, true, false, cond, ◌||◌, List, [], ◌∷◌, ◌++◌, Option, Some, refl, sym, ap, ◌∙◌, append_assoc}
 use Rattle.std.specs.Prelude.{bytes_eq, is_some}
 use Rattle.lvm_text.specs.Token.{Word, Open, Equals, ListOpen, TokenAtLine}
 use Rattle.lvm_text.specs.Tree.{Values, Nothing, Section, Single, Several}
@@ -40,11 +40,7 @@ twice_before (e ∷ es) ks left =
     let inside = inner_lines e.node.value in
     let own = twice_lines (k ∷ ks) (values_of es) in
     let after = twice_lines (keys_after es (k ∷ ks)) left in
-    twice_put ks k n e.node.value (before es left)
-    ∙ ap (λ (xs : List ℕ). hit (has_key k ks) n (inside ++ xs)) (twice_before es (k ∷ ks) left)
-    ∙ ap (hit (has_key k ks) n) (sym (append_assoc inside own after))
-    ∙ hit_append (has_key k ks) n (inside ++ own) after
-    ∙ ap (λ (xs : List ℕ). xs ++ after) (sym (twice_put ks k n e.node.value (values_of es)))
+    rw (twice_put ks k n e.node.value (values_of es)) (twice_put ks k n e.node.value (before es left) ∙ ap (λ (xs : List ℕ). hit (has_key k ks) n (inside ++ xs)) (twice_before es (k ∷ ks) left) ∙ ap (hit (has_key k ks) n) (sym (append_assoc inside own after)) ∙ hit_append (has_key k ks) n (inside ++ own) after)
 
 or_true : (b : Bool) → (b || true) ≡ true
 or_true true = refl
@@ -100,9 +96,7 @@ pub key_twice : (start : List TokenAtLine) (es : List Entry) (rest tokens : List
     → IsTwice start (fault.KeyTwice line)
 key_twice start es rest tokens key line so_far same differ has = λ v more r stop.
     let x = so_far v more r stop in
-    ap (λ (w : Values). head_line (twice_lines [] w)) x.1
-    ∙ ap head_line (twice_left es x.0 differ)
-    ∙ key_here key line tokens (keys_after es []) x.0 more (has_position es key true has) (subst (λ (ts : List TokenAtLine). ReadsBy bounded_of ts x.0 more) same x.2) stop
+    rw x.1 (ap head_line (twice_left es x.0 differ) ∙ key_here key line tokens (keys_after es []) x.0 more (has_position es key true has) (rw (← same) x.2) stop)
 
 head_first : (xs ys : List ℕ) (n : ℕ) → head_line xs ≡ Some n → head_line (xs ++ ys) ≡ Some n
 head_first [] ys n e = absurd cc
@@ -116,11 +110,8 @@ pub twice_inside : (start : List TokenAtLine) (es : List Entry) (rest tokens : L
     → IsTwiceInside line tokens f → IsTwice start f
 twice_inside start es rest tokens key line (fault.KeyTwice n) so_far same differ new inside = λ v more r stop.
     let x = so_far v more r stop in
-    let y = inside key x.0 more (subst (λ (ts : List TokenAtLine). ReadsBy bounded_of ts x.0 more) same x.2) stop in
-    ap (λ (w : Values). head_line (twice_lines [] w)) x.1
-    ∙ ap head_line (twice_left es x.0 differ)
-    ∙ ap (λ (w : Values). head_line (twice_lines (keys_after es []) w)) y.2
-    ∙ hit_later (has_key key (keys_after es [])) n line (twice_lines [] y.0) (twice_lines (key ∷ keys_after es []) y.1) (has_position es key false new) y.3
+    let y = inside key x.0 more (rw (← same) x.2) stop in
+    rw x.1 (ap head_line (twice_left es x.0 differ) ∙ ap (λ (w : Values). head_line (twice_lines (keys_after es []) w)) y.2 ∙ hit_later (has_key key (keys_after es [])) n line (twice_lines [] y.0) (twice_lines (key ∷ keys_after es []) y.1) (has_position es key false new) y.3)
 twice_inside start es rest tokens key line fault.Memory so_far same differ new inside = tt
 twice_inside start es rest tokens key line (fault.Token n) so_far same differ new inside = absurd inside
 twice_inside start es rest tokens key line (fault.Syntax n) so_far same differ new inside = absurd inside

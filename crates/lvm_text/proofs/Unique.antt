@@ -34,8 +34,8 @@ more_one (s ∷ ss) [] ts m n h k = let wrong : Comma ≡ ListClose = (token_sam
 more_one (s ∷ ss) (x ∷ xs) ts m n h k =
     let a = token_same Comma Comma h.0 k.0 ((h.2, h.1) ∷ h.3) ((k.2, k.1) ∷ k.3) (sym h.4 ∙ k.4) in
     let b = token_same h.2 k.2 h.1 k.1 h.3 k.3 a.1 in
-    let rest = more_one ss xs h.3 m n h.6 (subst (λ (us : List TokenAtLine). ReadsMore us xs n) (sym b.1) k.6) in
-    (ap (λ (y : Scalar). y ∷ ss) (scalar_same h.2 k.2 s x b.0 h.5 k.5) ∙ ap (λ (ys : List Scalar). x ∷ ys) rest.0, rest.1)
+    let rest = more_one ss xs h.3 m n h.6 (rw b.1 k.6) in
+    (rw (scalar_same h.2 k.2 s x b.0 h.5 k.5, rest.0), rest.1)
 
 no_close : (t : Token) (s : Scalar) → t ≡ ListClose → scalar_of t ≡ Some s → ⊥
 no_close t s e p = let wrong : None ≡ Some s = sym (ap scalar_of e) ∙ p in cc
@@ -46,8 +46,8 @@ list_one [] (x ∷ xs) ts m n h k = absurd (no_close k.1 x (token_same k.1 ListC
 list_one (s ∷ ss) [] ts m n h k = absurd (no_close h.1 s (token_same h.1 ListClose h.0 k.0 h.2 n (sym h.3 ∙ k.1)).0 h.4)
 list_one (s ∷ ss) (x ∷ xs) ts m n h k =
     let b = token_same h.1 k.1 h.0 k.0 h.2 k.2 (sym h.3 ∙ k.3) in
-    let rest = more_one ss xs h.2 m n h.5 (subst (λ (us : List TokenAtLine). ReadsMore us xs n) (sym b.1) k.5) in
-    (ap (λ (y : Scalar). y ∷ ss) (scalar_same h.1 k.1 s x b.0 h.4 k.4) ∙ ap (λ (ys : List Scalar). x ∷ ys) rest.0, rest.1)
+    let rest = more_one ss xs h.2 m n h.5 (rw b.1 k.5) in
+    (rw (scalar_same h.1 k.1 s x b.0 h.4 k.4, rest.0), rest.1)
 
 -- a key stands where no values are left
 key_left : (k : List ℕ) (n : ℕ) (ts us more : List TokenAtLine) → ts ≡ more → ts ≡ (Word k, n) ∷ us → begins_key more ≡ false → ⊥
@@ -69,10 +69,10 @@ reads_one (Single a l s r) Nothing ts m n h k p q = absurd (key_left a l ts ((Eq
 reads_one (Several a l s r) Nothing ts m n h k p q = absurd (key_left a l ts ((Equals, h.1) ∷ (ListOpen, h.2) ∷ h.3) n k h.5 q)
 reads_one (Section a l i r) (Section b j x z) ts m n h k p q =
     let e = second a b l j Open Open h.1 k.1 h.3 k.3 (sym h.5 ∙ k.5) in
-    let inner = reads_one i x h.3 ((Close, h.2) ∷ h.4) ((Close, k.2) ∷ k.4) h.6 (subst (λ (us : List TokenAtLine). Reads us x ((Close, k.2) ∷ k.4)) (sym e.2) k.6) refl refl in
+    let inner = reads_one i x h.3 ((Close, h.2) ∷ h.4) ((Close, k.2) ∷ k.4) h.6 (rw e.2 k.6) refl refl in
     let after = (token_same Close Close h.2 k.2 h.4 k.4 inner.1).1 in
-    let rest = reads_one r z h.4 m n h.7 (subst (λ (us : List TokenAtLine). Reads us z n) (sym after) k.7) p q in
-    (ap (λ (c : List ℕ). Section c l i r) e.0.key ∙ ap (λ (c : ℕ). Section b c i r) e.0.at ∙ ap (λ (c : Values). Section b j c r) inner.0 ∙ ap (λ (c : Values). Section b j x c) rest.0, rest.1)
+    let rest = reads_one r z h.4 m n h.7 (rw after k.7) p q in
+    (rw (e.0.key, e.0.at, inner.0, rest.0), rest.1)
 reads_one (Section a l i r) (Single b j x z) ts m n h k p q =
     let e = second a b l j Open Equals h.1 k.1 h.3 ((k.3, k.2) ∷ k.4) (sym h.5 ∙ k.5) in let wrong : Open ≡ Equals = e.1 in absurd cc
 reads_one (Section a l i r) (Several b j x z) ts m n h k p q =
@@ -84,8 +84,8 @@ reads_one (Several a l s r) (Section b j x z) ts m n h k p q =
 reads_one (Single a l s r) (Single b j x z) ts m n h k p q =
     let e = second a b l j Equals Equals h.1 k.1 ((h.3, h.2) ∷ h.4) ((k.3, k.2) ∷ k.4) (sym h.5 ∙ k.5) in
     let t = token_same h.3 k.3 h.2 k.2 h.4 k.4 e.2 in
-    let rest = reads_one r z h.4 m n h.7 (subst (λ (us : List TokenAtLine). Reads us z n) (sym t.1) k.7) p q in
-    (ap (λ (c : List ℕ). Single c l s r) e.0.key ∙ ap (λ (c : ℕ). Single b c s r) e.0.at ∙ ap (λ (c : Scalar). Single b j c r) (scalar_same h.3 k.3 s x t.0 h.6 k.6) ∙ ap (λ (c : Values). Single b j x c) rest.0, rest.1)
+    let rest = reads_one r z h.4 m n h.7 (rw t.1 k.7) p q in
+    (rw (e.0.key, e.0.at, scalar_same h.3 k.3 s x t.0 h.6 k.6, rest.0), rest.1)
 reads_one (Single a l s r) (Several b j x z) ts m n h k p q =
     let e = second a b l j Equals Equals h.1 k.1 ((h.3, h.2) ∷ h.4) ((ListOpen, k.2) ∷ k.3) (sym h.5 ∙ k.5) in
     let t = token_same h.3 ListOpen h.2 k.2 h.4 k.3 e.2 in
@@ -97,9 +97,9 @@ reads_one (Several a l s r) (Single b j x z) ts m n h k p q =
 reads_one (Several a l s r) (Several b j x z) ts m n h k p q =
     let e = second a b l j Equals Equals h.1 k.1 ((ListOpen, h.2) ∷ h.3) ((ListOpen, k.2) ∷ k.3) (sym h.5 ∙ k.5) in
     let t = token_same ListOpen ListOpen h.2 k.2 h.3 k.3 e.2 in
-    let items = list_one s x h.3 h.4 k.4 h.6 (subst (λ (us : List TokenAtLine). ReadsList us x k.4) (sym t.1) k.6) in
-    let rest = reads_one r z h.4 m n h.7 (subst (λ (us : List TokenAtLine). Reads us z n) (sym items.1) k.7) p q in
-    (ap (λ (c : List ℕ). Several c l s r) e.0.key ∙ ap (λ (c : ℕ). Several b c s r) e.0.at ∙ ap (λ (c : List Scalar). Several b j c r) items.0 ∙ ap (λ (c : Values). Several b j x c) rest.0, rest.1)
+    let items = list_one s x h.3 h.4 k.4 h.6 (rw t.1 k.6) in
+    let rest = reads_one r z h.4 m n h.7 (rw items.1 k.7) p q in
+    (rw (e.0.key, e.0.at, items.0, rest.0), rest.1)
 
 pub one_text : (ts : List TokenAtLine) (v w : Values) → IsText ts v → IsText ts w → v ≡ w
 one_text ts v w h k = (reads_one v w ts [] [] h k refl refl).0
@@ -107,7 +107,7 @@ one_text ts v w h k = (reads_one v w ts [] [] h k refl refl).0
 -- One line of a fault of syntax
 
 shorter_front : (xs ys : List TokenAtLine) → BeginsText (xs ++ ys) → BeginsText xs
-shorter_front xs ys h = record { more = ys ++ h.more; values = h.values; text = subst (λ (ts : List TokenAtLine). IsText ts h.values) (append_assoc xs ys h.more) h.text }
+shorter_front xs ys h = record { more = ys ++ h.more; values = h.values; text = rw (← append_assoc xs ys h.more) h.text }
 
 -- a break is in no beginning of a text
 no_break : (before : List TokenAtLine) (t : TokenAtLine) (after ts : List TokenAtLine) → ts ≡ before ++ t ∷ after → ¬ (BeginsText (before ++ t ∷ [])) → ¬ (BeginsText ts)
@@ -115,7 +115,7 @@ no_break before t after ts e broken h =
     broken (shorter_front (before ++ t ∷ []) after (subst BeginsText (e ∙ sym (append_assoc before (t ∷ []) after)) h))
 
 text_front : (ts : List TokenAtLine) (v : Values) → IsText ts v → BeginsText ts
-text_front ts v h = record { more = []; values = v; text = subst (λ (us : List TokenAtLine). IsText us v) (sym (append-nil ts)) h }
+text_front ts v h = record { more = []; values = v; text = rw (append-nil ts) h }
 
 pub no_syntax : (ts : List TokenAtLine) (v : Values) (end n : ℕ) → IsText ts v → IsSyntaxLine ts end n → ⊥
 no_syntax ts v end n h (inl b) = no_break b.before (b.token, n) b.after ts b.whole b.broken (text_front ts v h)
@@ -127,13 +127,13 @@ Positions b x c y = (x ≡ y) ⊎ (((d : List TokenAtLine) × (c ≡ b ++ x ∷ 
 
 later : (z w : TokenAtLine) (b c : List TokenAtLine) (x y : TokenAtLine) → z ≡ w → Positions b x c y → Positions (z ∷ b) x (w ∷ c) y
 later z w b c x y e (inl h) = inl h
-later z w b c x y e (inr (inl h)) = inr (inl (h.0, ap (λ (p : TokenAtLine). p ∷ c) (sym e) ∙ ap (λ (ps : List TokenAtLine). z ∷ ps) h.1))
-later z w b c x y e (inr (inr h)) = inr (inr (h.0, ap (λ (p : TokenAtLine). p ∷ b) e ∙ ap (λ (ps : List TokenAtLine). w ∷ ps) h.1))
+later z w b c x y e (inr (inl h)) = inr (inl (h.0, rw (← e, h.1)))
+later z w b c x y e (inr (inr h)) = inr (inr (h.0, rw (e, h.1)))
 
 positions : (b c a d : List TokenAtLine) (x y : TokenAtLine) → b ++ x ∷ a ≡ c ++ y ∷ d → Positions b x c y
 positions [] [] a d x y e = inl (list_same x y a d e).0
-positions [] (w ∷ c) a d x y e = inr (inl (c, ap (λ (p : TokenAtLine). p ∷ c) (sym (list_same x w a (c ++ y ∷ d) e).0)))
-positions (z ∷ b) [] a d x y e = inr (inr (b, ap (λ (p : TokenAtLine). p ∷ b) (list_same z y (b ++ x ∷ a) d e).0))
+positions [] (w ∷ c) a d x y e = inr (inl (c, rw (sym (list_same x w a (c ++ y ∷ d) e).0)))
+positions (z ∷ b) [] a d x y e = inr (inr (b, rw ((list_same z y (b ++ x ∷ a) d e).0)))
 positions (z ∷ b) (w ∷ c) a d x y e = let s = list_same z w (b ++ x ∷ a) (c ++ y ∷ d) e in later z w b c x y s.0 (positions b c a d x y s.1)
 
 two_breaks : (ts : List TokenAtLine) (m n : ℕ) (h : IsBreak ts m) (k : IsBreak ts n) → Positions h.before (h.token, m) k.before (k.token, n) → m ≡ n
@@ -157,7 +157,7 @@ record Read (text : List ℕ) (ts : List TokenAtLine) (v : Values) : Type 0 wher
 values_one : (text : List ℕ) (ts us : List TokenAtLine) (v w : Values) → Read text ts v → Read text us w → (ts ≡ us) × (v ≡ w)
 values_one text ts us v w h k =
     let same = one_spelling text ts us h.spelled k.spelled in
-    (same, one_text ts v w h.grammar (subst (λ (xs : List TokenAtLine). IsText xs w) (sym same) k.grammar))
+    (same, one_text ts v w h.grammar (rw same k.grammar))
 
 described_read : (text : List ℕ) (t : Tree) (h : Describes text t) → Read text h.tokens t.values
 described_read text t h = record { spelled = h.spelled; grammar = h.grammar }
@@ -166,7 +166,7 @@ unsound_read : (text : List ℕ) (f : TextFault) (h : IsUnsound text f) → Read
 unsound_read text f h = record { spelled = h.spelled; grammar = h.grammar }
 
 tree_same : (t u : Tree) → t.line ≡ u.line → t.values ≡ u.values → t ≡ u
-tree_same t u e f = ap (λ (n : ℕ). let x : Tree = record { line = n; values = t.values } in x) e ∙ ap (λ (v : Values). let x : Tree = record { line = u.line; values = v } in x) f
+tree_same t u e f = rw (e, f)
 
 pub one_tree : (text : List ℕ) (t u : Tree) → Describes text t → Describes text u → t ≡ u
 one_tree text t u h k = tree_same t u (h.top ∙ sym k.top) (values_one text h.tokens k.tokens t.values u.values (described_read text t h) (described_read text u k)).1
@@ -174,7 +174,7 @@ one_tree text t u h k = tree_same t u (h.top ∙ sym k.top) (values_one text h.t
 -- a text that is no text of the grammar
 syntax_read : (text : List ℕ) (n : ℕ) (ts : List TokenAtLine) (v : Values) → IsBadSyntax text n → Read text ts v → ⊥
 syntax_read text n ts v h k =
-    no_syntax ts v (1 + newlines text) n k.grammar (subst (λ (xs : List TokenAtLine). IsSyntaxLine xs (1 + newlines text) n) (one_spelling text h.tokens ts h.spelled k.spelled) h.found)
+    no_syntax ts v (1 + newlines text) n k.grammar (rw (← one_spelling text h.tokens ts h.spelled k.spelled) h.found)
 
 sound_unsound : (text : List ℕ) (t : Tree) (f : TextFault) → Describes text t → IsUnsound text f → ⊥
 sound_unsound text t f h k =
@@ -189,7 +189,7 @@ unsound_one text f g h k =
 
 syntax_one : (text : List ℕ) (m n : ℕ) → IsBadSyntax text m → IsBadSyntax text n → m ≡ n
 syntax_one text m n h k =
-    one_line k.tokens (1 + newlines text) m n (subst (λ (xs : List TokenAtLine). IsSyntaxLine xs (1 + newlines text) m) (one_spelling text h.tokens k.tokens h.spelled k.spelled) h.found) k.found
+    one_line k.tokens (1 + newlines text) m n (rw (← one_spelling text h.tokens k.tokens h.spelled k.spelled) h.found) k.found
 
 pub no_fault : (text : List ℕ) (t : Tree) (f : TextFault) → Describes text t → HasFault text f → ⊥
 no_fault text t (fault.Token n) h k = spelled_no_bad text h.tokens n h.spelled k
@@ -199,13 +199,13 @@ no_fault text t f h k = sound_unsound text t f h k
 
 -- a bad token, bad syntax or an unsound text is the one fault
 token_first : (text : List ℕ) (m : ℕ) (g : TextFault) → IsBadToken text m → HasFault text g → fault.Token m ≡ g
-token_first text m (fault.Token n) h k = ap (λ (l : ℕ). fault.Token l) (one_bad text m n h k)
+token_first text m (fault.Token n) h k = rw (one_bad text m n h k)
 token_first text m fault.Memory h k = absurd k
 token_first text m _ h k = absurd (spelled_no_bad text k.tokens m k.spelled h)
 
 syntax_first : (text : List ℕ) (m : ℕ) (g : TextFault) → IsBadSyntax text m → HasFault text g → fault.Syntax m ≡ g
 syntax_first text m (fault.Token n) h k = absurd (spelled_no_bad text h.tokens n h.spelled k)
-syntax_first text m (fault.Syntax n) h k = ap (λ (l : ℕ). fault.Syntax l) (syntax_one text m n h k)
+syntax_first text m (fault.Syntax n) h k = rw (syntax_one text m n h k)
 syntax_first text m fault.Memory h k = absurd k
 syntax_first text m g h k = absurd (syntax_read text m k.tokens k.values h (unsound_read text g k))
 
@@ -224,11 +224,11 @@ one_fault text f g h k = unsound_first text f g h k
 -- What is answered truly is the one answer
 
 pub only_tree : (text : List ℕ) (r : Result Tree TextFault) → IfOk r (Describes text) → IfErr r (λ f. f ≢ fault.Memory → HasFault text f) → (t : Tree) → Describes text t → Answers r (Ok t)
-only_tree text (Ok s) a b t h = ap (λ (x : Tree). Ok x) (one_tree text s t a h)
+only_tree text (Ok s) a b t h = rw (one_tree text s t a h)
 only_tree text (Err fault.Memory) a b t h = tt
 only_tree text (Err e) a b t h = absurd (no_fault text t e h (b (λ wrong. cc)))
 
 pub only_fault : (text : List ℕ) (r : Result Tree TextFault) → IfOk r (Describes text) → IfErr r (λ f. f ≢ fault.Memory → HasFault text f) → (f : TextFault) → HasFault text f → Answers r (Err f)
 only_fault text (Ok s) a b f h = absurd (no_fault text s f a h)
 only_fault text (Err fault.Memory) a b f h = tt
-only_fault text (Err e) a b f h = ap (λ (x : TextFault). Err x) (one_fault text e f (b (λ wrong. cc)) h)
+only_fault text (Err e) a b f h = rw (one_fault text e f (b (λ wrong. cc)) h)

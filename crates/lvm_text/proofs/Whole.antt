@@ -1,5 +1,5 @@
 -- Every text says a tree, or has a fault.
-use Rattle.std.proofs.Common.{◌≡◌, ℕ, zero, suc, ◌+◌, ◌<◌, false, List, [], ◌∷◌, ◌++◌, length, Option, Some, None, refl, sym, ap, subst, ◌∙◌, ◌⊎◌, inl, inr, append_assoc, arith}
+use Rattle.std.proofs.Common.{◌≡◌, ℕ, zero, suc, ◌+◌, ◌<◌, false, List, [], ◌∷◌, ◌++◌, length, Option, Some, None, refl, sym, ◌∙◌, ◌⊎◌, inl, inr, append_assoc, arith}
 use Rattle.std.proofs.lemmas.List.{append-nil}
 use Rattle.lvm_text.specs.Token.{TokenAtLine}
 use Rattle.lvm_text.specs.Tree.{Values, Tree}
@@ -48,7 +48,7 @@ Syntax ts end = (run 0 at.Key ts ≡ Some done) ⊎ ((n : ℕ) × IsSyntaxLine t
 ended : (ts : List TokenAtLine) (end : ℕ) (s : State) → run 0 at.Key ts ≡ Some s → Syntax ts end
 ended ts end s h =
     elim (bool_is (is_over s.0 s.1)) [
-      | inl e ↦ inl (h ∙ ap (λ (x : State). Some x) (over s.0 s.1 e))
+      | inl e ↦ inl (rw (← over s.0 s.1 e) h)
       | inr e ↦ inr (end, inr (unfinished ts s h (not_over s.0 s.1 e), refl))
     ]
 
@@ -56,10 +56,10 @@ next_token : (before : List TokenAtLine) (t : TokenAtLine) (ts : List TokenAtLin
     → ((x : State) → run 0 at.Key (before ++ t ∷ []) ≡ Some x → Syntax ((before ++ t ∷ []) ++ ts) end) → Syntax (before ++ t ∷ ts) end
 next_token before t ts end s None h e go = inr (t.1, inl (broken before ts t.0 t.1 s h e))
 next_token before t ts end s (Some x) h e go =
-    subst (λ (us : List TokenAtLine). Syntax us end) (append_assoc before (t ∷ []) ts) (go x (last_run before t s h ∙ rw e refl))
+    rw (← append_assoc before (t ∷ []) ts) (go x (last_run before t s h ∙ rw e refl))
 
 syntax_from : (ts before : List TokenAtLine) (end : ℕ) (s : State) → run 0 at.Key before ≡ Some s → Syntax (before ++ ts) end
-syntax_from [] before end s h = subst (λ (us : List TokenAtLine). Syntax us end) (sym (append-nil before)) (ended before end s h)
+syntax_from [] before end s h = rw (append-nil before) (ended before end s h)
 syntax_from (t ∷ ts) before end s h = next_token before t ts end s (step s.0 s.1 t.0) h refl (λ x e. syntax_from ts (before ++ t ∷ []) end x e)
 
 -- The text

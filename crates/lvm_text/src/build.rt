@@ -15,7 +15,7 @@ ghost use Rattle.lvm_text.specs.Checks.{twice_lines};
 ghost use Rattle.lvm_text.specs.Repeat.{inner_lines};
 
 use crate::fault::TextFault;
-use crate::index::{position_of, put_entry};
+use crate::index::{FEW, position_of, put_entry};
 use crate::number::{are_digits, number_of};
 use crate::token::{Token, TokenAtLine};
 use crate::tree::{Entry, Node, Scalar, Section, Value};
@@ -204,7 +204,7 @@ impl<'t, 'a> Builder<'t, 'a> {
         ensures later { IfOk result (λ r. (start ≤ r.1) × (r.1 ≤ length self.now.tokens.now)) }
         ensures twice { IfErr result (IsTwice (left self.now start)) }
     {
-        let mut entries = Vec::new(self.alloc);
+        let mut entries = Vec::with_capacity(self.alloc, FEW)?;
         let mut index = BTreeMap::new(self.alloc);
         let mut at = start;
         while let Some((key, key_line)) = key_at(self.tokens, at) {

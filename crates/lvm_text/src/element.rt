@@ -3,8 +3,9 @@
 //! token is a case of `element_at`.
 
 ghost use Rattle.std.specs.Prelude.{◌≡◌, ◌<◌, ◌∷◌, suc, None, Some, length, take, drop, slice_index};
-ghost use Rattle.std.specs.Prelude.{option_map, IsTrue};
+ghost use Rattle.std.specs.Prelude.{option_map, IfSome, IsTrue};
 ghost use Rattle.std.specs.Char.{is_ascii};
+ghost use Rattle.lvm_text.specs.Spelling as spelling;
 ghost use Rattle.lvm_text.specs.Spelling.{Lexeme};
 ghost use Rattle.lvm_text.specs.Token as spec;
 ghost use Rattle.lvm_text.specs.Scan.{comment_from, string_from, word_length};
@@ -111,4 +112,16 @@ pub(crate) fn element_at(text: &str) -> Option<(Element<'_>, &str)>
     }
     let (_, rest) = around(text, 0);
     element_from(text, first, rest)
+}
+
+/// The white byte at the front of a text, if one stands there, and what comes after it.
+pub(crate) fn white_at(text: &str) -> Option<(u8, &str)>
+    ensures { IfSome result (λ r. Some (spelling.White r.0, r.1.now) ≡ element_at text.now) }
+{
+    let first = *text.as_bytes().first()?;
+    if !is_white(first) {
+        return None;
+    }
+    let (_, rest) = around(text, 0);
+    Some((first, rest))
 }

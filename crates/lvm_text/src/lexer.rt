@@ -6,7 +6,7 @@ ghost use Rattle.lvm_text.specs.Spelling.{Spells, SomeElement, newlines, spellin
 ghost use Rattle.lvm_text.specs.Reading.{IsTokenFault};
 ghost use Rattle.lvm_text.specs.TokenView.{views, element_view};
 
-use crate::element::{Element, element_at};
+use crate::element::{Element, element_at, white_at};
 use crate::fault::TextFault;
 use crate::scan::is_end;
 use crate::token::TokenAtLine;
@@ -53,6 +53,11 @@ pub(crate) fn tokens_of(alloc: Global, text: &str) -> Result<Vec<TokenAtLine<'_>
         keep(&mut tokens, element, line)?;
         line += newlines(element);
         rest = after;
+        // Most elements are white bytes, so these are taken in a loop of their own.
+        while let Some((byte, after)) = white_at(rest) {
+            line += newlines(Element::White(byte));
+            rest = after;
+        }
     }
     Ok(tokens)
 }

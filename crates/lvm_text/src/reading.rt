@@ -52,7 +52,7 @@ pub(crate) fn read(alloc: Global, text: &str) -> Result<Section<'_>, TextFault>
     ensures fault { IfErr result (λ f. f ≢ Memory → HasFault text.now f) }
 {
     let tokens = tokens_of(alloc, text)?;
-    if let Some(line) = syntax_line(&tokens, end_line(text.as_bytes())) {
+    if let Some(line) = syntax_line(&tokens, text) {
         return Err(TextFault::Syntax(line));
     }
     tree_of(alloc, &tokens)

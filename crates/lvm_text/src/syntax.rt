@@ -2,13 +2,15 @@
 //! Sections may nest without bound here, so the number of open ones takes the place of a stack. A new form of
 //! value is a stage and its steps; the proof then asks how a text can go on from there.
 
-ghost use Rattle.std.specs.Prelude.{◌≡◌, ◌<◌, ◌^◌, Some, is_some, MatchOption};
+ghost use Rattle.std.specs.Prelude.{◌≡◌, ◌<◌, ◌+◌, ◌^◌, Some, is_some, MatchOption};
 ghost use Rattle.lvm_text.specs.Grammar.{scalar_of, is_key, IsSyntaxLine};
 ghost use Rattle.lvm_text.specs.Machine.{step, run, is_over};
+ghost use Rattle.lvm_text.specs.Spelling.{newlines};
 ghost use Rattle.lvm_text.specs.TokenView.{token_view, views};
 ghost use Rattle.lvm_text.specs.declared.syntax.Stage.TheVariants.{Key};
 
 use crate::number::are_digits;
+use crate::reading::end_line;
 use crate::token::{Token, TokenAtLine};
 
 /// How far a value was read, or that the next one may begin.
@@ -76,11 +78,11 @@ fn is_over(depth: u64, stage: Stage) -> bool
     }
 }
 
-/// The line of a fault of syntax, where `end` is that of the end of the text: the line of the first token
-/// that no text has in its place.
-pub(crate) fn syntax_line(tokens: &[TokenAtLine<'_>], end: u64) -> Option<u64>
+/// The line of a fault of syntax in the tokens of a text: the line of the first token that no text has in its
+/// place, or that of the end of a text that is unfinished.
+pub(crate) fn syntax_line(tokens: &[TokenAtLine<'_>], text: &str) -> Option<u64>
     ensures { MatchOption result (run 0 Key (views tokens.now) ≡ Some (0, Key))
-        (IsSyntaxLine (views tokens.now) end) }
+        (IsSyntaxLine (views tokens.now) (1 + newlines text.now)) }
 {
     let mut depth = 0;
     let mut stage = Stage::Key;
@@ -94,6 +96,6 @@ pub(crate) fn syntax_line(tokens: &[TokenAtLine<'_>], end: u64) -> Option<u64>
     if is_over(depth, stage) {
         None
     } else {
-        Some(end)
+        Some(end_line(text.as_bytes()))
     }
 }

@@ -9,7 +9,7 @@ use Rattle.std.proofs.lemmas.List.{append-nil, take_more, take-append-drop}
 use denote.Ref.{Bor}
 use Rattle.std.proofs.lemmas.Option.{same_Some}
 use Rattle.dm_table.specs.words.Bytes.{hyphen, underscore}
-use Rattle.lvm_volume.specs.Names.{NameParts, built, Returns, is_letter, begins_with, part_fault, layer_fault, or_later, doubled, undoubled, undoubled_parts, with_hyphen, joined, fault_of, Builds, IsSplit, doubled_parts, name_or}
+use Rattle.lvm_volume.specs.Names.{NameParts, built, Returns, is_letter, begins_with, part_fault, layer_fault, or_later, doubled, undoubled, undoubled_parts, with_hyphen, joined, fault_of, Builds, IsSplit, doubled_parts}
 use Rattle.dm_table.specs.words.Name.{is_device_byte, is_device_name}
 use Rattle.lvm_volume.specs.Cuts.{slice_length, first_slice, after_hyphen, later_slices, with_layer, slices_of}
 use Rattle.lvm_volume.specs.declared.fault.NameFault.{NameFault}
@@ -41,8 +41,8 @@ pub doubled-append : (xs ys : List ℕ) → doubled (xs ++ ys) ≡ doubled xs ++
 doubled-append [] ys = refl
 doubled-append (b ∷ xs) ys =
     cond_elim (eqb b hyphen) (λ zs. cond (eqb b hyphen) (hyphen ∷ hyphen ∷ doubled (xs ++ ys)) (b ∷ doubled (xs ++ ys)) ≡ zs ++ doubled ys) (hyphen ∷ hyphen ∷ doubled xs) (b ∷ doubled xs)
-    (λ e. rw e (ap (λ (zs : List ℕ). hyphen ∷ hyphen ∷ zs) (doubled-append xs ys)))
-    (λ e. rw e (ap (λ (zs : List ℕ). b ∷ zs) (doubled-append xs ys)))
+    (λ e. rw e (rw (doubled-append xs ys)))
+    (λ e. rw e (rw (doubled-append xs ys)))
 
 -- a byte of a part after those of its front
 pub doubled_more : (xs : List ℕ) (i : ℕ) → i < length xs → doubled (take (i + 1) xs) ≡ doubled (take i xs) ++ doubled (get_or xs i 0 ∷ [])
@@ -54,19 +54,13 @@ not_equal a b false e n = refl
 
 pub push_hyphen : (xs : List ℕ) (i : ℕ) (old t one two e : List ℕ) → i < length xs → t ≡ old ++ doubled (take i xs) → one ≡ t ++ e → e ≡ get_or xs i 0 ∷ [] → get_or xs i 0 ≡ hyphen → two ≡ one ++ hyphen ∷ [] → two ≡ old ++ doubled (take (i + 1) xs)
 push_hyphen xs i old t one two e lt at grown is is_hyphen last =
-    last
-    ∙ ap (λ (z : List ℕ). z ++ hyphen ∷ []) (grown ∙ ap (λ (z : List ℕ). t ++ z) (is ∙ ap (λ n. n ∷ []) is_hyphen) ∙ ap (λ (z : List ℕ). z ++ hyphen ∷ []) at)
-    ∙ append_assoc (old ++ doubled (take i xs)) (hyphen ∷ []) (hyphen ∷ [])
-    ∙ append_assoc old (doubled (take i xs)) (hyphen ∷ hyphen ∷ [])
-    ∙ ap (λ (z : List ℕ). old ++ z) (sym (doubled_more xs i lt ∙ ap (λ n. doubled (take i xs) ++ doubled (n ∷ [])) is_hyphen))
+    rw (doubled_more xs i lt, is_hyphen) (last ∙ ap (λ (z : List ℕ). z ++ hyphen ∷ []) (rw (← at, ← is_hyphen, ← is) grown) ∙ append_assoc (old ++ doubled (take i xs)) (hyphen ∷ []) (hyphen ∷ []) ∙ append_assoc old (doubled (take i xs)) (hyphen ∷ hyphen ∷ []))
 
 pub push_plain : (xs : List ℕ) (i : ℕ) (old t one e : List ℕ) → i < length xs → t ≡ old ++ doubled (take i xs) → one ≡ t ++ e → e ≡ get_or xs i 0 ∷ [] → (get_or xs i 0 ≡ hyphen → ⊥) → one ≡ old ++ doubled (take (i + 1) xs)
 push_plain xs i old t one e lt at grown is plain =
     let b = get_or xs i 0 in
     let own : doubled (b ∷ []) ≡ b ∷ [] = rw (not_equal b hyphen (eqb b hyphen) refl plain) refl in
-    grown ∙ ap (λ (z : List ℕ). t ++ z) is ∙ ap (λ (z : List ℕ). z ++ b ∷ []) at
-    ∙ append_assoc old (doubled (take i xs)) (b ∷ [])
-    ∙ ap (λ (z : List ℕ). old ++ z) (sym (doubled_more xs i lt ∙ ap (λ (z : List ℕ). doubled (take i xs) ++ z) own))
+    rw (doubled_more xs i lt, own) (grown ∙ ap (λ (z : List ℕ). t ++ z) is ∙ ap (λ (z : List ℕ). z ++ b ∷ []) at ∙ append_assoc old (doubled (take i xs)) (b ∷ []))
 
 letter_ascii : (b : ℕ) → is_letter b ≡ true → b < 128
 letter_ascii b h = grind (arith, nat_tests)
@@ -94,7 +88,7 @@ not_zero n false e = refl
 begins-doubled : (c b : ℕ) (w more : List ℕ) → begins_with c (doubled (b ∷ w) ++ more) ≡ eqb b c
 begins-doubled c b w more =
     cond_elim (eqb b hyphen) (λ xs. begins_with c (xs ++ more) ≡ eqb b c) (hyphen ∷ hyphen ∷ doubled w) (b ∷ doubled w)
-    (λ e. ap (λ n. eqb n c) (sym (eqb-true b hyphen e)))
+    (λ e. rw (← eqb-true b hyphen e))
     (λ e. refl)
 
 empty-doubled : (b : ℕ) (w : List ℕ) → eqb (length (doubled (b ∷ w))) 0 ≡ false
@@ -107,8 +101,8 @@ letters-doubled : (w : List ℕ) → list_all is_letter (doubled w) ≡ list_all
 letters-doubled [] = refl
 letters-doubled (b ∷ w) =
     cond_elim (eqb b hyphen) (λ xs. list_all is_letter xs ≡ (is_letter b && list_all is_letter w)) (hyphen ∷ hyphen ∷ doubled w) (b ∷ doubled w)
-    (λ e. letters-doubled w ∙ ap (λ n. is_letter n && list_all is_letter w) (sym (eqb-true b hyphen e)))
-    (λ e. ap (λ (x : Bool). is_letter b && x) (letters-doubled w))
+    (λ e. rw (eqb-true b hyphen e) (letters-doubled w))
+    (λ e. rw (letters-doubled w))
 
 abbrev fault_by : Bool → Bool → Bool → Option NameFault
 fault_by empty letters is_hyphen = cond empty (Some Empty) (cond letters (cond is_hyphen (Some HyphenFirst) None) (Some Letter))
@@ -117,16 +111,13 @@ part-doubled : (w : List ℕ) → part_fault (doubled w) ≡ part_fault w
 part-doubled [] = refl
 part-doubled (b ∷ w) =
     let d = doubled (b ∷ w) in
-    ap (λ (x : Bool). fault_by x (list_all is_letter d) (begins_with hyphen d)) (empty-doubled b w ∙ sym (not_zero (length w) _ refl))
-    ∙ ap (λ (x : Bool). fault_by (eqb (length (b ∷ w)) 0) x (begins_with hyphen d)) (letters-doubled (b ∷ w))
-    ∙ ap (λ (x : Bool). fault_by (eqb (length (b ∷ w)) 0) (list_all is_letter (b ∷ w)) x) (ap (begins_with hyphen) (sym (append-nil d)) ∙ begins-doubled hyphen b w [])
+    rw ((empty-doubled b w ∙ sym (not_zero (length w) _ refl)), letters-doubled (b ∷ w), (ap (begins_with hyphen) (sym (append-nil d)) ∙ begins-doubled hyphen b w []))
 
 layer-doubled : (l : Option (List ℕ)) → layer_fault (option_map doubled l) ≡ layer_fault l
 layer-doubled None = refl
 layer-doubled (Some []) = refl
 layer-doubled (Some (b ∷ w)) =
-    ap (λ (x : Bool). cond x (Some Letter) (part_fault (doubled (b ∷ w)))) (ap (begins_with underscore) (sym (append-nil (doubled (b ∷ w)))) ∙ begins-doubled underscore b w [])
-    ∙ ap (λ (x : Option NameFault). cond (eqb b underscore) (Some Letter) x) (part-doubled (b ∷ w))
+    rw ((ap (begins_with underscore) (sym (append-nil (doubled (b ∷ w)))) ∙ begins-doubled underscore b w []), part-doubled (b ∷ w))
 
 -- the faults of parts
 abbrev pub parts_faults : NameParts → Option NameFault
@@ -134,9 +125,7 @@ parts_faults p = or_later (part_fault p.vg) (or_later (part_fault p.lv) (layer_f
 
 parts-doubled : (p : NameParts) → parts_faults (doubled_parts p) ≡ parts_faults p
 parts-doubled p =
-    ap (λ (x : Option NameFault). or_later x (or_later (part_fault (doubled p.lv)) (layer_fault (option_map doubled p.layer)))) (part-doubled p.vg)
-    ∙ ap (λ (x : Option NameFault). or_later (part_fault p.vg) (or_later x (layer_fault (option_map doubled p.layer)))) (part-doubled p.lv)
-    ∙ ap (λ (x : Option NameFault). or_later (part_fault p.vg) (or_later (part_fault p.lv) x)) (layer-doubled p.layer)
+    rw (part-doubled p.vg, part-doubled p.lv, layer-doubled p.layer)
 
 or_whole : (a b c d : Option NameFault) → or_later a (or_later b (or_later c d)) ≡ or_later (or_later a (or_later b c)) d
 or_whole None None c d = refl
@@ -220,19 +209,19 @@ layer_letters (Some t) vg lv e =
     part_letters t.now (layer_none t.now (begins_with underscore t.now) l.1)
 
 long_joined : (n : ℕ) → 1 ≤ n → (b : Bool) → nat_le n 127 ≡ b → (nat_le 1 n && (b && true)) ≡ false → b ≡ false
-long_joined n some true e h = let wrong : true ≡ false = sym (ap (λ (x : Bool). x && true) (le-leb 1 n some)) ∙ h in absurd cc
+long_joined n some true e h = let wrong : true ≡ false = sym (rw (le-leb 1 n some)) ∙ h in absurd cc
 long_joined n some false e h = refl
 
 pub form_is_long : (p : NameParts) (text : List ℕ) → None ≡ parts_faults p → text ≡ joined p → is_device_name text ≡ false → Err Long ≡ built p
 form_is_long p text e same refused =
     let n = length (joined p) in
     let some : 1 ≤ n = omega (arith, length-append (doubled p.vg) (hyphen ∷ (doubled p.lv ++ with_hyphen (option_map doubled p.layer)))) in
-    let told : (nat_le 1 n && (nat_le n 127 && true)) ≡ false = ap (λ (x : Bool). nat_le 1 n && (nat_le n 127 && x)) (sym (joined_device p (sym e))) ∙ ap is_device_name (sym same) ∙ refused in
+    let told : (nat_le 1 n && (nat_le n 127 && true)) ≡ false = rw (← joined_device p (sym e)) (ap is_device_name (sym same) ∙ refused) in
     let long : nat_le n 127 ≡ false = long_joined n some (nat_le n 127) refl told in
-    sym (ap (λ (f : Option NameFault). name_or f (joined p)) (fault_parts p ∙ ap (λ (f : Option NameFault). or_later f (long_fault p)) (sym e) ∙ ap (λ (x : Bool). cond x None (Some Long)) long))
+    sym (rw (fault_parts p, ← e, long))
 
 pub fault_built : (p : NameParts) (f : NameFault) → Some f ≡ parts_faults p → Returns (Err f) (built p)
-fault_built p f e = returns_fault f (built p) (ap (λ (x : Option NameFault). name_or x (joined p)) (fault_parts p ∙ ap (λ (x : Option NameFault). or_later x (long_fault p)) (sym e)))
+fault_built p f e = returns_fault f (built p) (rw (fault_parts p, ← e))
 
 -- The front of a name
 
@@ -250,12 +239,12 @@ length_doubled : (w rest : List ℕ) → IsEnd rest → slice_length (doubled w 
 length_doubled [] rest h = end_length rest h
 length_doubled (b ∷ w) rest h =
     cond_elim (eqb b hyphen) (λ xs. slice_length (xs ++ rest) ≡ length xs) (hyphen ∷ hyphen ∷ doubled w) (b ∷ doubled w)
-    (λ e. ap (λ n. suc (suc n)) (length_doubled w rest h))
-    (λ e. plain_length b (doubled w ++ rest) e ∙ ap (λ n. suc n) (length_doubled w rest h))
+    (λ e. rw (length_doubled w rest h))
+    (λ e. rw (← length_doubled w rest h) (plain_length b (doubled w ++ rest) e))
 
 take_front : (xs ys : List ℕ) → take (length xs) (xs ++ ys) ≡ xs
 take_front [] ys = refl
-take_front (x ∷ xs) ys = ap (λ (zs : List ℕ). x ∷ zs) (take_front xs ys)
+take_front (x ∷ xs) ys = rw (take_front xs ys)
 
 drop_front : (xs ys : List ℕ) → drop (length xs) (xs ++ ys) ≡ ys
 drop_front [] ys = refl
@@ -263,7 +252,7 @@ drop_front (x ∷ xs) ys = drop_front xs ys
 
 -- of a doubled part with an end after it
 cut_first : (w rest : List ℕ) → IsEnd rest → first_slice (doubled w ++ rest) ≡ doubled w
-cut_first w rest h = ap (λ n. take n (doubled w ++ rest)) (length_doubled w rest h) ∙ take_front (doubled w) rest
+cut_first w rest h = rw (length_doubled w rest h) (take_front (doubled w) rest)
 
 cut_later : (w rest : List ℕ) → IsEnd rest → later_slices (doubled w ++ rest) ≡ after_hyphen rest
 cut_later w rest h = ap after_hyphen (ap (λ n. drop n (doubled w ++ rest)) (length_doubled w rest h) ∙ drop_front (doubled w) rest)
@@ -320,7 +309,7 @@ pub after_is : (bs : List ℕ) (r : Option (Bor (List ℕ))) → MatchOption r (
 after_is [] None m = refl
 after_is (b ∷ bs) None m =
     cond_elim (eqb b hyphen) (λ (o : Option (List ℕ)). None ≡ o) (Some bs) None
-    (λ e. absurd (m bs (ap (λ n. n ∷ bs) (eqb-true b hyphen e))))
+    (λ e. absurd (m bs (rw (eqb-true b hyphen e))))
     (λ e. refl)
 after_is bs (Some x) m = sym (ap after_hyphen m)
 
@@ -341,7 +330,7 @@ first bs =
     record {
       part = f.part;
       first = ap first_slice f.is ∙ cut_first f.part (drop (slice_length bs) bs) f.end;
-      whole = f.is ∙ ap (λ (xs : List ℕ). doubled f.part ++ xs) (end_is (drop (slice_length bs) bs) f.end);
+      whole = rw (← end_is (drop (slice_length bs) bs) f.end) f.is;
     }
 
 -- The slices of a name
@@ -423,11 +412,7 @@ joined_slices vg lv l a b c =
     let rest = doubled lv ++ end in
     let name = doubled vg ++ hyphen ∷ rest in
     let first : IsEnd (hyphen ∷ rest) = (refl, no_hyphen lv end b) in
-    ap (λ (x : Option (List ℕ)). option_and_then (λ (r : List ℕ). with_layer (first_slice name) (first_slice r) (later_slices r)) x) (cut_later vg (hyphen ∷ rest) first)
-    ∙ ap (λ (x : List ℕ). with_layer x (first_slice rest) (later_slices rest)) (cut_first vg (hyphen ∷ rest) first)
-    ∙ ap (λ (x : List ℕ). with_layer (doubled vg) x (later_slices rest)) (cut_first lv end (layer_end l c))
-    ∙ ap (λ (x : Option (List ℕ)). with_layer (doubled vg) (doubled lv) x) (cut_later lv end (layer_end l c))
-    ∙ layer_slices (doubled vg) (doubled lv) l
+    rw (cut_later vg (hyphen ∷ rest) first, cut_first vg (hyphen ∷ rest) first, cut_first lv end (layer_end l c), cut_later lv end (layer_end l c)) (layer_slices (doubled vg) (doubled lv) l)
 
 built_slices : (p : NameParts) (name : List ℕ) → Builds p name → slices_of name ≡ Some (doubled_parts p)
 built_slices p name h =
@@ -438,7 +423,7 @@ built_slices p name h =
 
 layer_back : (l : Option (List ℕ)) → option_map undoubled (option_map doubled l) ≡ l
 layer_back None = refl
-layer_back (Some l) = ap (λ (x : List ℕ). Some x) (undoubled-doubled l)
+layer_back (Some l) = rw (undoubled-doubled l)
 
 pub parts_back : (p : NameParts) → undoubled_parts (doubled_parts p) ≡ p
 parts_back p =
@@ -479,7 +464,7 @@ pub some_split : (name : List ℕ) (s : NameParts) (f : Option NameFault) → So
 some_split name s (Some f) e is n le = absurd cc
 some_split name s None e is n le =
     let d = sliced name s (sym e) in
-    let short : long_fault d.parts ≡ None = ap (λ (x : Bool). cond x None (Some Long)) (le-leb (length (joined d.parts)) 127 (subst (λ (xs : List ℕ). length xs ≤ 127) d.spell le)) in
+    let short : long_fault d.parts ≡ None = rw (le-leb (length (joined d.parts)) 127 (subst (λ (xs : List ℕ). length xs ≤ 127) d.spell le)) in
     let fine : parts_faults d.parts ≡ None = sym (parts-doubled d.parts) ∙ ap parts_faults (sym d.are) ∙ sym is in
     (d.parts, (fault_parts d.parts ∙ ap (λ (x : Option NameFault). or_later x (long_fault d.parts)) fine ∙ short, sym d.spell), d.are)
 
@@ -489,7 +474,7 @@ apart_undoubled : (x : ℕ) (zs : List ℕ) → ((rest : List ℕ) → x ∷ zs 
 apart_undoubled x [] h = refl
 apart_undoubled x (y ∷ zs) h =
     cond_elim (eqb x hyphen && eqb y hyphen) (λ (r : List ℕ). r ≡ x ∷ undoubled (y ∷ zs)) (hyphen ∷ undoubled zs) (x ∷ undoubled (y ∷ zs))
-    (λ e. let both = and_parts (eqb x hyphen) (eqb y hyphen) e in absurd (h zs (ap (λ n. n ∷ y ∷ zs) (eqb-true x hyphen both.0) ∙ ap (λ n. hyphen ∷ n ∷ zs) (eqb-true y hyphen both.1))))
+    (λ e. let both = and_parts (eqb x hyphen) (eqb y hyphen) e in absurd (h zs (rw (eqb-true x hyphen both.0, eqb-true y hyphen both.1))))
     (λ e. refl)
 
 undoubled_pair : (xs ys : List ℕ) → ((i : ℕ) → i < length xs → LacksTextAt (hyphen ∷ hyphen ∷ []) (xs ++ hyphen ∷ hyphen ∷ ys) i) → undoubled (xs ++ hyphen ∷ hyphen ∷ ys) ≡ xs ++ hyphen ∷ undoubled ys
@@ -506,11 +491,10 @@ undoubled_none (x ∷ bs) h =
 pub undoubled_step : (s before after : List ℕ) (i j : ℕ) → ((k : ℕ) → k < i → LacksTextAt (hyphen ∷ hyphen ∷ []) s k) → HasTextAt (hyphen ∷ hyphen ∷ []) s i j → before ≡ take i s → after ≡ drop j s → length before ≡ i → undoubled s ≡ before ++ hyphen ∷ undoubled after
 undoubled_step s before after i j lacks has b a n =
     let whole : s ≡ before ++ hyphen ∷ hyphen ∷ after =
-    sym (take-append-drop i s) ∙ ap (λ (z : List ℕ). z ++ drop i s) (sym b) ∙ ap (λ (z : List ℕ). before ++ z) (has.split ∙ ap (λ (z : List ℕ). hyphen ∷ hyphen ∷ z) (sym a)) in
-    let clear : (k : ℕ) → k < length before → LacksTextAt (hyphen ∷ hyphen ∷ []) (before ++ hyphen ∷ hyphen ∷ after) k = λ k lt. subst (λ (z : List ℕ). LacksTextAt (hyphen ∷ hyphen ∷ []) z k) whole (lacks k (omega (arith, lt, n))) in
+    rw (a, ← has.split, b) (sym (take-append-drop i s)) in
+    let clear : (k : ℕ) → k < length before → LacksTextAt (hyphen ∷ hyphen ∷ []) (before ++ hyphen ∷ hyphen ∷ after) k = λ k lt. rw (← whole) (lacks k (omega (arith, lt, n))) in
     ap undoubled whole ∙ undoubled_pair before after clear
 
 pub undoubled_joined : (all whole rest before after one two : List ℕ) → all ≡ whole ++ rest → rest ≡ before ++ hyphen ∷ after → one ≡ whole ++ before → two ≡ one ++ hyphen ∷ [] → all ≡ two ++ after
 undoubled_joined all whole rest before after one two a r o t =
-    a ∙ ap (λ (z : List ℕ). whole ++ z) r ∙ sym (append_assoc whole before (hyphen ∷ after)) ∙ ap (λ (z : List ℕ). z ++ hyphen ∷ after) (sym o)
-    ∙ sym (append_assoc one (hyphen ∷ []) after) ∙ ap (λ (z : List ℕ). z ++ after) (sym t)
+    rw t (a ∙ ap (λ (z : List ℕ). whole ++ z) r ∙ sym (append_assoc whole before (hyphen ∷ after)) ∙ ap (λ (z : List ℕ). z ++ hyphen ∷ after) (sym o) ∙ sym (append_assoc one (hyphen ∷ []) after))

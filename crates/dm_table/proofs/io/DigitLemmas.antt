@@ -16,7 +16,7 @@ pairs_four n below =
 
 -- a longer number is a shorter one and four digits
 pub decimal_fours : (n : ℕ) → 10000 ≤ n → n < 2 ^ 64 → decimal n ≡ decimal (n / 10000) ++ four_digits (n % 10000)
-decimal_fours n from fits = decimal_four n from fits ∙ ap (λ (text : List ℕ). decimal (n / 10000) ++ text) (pairs_four (n % 10000) (omega arith))
+decimal_fours n from fits = rw (← pairs_four (n % 10000) (omega arith)) (decimal_four n from fits)
 
 -- the digits of a short number are the last of its four
 abbrev IsLast : ℕ → List ℕ → Type 0

@@ -11,7 +11,7 @@ use Rattle.dm_table.proofs.io.Portions.{rest_after}
 
 -- a list after which nothing was added
 pub quiet_since : (old new held : List ℕ) → new ≡ old ++ [] → held ≡ held ++ since old new
-quiet_since old new held e = sym (append-nil held) ∙ ap (λ xs. held ++ xs) (sym (since_is old new [] e))
+quiet_since old new held e = rw (since_is old new [] e) (sym (append-nil held))
 
 -- the first of some bytes are a beginning of them
 pub front_beginning : (old new bytes : List ℕ) (at : ℕ) → new ≡ old ++ take at bytes → IsBeginning bytes (since old new)
@@ -43,15 +43,13 @@ before_rest_after bytes rest n within few = let len = rest_after_len rest n in o
 -- a rest of some bytes, a write further on
 pub rest_step : (bytes rest : List ℕ) (n : ℕ) → length rest ≤ length bytes → n ≤ length rest → rest ≡ drop (before bytes rest) bytes → rest_after rest n ≡ drop (before bytes (rest_after rest n)) bytes
 rest_step bytes rest n within few is =
-    take_rest rest n ∙ ap (drop n) is ∙ drop-drop n (before bytes rest) bytes ∙ ap (λ at. drop at bytes) (sym (before_rest_after bytes rest n within few))
+    rw (before_rest_after bytes rest n within few) (take_rest rest n ∙ ap (drop n) is ∙ drop-drop n (before bytes rest) bytes)
 
 -- the bytes before it are written then
 pub write_step : (old mid new bytes rest : List ℕ) (n : ℕ) → length rest ≤ length bytes → n ≤ length rest → rest ≡ drop (before bytes rest) bytes → mid ≡ old ++ take (before bytes rest) bytes → new ≡ mid ++ take n rest → new ≡ old ++ take (before bytes (rest_after rest n)) bytes
 write_step old mid new bytes rest n within few is e f =
     let at = before bytes rest in
-    f ∙ ap (λ xs. mid ++ take n xs) is ∙ ap (λ xs. xs ++ take n (drop at bytes)) e
-    ∙ append_assoc old (take at bytes) (take n (drop at bytes)) ∙ ap (λ xs. old ++ xs) (sym (take-add at n bytes))
-    ∙ ap (λ at. old ++ take at bytes) (sym (before_rest_after bytes rest n within few))
+    rw (before_rest_after bytes rest n within few, take-add at n bytes) (f ∙ ap (λ xs. mid ++ take n xs) is ∙ ap (λ xs. xs ++ take n (drop at bytes)) e ∙ append_assoc old (take at bytes) (take n (drop at bytes)))
 
 -- how far some bytes are written: those before a rest of them, and nothing failed
 abbrev pub IsSent : (old new : OutputPast) (bytes rest : List ℕ) → Type 0
@@ -74,8 +72,8 @@ sent_further old mid new bytes rest n so_far few is = record {
   rest = rest_step bytes rest n so_far.within few so_far.rest;
   written = write_step _ _ _ bytes rest n so_far.within few so_far.rest so_far.written (ap (λ (past : OutputPast). past.written) is);
   waiting = write_step _ _ _ bytes rest n so_far.within few so_far.rest so_far.waiting (ap (λ (past : OutputPast). past.waiting) is);
-  faults = ap (λ (past : OutputPast). past.faults) is ∙ add-zero _ ∙ so_far.faults;
-  flushes = ap (λ (past : OutputPast). past.flushes) is ∙ so_far.flushes;
+  faults = rw is (add-zero _ ∙ so_far.faults);
+  flushes = rw is so_far.flushes;
 }
 
 -- what moved on then, where no write failed after that, or one did
@@ -83,7 +81,7 @@ sent_moved : (old new : OutputPast) (sent : List ℕ) (failed : ℕ) → new.wri
     → HasWritten old new failed
 sent_moved old new sent failed more held fails flushed =
     let is = sym (since_is old.written new.written sent more) in
-    record { appends = more ∙ ap (λ xs. old.written ++ xs) is; waits = held ∙ ap (λ xs. old.waiting ++ xs) is; fails = fails; unflushed = flushed }
+    record { appends = rw (← is) more; waits = rw (← is) held; fails = fails; unflushed = flushed }
 
 -- all of it is written
 pub sent_whole : {E : Type 0} (old new : OutputPast) (bytes rest : List ℕ) → IsSent old new bytes rest → length rest ≡ 0

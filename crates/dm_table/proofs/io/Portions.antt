@@ -14,13 +14,13 @@ rest_after_is bytes at = take_all (length bytes - at) (drop at bytes) (omega (ar
 pub front_is : (bytes portion tail : List ℕ) (at n : ℕ) → portion ≡ take n (rest_after bytes at) → n ≤ length (rest_after bytes at)
     → take n (portion ++ tail) ≡ take n (drop at bytes)
 front_is bytes portion tail at n e fits =
-    take_at portion tail n (ap length e ∙ length-take-le n (rest_after bytes at) fits) ∙ e ∙ ap (λ xs. take n xs) (rest_after_is bytes at)
+    rw (← rest_after_is bytes at) (take_at portion tail n (ap length e ∙ length-take-le n (rest_after bytes at) fits) ∙ e)
 
 -- what was handed out grows by the portion
 pub handed_grows : (bytes given : List ℕ) (at n : ℕ) → given ≡ take n (drop at bytes) → take (at + n) bytes ≡ take at bytes ++ given
-handed_grows bytes given at n e = take-add at n bytes ∙ ap (λ xs. take at bytes ++ xs) (sym e)
+handed_grows bytes given at n e = rw e (take-add at n bytes)
 
 -- what is left loses the portion
 pub left_shrinks : (bytes given : List ℕ) (at n : ℕ) → given ≡ take n (drop at bytes) → drop at bytes ≡ given ++ drop (at + n) bytes
 left_shrinks bytes given at n e =
-    sym (take-append-drop n (drop at bytes)) ∙ ap (λ xs. xs ++ drop n (drop at bytes)) (sym e) ∙ ap (λ xs. given ++ xs) (drop-drop n at bytes)
+    rw (← drop-drop n at bytes, e) (sym (take-append-drop n (drop at bytes)))

@@ -32,7 +32,7 @@ wrote_then old mid new (Ok done) first next text is a b =
     let more = since_more old.written mid.written new.written a.moved.appends b.moved.appends in
     record {
       moved = written_more old mid new 0 a.moved b.moved;
-      ok = more ∙ ap (λ (t : List ℕ). t ++ written_since mid new) a.ok ∙ ap (λ (t : List ℕ). first ++ t) b.ok ∙ sym is;
+      ok = cc (more, a.ok, b.ok, sym is);
       left = tt;
     }
 wrote_then old mid new (Err fault) first next text is a b =
@@ -114,14 +114,14 @@ fault_in result is h = let given = err_from_is_err_and result is in rw (given.1,
 -- what is written of the elements of a list, up to one of them, of it, and of the others
 pub flat_map_at : {X : Type 0} (f : X → List ℕ) (xs : List X) (i : ℕ) (x : X) → i < length xs → x ≡ get_or xs i x → flat_map f xs ≡ flat_map f (take i xs) ++ (f x ++ flat_map f (drop (i + 1) xs))
 flat_map_at f xs i x below is =
-    let rest : drop i xs ≡ x ∷ drop (i + 1) xs = drop_more xs i x below ∙ ap (λ y. y ∷ drop (i + 1) xs) (sym is) in
+    let rest : drop i xs ≡ x ∷ drop (i + 1) xs = rw is (drop_more xs i x below) in
     ap (flat_map f) (sym (take-append-drop i xs)) ∙ flat_map-append f (take i xs) (drop i xs) ∙ ap (λ ys. flat_map f (take i xs) ++ flat_map f ys) rest
 
 -- up to the next one
 pub flat_map_next : {X : Type 0} (f : X → List ℕ) (xs : List X) (i : ℕ) (x : X) → i < length xs → x ≡ get_or xs i x → flat_map f (take (i + 1) xs) ≡ flat_map f (take i xs) ++ f x
 flat_map_next f xs i x below is =
-    let rest : drop i xs ≡ x ∷ drop (i + 1) xs = drop_more xs i x below ∙ ap (λ y. y ∷ drop (i + 1) xs) (sym is) in
-    ap (flat_map f) (take-add i 1 xs ∙ ap (λ ys. take i xs ++ take 1 ys) rest) ∙ flat_map-append f (take i xs) (x ∷ []) ∙ ap (λ ys. flat_map f (take i xs) ++ ys) (append-nil (f x))
+    let rest : drop i xs ≡ x ∷ drop (i + 1) xs = rw is (drop_more xs i x below) in
+    rw (← append-nil (f x)) (ap (flat_map f) (take-add i 1 xs ∙ ap (λ ys. take i xs ++ take 1 ys) rest) ∙ flat_map-append f (take i xs) (x ∷ []))
 
 -- a fault at one of the elements
 pub each_stopped : {A E : Type 0} {old mid new : OutputPast} {fault : E} (f : A → List ℕ) (xs : List A) (i : ℕ) (x : A) (result : Result (Unit {0}) E)
@@ -140,7 +140,7 @@ each_further f xs i x below is so_far h = and_then (flat_map f (take i xs)) (f x
 -- elements with a byte between them: the first, and each of the others after the byte
 pub joined_first : {X : Type 0} (byte : ℕ) (f : X → List ℕ) (x : X) (xs : List X) → join_with_byte byte (map f (x ∷ xs)) ≡ f x ++ flat_map (λ y. byte ∷ f y) xs
 joined_first byte f x [] = sym (append-nil (f x))
-joined_first byte f x (y ∷ xs) = ap (λ (rest : List ℕ). f x ++ (byte ∷ rest)) (joined_first byte f y xs)
+joined_first byte f x (y ∷ xs) = rw (joined_first byte f y xs)
 
 -- the same of a slice's elements
 pub joined_slice : {X : Type 0} (byte : ℕ) (f : X → List ℕ) (xs : List X) (x : X) → 1 ≤ length xs → x ≡ get_or xs 0 x → join_with_byte byte (map f xs) ≡ f x ++ flat_map (λ y. byte ∷ f y) (take (length xs - 1) (drop 1 xs))
@@ -169,4 +169,4 @@ line_split name mark line =
     let before = name ++ mark ++ decimal line.start ++ 32 ∷ decimal line.len ++ 32 ∷ [] in
     let whole : name ++ mark ++ body_text line ≡ before ++ target_text line.target = simp append_assoc in
     let head : before ++ target_head line.target ≡ name ++ mark ++ body_head line = simp append_assoc in
-    whole ∙ body_split before line.target ∙ ap (λ (t : List ℕ). t ++ flat_map column_text (columns_of line.target)) head
+    rw (← head) (whole ∙ body_split before line.target)

@@ -1,5 +1,5 @@
 -- Checks that find something, and checks that find nothing.
-use Rattle.std.proofs.Common.{◌≡◌, ◌≢◌, ◌≤◌, length, arith, inl, inr, ℕ, suc, Bool, true, false, cond, List, [], ◌∷◌, ◌++◌, Option, Some, None, Result, Ok, Err, refl, ap, ◌∙◌}
+use Rattle.std.proofs.Common.{◌≡◌, ◌≢◌, ◌≤◌, length, arith, inl, inr, ℕ, suc, Bool, true, false, cond, List, [], ◌∷◌, ◌++◌, Option, Some, None, Result, Ok, Err, refl, ap}
 use Rattle.std.specs.List.{AllByRecursion}
 use Rattle.std.proofs.lemmas.Bool.{cases_Bool}
 use Rattle.dm_table.specs.declared.load.place.Part.{Part}
@@ -34,7 +34,7 @@ first_fault-none (check ∷ checks) h = let a = first_or-none check (first_fault
 
 pub first_fault-all : (checks : List (List LoadFault)) → AllByRecursion (λ check. check ≡ []) checks → first_fault checks ≡ None
 first_fault-all [] h = refl
-first_fault-all (check ∷ checks) h = ap (λ (found : List LoadFault). first_or found (first_fault checks)) h.0 ∙ first_fault-all checks h.1
+first_fault-all (check ∷ checks) h = rw h.0 (first_fault-all checks h.1)
 
 -- What one check finds
 
@@ -52,7 +52,7 @@ faults_from-nil part kind bad n (x ∷ xs) e =
 -- no element is bad: nothing is found
 pub faults_from-good : {X : Type 0} (part : Part) (kind : LoadKind) (bad : X → Bool) (n : ℕ) (xs : List X) → AllByRecursion (λ x. bad x ≡ false) xs → faults_from part kind bad n xs ≡ []
 faults_from-good part kind bad n [] h = refl
-faults_from-good part kind bad n (x ∷ xs) h = rw (h.0, faults_from-good part kind bad (suc n) xs h.1) refl
+faults_from-good part kind bad n (x ∷ xs) h = rw (h.0, faults_from-good part kind bad (suc n) xs h.1)
 
 -- two halves of a check that together find nothing
 pub append-nil_both : (a b : List LoadFault) → a ++ b ≡ [] → (a ≡ []) × (b ≡ [])

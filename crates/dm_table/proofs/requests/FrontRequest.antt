@@ -1,5 +1,5 @@
 -- A text that begins with the line of a request.
-use Rattle.std.proofs.Common.{◌≡◌, ℕ, ◌+◌, ◌-◌, ◌<◌, ◌≤◌, ◌^◌, Bool, ◌&&◌, List, ◌∷◌, ◌++◌, true, nat_le, length, take, drop, Some, sym, ap, ◌∙◌, append_assoc, length-append, length-take-le, arith}
+use Rattle.std.proofs.Common.{◌≡◌, ℕ, ◌+◌, ◌-◌, ◌<◌, ◌≤◌, ◌^◌, Bool, ◌&&◌, List, ◌∷◌, ◌++◌, true, nat_le, length, take, drop, Some, ap, ◌∙◌, append_assoc, length-append, length-take-le, arith}
 use Rattle.std.specs.Prelude.{decimal}
 use Rattle.std.proofs.Math.Seq.{take-append_seam, drop-append-add}
 use Rattle.std.proofs.lemmas.Bool.{and_parts, leb-true}
@@ -66,14 +66,13 @@ front_line text device start rest more op s l digits end is_text' named is_rest 
     let more_size : length more ≡ length len + length (10 ∷ after) = ap length is_more ∙ length-append len (10 ∷ after) in
     let len_size : length len ≡ digits = length-take-le digits more (omega arith) in
     let place : end ≡ length line = omega (arith, is_end, whole_size, more_size, len_size, size op device s l, ap length last.digits) in
-    let front : take end text ≡ line = ap (λ (n : ℕ). take n text) place ∙ ap (take (length line)) whole ∙ take-append_seam line (10 ∷ after) in
-    let back : drop (end + 1) text ≡ after = ap (λ (n : ℕ). drop (n + 1) text) place ∙ ap (drop (length line + 1)) whole ∙ drop-append-add line (10 ∷ after) 1 in
+    let front : take end text ≡ line = rw place (ap (take (length line)) whole ∙ take-append_seam line (10 ∷ after)) in
+    let back : drop (end + 1) text ≡ after = rw place (ap (drop (length line + 1)) whole ∙ drop-append-add line (10 ∷ after) 1) in
     let small : l < 10 ^ 19 = omega (arith, most) in
     record {
       described = record { written = front; device = named; start = first.short; least = least; most = most };
       line =
-          ap (parts_at 10) whole ∙ parts_at-first 10 line after (request-clear op device s l named first.short small)
-          ∙ ap (λ (f : List ℕ). f ∷ parts_at 10 after) (sym front) ∙ ap (λ (b : List ℕ). take end text ∷ parts_at 10 b) (sym back);
+          rw (back, front) (ap (parts_at 10) whole ∙ parts_at-first 10 line after (request-clear op device s l named first.short small));
       within = omega (arith, place, whole_size);
       short = omega (arith, place, request-short op device s l named first.short small);
     }

@@ -35,7 +35,7 @@ pub described : (line : List ℕ) (op : Op) (device : List ℕ) (more : List (Li
 described line op device more s l cut named read least most =
     let first = Spells-number_of read.start s read.first in
     let last = Spells-number_of read.len l read.last in
-    let row : fields line ≡ row_of op device read.start read.len = cut ∙ ap (λ (fs : List (List ℕ)). (op_text op ∷ []) ∷ device ∷ fs) read.two in
+    let row : fields line ≡ row_of op device read.start read.len = rw (← read.two) cut in
     record {
       written = sym (join-parts_at 32 line) ∙ ap (join_with_byte 32) row ∙ row_text op device read.start read.len s l first.digits last.digits;
       device = named;
@@ -68,7 +68,7 @@ fields_are line values said =
     parts_at-first 32 values.device (start ++ 32 ∷ len) (plain-device_name values.device said.device).clear in
     let third : fields (start ++ 32 ∷ len) ≡ start ∷ fields len = parts_at-first 32 start len (digits-clear start (decimal_digits values.start said.start)) in
     let fourth : fields len ≡ len ∷ [] = parts_at-clear 32 len (digits-clear len (decimal_digits values.len (omega (arith, said.most)))) in
-    ap fields text ∙ rw (first, second, third, fourth) refl
+    ap fields text ∙ rw (first, second, third, fourth)
 
 -- One request at most
 
@@ -121,9 +121,9 @@ read-said line values said =
     let small : values.len < 10 ^ 19 = omega (arith, said.most) in
     let row = fields_are line values said in
     let form : has_form (fields line) ≡ true = rw row (and_from _ _ (op_passes values.op) (and_from _ _ said.device (and_from _ _ (le-leb _ _ (decimal_some values.start said.start)) (le-leb _ _ (decimal_some values.len small))))) in
-    let found : values_in (fields line) ≡ Some values = rw (row, number_of-decimal values.start said.start, number_of-decimal values.len small, op_is values.op) refl in
+    let found : values_in (fields line) ≡ Some values = rw (row, number_of-decimal values.start said.start, number_of-decimal values.len small, op_is values.op) in
     let length : is_length values.len ≡ true = and_from _ _ (le-leb _ _ said.least) (le-leb _ _ said.most) in
-    rw (form, found, length) refl
+    rw (form, found, length)
 
 -- so a line with a fault says none
 pub refused : (line : List ℕ) (values : RequestValues) (fault : RequestFault) → request_reading line ≡ Err fault → DescribesRequest line values → ⊥
@@ -143,10 +143,10 @@ unread : (op device start len : List ℕ) → ((m n : ℕ) → AreNumbers (start
 unread op device start len none = both _ (number_of start) (number_of len) (λ m n first last. none m n (record { start = start; len = len; two = refl; first = first; last = last }))
 
 form_is : (op : Op) (device : List ℕ) (start len : List ℕ) → is_device_name device ≡ true → has_form (row_of op device start len) ≡ are_two (start ∷ len ∷ [])
-form_is op device start len named = rw (op_passes op, named) refl
+form_is op device start len named = rw (op_passes op, named)
 
 fault_of_two : (a : Bool) (values : Option RequestValues) → values ≡ None → cond a (values_reading values) (Err Form) ≡ Err (cond a Number Form)
-fault_of_two true values none = rw none refl
+fault_of_two true values none = rw none
 fault_of_two false values none = refl
 
 row_reading-numbers : (op : Op) (device : List ℕ) (more : List (List ℕ)) → is_device_name device ≡ true → ((m n : ℕ) → AreNumbers more m n → ⊥)
@@ -176,10 +176,10 @@ no_length len out = false_from_ne_true _ (λ within.
 pub fault-length : (line : List ℕ) (op : Op) (device : List ℕ) (more : List (List ℕ)) (s l : ℕ) → fields line ≡ (op_text op ∷ []) ∷ device ∷ more → is_device_name device ≡ true
     → AreNumbers more s l → is_length l ≡ false → request_reading line ≡ Err Length
 fault-length line op device more s l cut named read out =
-    let row : fields line ≡ row_of op device read.start read.len = cut ∙ ap (λ (fs : List (List ℕ)). (op_text op ∷ []) ∷ device ∷ fs) read.two in
+    let row : fields line ≡ row_of op device read.start read.len = rw (← read.two) cut in
     let form : has_form (fields line) ≡ true = rw row (and_from _ _ (op_passes op) (and_from _ _ named (and_from _ _ (some_field read.start s read.first) (some_field read.len l read.last)))) in
-    let found : values_in (fields line) ≡ Some (record { op = op; device = device; start = s; len = l }) = rw (row, read.first, read.last, op_is op) refl in
-    rw (form, found, out) refl
+    let found : values_in (fields line) ≡ Some (record { op = op; device = device; start = s; len = l }) = rw (row, read.first, read.last, op_is op) in
+    rw (form, found, out)
 
 -- A line of that form begins with an operation and its space
 
@@ -242,7 +242,7 @@ name_stands text field next more cut named = stands_first is_device_byte text fi
 
 no_first : (start : List ℕ) (more : List (List ℕ)) → length start ≡ 0 → are_two (start ∷ more) ≡ false
 no_first start [] none = refl
-no_first start (len ∷ []) none = rw none refl
+no_first start (len ∷ []) none = rw none
 no_first start (len ∷ next ∷ more) none = refl
 
 no_last : (start rest : List ℕ) → length rest ≡ 0 → are_two (start ∷ fields rest) ≡ false

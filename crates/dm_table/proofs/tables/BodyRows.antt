@@ -1,6 +1,6 @@
 -- The body of a line and its fields: fields that the tests pass are those of a body, and the fields of a body pass them.
 use Rattle.std.proofs.Common.{◌≡◌, inl, inr, ℕ, ◌*◌, ◌^◌, ◌<◌, ◌≤◌, Bool, true, false, eqb, nat_le, nat_lt, nat_eq, ◌&&◌, List, [], ◌∷◌, ◌++◌, length, drop, Option, Some, None, refl, subst, sym, ap, ◌∙◌, append_assoc, arith}
-use Rattle.std.specs.Prelude.{decimal, codes, is_some, unwrap_or, if◌then◌else◌}
+use Rattle.std.specs.Prelude.{decimal, codes, is_some, if◌then◌else◌}
 use Rattle.std.specs.Cmp.Lexicographic.{pointwise}
 use Rattle.std.specs.Char.{is_ascii_digit}
 use Rattle.std.specs.Option.{option_map}
@@ -73,7 +73,7 @@ starts_with_mapper text e = (starts_is Decides-eqb text mapper (names_device tex
 dev_spelled : (text : List ℕ) → dev_text (dev_in text) ≡ text
 dev_spelled text = elim (cases_Bool (names_device text)) [
   | inl e ↦ rw e (sym (starts_with_mapper text e))
-  | inr e ↦ rw e refl
+  | inr e ↦ rw e
 ]
 
 -- an option that is there after a map was there before it
@@ -136,7 +136,7 @@ columns_say (to ∷ offset ∷ more) columns h =
     let says = columns_say more m.1 m.3 in
     let half : 2 * length m.1 ≡ length more = says.half in
     rw (← m.4) record {
-      again = rw (dev_spelled to, ← spelled.digits, says.again) refl;
+      again = rw (dev_spelled to, ← spelled.digits, says.again);
       half = omega arith;
       said = λ named. let a = and_parts (is_dev_ref (dev_in to)) (has_column_names m.1) named in ((a.0, spelled.short), says.said a.1);
     }
@@ -159,7 +159,7 @@ striped_says (count ∷ chunk ∷ columns) target h =
     let says = columns_say columns m.1 m.3 in
     let counted = count_row count (length columns) (length m.1) c.0 says.half in
     rw (← m.4) record {
-      again = rw (counted.0, ← spelled.digits, says.again) refl;
+      again = rw (counted.0, ← spelled.digits, says.again);
       said = λ len named. (counted.1, spelled.short, says.said (sym (column_names (len / length m.1) m.1) ∙ named));
     }
 
@@ -178,7 +178,7 @@ kind_spelled flag kind h = by_flag flag Persistent kind _ (by_flag flag Transien
 
 snapshot_again : (origin store flag chunk : List ℕ) (kind : StoreKind) (n : ℕ) → kind_in flag ≡ Some kind → chunk ≡ decimal n
     → target_fields (Snapshot (dev_in origin) (dev_in store) kind n) ≡ codes "snapshot" ∷ origin ∷ store ∷ flag ∷ chunk ∷ []
-snapshot_again origin store flag chunk kind n p spelled = rw (dev_spelled origin, dev_spelled store, kind_spelled flag kind p, spelled) refl
+snapshot_again origin store flag chunk kind n p spelled = rw (dev_spelled origin, dev_spelled store, kind_spelled flag kind p, spelled)
 
 snapshot_says : (fs : List (List ℕ)) (target : Target) → snapshot_in fs ≡ Some target → SaysTarget (codes "snapshot" ∷ fs) target
 snapshot_says [] target h = absurd cc
@@ -200,7 +200,7 @@ origin_says : (fs : List (List ℕ)) (target : Target) → origin_in fs ≡ Some
 origin_says [] target h = absurd cc
 origin_says (origin ∷ []) target h =
     let is : Origin (dev_in origin) ≡ target = cc in
-    rw (← is) record { again = rw (dev_spelled origin) refl; said = λ len named. (and_parts (is_dev_ref (dev_in origin)) true named).0 }
+    rw (← is) record { again = rw (dev_spelled origin); said = λ len named. (and_parts (is_dev_ref (dev_in origin)) true named).0 }
 origin_says (origin ∷ more ∷ rest) target h = absurd cc
 
 -- a type that is this word, or else one of the words after it
@@ -257,7 +257,7 @@ body_says at (start ∷ len ∷ target) body h =
     let second = Spells-number_of len a.1 a.4 in
     let says = target_says target a.2 a.5 in
     rw (← a.6) record {
-      again = rw (← first.digits, ← second.digits, says.again) refl;
+      again = rw (← first.digits, ← second.digits, says.again);
       said = λ named. record { start = first.short; len = second.short; target = says.said a.1 named };
     }
 
@@ -271,7 +271,7 @@ body_said at fs line h names =
     rw (← m.2) ((body_says at fs m.0 m.1).said (rw m.1 at names))
 
 pub body_placed : (at : Place) (fs : List (List ℕ)) (line : Line) → line_in at fs ≡ Some line → line.at ≡ at
-body_placed at fs line h = let m = mapped (line_at at) (body_in fs) line h in rw (← m.2) refl
+body_placed at fs line h = let m = mapped (line_at at) (body_in fs) line h in rw (← m.2)
 
 -- From a body to its fields
 
@@ -335,14 +335,14 @@ le_three : (n : ℕ) → 3 ≤ n → nat_le 3 n ≡ true
 le_three n h = grind (arith, nat_tests)
 
 number_is : (n : ℕ) → n < 10 ^ 19 → number_in (decimal n) ≡ n
-number_is n h = ap (λ (o : Option ℕ). unwrap_or o 0) (number_of-decimal n h)
+number_is n h = rw (number_of-decimal n h)
 
 number_passes : (n : ℕ) → n < 10 ^ 19 → is_some (number_of (decimal n)) ≡ true
 number_passes n h = ap is_some (number_of-decimal n h)
 
 dev_again : (to : DevRef) → IsDevRef to → dev_in (dev_text to) ≡ to
 dev_again (Device name) h = refl
-dev_again (Disk name) h = rw (not-true _ (disk_name_parts name h).own) refl
+dev_again (Disk name) h = rw (not-true _ (disk_name_parts name h).own)
 
 columns_long : (columns : List Column) → 2 * length columns ≡ length (flat_map column_fields columns)
 columns_long [] = refl
@@ -355,7 +355,7 @@ count_passes columns h =
 
 columns_again : (columns : List Column) → AllByRecursion IsColumn columns → columns_in (flat_map column_fields columns) ≡ Some columns
 columns_again [] h = refl
-columns_again (column ∷ columns) h = rw (number_of-decimal column.offset h.0.1, columns_again columns h.1, dev_again column.to h.0.0) refl
+columns_again (column ∷ columns) h = rw (number_of-decimal column.offset h.0.1, columns_again columns h.1, dev_again column.to h.0.0)
 
 kind_again : (kind : StoreKind) → kind_in (kind_text kind) ≡ Some kind
 kind_again Persistent = refl
@@ -363,7 +363,7 @@ kind_again Transient = refl
 kind_again Keeping = refl
 
 target_again : (target : Target) → IsTarget target → target_in (target_fields target) ≡ Some target
-target_again (Striped chunk columns) h = rw (count_passes columns h.0, number_of-decimal chunk h.1, columns_again columns h.2) refl
+target_again (Striped chunk columns) h = rw (count_passes columns h.0, number_of-decimal chunk h.1, columns_again columns h.2)
 target_again _ h = search (kind_again, number_of-decimal, dev_again)
 
 -- a start, a length, and at least the type of a target
@@ -388,15 +388,15 @@ abbrev body_of : Line → Body
 body_of line = record { start = line.start; len = line.len; target = line.target }
 
 fields_say : (line : Line) → IsBody line → body_in (body_fields line) ≡ Some (body_of line)
-fields_say line h = rw (number_of-decimal line.start h.start, number_of-decimal line.len h.len, target_again line.target h.target) refl
+fields_say line h = rw (number_of-decimal line.start h.start, number_of-decimal line.len h.len, target_again line.target h.target)
 
 pub body_passes : (line : Line) → IsBody line → is_body (body_fields line) ≡ true
 body_passes line h = ap is_some (fields_say line h)
 
 pub body_names_pass : (line : Line) → IsBody line → has_body_names (body_fields line) ≡ true
 body_names_pass line h =
-    ap (λ (said : Option Body). unwrap_or (option_map (λ (body : Body). has_target_names body.len body.target) said) true) (fields_say line h) ∙ target_named line.len line.target h.target
+    rw (fields_say line h) (target_named line.len line.target h.target)
 
 -- and are read as that line
 pub line_again : (at : Place) (line : Line) → IsBody line → line.at ≡ at → line_in at (body_fields line) ≡ Some line
-line_again at line h is = ap (option_map (line_at at)) (fields_say line h) ∙ rw (← is) refl
+line_again at line h is = ap (option_map (line_at at)) (fields_say line h) ∙ rw (← is)

@@ -13,14 +13,14 @@ use Rattle.dm_table.specs.tables.CanonicalText.{ReadsBack, flag_text, concise_de
 
 lines_as : (at : Place) (lines : List Line) → map body_text (lines_at at lines) ≡ map body_text lines
 lines_as at [] = refl
-lines_as at (line ∷ lines) = rw (lines_as at lines) refl
+lines_as at (line ∷ lines) = rw (lines_as at lines)
 
 devices_as : (n : ℕ) (devices : List DeviceSpec) → map concise_device (as_concise n devices) ≡ map concise_device devices
 devices_as n [] = refl
-devices_as n (device ∷ devices) = rw (lines_as (place_of n) device.lines, devices_as (suc n) devices) refl
+devices_as n (device ∷ devices) = rw (lines_as (place_of n) device.lines, devices_as (suc n) devices)
 
 text_as : (n : ℕ) (devices : List DeviceSpec) → concise_text (as_concise n devices) ≡ concise_text devices
-text_as n devices = ap (λ (texts : List (List ℕ)). join_with_byte 59 texts ++ 10 ∷ []) (devices_as n devices)
+text_as n devices = rw (devices_as n devices)
 
 -- A device
 
@@ -43,7 +43,7 @@ flag_joined false more = refl
 device_spelled : (name : List ℕ) (ro : Bool) (bodies : List (List ℕ)) → 1 ≤ length bodies → name ++ flag_text ro ++ join_with_byte 44 bodies ≡ join_with_byte 44 (name ∷ [] ∷ [] ∷ flag_of ro ∷ bodies)
 device_spelled name ro [] some = absurd (omega arith)
 device_spelled name ro (body ∷ bodies) some =
-    append_assoc name (flag_text ro) (join_with_byte 44 (body ∷ bodies)) ∙ ap (λ (t : List ℕ). name ++ t) (flag_joined ro (join_with_byte 44 (body ∷ bodies)))
+    rw (← flag_joined ro (join_with_byte 44 (body ∷ bodies))) (append_assoc name (flag_text ro) (join_with_byte 44 (body ∷ bodies)))
 
 lines_some : (n : ℕ) (texts : List (List ℕ)) (lines : List Line) (at : Place) → SaysLines n texts lines → 1 ≤ length texts → 1 ≤ length (map body_text (lines_at at lines))
 lines_some n [] lines at s some = absurd (omega arith)

@@ -17,27 +17,24 @@ use Rattle.dm_table.proofs.tables.TableGroups.{named_of}
 
 lines_as : (name : List ℕ) (n : ℕ) (lines : List Line) → lines_text name (placed_lines n lines) ≡ lines_text name lines
 lines_as name n [] = refl
-lines_as name n (line ∷ lines) = rw (lines_as name (suc n) lines) refl
+lines_as name n (line ∷ lines) = rw (lines_as name (suc n) lines)
 
 text_as : (n : ℕ) (devices : List DeviceSpec) → table_text (as_table n devices) ≡ table_text devices
 text_as n [] = refl
-text_as n (device ∷ devices) = rw (lines_as device.name n device.lines, text_as (n + length device.lines) devices) refl
+text_as n (device ∷ devices) = rw (lines_as device.name n device.lines, text_as (n + length device.lines) devices)
 
 -- The lines of a text
 
 lines_ended : (name : List ℕ) (lines : List Line) → lines_text name lines ≡ flat_map (λ text. text ++ 10 ∷ []) (map line_text (named_of name lines))
 lines_ended name [] = refl
-lines_ended name (line ∷ lines) = rw (lines_ended name lines) refl
+lines_ended name (line ∷ lines) = rw (lines_ended name lines)
 
 text_ended : (devices : List DeviceSpec) → table_text devices ≡ flat_map (λ text. text ++ 10 ∷ []) (map line_text (named_lines devices))
 text_ended [] = refl
 text_ended (device ∷ devices) =
     let own = map line_text (named_of device.name device.lines) in
     let others = map line_text (named_lines devices) in
-    ap (λ (t : List ℕ). t ++ table_text devices) (lines_ended device.name device.lines)
-    ∙ ap (λ (t : List ℕ). flat_map (λ text. text ++ 10 ∷ []) own ++ t) (text_ended devices)
-    ∙ sym (flat_map-append (λ text. text ++ 10 ∷ []) own others)
-    ∙ ap (flat_map (λ text. text ++ 10 ∷ [])) (sym (map-append line_text (named_of device.name device.lines) (named_lines devices)))
+    rw (lines_ended device.name device.lines, text_ended devices) (sym (flat_map-append (λ text. text ++ 10 ∷ []) own others) ∙ ap (flat_map (λ text. text ++ 10 ∷ [])) (sym (map-append line_text (named_of device.name device.lines) (named_lines devices))))
 
 -- Numbering
 
@@ -51,7 +48,7 @@ unfolding numbered
 numbered_device name n m [] more devices is rest = let same : n ≡ m = omega arith in rw same rest
 numbered_device name n m (line ∷ lines) more devices is rest =
     let next : suc n + length lines ≡ m = omega arith in
-    ap (λ (ns : List NamedLine). record { name = name; line = record line { at = record { part = Source; number = n } } } ∷ ns) (numbered_device name (suc n) m lines more devices next rest)
+    rw (numbered_device name (suc n) m lines more devices next rest)
 
 numbered_as : (n : ℕ) (devices : List DeviceSpec) → named_lines (as_table n devices) ≡ numbered n (named_lines devices)
 unfolding numbered

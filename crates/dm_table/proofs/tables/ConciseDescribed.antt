@@ -25,8 +25,8 @@ use Rattle.dm_table.proofs.tables.ConciseRows.{is_entry_byte, entry_semicolon, e
 
 last_split : (text : List ℕ) → eqb (last_or 0 text) 10 ≡ true → all_but_last text ++ 10 ∷ [] ≡ text
 last_split [] h = absurd cc
-last_split (b ∷ []) h = ap (λ (x : ℕ). x ∷ []) (sym (eqb-true b 10 h))
-last_split (b ∷ c ∷ text) h = ap (λ (rest : List ℕ). b ∷ rest) (last_split (c ∷ text) h)
+last_split (b ∷ []) h = rw (← eqb-true b 10 h)
+last_split (b ∷ c ∷ text) h = rw (last_split (c ∷ text) h)
 
 newline_cases : (text : List ℕ) → (text ≡ without_newline text) ⊎ (text ≡ without_newline text ++ 10 ∷ [])
 newline_cases text = elim (cases_Bool (eqb (last_or 0 text) 10)) [
@@ -40,7 +40,7 @@ last_other (b ∷ []) h = not-true _ (and_parts (not (eqb b 10)) true h).0
 last_other (b ∷ c ∷ text) h = last_other (c ∷ text) (and_parts (not (eqb b 10)) (lacks 10 (c ∷ text)) h).1
 
 newline_none : (text : List ℕ) → lacks 10 text ≡ true → without_newline text ≡ text
-newline_none text h = rw (last_other text h) refl
+newline_none text h = rw (last_other text h)
 
 newline_dropped : (text : List ℕ) → without_newline (text ++ 10 ∷ []) ≡ text
 newline_dropped text = rw (last_or-push 0 text 10) (all_but_last-push text 10)
@@ -50,7 +50,7 @@ pub newline_cut : (text : List ℕ) → 1 ≤ length text → eqb (get_or text (
 newline_cut text some e = rw (rw (get_or-last_or 0 0 text some) at e) (take-all_but_last text)
 
 pub newline_missing : (text : List ℕ) → 1 ≤ length text → eqb (get_or text (length text - 1) 0) 10 ≡ false → text ≡ without_newline text
-newline_missing text some e = rw (rw (get_or-last_or 0 0 text some) at e) refl
+newline_missing text some e = rw (rw (get_or-last_or 0 0 text some) at e)
 
 -- Parts
 
@@ -114,7 +114,7 @@ are_read n (text ∷ texts) (device ∷ devices) s =
       rows = (not_from_true _ own.row, more.rows);
       values = (not_from_true _ own.values, more.values);
       names = (not_from_true _ own.names, more.names);
-      again = rw (own.again, more.again) refl;
+      again = rw (own.again, more.again);
     }
 
 without_semicolons : (texts : List (List ℕ)) → AllByRecursion (λ text. list_all is_entry_byte text ≡ true) texts → AllByRecursion (IsClearOf 59) texts

@@ -1,5 +1,5 @@
 -- What is wrong with the parts of a device of the concise form, and with the device.
-use Rattle.std.proofs.Common.{◌≡◌, ◌≢◌, OnOk, ℕ, suc, ◌+◌, ◌-◌, ◌<◌, ◌≤◌, Bool, true, false, ◌&&◌, List, [], ◌∷◌, ◌++◌, length, take, drop, get_or, Option, Some, None, Result, Ok, Err, refl, sym, ap, subst, ◌∙◌, append_assoc, arith}
+use Rattle.std.proofs.Common.{◌≡◌, ◌≢◌, OnOk, ℕ, suc, ◌+◌, ◌-◌, ◌<◌, ◌≤◌, Bool, true, false, ◌&&◌, List, [], ◌∷◌, ◌++◌, length, take, drop, get_or, Option, Some, None, Result, Ok, Err, refl, sym, ap, ◌∙◌, append_assoc, arith}
 use Rattle.std.specs.Prelude.{slice_index_or}
 use Rattle.std.specs.List.{cons_option, list_all}
 use Rattle.std.specs.Option.{option_to_list}
@@ -44,7 +44,7 @@ field_again (Some Memory) = (refl, refl)
 
 pub earlier_of-more : (a b c : Option RowFault) → b ≢ Some Memory → earlier_of (earlier_of a b) c ≡ earlier_of a (earlier_of b c)
 earlier_of-more None b c h = refl
-earlier_of-more (Some a) None c h = rw (earlier_of-none (Some a)) refl
+earlier_of-more (Some a) None c h = rw (earlier_of-none (Some a))
 earlier_of-more (Some a) (Some Memory) c h = absurd (h refl)
 earlier_of-more (Some Syntax) (Some b) c h = refl
 earlier_of-more (Some Memory) (Some b) c h = refl
@@ -106,15 +106,15 @@ pub device_read : (r : Result DeviceSpec RowFault) (n : ℕ) (text : List ℕ) (
 device_read r n text es on_a_line line cut h =
     let same : entries_reading n on_a_line es ≡ device_reading n text =
     rw (line, cut) (ap (λ (fault : Option RowFault). device_unless fault (device_in n (entries text))) (device_fault text)) in
-    subst (λ (x : Result DeviceSpec RowFault). Reads (λ device. device) r x) same h
+    rw (← same) h
 
 -- Entries in hand
 
 pub few_entries : (n : ℕ) (on_a_line : Bool) (es : List (Bor (List ℕ))) → length es < 4 → entries_reading n on_a_line (texts es) ≡ Err Syntax
-few_entries n on_a_line [] h = rw (and_false on_a_line) refl
-few_entries n on_a_line (a ∷ []) h = rw (and_false on_a_line) refl
-few_entries n on_a_line (a ∷ b ∷ []) h = rw (and_false on_a_line) refl
-few_entries n on_a_line (a ∷ b ∷ c ∷ []) h = rw (and_false on_a_line) refl
+few_entries n on_a_line [] h = rw (and_false on_a_line)
+few_entries n on_a_line (a ∷ []) h = rw (and_false on_a_line)
+few_entries n on_a_line (a ∷ b ∷ []) h = rw (and_false on_a_line)
+few_entries n on_a_line (a ∷ b ∷ c ∷ []) h = rw (and_false on_a_line)
 few_entries n on_a_line (a ∷ b ∷ c ∷ d ∷ es) h = absurd (omega arith)
 
 pub entries_fault : (n : ℕ) (on_a_line : Bool) (es : List (Bor (List ℕ))) (fault : RowFault) (label : Option RowFault) → 4 ≤ length es → label ≡ fault_of_label on_a_line (texts es)
@@ -125,7 +125,7 @@ entries_fault n on_a_line (a ∷ b ∷ []) fault label h is r = absurd (omega ar
 entries_fault n on_a_line (a ∷ b ∷ c ∷ []) fault label h is r = absurd (omega arith)
 entries_fault n on_a_line (a ∷ b ∷ c ∷ d ∷ es) fault label h is r =
     let found = unless-err (earlier_of (fault_of_label on_a_line (texts (a ∷ b ∷ c ∷ d ∷ es))) (fault_of_bodies (texts es))) (lines_in (place_of n) (texts es)) fault (rw (take_rest (a ∷ b ∷ c ∷ d ∷ es) 4, is) at r) in
-    ap (λ (x : Option RowFault). device_unless x (device_in n (texts (a ∷ b ∷ c ∷ d ∷ es)))) found
+    rw found
 
 pub entries_read : (n : ℕ) (on_a_line : Bool) (es : List (Bor (List ℕ))) (k e : Bor (List ℕ)) (lines : List Line) (label : Option RowFault) → 4 ≤ length es → label ≡ fault_of_label on_a_line (texts es)
     → bodies_reading (place_of n) label (texts (take (length es - 4) (drop 4 es))) ≡ Ok lines
@@ -136,7 +136,7 @@ entries_read n on_a_line (a ∷ b ∷ []) k e lines label h is r = absurd (omega
 entries_read n on_a_line (a ∷ b ∷ c ∷ []) k e lines label h is r = absurd (omega arith)
 entries_read n on_a_line (a ∷ b ∷ c ∷ d ∷ es) k e lines label h is r =
     let v = unless-ok (earlier_of (fault_of_label on_a_line (texts (a ∷ b ∷ c ∷ d ∷ es))) (fault_of_bodies (texts es))) (lines_in (place_of n) (texts es)) lines (rw (take_rest (a ∷ b ∷ c ∷ d ∷ es) 4, is) at r) in
-    rw (v.0, v.1) refl
+    rw (v.0, v.1)
 
 -- the first entry is a name where lines are read
 pub entries_named : (n : ℕ) (on_a_line : Bool) (es : List (Bor (List ℕ))) (k : Bor (List ℕ)) (bodies : List (List ℕ)) (lines : List Line) (label : Option RowFault) → 4 ≤ length es → label ≡ fault_of_label on_a_line (texts es)
@@ -153,7 +153,7 @@ entries_named n on_a_line (a ∷ b ∷ es) k bodies lines label h is r =
 
 -- what is said, if it is, after what was said so far
 one_more : {X : Type 0} (old : List X) (said : Option X) (more : List X) → (old ++ option_to_list said) ++ more ≡ old ++ cons_option said more
-one_more old None more = ap (λ xs. xs ++ more) (append-nil old)
+one_more old None more = rw (append-nil old)
 one_more old (Some x) more = append_assoc old (x ∷ []) more
 
 -- one device further, where nothing is wrong so far
@@ -183,7 +183,7 @@ body_further bodies i d at label fault found old new below is added known made =
     let fields = body_fields body.now in
     let text : found ≢ Some Memory = λ e. never_memory (is_body_row fields) (is_body fields) (has_body_names fields) (sym is ∙ e) in
     record {
-      known = earlier_of-more fault found _ text ∙ ap (λ (x : Option RowFault). earlier_of fault (earlier_of x (fault_of_bodies (texts (drop (i + 1) bodies))))) is ∙ (rw next at known);
+      known = cc (earlier_of-more fault found _ text, is, rw next at known);
       made = λ clear.
           let both = earlier_of-clear fault found clear in
           rw (added (sym is ∙ both.1)) (one_more old (line_in at fields) (lines_in at (texts (drop (i + 1) bodies))) ∙ (rw next at (made both.0)));

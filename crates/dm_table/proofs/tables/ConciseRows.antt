@@ -44,7 +44,7 @@ body_writes at text line r l =
     let bs = body_fields text in
     let whole : text ≡ join_with_byte 32 (fields text) = sym (join-parts_at 32 text) in
     let spelled : join_with_byte 32 bs ≡ body_text line = ap (join_with_byte 32) (sym (body_again at bs line l)) ∙ body_alone line in
-    let led : join_with_byte 32 ([] ∷ bs) ≡ 32 ∷ body_text line = spaced_before bs r ∙ ap (λ (t : List ℕ). 32 ∷ t) spelled in
+    let led : join_with_byte 32 ([] ∷ bs) ≡ 32 ∷ body_text line = rw (← spelled) (spaced_before bs r) in
     elim (space_cases (fields text)) [
       | inl e ↦ elim (first_cases (row_fields text)) [
         | inl f ↦ inl (inl (whole ∙ ap (join_with_byte 32) (sym (f ∙ e)) ∙ spelled))
@@ -65,7 +65,7 @@ no_first (b ∷ bs) fs h = refl
 -- fields that are there, with a space before them
 led_kept : (f : List ℕ) (fs : List (List ℕ)) → AllByRecursion IsInked (f ∷ fs) → row_fields (32 ∷ join_with_byte 32 (f ∷ fs)) ≡ [] ∷ f ∷ fs
 led_kept f fs h =
-    ap without_last_space (fields_joined [] (f ∷ fs) (refl, inks (f ∷ fs) h)) ∙ ap (λ (rest : List (List ℕ)). [] ∷ rest) (no_space (f ∷ fs) h)
+    rw (← no_space (f ∷ fs) h) (ap without_last_space (fields_joined [] (f ∷ fs) (refl, inks (f ∷ fs) h)))
 
 led_kept_spaced : (f : List ℕ) (fs : List (List ℕ)) → AllByRecursion IsInked (f ∷ fs) → row_fields (32 ∷ join_with_byte 32 (f ∷ fs) ++ 32 ∷ []) ≡ [] ∷ f ∷ fs
 led_kept_spaced f fs h =
@@ -169,15 +169,15 @@ uuid_ink text h = list_all-weaker is_device_byte is_ink device_ink text (and_par
 
 minor_ink : (text : List ℕ) → is_minor text ≡ true → list_all is_ink text ≡ true
 minor_ink text h = elim (cases_Bool (eqb (length text) 0)) [
-  | inl e ↦ rw (no_length text e) refl
+  | inl e ↦ rw (no_length text e)
   | inr e ↦ let spelled = number_spelled text (rw e at h) in ap (list_all is_ink) spelled.digits ∙ (number_inked (number_in text) spelled.short).1
 ]
 
 flags_ink : (text : List ℕ) → is_flags text ≡ true → list_all is_ink text ≡ true
 flags_ink text h = elim (cases_Bool (eqb (length text) 0)) [
-  | inl e ↦ rw (no_length text e) refl
+  | inl e ↦ rw (no_length text e)
   | inr e ↦ elim (cases_Bool (is_ro text)) [
-    | inl r ↦ rw (same_name text (codes "ro") r) refl
+    | inl r ↦ rw (same_name text (codes "ro") r)
     | inr r ↦ rw (same_name text (codes "rw") (rw (e, r) at h)) refl
   ]
 ]
@@ -327,5 +327,5 @@ device_again n text device s =
       row = rw cut (and_from _ _ (and_from _ _ newlines label) pass.rows);
       values = rw cut (and_from _ _ (and_from _ _ s.with_minor s.with_flags) pass.values);
       names = rw cut (and_from _ _ (and_from _ _ s.named s.with_uuid) pass.names);
-      again = rw (cut, pass.again, ← s.ro, ← s.at) refl;
+      again = rw (cut, pass.again, ← s.ro, ← s.at);
     }

@@ -77,7 +77,7 @@ in_order n (name ∷ sectors ∷ []) some is_name =
     record {
       disk = disk_at n name number.0;
       said = ap (option_map (disk_at n name)) number.1;
-      line = ap (λ (text : List ℕ). name ++ 32 ∷ text) spells.digits;
+      line = cc (spells.digits);
       listed = record { name = is_name; len = spells.short; at = refl };
     }
 in_order n (name ∷ sectors ∷ more ∷ others) some is_name = absurd cc
@@ -89,7 +89,7 @@ lines_spell n [] numbers names = refl
 lines_spell n (line ∷ lines) numbers names =
     let row = in_order n (fields line) (not-false _ numbers.0) (not-false _ names.0) in
     let here : line ≡ disk_line row.disk = sym (join-parts_at 32 line) ∙ row.line in
-    rw (row.said, ← here, lines_spell (suc n) lines numbers.1 names.1) refl
+    rw (row.said, ← here, lines_spell (suc n) lines numbers.1 names.1)
 
 rows_listed : (n : ℕ) (rows : List (List (List ℕ))) → AllByRecursion (λ row. no_number row ≡ false) rows → AllByRecursion (λ row. no_name row ≡ false) rows → AreListed n (disks_from n rows)
 rows_listed n [] numbers names = tt
@@ -129,16 +129,15 @@ line_text disk name len = list_all-both (λ b. nat_le 32 b && nat_le b 126) disk
 
 line_fields : (disk : Disk) → is_disk_name disk.name ≡ true → disk.len < 10 ^ 19 → fields (disk_line disk) ≡ disk_row disk
 line_fields disk name len =
-    parts_at-first 32 disk.name (decimal disk.len) (plain-disk_name disk.name name).clear
-    ∙ ap (λ (more : List (List ℕ)). disk.name ∷ more) (parts_at-clear 32 (decimal disk.len) (digits-clear (decimal disk.len) (decimal_digits disk.len len)))
+    rw (← parts_at-clear 32 (decimal disk.len) (digits-clear (decimal disk.len) (decimal_digits disk.len len))) (parts_at-first 32 disk.name (decimal disk.len) (plain-disk_name disk.name name).clear)
 
 rows_again : (disks : List Disk) → AreNamed disks → map fields (map disk_line disks) ≡ map disk_row disks
 rows_again [] h = refl
-rows_again (disk ∷ disks) h = rw (line_fields disk h.0.0 h.0.1, rows_again disks h.1) refl
+rows_again (disk ∷ disks) h = rw (line_fields disk h.0.0 h.0.1, rows_again disks h.1)
 
 over_lines : (disks : List Disk) → flat_map (λ disk. disk_line disk ++ 10 ∷ []) disks ≡ flat_map (λ line. line ++ 10 ∷ []) (map disk_line disks)
 over_lines [] = refl
-over_lines (disk ∷ disks) = rw (over_lines disks) refl
+over_lines (disk ∷ disks) = rw (over_lines disks)
 
 lines_clear : (disks : List Disk) → AreNamed disks → AllByRecursion (IsClearOf 10) (map disk_line disks)
 lines_clear [] h = tt
@@ -165,7 +164,7 @@ names_pass (disk ∷ disks) h = (not_from_true _ h.0.0, names_pass disks h.1)
 
 disks_again : (n : ℕ) (disks : List Disk) → AreListed n disks → disks_from n (map disk_row disks) ≡ disks
 disks_again n [] listed = refl
-disks_again n (disk ∷ disks) listed = rw (number_of-decimal disk.len listed.0.len, disks_again (suc n) disks listed.1, ← listed.0.at) refl
+disks_again n (disk ∷ disks) listed = rw (number_of-decimal disk.len listed.0.len, disks_again (suc n) disks listed.1, ← listed.0.at)
 
 abbrev checks_of : List LoadFault → List (List (List ℕ)) → List ℕ → List (List LoadFault)
 checks_of bytes rows rest = bytes ∷ row_checks Disks is_pair has_sectors has_name rows rest
@@ -177,15 +176,15 @@ again text disks describes =
     let clear = lines_clear disks names in
     let whole : text ≡ flat_map (λ line. line ++ 10 ∷ []) (map disk_line disks) = describes.spelled ∙ over_lines disks in
     let parts : parts_at 10 text ≡ map disk_line disks ++ [] ∷ [] = ap (parts_at 10) whole ∙ parts_at-lines (map disk_line disks) clear in
-    let rows : map fields (lines_of text) ≡ map disk_row disks = ap (λ (t : List ℕ). map fields (lines_of t)) whole ∙ ap (map fields) (lines_of-lines (map disk_line disks) clear) ∙ rows_again disks names in
+    let rows : map fields (lines_of text) ≡ map disk_row disks = rw whole (ap (map fields) (lines_of-lines (map disk_line disks) clear) ∙ rows_again disks names) in
     let rest : rest_of text ≡ [] = ap rest_of whole ∙ rest_of-lines (map disk_line disks) clear in
     let no_byte : not_text Disks (parts_at 10 text) ≡ [] = ap (faults_from Disks NotText no_text 1) parts ∙ faults_from-good Disks NotText no_text 1 (map disk_line disks ++ [] ∷ []) (texts_pass disks names) in
     let no_row : faults_from Disks Syntax no_pair 1 (map disk_row disks) ≡ [] = faults_from-good Disks Syntax no_pair 1 (map disk_row disks) (pairs_pass disks names) in
-    let no_syntax : faults_from Disks Syntax no_pair 1 (map disk_row disks) ++ [] ≡ [] = rw no_row refl in
+    let no_syntax : faults_from Disks Syntax no_pair 1 (map disk_row disks) ++ [] ≡ [] = rw no_row in
     let no_field : faults_from Disks Field no_number 1 (map disk_row disks) ≡ [] = faults_from-good Disks Field no_number 1 (map disk_row disks) (numbers_pass disks names) in
     let no_named : faults_from Disks Name no_name 1 (map disk_row disks) ≡ [] = faults_from-good Disks Name no_name 1 (map disk_row disks) (names_pass disks names) in
     let same : disk_checks text ≡ checks_of (not_text Disks (parts_at 10 text)) (map disk_row disks) [] =
-    ap (λ (r : List (List (List ℕ))). checks_of (not_text Disks (parts_at 10 text)) r (rest_of text)) rows ∙ ap (checks_of (not_text Disks (parts_at 10 text)) (map disk_row disks)) rest in (
+    rw rows (ap (checks_of (not_text Disks (parts_at 10 text)) (map disk_row disks)) rest) in (
       ap first_fault same ∙ first_fault-all (checks_of (not_text Disks (parts_at 10 text)) (map disk_row disks) []) (no_byte, (no_syntax, (no_field, (no_named, tt)))),
       ap (disks_from 1) rows ∙ disks_again 1 disks describes.listed,
     )
@@ -205,7 +204,7 @@ DescribesDisks-unique text a b is_a is_b = sym (again text a is_a).1 ∙ (again 
 
 -- after the disks of one row come those of more
 disk_after : (disks : List Disk) (said : Option Disk) (more : List Disk) → (disks ++ cons_option said []) ++ more ≡ disks ++ cons_option said more
-disk_after disks None more = ap (λ (all : List Disk). all ++ more) (append-nil disks)
+disk_after disks None more = rw (append-nil disks)
 disk_after disks (Some disk) more = append_assoc disks (disk ∷ []) more
 
 -- each row adds its disk
@@ -228,8 +227,8 @@ not_pair n (a ∷ b ∷ c ∷ more) other = refl
 number_found : (n : ℕ) (name : List ℕ) (len : Option ℕ) → fault_in (reading_of is_named (option_map (disk_at n name) len)) ≡ first_failed true (is_some (option_map (disk_at 0 name) len)) (is_disk_name name)
 number_found n name None = refl
 number_found n name (Some len) = elim (cases_Bool (is_disk_name name)) [
-  | inl e ↦ rw e refl
-  | inr e ↦ rw e refl
+  | inl e ↦ rw e
+  | inr e ↦ rw e
 ]
 
 row_found : (n : ℕ) (row : List (List ℕ)) → fault_in (disk_reading n row) ≡ disk_fault row
@@ -237,7 +236,7 @@ row_found n [] = refl
 row_found n (name ∷ []) = refl
 row_found n (name ∷ sectors ∷ []) = elim (cases_Bool (is_pair (name ∷ sectors ∷ []))) [
   | inl e ↦ rw e (number_found n name (number_of sectors))
-  | inr e ↦ rw e refl
+  | inr e ↦ rw e
 ]
 row_found n (name ∷ sectors ∷ more ∷ others) = refl
 
@@ -252,4 +251,4 @@ disk_read n row disk h =
     (rw clear refl, said_by (is_pair row) (disk_in n row) disk h)
 
 pub disk_refused : (n : ℕ) (row : List (List ℕ)) (fault : RowFault) → disk_reading n row ≡ Err fault → unless (disk_fault row) (tt {0}) ≡ Err fault
-disk_refused n row fault h = let found : disk_fault row ≡ Some fault = sym (row_found n row) ∙ ap fault_in h in rw found refl
+disk_refused n row fault h = let found : disk_fault row ≡ Some fault = sym (row_found n row) ∙ ap fault_in h in rw found

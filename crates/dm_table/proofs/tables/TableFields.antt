@@ -29,7 +29,7 @@ last_place x y xs = omega arith
 pub take-all_but_last : {X : Type 0} (xs : List X) → take (length xs - 1) xs ≡ all_but_last xs
 take-all_but_last [] = refl
 take-all_but_last (x ∷ []) = refl
-take-all_but_last (x ∷ y ∷ xs) = rw (last_place x y xs, take-all_but_last (y ∷ xs)) refl
+take-all_but_last (x ∷ y ∷ xs) = rw (last_place x y xs, take-all_but_last (y ∷ xs))
 
 -- the last, by its place
 pub get_or-last_or : {X : Type 0} (d e : X) (xs : List X) → 1 ≤ length xs → get_or xs (length xs - 1) d ≡ last_or e xs
@@ -38,7 +38,7 @@ get_or-last_or d e (x ∷ []) h = refl
 get_or-last_or d e (x ∷ y ∷ xs) h = rw (last_place x y xs) (get_or-last_or d e (y ∷ xs) (omega arith))
 
 pub label_by_place : (field : List ℕ) → 2 ≤ length field → eqb (get_or field (length field - 1) 0) 58 ≡ is_label field
-label_by_place field h = rw (lt-ltb 1 (length field) (omega arith), get_or-last_or 0 0 field (omega arith)) refl
+label_by_place field h = rw (lt-ltb 1 (length field) (omega arith), get_or-last_or 0 0 field (omega arith))
 
 empty_alone : (field : List ℕ) → eqb (length field) 0 ≡ ends_empty (field ∷ [])
 empty_alone [] = refl
@@ -54,13 +54,13 @@ pub spaced : (fs : List (List ℕ)) → ends_empty fs ≡ true → without_last_
 spaced [] e = refl
 spaced ([] ∷ []) e = refl
 spaced ((b ∷ bs) ∷ []) e = absurd cc
-spaced (f ∷ g ∷ fs) e = ap (λ (rest : List (List ℕ)). f ∷ rest) (spaced (g ∷ fs) e)
+spaced (f ∷ g ∷ fs) e = rw (spaced (g ∷ fs) e)
 
 pub not_spaced : (fs : List (List ℕ)) → ends_empty fs ≡ false → without_last_space fs ≡ fs
 not_spaced [] e = refl
 not_spaced ([] ∷ []) e = absurd cc
 not_spaced ((b ∷ bs) ∷ []) e = refl
-not_spaced (f ∷ g ∷ fs) e = ap (λ (rest : List (List ℕ)). f ∷ rest) (not_spaced (g ∷ fs) e)
+not_spaced (f ∷ g ∷ fs) e = rw (not_spaced (g ∷ fs) e)
 
 -- Rows
 
@@ -77,15 +77,15 @@ label_found : (n : ℕ) (label : List ℕ) (o : Option Body) → fault_in (readi
     ≡ first_failed true (is_some o) (is_device_name (name_in label) && unwrap_or (option_map (λ body. has_target_names body.len body.target) o) true)
 label_found n label None = refl
 label_found n label (Some body) = elim (cases_Bool (is_device_name (name_in label) && has_target_names body.len body.target)) [
-  | inl e ↦ rw e refl
-  | inr e ↦ rw e refl
+  | inl e ↦ rw e
+  | inr e ↦ rw e
 ]
 
 row_found : (n : ℕ) (row : List (List ℕ)) → fault_in (row_reading n row) ≡ table_row_fault row
 row_found n [] = refl
 row_found n (label ∷ fs) = elim (cases_Bool (is_row (label ∷ fs))) [
   | inl e ↦ rw e (label_found n label (body_in fs))
-  | inr e ↦ rw e refl
+  | inr e ↦ rw e
 ]
 
 pub row_fault_is : (n : ℕ) (row : List (List ℕ)) (reading : Result NamedLine RowFault) → row_reading n row ≡ reading → table_row_fault row ≡ fault_in reading

@@ -26,10 +26,10 @@ use Rattle.dm_table.proofs.tables.TargetRows.{read_ok}
 set_last : (ds : List DeviceSpec) (n : ℕ) (d : DeviceSpec) (named : NamedLine) → n + 1 ≡ length ds → slice_index_or ds n d ≡ d → pointwise nat_eq named.name d.name ≡ true
     → slice_set ds n (record d { lines = d.lines ++ named.line ∷ [] }) ≡ add_line ds named
 set_last [] n d named len last same = absurd (omega arith)
-set_last (e ∷ []) zero d named len last same = rw (last, same) refl
+set_last (e ∷ []) zero d named len last same = rw (last, same)
 set_last (e ∷ []) (suc n) d named len last same = absurd (omega arith)
 set_last (e ∷ f ∷ ds) zero d named len last same = absurd (omega arith)
-set_last (e ∷ f ∷ ds) (suc n) d named len last same = ap (λ (more : List DeviceSpec). e ∷ more) (set_last (f ∷ ds) n d named (omega arith) last same)
+set_last (e ∷ f ∷ ds) (suc n) d named len last same = rw (set_last (f ∷ ds) n d named (omega arith) last same)
 
 pub add_same : (r : Result (Unit {0}) AllocError) (ds : List DeviceSpec) (n : ℕ) (d : DeviceSpec) (lines : List Line) (named : NamedLine) → n + 1 ≡ length ds → d ≡ slice_index_or ds n d → pointwise nat_eq named.name d.name ≡ true
     → OnOk r (lines ≡ d.lines ++ named.line ∷ []) → OnOk r (slice_set ds n (record d { lines = lines }) ≡ add_line ds named)
@@ -40,10 +40,10 @@ add_same (Err e) ds n d lines named len last same added = tt
 pub add_other : (ds : List DeviceSpec) (n : ℕ) (d : DeviceSpec) (named : NamedLine) → n + 1 ≡ length ds → d ≡ slice_index_or ds n d → pointwise nat_eq named.name d.name ≡ false
     → slice_set ds n (record d { lines = d.lines }) ++ alone named ∷ [] ≡ add_line ds named
 add_other [] n d named len last other = absurd (omega arith)
-add_other (e ∷ []) zero d named len last other = rw (sym last, other) refl
+add_other (e ∷ []) zero d named len last other = rw (sym last, other)
 add_other (e ∷ []) (suc n) d named len last other = absurd (omega arith)
 add_other (e ∷ f ∷ ds) zero d named len last other = absurd (omega arith)
-add_other (e ∷ f ∷ ds) (suc n) d named len last other = ap (λ (more : List DeviceSpec). e ∷ more) (add_other (f ∷ ds) n d named (omega arith) last other)
+add_other (e ∷ f ∷ ds) (suc n) d named len last other = rw (add_other (f ∷ ds) n d named (omega arith) last other)
 
 pub add_first : (ds : List DeviceSpec) (named : NamedLine) → length ds ≡ 0 → ds ++ alone named ∷ [] ≡ add_line ds named
 add_first [] named none = refl
@@ -57,21 +57,21 @@ add_join one [] named = elim (cases_Bool (pointwise nat_eq one.name named.name))
       rw (h, back) (ap (λ (name : List ℕ). let d : DeviceSpec = record { name = name; ro = false; lines = one.line ∷ named.line ∷ []; at = one.line.at } in d ∷ []) (same_name one.name named.name h))
   | inr h ↦
       let back : pointwise nat_eq named.name one.name ≡ false = is_other_name named.name one.name (λ e. other_name one.name named.name h (sym e)) in
-      rw (h, back) refl
+      rw (h, back)
 ]
 add_join one (d ∷ []) named = elim (cases_Bool (pointwise nat_eq one.name d.name)) [
   | inl h ↦ elim (cases_Bool (pointwise nat_eq named.name d.name)) [
-    | inl k ↦ rw (h, k, h) refl
-    | inr k ↦ rw (h, k, h) refl
+    | inl k ↦ rw (h, k, h)
+    | inr k ↦ rw (h, k, h)
   ]
   | inr h ↦ elim (cases_Bool (pointwise nat_eq named.name d.name)) [
-    | inl k ↦ rw (h, k, h) refl
-    | inr k ↦ rw (h, k, h) refl
+    | inl k ↦ rw (h, k, h)
+    | inr k ↦ rw (h, k, h)
   ]
 ]
 add_join one (d ∷ e ∷ ds) named = elim (cases_Bool (pointwise nat_eq one.name d.name)) [
-  | inl h ↦ rw h refl
-  | inr h ↦ rw h refl
+  | inl h ↦ rw h
+  | inr h ↦ rw h
 ]
 
 joined_more : (ns : List NamedLine) (named : NamedLine) → add_line (joined ns) named ≡ joined (ns ++ named ∷ [])
@@ -114,4 +114,4 @@ named_read n row named h =
     (rw clear refl, taken.said ∙ ap Some same)
 
 pub named_refused : (n : ℕ) (row : List (List ℕ)) (fault : RowFault) → row_reading n row ≡ Err fault → unless (table_row_fault row) (tt {0}) ≡ Err fault
-named_refused n row fault h = let found : table_row_fault row ≡ Some fault = row_fault_is n row (Err fault) h in rw found refl
+named_refused n row fault h = let found : table_row_fault row ≡ Some fault = row_fault_is n row (Err fault) h in rw found

@@ -41,7 +41,7 @@ space_cases (f ∷ g ∷ fs) = elim (space_cases (g ∷ fs)) [
 pub space_dropped : (fs : List (List ℕ)) → without_last_space (fs ++ [] ∷ []) ≡ fs
 space_dropped [] = refl
 space_dropped (f ∷ []) = refl
-space_dropped (f ∷ g ∷ fs) = ap (λ (rest : List (List ℕ)). f ∷ rest) (space_dropped (g ∷ fs))
+space_dropped (f ∷ g ∷ fs) = rw (space_dropped (g ∷ fs))
 
 pub space_joined : (f : List ℕ) (fs : List (List ℕ)) → join_with_byte 32 (f ∷ fs ++ [] ∷ []) ≡ join_with_byte 32 (f ∷ fs) ++ 32 ∷ []
 space_joined f [] = refl
@@ -52,7 +52,7 @@ space_joined f (g ∷ fs) = rw (space_joined g fs) (sym (append_assoc f (32 ∷ 
 last_split : (xs : List ℕ) → 0 < length xs → xs ≡ all_but_last xs ++ last_or 0 xs ∷ []
 last_split [] h = absurd (omega arith)
 last_split (x ∷ []) h = refl
-last_split (x ∷ y ∷ xs) h = ap (λ (rest : List ℕ). x ∷ rest) (last_split (y ∷ xs) (omega arith))
+last_split (x ∷ y ∷ xs) h = rw (last_split (y ∷ xs) (omega arith))
 
 label_spelled : (label : List ℕ) → is_label label ≡ true → name_in label ++ 58 ∷ [] ≡ label
 label_spelled label h =
@@ -112,8 +112,7 @@ row_inked n named h = (label_inked named.name h.name, body_inked named.line h.bo
 pub fields_joined : (f : List ℕ) (fs : List (List ℕ)) → AllByRecursion (λ g. list_all is_ink g ≡ true) (f ∷ fs) → fields (join_with_byte 32 (f ∷ fs)) ≡ f ∷ fs
 fields_joined f [] h = parts_at-clear 32 f (ink_clear f h.0)
 fields_joined f (g ∷ fs) h =
-    parts_at-first 32 f (join_with_byte 32 (g ∷ fs)) (ink_clear f h.0)
-    ∙ ap (λ (rest : List (List ℕ)). f ∷ rest) (fields_joined g fs h.1)
+    rw (← fields_joined g fs h.1) (parts_at-first 32 f (join_with_byte 32 (g ∷ fs)) (ink_clear f h.0))
 
 pub inks : (fs : List (List ℕ)) → AllByRecursion IsInked fs → AllByRecursion (λ g. list_all is_ink g ≡ true) fs
 inks [] h = tt
@@ -127,7 +126,7 @@ pub no_space : (fs : List (List ℕ)) → AllByRecursion IsInked fs → without_
 no_space [] h = refl
 no_space ([] ∷ []) h = absurd (let e : false ≡ true = h.0.0 in cc)
 no_space ((b ∷ bs) ∷ []) h = refl
-no_space (f ∷ g ∷ fs) h = ap (λ (rest : List (List ℕ)). f ∷ rest) (no_space (g ∷ fs) h.1)
+no_space (f ∷ g ∷ fs) h = rw (no_space (g ∷ fs) h.1)
 
 pub row_kept : (f : List ℕ) (fs : List (List ℕ)) → AllByRecursion IsInked (f ∷ fs) → row_fields (join_with_byte 32 (f ∷ fs)) ≡ f ∷ fs
 row_kept f fs h = ap without_last_space (fields_joined f fs (inks (f ∷ fs) h)) ∙ no_space (f ∷ fs) h
@@ -177,4 +176,4 @@ names_pass n named h = and_from _ _ (ap is_device_name (all_but_last-push named.
 -- and is read as that line
 pub line_again : (n : ℕ) (named : NamedLine) → IsSaid n named → named_in n (row_for named) ≡ Some named
 line_again n named h =
-    ap (option_map (with_label (label_for named))) (body.line_again (place n) named.line h.body h.at) ∙ rw (all_but_last-push named.name 58) refl
+    ap (option_map (with_label (label_for named))) (body.line_again (place n) named.line h.body h.at) ∙ rw (all_but_last-push named.name 58)

@@ -36,7 +36,7 @@ join-parts_at c text = join_with_byte-slice_split c text
 pub parts_at-join : (c : ℕ) (part : List ℕ) (parts : List (List ℕ)) → AllByRecursion (IsClearOf c) (part ∷ parts) → parts_at c (join_with_byte c (part ∷ parts)) ≡ part ∷ parts
 parts_at-join c part [] clear = parts_at-clear c part clear.0
 parts_at-join c part (next ∷ parts) clear =
-    parts_at-first c part (join_with_byte c (next ∷ parts)) clear.0 ∙ ap (λ (more : List (List ℕ)). part ∷ more) (parts_at-join c next parts clear.1)
+    rw (← parts_at-join c next parts clear.1) (parts_at-first c part (join_with_byte c (next ∷ parts)) clear.0)
 
 -- nothing before the first c is a c
 clear_before : (c : ℕ) (text : List ℕ) (n : ℕ) → n ≤ length text → Nowhere (Passes (is_byte c) text) 0 n → IsClearOf c (take n text)
@@ -84,7 +84,7 @@ cut_last c parts rest all none so_far = map_push _ parts rest ∙ ap (λ (more :
 pub all_but_last-push : {X : Type 0} (xs : List X) (x : X) → all_but_last (xs ++ x ∷ []) ≡ xs
 all_but_last-push [] x = refl
 all_but_last-push (y ∷ []) x = refl
-all_but_last-push (y ∷ z ∷ xs) x = rw (all_but_last-push (z ∷ xs) x) refl
+all_but_last-push (y ∷ z ∷ xs) x = rw (all_but_last-push (z ∷ xs) x)
 
 pub last_or-push : {X : Type 0} (d : X) (xs : List X) (x : X) → last_or d (xs ++ x ∷ []) ≡ x
 last_or-push d [] x = refl
@@ -93,7 +93,7 @@ last_or-push d (y ∷ z ∷ xs) x = last_or-push d (z ∷ xs) x
 
 -- what is left when the last slice is taken off
 pub all_but_last-popped : (parts lines : List (Bor (List ℕ))) (last : Option (Bor (List ℕ))) → parts ≡ lines ++ option_to_list last → (last ≡ None → lines ≡ []) → texts lines ≡ all_but_last (texts parts)
-all_but_last-popped parts lines None popped empty = rw (popped, append-nil, empty refl) refl
+all_but_last-popped parts lines None popped empty = rw (popped, append-nil, empty refl)
 all_but_last-popped parts lines (Some slice) popped empty = sym (ap all_but_last (ap texts popped ∙ map-append _ lines (slice ∷ [])) ∙ all_but_last-push (texts lines) slice.now)
 
 -- Lines
@@ -146,7 +146,7 @@ lines_of-whole text none = lines_of-rest_of text ∙ rw none (append-nil _)
 pub parts_at-lines : (lines : List (List ℕ)) → AllByRecursion (IsClearOf 10) lines → parts_at 10 (flat_map (λ line. line ++ 10 ∷ []) lines) ≡ lines ++ [] ∷ []
 parts_at-lines [] clear = refl
 parts_at-lines (line ∷ lines) clear =
-    ap (parts_at 10) (append_assoc line (10 ∷ []) (flat_map (λ line. line ++ 10 ∷ []) lines)) ∙ parts_at-first 10 line (flat_map (λ line. line ++ 10 ∷ []) lines) clear.0 ∙ rw (parts_at-lines lines clear.1) refl
+    ap (parts_at 10) (append_assoc line (10 ∷ []) (flat_map (λ line. line ++ 10 ∷ []) lines)) ∙ parts_at-first 10 line (flat_map (λ line. line ++ 10 ∷ []) lines) clear.0 ∙ rw (parts_at-lines lines clear.1)
 
 pub lines_of-lines : (lines : List (List ℕ)) → AllByRecursion (IsClearOf 10) lines → lines_of (flat_map (λ line. line ++ 10 ∷ []) lines) ≡ lines
 lines_of-lines lines clear = ap all_but_last (parts_at-lines lines clear) ∙ all_but_last-push lines []

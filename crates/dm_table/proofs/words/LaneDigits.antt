@@ -31,7 +31,7 @@ number_after n (x ∷ xs) =
     let first = number_after (0 * 10 + x) xs in
     let split = add-mul (n * 10) x power in
     let tens = mul_assoc n 10 power in
-    let more : n * 10 ^ suc (length xs) ≡ n * (10 * power) = ap (λ (k : ℕ). n * k) (pow-succ' 10 (length xs)) in
+    let more : n * 10 ^ suc (length xs) ≡ n * (10 * power) = rw (pow-succ' 10 (length xs)) in
     let alone : (0 * 10 + x) * power ≡ x * power = ap (λ (k : ℕ). k * power) (omega arith) in
     omega (arith, all, first, split, tens, more, alone)
 
@@ -49,7 +49,7 @@ values_from_lanes [] all = refl
 values_from_lanes (byte ∷ text) all =
     let both = and_parts (is_ascii_digit byte) (list_all is_ascii_digit text) all in
     let one : (byte + 208) % 256 ≡ digit_value byte = omega (arith, digit_value_digit byte (digit_range byte both.0), digit_range byte both.0) in
-    rw (one, values_from_lanes text both.1) refl
+    rw (one, values_from_lanes text both.1)
 
 -- The first lane that is no digit
 

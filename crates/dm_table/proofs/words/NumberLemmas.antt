@@ -1,5 +1,5 @@
 -- A text spells a number exactly where the number is read off it.
-use Rattle.std.proofs.Common.{◌≡◌, ◌≢◌, ℕ, ◌+◌, ◌-◌, ◌*◌, ◌^◌, ◌<◌, ◌≤◌, inl, inr, Bool, true, false, cond, eqb, nat_le, not, ◌||◌, List, Option, Some, None, length, get_or, take, take_all, refl, sym, ap, subst, ◌∙◌, arith, rules}
+use Rattle.std.proofs.Common.{◌≡◌, ◌≢◌, ℕ, ◌+◌, ◌-◌, ◌*◌, ◌^◌, ◌<◌, ◌≤◌, inl, inr, Bool, true, false, cond, eqb, nat_le, not, ◌||◌, List, Option, Some, None, length, get_or, take, take_all, refl, sym, ap, ◌∙◌, arith, rules}
 use Rattle.std.specs.Prelude.{decimal, is_some, unwrap_or}
 use Rattle.std.specs.Char.{digit_value, is_ascii_digit}
 use Rattle.std.specs.Int.{IsInRange}
@@ -88,7 +88,7 @@ Spells-number_of text n e =
     let numeral = numeral_of text a.0 in
     let below : digits_value 10 text < 10 ^ 19 = digits_value_short numerals text 19 numeral.digits numeral.high in
     let back : decimal (digits_value 10 text) ≡ text = decimal-digits_value numerals text numeral.digits numeral.low numeral.lead (omega arith) in
-    record { digits = sym back ∙ ap decimal a.1; short = subst (λ (k : ℕ). k < 10 ^ 19) a.1 below }
+    record { digits = sym back ∙ ap decimal a.1; short = rw (← a.1) below }
 
 decimal_lead : (n : ℕ) → n < 2 ^ 64 → (not (eqb (get_or (decimal n) 0 0) 48) || eqb (length (decimal n)) 1) ≡ true
 decimal_lead n wide =
@@ -107,7 +107,7 @@ number_of-decimal n short =
     let low : 1 ≤ length (decimal n) = decimal_nonempty n wide in
     let high : length (decimal n) ≤ 19 = length-decimal-le 19 n (omega arith) short wide in
     let test : is_number (decimal n) ≡ true = and_from _ _ (le-leb _ _ low) (and_from _ _ (le-leb _ _ high) (and_from _ _ (decimal_lead n wide) (digits_decimal numerals n wide))) in
-    rw (test, digits_value-decimal numerals n wide) refl
+    rw (test, digits_value-decimal numerals n wide)
 
 -- the text of a number has digits alone, and at least one
 pub decimal_digits : (n : ℕ) → n < 10 ^ 19 → list_all is_ascii_digit (decimal n) ≡ true
@@ -124,7 +124,7 @@ Some-is_some (Some n) e = refl
 -- What a text of other bytes, or of a false form, spells
 
 if_false : (b : Bool) (x : ℕ) → b ≡ false → cond b (Some x) None ≡ None
-if_false b x e = rw e refl
+if_false b x e = rw e
 
 pub number_of-empty : (text : List ℕ) → length text ≡ 0 → number_of text ≡ None
 unfolding number_of
@@ -155,7 +155,7 @@ pub number_of-digits : (text : List ℕ) → 1 ≤ length text → length text �
 unfolding number_of
 number_of-digits text low high lead digits =
     let test : is_number text ≡ true = and_from _ _ (le-leb _ _ low) (and_from _ _ (le-leb _ _ high) (and_from _ _ (led text low lead) digits)) in
-    rw test refl
+    rw test
 
 -- a text with another byte than digits spells none
 pub number_of-cut : (text : List ℕ) → prefix_len is_ascii_digit text ≢ length text → number_of text ≡ None

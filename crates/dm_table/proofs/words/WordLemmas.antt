@@ -1,5 +1,5 @@
 -- Digits that are read as one word: every second byte gets the value of two, and then the values are added.
-use Rattle.std.proofs.Common.{◌≡◌, ℕ, zero, suc, ◌+◌, ◌-◌, ◌*◌, ◌/◌, ◌%◌, ◌^◌, ◌<◌, ◌≤◌, List, [], ◌∷◌, get_or, length, take, ap, ◌∙◌, sym, arith, bit_and}
+use Rattle.std.proofs.Common.{◌≡◌, ℕ, zero, suc, ◌+◌, ◌-◌, ◌*◌, ◌/◌, ◌%◌, ◌^◌, ◌<◌, ◌≤◌, List, [], ◌∷◌, get_or, length, take, ap, ◌∙◌, arith, bit_and}
 use Rattle.std.specs.Int.Digits.{number_from_digits}
 use Rattle.std.specs.Int.{from_le_bytes, w64}
 use lib.Lanes.{Each1}
@@ -27,7 +27,7 @@ firsts_are p =
     let high : bit_and (p / 2 ^ 32) 255 ≡ p / 2 ^ 32 % 2 ^ 8 = and_mask (p / 2 ^ 32) 8 in
     let low : bit_and (p % 2 ^ 32) 255 ≡ p % 2 ^ 32 % 2 ^ 8 = and_mask (p % 2 ^ 32) 8 in
     let both : bit_and (p / 2 ^ 32 * 2 ^ 32 + p % 2 ^ 32) 1095216660735 ≡ bit_and (p / 2 ^ 32) 255 * 2 ^ 32 + bit_and (p % 2 ^ 32) 255 = and_block 32 (p / 2 ^ 32) 255 (p % 2 ^ 32) 255 (omega arith) (omega arith) in
-    ap (λ (n : ℕ). bit_and n 1095216660735) (sym split) ∙ both ∙ omega (arith, high, low)
+    rw (← split) (both ∙ omega (arith, high, low))
 
 pairs_are : (a b c d e f g h : ℕ) → a < 10 → b < 10 → c < 10 → d < 10 → e < 10 → f < 10 → g < 10 → h < 10 → pairs_of (word a b c d e f g h) ≡ word (a * 10 + b) (b * 10 + c) (c * 10 + d) (d * 10 + e) (e * 10 + f) (f * 10 + g) (g * 10 + h) (h * 10)
 pairs_are a b c d e f g h la lb lc ld le lf lg lh =
@@ -81,29 +81,21 @@ moved_8 a b c d e f g h la lb lc ld le lf lg lh = omega arith
 -- the word of the first digits once they were moved to its end
 pub front_value : (len : ℕ) (digits : List ℕ) → length digits ≡ 8 → ((i : ℕ) → get_or digits i 0 < 256) → 1 ≤ len → len ≤ 8 → Each1 (λ digit. digit < 10) (take len digits) → pairs_value (pairs_of (from_le_bytes w64 digits * 2 ^ (64 - 8 * len) % 2 ^ 64)) ≡ number_from_digits 10 (take len digits)
 front_value (suc zero) (a ∷ b ∷ c ∷ d ∷ e ∷ f ∷ g ∷ h ∷ []) long within some few below =
-    ap (λ (w : ℕ). pairs_value (pairs_of w)) (moved_1 a b c d e f g h (within 0) (within 1) (within 2) (within 3) (within 4) (within 5) (within 6) (within 7))
-    ∙ eight_value 0 0 0 0 0 0 0 a (omega arith) (omega arith) (omega arith) (omega arith) (omega arith) (omega arith) (omega arith) below.0
+    rw (moved_1 a b c d e f g h (within 0) (within 1) (within 2) (within 3) (within 4) (within 5) (within 6) (within 7)) (eight_value 0 0 0 0 0 0 0 a (omega arith) (omega arith) (omega arith) (omega arith) (omega arith) (omega arith) (omega arith) below.0)
 front_value (suc (suc zero)) (a ∷ b ∷ c ∷ d ∷ e ∷ f ∷ g ∷ h ∷ []) long within some few below =
-    ap (λ (w : ℕ). pairs_value (pairs_of w)) (moved_2 a b c d e f g h (within 0) (within 1) (within 2) (within 3) (within 4) (within 5) (within 6) (within 7))
-    ∙ eight_value 0 0 0 0 0 0 a b (omega arith) (omega arith) (omega arith) (omega arith) (omega arith) (omega arith) below.0 (below.1).0
+    rw (moved_2 a b c d e f g h (within 0) (within 1) (within 2) (within 3) (within 4) (within 5) (within 6) (within 7)) (eight_value 0 0 0 0 0 0 a b (omega arith) (omega arith) (omega arith) (omega arith) (omega arith) (omega arith) below.0 (below.1).0)
 front_value (suc (suc (suc zero))) (a ∷ b ∷ c ∷ d ∷ e ∷ f ∷ g ∷ h ∷ []) long within some few below =
-    ap (λ (w : ℕ). pairs_value (pairs_of w)) (moved_3 a b c d e f g h (within 0) (within 1) (within 2) (within 3) (within 4) (within 5) (within 6) (within 7))
-    ∙ eight_value 0 0 0 0 0 a b c (omega arith) (omega arith) (omega arith) (omega arith) (omega arith) below.0 (below.1).0 ((below.1).1).0
+    rw (moved_3 a b c d e f g h (within 0) (within 1) (within 2) (within 3) (within 4) (within 5) (within 6) (within 7)) (eight_value 0 0 0 0 0 a b c (omega arith) (omega arith) (omega arith) (omega arith) (omega arith) below.0 (below.1).0 ((below.1).1).0)
 front_value (suc (suc (suc (suc zero)))) (a ∷ b ∷ c ∷ d ∷ e ∷ f ∷ g ∷ h ∷ []) long within some few below =
-    ap (λ (w : ℕ). pairs_value (pairs_of w)) (moved_4 a b c d e f g h (within 0) (within 1) (within 2) (within 3) (within 4) (within 5) (within 6) (within 7))
-    ∙ eight_value 0 0 0 0 a b c d (omega arith) (omega arith) (omega arith) (omega arith) below.0 (below.1).0 ((below.1).1).0 (((below.1).1).1).0
+    rw (moved_4 a b c d e f g h (within 0) (within 1) (within 2) (within 3) (within 4) (within 5) (within 6) (within 7)) (eight_value 0 0 0 0 a b c d (omega arith) (omega arith) (omega arith) (omega arith) below.0 (below.1).0 ((below.1).1).0 (((below.1).1).1).0)
 front_value (suc (suc (suc (suc (suc zero))))) (a ∷ b ∷ c ∷ d ∷ e ∷ f ∷ g ∷ h ∷ []) long within some few below =
-    ap (λ (w : ℕ). pairs_value (pairs_of w)) (moved_5 a b c d e f g h (within 0) (within 1) (within 2) (within 3) (within 4) (within 5) (within 6) (within 7))
-    ∙ eight_value 0 0 0 a b c d e (omega arith) (omega arith) (omega arith) below.0 (below.1).0 ((below.1).1).0 (((below.1).1).1).0 ((((below.1).1).1).1).0
+    rw (moved_5 a b c d e f g h (within 0) (within 1) (within 2) (within 3) (within 4) (within 5) (within 6) (within 7)) (eight_value 0 0 0 a b c d e (omega arith) (omega arith) (omega arith) below.0 (below.1).0 ((below.1).1).0 (((below.1).1).1).0 ((((below.1).1).1).1).0)
 front_value (suc (suc (suc (suc (suc (suc zero)))))) (a ∷ b ∷ c ∷ d ∷ e ∷ f ∷ g ∷ h ∷ []) long within some few below =
-    ap (λ (w : ℕ). pairs_value (pairs_of w)) (moved_6 a b c d e f g h (within 0) (within 1) (within 2) (within 3) (within 4) (within 5) (within 6) (within 7))
-    ∙ eight_value 0 0 a b c d e f (omega arith) (omega arith) below.0 (below.1).0 ((below.1).1).0 (((below.1).1).1).0 ((((below.1).1).1).1).0 (((((below.1).1).1).1).1).0
+    rw (moved_6 a b c d e f g h (within 0) (within 1) (within 2) (within 3) (within 4) (within 5) (within 6) (within 7)) (eight_value 0 0 a b c d e f (omega arith) (omega arith) below.0 (below.1).0 ((below.1).1).0 (((below.1).1).1).0 ((((below.1).1).1).1).0 (((((below.1).1).1).1).1).0)
 front_value (suc (suc (suc (suc (suc (suc (suc zero))))))) (a ∷ b ∷ c ∷ d ∷ e ∷ f ∷ g ∷ h ∷ []) long within some few below =
-    ap (λ (w : ℕ). pairs_value (pairs_of w)) (moved_7 a b c d e f g h (within 0) (within 1) (within 2) (within 3) (within 4) (within 5) (within 6) (within 7))
-    ∙ eight_value 0 a b c d e f g (omega arith) below.0 (below.1).0 ((below.1).1).0 (((below.1).1).1).0 ((((below.1).1).1).1).0 (((((below.1).1).1).1).1).0 ((((((below.1).1).1).1).1).1).0
+    rw (moved_7 a b c d e f g h (within 0) (within 1) (within 2) (within 3) (within 4) (within 5) (within 6) (within 7)) (eight_value 0 a b c d e f g (omega arith) below.0 (below.1).0 ((below.1).1).0 (((below.1).1).1).0 ((((below.1).1).1).1).0 (((((below.1).1).1).1).1).0 ((((((below.1).1).1).1).1).1).0)
 front_value (suc (suc (suc (suc (suc (suc (suc (suc zero)))))))) (a ∷ b ∷ c ∷ d ∷ e ∷ f ∷ g ∷ h ∷ []) long within some few below =
-    ap (λ (w : ℕ). pairs_value (pairs_of w)) (moved_8 a b c d e f g h (within 0) (within 1) (within 2) (within 3) (within 4) (within 5) (within 6) (within 7))
-    ∙ eight_value a b c d e f g h below.0 (below.1).0 ((below.1).1).0 (((below.1).1).1).0 ((((below.1).1).1).1).0 (((((below.1).1).1).1).1).0 ((((((below.1).1).1).1).1).1).0 (((((((below.1).1).1).1).1).1).1).0
+    rw (moved_8 a b c d e f g h (within 0) (within 1) (within 2) (within 3) (within 4) (within 5) (within 6) (within 7)) (eight_value a b c d e f g h below.0 (below.1).0 ((below.1).1).0 (((below.1).1).1).0 ((((below.1).1).1).1).0 (((((below.1).1).1).1).1).0 ((((((below.1).1).1).1).1).1).0 (((((((below.1).1).1).1).1).1).1).0)
 front_value len [] long within some few below = absurd (omega arith)
 front_value len (a ∷ []) long within some few below = absurd (omega arith)
 front_value len (a ∷ b ∷ []) long within some few below = absurd (omega arith)

@@ -207,6 +207,7 @@ impl<W: Output> Output for Gathered<W> {
     fn drain(&mut self)
         ensures past { past_of self.new ≡ past_of self.old }
         ensures minds { MindsFaults self.old self.new }
+        ensures all { self.new.broken ≡ false → self.new.held ≡ [] }
     {
         self.pass_on();
     }

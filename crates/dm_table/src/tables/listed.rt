@@ -5,13 +5,14 @@
 
 ghost use Rattle.std.specs.Prelude.{◌≡◌, ◌++◌, ◌∷◌, [], OnOk};
 
-use std::alloc::AllocError;
+use crate::reserved::Reserved;
+use std::alloc::{AllocError, Global};
 use std::marker::Model;
 
 /// Values in their order. A clause sees them as a list.
 #[derive(Debug, Drop)]
 pub struct Listed<T> {
-    items: Vec<T>,
+    items: Reserved<T>,
 }
 
 impl<T> Model for Listed<T> {
@@ -27,14 +28,16 @@ impl<T> Listed<T> {
     pub fn from_vec(items: Vec<T>) -> Listed<T>
         ensures { result ≡ items.items }
     {
-        Listed { items }
+        Listed {
+            items: Reserved::from_vec(items),
+        }
     }
 
     /// The values, with no memory taken.
     pub fn into_vec(self) -> Vec<T>
         ensures { result.items ≡ self }
     {
-        self.items
+        self.items.into_vec()
     }
 
     /// The values in their order.
@@ -46,11 +49,10 @@ impl<T> Listed<T> {
 }
 
 impl<T: Drop> Listed<T> {
-    /// Adds a value at the end.
-    pub(crate) fn push(&mut self, value: T) -> Result<(), AllocError>
+    /// Adds a value at the end. Only who has an allocator may.
+    pub(crate) fn push(&mut self, alloc: Global, value: T) -> Result<(), AllocError>
         ensures { OnOk result (self.new ≡ self.old ++ value ∷ []) }
     {
-        self.items.push(value)?;
-        Ok(())
+        self.items.grow(alloc, value)
     }
 }

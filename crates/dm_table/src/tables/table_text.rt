@@ -78,7 +78,7 @@ fn add_line(alloc: Global, devices: &mut Vec<DeviceSpec>, row: Row<'_>) -> Resul
 {
     if let Some(last) = devices.last_mut() {
         if row.name == last.name.as_str().as_bytes() {
-            return last.lines.push(row.line);
+            return last.lines.push(alloc, row.line);
         }
     }
     devices.push(device_of(alloc, row)?)?;

@@ -8,6 +8,7 @@ ghost use Rattle.std.specs.Prelude.{◌≡◌, ◌↔◌, Some, Err, true, false
 ghost use Rattle.std.specs.Str.{IsAscii};
 ghost use Rattle.std.specs.String.{string_bytes};
 
+use crate::reserved::ReservedText;
 use std::alloc::{AllocError, Global};
 use std::fmt;
 use std::marker::{Model, PhantomData};
@@ -40,19 +41,18 @@ pub trait NameRule {
 /// A text that is a name by its rule.
 #[derive(Debug, Drop)]
 pub struct CheckedName<R: NameRule> {
-    text: String,
+    text: ReservedText,
     rule: PhantomData<R>,
 }
 
 impl<R: NameRule> Model for CheckedName<R> {
     ghost use Rattle.std.specs.Prelude.{◌≡◌, List, ℕ, true};
-    ghost use Rattle.std.specs.String.{string_bytes};
 
     ghost Value = { List ℕ };
 
-    ghost view = { λ name. string_bytes name.text };
+    ghost view = { λ name. name.text };
 
-    ghost invariant = { λ name. R.is_name (string_bytes name.text) ≡ true };
+    ghost invariant = { λ name. R.is_name name.text ≡ true };
 }
 
 impl<R: NameRule> CheckedName<R> {
@@ -70,7 +70,7 @@ impl<R: NameRule> CheckedName<R> {
         }
         match String::from_str(alloc, text) {
             Ok(text) => Ok(CheckedName {
-                text,
+                text: ReservedText::from_string(text),
                 rule: PhantomData,
             }),
             Err(AllocError) => Err(CheckFault::Memory),
@@ -83,9 +83,18 @@ impl<R: NameRule> CheckedName<R> {
         ensures { IfOk result (λ name. name ≡ bytes.now) }
     {
         Ok(CheckedName {
-            text: String::from_str(alloc, ascii_str(bytes))?,
+            text: ReservedText::from_string(String::from_str(alloc, ascii_str(bytes))?),
             rule: PhantomData,
         })
+    }
+
+    /// A copy of the name, which is not tested again.
+    ///
+    /// Cost: reads the text once, and takes memory once. Fails only if the allocation was refused.
+    pub fn copy(&self, alloc: Global) -> Result<CheckedName<R>, AllocError>
+        ensures { IfOk result (λ copy. copy ≡ self.now) }
+    {
+        CheckedName::of_bytes(alloc, self.as_str().as_bytes())
     }
 
     /// The text of the name.
@@ -101,7 +110,7 @@ impl<R: NameRule> CheckedName<R> {
     pub fn into_string(self) -> String
         ensures { string_bytes result ≡ self }
     {
-        self.text
+        self.text.into_string()
     }
 }
 

@@ -106,14 +106,18 @@ device_name group volume layer = joined (device_parts group volume layer)
 abbrev pub IsNamed : List ℕ → List ℕ → Option Layer → Type 0
 IsNamed group volume layer = fault_of (device_parts group volume layer) ≡ None
 
--- the device of a volume's own segments: the volume itself, or its layer
-abbrev pub own_device : Group → Volume → (ro : Bool) → Option Layer → DeviceSpec
-own_device group volume ro layer = record {
-  name = device_name group.name volume.name layer;
+-- a device of a volume's own segments, by its name
+abbrev pub named_device : Group → Volume → (ro : Bool) → List ℕ → DeviceSpec
+named_device group volume ro name = record {
+  name = name;
   ro = ro;
   lines = lines_of group volume.segments;
   at = source_line volume.line;
 }
+
+-- the device of a volume's own segments: the volume itself, or its layer
+abbrev pub own_device : Group → Volume → (ro : Bool) → Option Layer → DeviceSpec
+own_device group volume ro layer = named_device group volume ro (device_name group.name volume.name layer)
 
 -- the device of a volume over its layer, of one line
 abbrev pub over_device : Group → Volume → Line → DeviceSpec

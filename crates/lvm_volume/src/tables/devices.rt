@@ -9,8 +9,8 @@ ghost use Rattle.std.specs.List.{AllByRecursion, flat_map, zip};
 ghost use Rattle.lvm_volume.specs.declared.tables.device_names.Layer.TheVariants.{Real, Cow};
 ghost use Rattle.lvm_volume.specs.tables.GroupRef.{group_view};
 ghost use Rattle.lvm_volume.specs.group.Roles.{extents_of, name_at, segments_at};
-ghost use Rattle.lvm_volume.specs.tables.Tables.{AreSegmentsIn, IsMadeIn, IsNamed, devices_in, length_of};
-ghost use Rattle.lvm_volume.specs.tables.Tables.{origin_line, over_device, own_device, snapshot_line};
+ghost use Rattle.lvm_volume.specs.tables.Tables.{AreSegmentsIn, IsMadeIn, IsNamed, device_name, devices_in};
+ghost use Rattle.lvm_volume.specs.tables.Tables.{length_of, named_device, origin_line, over_device, snapshot_line};
 
 use crate::fields::source_line::source_line;
 use crate::group::physical::Physical;
@@ -19,7 +19,7 @@ use crate::group::segment::Segment;
 use crate::group::volume::Volume;
 use crate::tables::device_names::{Layer, name_of};
 use crate::tables::lines::lines_of;
-use dm_table::{DevRef, DeviceSpec, Line, StoreKind, Table, Target};
+use dm_table::{DevRef, DeviceSpec, Line, Name, StoreKind, Table, Target};
 use std::alloc::{AllocError, Global};
 
 /// A group that devices are made of: its name, the sectors of an extent, its physical volumes and its
@@ -63,15 +63,20 @@ fn add_devices(
         (devices.new.items ≡ devices.old.items ++ devices_in (group_view group.now) (role, volume.now)) }
 {
     match role {
-        Role::Plain => devices.push(own_device(alloc, group, volume, volume.ro, None)?)?,
+        Role::Plain => {
+            let name = volume_name(alloc, group, volume, None)?;
+            devices.push(own_device(alloc, group, volume, volume.ro, name)?)?;
+        }
         Role::Origin => {
-            devices.push(own_device(alloc, group, volume, false, Some(Layer::Real))?)?;
-            let line = origin_line(alloc, group, volume)?;
+            let real = volume_name(alloc, group, volume, Some(Layer::Real))?;
+            let line = origin_line(group, volume, real.copy(alloc)?);
+            devices.push(own_device(alloc, group, volume, false, real)?)?;
             devices.push(over_device(alloc, group, volume, line)?)?;
         }
         Role::Store(snapshot) => {
-            devices.push(own_device(alloc, group, volume, false, Some(Layer::Cow))?)?;
-            let line = snapshot_line(alloc, group, volume, snapshot)?;
+            let cow = volume_name(alloc, group, volume, Some(Layer::Cow))?;
+            let line = snapshot_line(alloc, group, volume, cow.copy(alloc)?, snapshot)?;
+            devices.push(own_device(alloc, group, volume, false, cow)?)?;
             devices.push(over_device(alloc, group, volume, line)?)?;
         }
         Role::Record | Role::Clashing => {}
@@ -79,20 +84,32 @@ fn add_devices(
     Ok(())
 }
 
-/// The device of a volume's own segments: the volume itself, or a layer of it.
+/// The name of a volume, or of a layer of it.
+fn volume_name(
+    alloc: Global,
+    group: &GroupRef<'_>,
+    volume: &Volume,
+    layer: Option<Layer>,
+) -> Result<Name, AllocError>
+    requires { IsNamed group.now.name.now volume.now.name layer }
+    ensures { IfOk result (λ name. name ≡ device_name group.now.name.now volume.now.name layer) }
+{
+    name_of(alloc, group.name, volume.name.as_str(), layer)
+}
+
+/// The device of a volume's own segments, by this name: the volume itself, or a layer of it.
 fn own_device(
     alloc: Global,
     group: &GroupRef<'_>,
     volume: &Volume,
     ro: bool,
-    layer: Option<Layer>,
+    name: Name,
 ) -> Result<DeviceSpec, AllocError>
-    requires segments { AreSegmentsIn (group_view group.now) volume.now.segments }
-    requires name { IsNamed group.now.name.now volume.now.name layer }
-    ensures { IfOk result (λ device. device ≡ own_device (group_view group.now) volume.now ro layer) }
+    requires { AreSegmentsIn (group_view group.now) volume.now.segments }
+    ensures { IfOk result (λ device. device ≡ named_device (group_view group.now) volume.now ro name) }
 {
     Ok(DeviceSpec {
-        name: name_of(alloc, group.name, volume.name.as_str(), layer)?,
+        name,
         ro,
         lines: lines_of(
             alloc,
@@ -117,7 +134,7 @@ fn over_device(
     let mut lines = Vec::new(alloc);
     lines.push(line)?;
     Ok(DeviceSpec {
-        name: name_of(alloc, group.name, volume.name.as_str(), None)?,
+        name: volume_name(alloc, group, volume, None)?,
         ro: volume.ro,
         lines: Table::from_vec(lines),
         at: source_line(volume.line),
@@ -125,20 +142,19 @@ fn over_device(
 }
 
 /// The line of an origin, over its layer.
-fn origin_line(alloc: Global, group: &GroupRef<'_>, volume: &Volume) -> Result<Line, AllocError>
+fn origin_line(group: &GroupRef<'_>, volume: &Volume, real: Name) -> Line
     requires len { length_of (group_view group.now) volume.now.segments < 2 ^ 64 }
-    requires name { IsNamed group.now.name.now volume.now.name (Some Real) }
-    ensures { IfOk result (λ line. line ≡ origin_line (group_view group.now) volume.now) }
+    requires name { real ≡ device_name group.now.name.now volume.now.name (Some Real) }
+    ensures { result ≡ origin_line (group_view group.now) volume.now }
 {
-    let real = name_of(alloc, group.name, volume.name.as_str(), Some(Layer::Real))?;
-    Ok(Line {
+    Line {
         start: 0,
         len: length_of(group.extent_size, volume.segments.as_slice()),
         target: Target::Origin {
             origin: DevRef::Device(real),
         },
         at: source_line(volume.line),
-    })
+    }
 }
 
 /// The line of a snapshot whose store is this volume, over the layers of its origin and of the volume.
@@ -146,17 +162,17 @@ fn snapshot_line(
     alloc: Global,
     group: &GroupRef<'_>,
     volume: &Volume,
+    cow: Name,
     snapshot: Record,
 ) -> Result<Line, AllocError>
     requires len { length_of (group_view group.now) (segments_at group.now.volumes.now snapshot.origin)
         < 2 ^ 64 }
     requires origin { IsNamed group.now.name.now (name_at group.now.volumes.now snapshot.origin) (Some Real) }
-    requires store { IsNamed group.now.name.now volume.now.name (Some Cow) }
+    requires store { cow ≡ device_name group.now.name.now volume.now.name (Some Cow) }
     ensures { IfOk result (λ line. line ≡ snapshot_line (group_view group.now) volume.now snapshot) }
 {
     let origin = name_at(group.volumes, snapshot.origin);
     let real = name_of(alloc, group.name, origin, Some(Layer::Real))?;
-    let cow = name_of(alloc, group.name, volume.name.as_str(), Some(Layer::Cow))?;
     Ok(Line {
         start: 0,
         len: length_of(

@@ -5,7 +5,7 @@ ghost use Rattle.lvm_volume.specs.tables.Tables.{disk_of};
 
 use crate::fields::source_line::source_line;
 use crate::group::physical::Physical;
-use dm_table::{CheckFault, Disk, DiskName};
+use dm_table::Disk;
 use std::alloc::{AllocError, Global};
 
 /// The disks of physical volumes.
@@ -25,19 +25,8 @@ fn disk_of(alloc: Global, physical: &Physical) -> Result<Disk, AllocError>
     ensures { IfOk result (λ disk. disk ≡ disk_of physical.now) }
 {
     Ok(Disk {
-        name: copy_of(alloc, &physical.disk)?,
+        name: physical.disk.copy(alloc)?,
         len: physical.size,
         at: source_line(physical.line),
     })
-}
-
-/// A copy of a disk's name.
-pub(crate) fn copy_of(alloc: Global, name: &DiskName) -> Result<DiskName, AllocError>
-    ensures { IfOk result (λ copy. copy ≡ name.now) }
-{
-    match DiskName::new(alloc, name.as_str()) {
-        Ok(copy) => Ok(copy),
-        // A name is one by its type, so what fails is memory.
-        Err(_) => Err(AllocError),
-    }
 }

@@ -12,7 +12,6 @@ ghost use Rattle.lvm_volume.specs.tables.Tables.{line_target};
 use crate::fields::source_line::source_line;
 use crate::group::physical::Physical;
 use crate::group::segment::{Segment, SegmentType, Stripe};
-use crate::tables::disks::copy_of;
 use dm_table::{Column, Columns, DevRef, Line, Table, Target};
 use std::alloc::{AllocError, Global};
 
@@ -122,7 +121,7 @@ fn column_of(
 {
     let physical = &physicals[stripe.physical];
     Ok(Column {
-        to: DevRef::Disk(copy_of(alloc, &physical.disk)?),
+        to: DevRef::Disk(physical.disk.copy(alloc)?),
         offset: physical.start + stripe.extent * extent_size,
     })
 }

@@ -12,7 +12,7 @@ are_joined c = record {
   set_none = sets _ _ _ _ c.remove.ensures.updates;
   set_joined = sets _ _ _ _ c.in_ok-insert.ensures.updates;
   meets = c.if-start-range.false;
-  goes_on = c.if-not-joins.ensures;
+  goes_on = c.if-not-joins.ensures.joins;
   len = omega (arith, c.with_len.ensures.len, c.if-start-range.false);
   first = c.with_len.ensures.first;
 }

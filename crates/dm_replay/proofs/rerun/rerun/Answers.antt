@@ -1,6 +1,5 @@
-use Rattle.std.proofs.Common.{refl, sym, ap, subst, ◌∙◌}
+use Rattle.std.proofs.Common.{refl, ap, ◌∙◌}
 use Rattle.dm_map.specs.state.State.{start_state}
-use Rattle.dm_stack.specs.Description.{Description}
 use Rattle.dm_replay.specs.Replay.{IsKept}
 use Rattle.dm_replay.proofs.RunTextLemmas.{each_at}
 use Rattle.dm_replay.proofs.RerunLemmas.{rerun_first, rerun_next}
@@ -9,8 +8,7 @@ use Rattle.dm_replay.proofs.rerun.rerun.Goals as goal
 pub map_again-requires-clause-kept : goal.map_again-requires-clause-kept
 map_again-requires-clause-kept g c =
     let stack = c.args.stack.now in
-    subst (λ (of : Description). IsKept of c.kept-item.result) (sym c.loop-kept.invariant.of)
-    (each_at (IsKept stack) c.args.writes.now c.loop-kept.kept-index c.kept-item.result c.loop-kept-test.true c.kept-item.is c.requires)
+    rw c.loop-kept.invariant.of (each_at (IsKept stack) c.args.writes.now c.loop-kept.kept-index c.kept-item.result c.loop-kept-test.true c.kept-item.is c.requires)
 
 pub loop-kept-init : goal.loop-kept-init
 loop-kept-init g c =

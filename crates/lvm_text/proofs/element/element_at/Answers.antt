@@ -1,15 +1,15 @@
-use Rattle.std.proofs.Common.{◌∙◌, ◌≤◌, ap, subst, eqb, length, List, ℕ, get_or}
+use Rattle.std.proofs.Common.{◌∙◌, ap, List, ℕ, get_or}
 use Rattle.lvm_text.specs.Scan.{element_from}
 use Rattle.lvm_text.proofs.Elements.{element_nil, element_beyond, element_cons, some_bytes}
 use Rattle.lvm_text.proofs.element.element_at.Goals as goal
 
 pub returns-then-is_empty : goal.returns-then-is_empty
-returns-then-is_empty c = element_nil c.args.text.now (c.if-is_empty.ensures ∙ ap (λ (bs : List ℕ). eqb (length bs) 0) c.as_bytes-bytes.ensures.value)
+returns-then-is_empty c = element_nil c.args.text.now (rw (← c.as_bytes-bytes.ensures.value) c.if-is_empty.ensures)
 
 pub returns-then-first-ge128 : goal.returns-then-first-ge128
-returns-then-first-ge128 c = element_beyond c.args.text.now (subst (λ (bs : List ℕ). 128 ≤ get_or bs 0 0) c.as_bytes-bytes.ensures.value c.if-first-ge128.true)
+returns-then-first-ge128 c = element_beyond c.args.text.now (rw (← c.as_bytes-bytes.ensures.value) c.if-first-ge128.true)
 
 pub returns : goal.returns
 returns c =
     c.element_from.ensures ∙ ap (λ (bs : List ℕ). element_from (get_or bs 0 0) c.around.result.1.now) c.as_bytes-bytes.ensures.value
-    ∙ element_cons c.args.text.now c.around.result.1.now (some_bytes c.args.text.now (c.if-is_empty.ensures ∙ ap (λ (bs : List ℕ). eqb (length bs) 0) c.as_bytes-bytes.ensures.value)) c.around.ensures.after
+    ∙ element_cons c.args.text.now c.around.result.1.now (some_bytes c.args.text.now (rw (← c.as_bytes-bytes.ensures.value) c.if-is_empty.ensures)) c.around.ensures.after

@@ -1,13 +1,19 @@
 use denote.Text.{Utf8}
 use denote.Shadow.{shadow}
-use Rattle.std.proofs.Common.{◌+◌, ◌≤◌, length}
+use Rattle.std.proofs.Common.{◌≤◌, length}
 use Rattle.lvm_text.specs.TokenView.{views}
-use Rattle.lvm_text.proofs.Cuts.{Before}
+use Rattle.lvm_text.proofs.Elements.{Reached}
 use Rattle.lvm_text.proofs.lexer.tokens_of.Given as goal
 
 -- says that each `&str` the loop changes is text: keep it, and add clauses with ×
 abbrev pub invariant-loop-rest : goal.invariant-loop-rest
-invariant-loop-rest l = shadow (Utf8 l.rest) × Before l.text l.line (views l.tokens.items) l.rest × (l.line + length l.rest ≤ 1 + length l.text)
+invariant-loop-rest l = shadow (Utf8 l.rest) × Reached l.text l.line (views l.tokens.items) l.rest
 
 abbrev pub decreases-loop-rest : goal.decreases-loop-rest
 decreases-loop-rest l = length l.rest
+
+abbrev pub invariant-loop-byte : goal.invariant-loop-byte
+invariant-loop-byte l = shadow (Utf8 l.rest) × Reached l.fn.text l.line (views l.tokens.items) l.rest × (length l.rest ≤ length l.initial.rest)
+
+abbrev pub decreases-loop-byte : goal.decreases-loop-byte
+decreases-loop-byte l = length l.rest

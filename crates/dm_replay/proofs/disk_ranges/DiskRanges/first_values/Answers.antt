@@ -1,17 +1,11 @@
-use Rattle.std.proofs.Common.{ℕ, List, subst}
-use Rattle.dm_replay.specs.declared.range_values.RangeValues.{RangeValues}
 use Rattle.dm_replay.specs.declared.value.Value.TheVariants as value
-use Rattle.dm_replay.specs.Patches.{AreFirst}
-use Rattle.dm_replay.specs.Ranges.{HoldOn}
-use Rattle.dm_replay.specs.Stored.{held, stored_in}
 use Rattle.dm_replay.proofs.StoredLemmas.{bare_hold, first_held}
 use Rattle.dm_replay.proofs.disk_ranges.DiskRanges.first_values.Goals as goal
 
 pub returns-in-Some : goal.returns-in-Some
 returns-in-Some c =
     let a = c.args in let said = c.rest.ensures in
-    subst (λ (entries : List (ℕ × RangeValues)). AreFirst (λ (on sector : ℕ). held on (stored_in entries sector) sector) a.disk a.start a.len c.rest.result) c.self.view_is
-    (first_held c.self.inside.ranges a.disk a.start a.len c.in-Some.from c.in-Some.range c.rest.result c.self.invariant c.in-Some.ensures.some said.some said.most said.within said.first)
+    rw (← c.self.view_is) (first_held c.self.inside.ranges a.disk a.start a.len c.in-Some.from c.in-Some.range c.rest.result c.self.invariant c.in-Some.ensures.some said.some said.most said.within said.first)
 
 pub returns : goal.returns
 returns c =
@@ -19,6 +13,5 @@ returns c =
     record {
       some = said.some;
       most = said.most;
-      hold = subst (λ (entries : List (ℕ × RangeValues)). HoldOn (λ (on sector : ℕ). held on (stored_in entries sector) sector) a.disk a.start c.bare_len.result (value.Old a.disk a.start)) c.self.view_is
-          (bare_hold c.self.inside.ranges a.disk a.start c.bare_len.result c.self.invariant said.bare);
+      hold = rw (← c.self.view_is) (bare_hold c.self.inside.ranges a.disk a.start c.bare_len.result c.self.invariant said.bare);
     }

@@ -1,5 +1,3 @@
-use Rattle.std.proofs.Common.{◌≡◌, ℕ, List, subst}
-use Rattle.dm_replay.specs.declared.range_values.RangeValues.{RangeValues}
 use Rattle.dm_replay.specs.Stored.{spanned, stored_in}
 use Rattle.dm_replay.proofs.StoredLemmas.{view_is, view_shows}
 use Rattle.dm_replay.proofs.disk_ranges.DiskRanges.store.Goals as goal
@@ -7,5 +5,4 @@ use Rattle.dm_replay.proofs.disk_ranges.DiskRanges.store.Goals as goal
 pub returns : goal.returns
 returns c sector =
     let a = c.args in let old = c.self.inside.ranges in let new = c.store_in.new.ranges in
-    subst (λ (entries : List (ℕ × RangeValues)). stored_in new.entries sector ≡ spanned (stored_in entries) a.start a.range.len a.range.first sector) c.self.view_is
-    (view_is new (spanned (stored_in old.entries) a.start a.range.len a.range.first) c.store_in.ensures.apart (c.in_ok-store_in.ensures.stored (stored_in old.entries) (view_shows old c.self.invariant)) sector)
+    rw (← c.self.view_is) (view_is new (spanned (stored_in old.entries) a.start a.range.len a.range.first) c.store_in.ensures.apart (c.in_ok-store_in.ensures.stored (stored_in old.entries) (view_shows old c.self.invariant)) sector)

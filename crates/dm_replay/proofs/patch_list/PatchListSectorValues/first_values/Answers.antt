@@ -27,9 +27,7 @@ loop-older-preserved c =
       most = omega (arith, c.sectors_before-left.ensures.most, l.invariant.most);
       within = omega (arith, l.invariant.within);
       hold = λ i more.
-          l.invariant.hold i (omega (arith, c.sectors_before-left.ensures.most, more))
-          ∙ ap (λ (values : Values). values a.disk (a.start + i)) (newest patches l.older p.result c.loop-older-test.true l.invariant.within p.is)
-          ∙ out_of_patch older p.result a.disk (a.start + i) (c.sectors_before-left.ensures.out i more);
+          cc (l.invariant.hold i (omega (arith, c.sectors_before-left.ensures.most, more)), newest patches l.older p.result c.loop-older-test.true l.invariant.within p.is, out_of_patch older p.result a.disk (a.start + i) (c.sectors_before-left.ensures.out i more));
     }
 
 pub returns : goal.returns
@@ -39,6 +37,5 @@ returns c =
       some = l.invariant.some;
       most = l.invariant.most;
       hold = λ i more.
-          ap (λ (ps : List Patch). values_in ps a.disk (a.start + i)) (sym c.as_slice-patches.ensures.value)
-          ∙ l.invariant.hold i more ∙ none_older patches l.older a.disk a.start i c.loop-older-test.false;
+          rw (← c.as_slice-patches.ensures.value) (l.invariant.hold i more ∙ none_older patches l.older a.disk a.start i c.loop-older-test.false);
     }

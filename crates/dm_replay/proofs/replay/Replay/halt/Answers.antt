@@ -1,10 +1,7 @@
-use Rattle.std.proofs.Common.{◌∷◌, ◌++◌, [], ℕ, List, Some, sym, ap, ◌∙◌, subst}
-use Rattle.std.specs.List.{AllByRecursion}
+use Rattle.std.proofs.Common.{sym, ap, ◌∙◌, subst}
 use Rattle.dm_map.specs.state.State.{start_state}
-use Rattle.dm_replay.specs.declared.kept_write.KeptWrite.{KeptWrite}
-use Rattle.dm_replay.specs.Histories.{Asked}
-use Rattle.dm_replay.specs.Replay.{HasTop, IsGoing, IsKept, Replaying, halted_request}
-use Rattle.dm_replay.specs.Reruns.{kept_request, rerun_from}
+use Rattle.dm_replay.specs.Replay.{HasTop, Replaying}
+use Rattle.dm_replay.specs.Reruns.{rerun_from}
 use Rattle.dm_replay.proofs.NamedLemmas.{named_id, named_there}
 use Rattle.dm_replay.proofs.WorldLemmas.{are_whole, few_whole, going_halted, is_kept, kept_more, next_start, write_of}
 use Rattle.dm_replay.proofs.replay.Replay.halt.Goals as goal
@@ -36,7 +33,7 @@ rerun-requires g c =
     c.self.invariant.tidy going.asked_are c.in-Some.ensures.some.1 going.mapper_stack going.state_is in
     let whole = are_whole inside.stack.now inside.mapper request device c.args.units c.in-Ok.player.playing.next size going.mapper_stack c.in-Ok.ensures.next few c.whole_sectors-whole.ensures in
     let one = is_kept inside.stack.now request device size (named_there inside.stack.now request.device.now device c.in-Some.ensures.some.0) c.in-Some.ensures.some.1 whole.few in
-    subst (λ (writes : List KeptWrite). AllByRecursion (IsKept inside.stack.now) writes) (sym (c.deref-2.ensures.value ∙ c.in-Ok-keep.ensures)) (kept_more inside.stack.now request.op (write_of request device size) inside.writes.items one going.kept_are)
+    rw (c.deref.ensures.value ∙ c.in-Ok-keep.ensures) (kept_more inside.stack.now request.op (write_of request device size) inside.writes.items one going.kept_are)
 
 pub invariant_of-result : goal.invariant_of-result
 invariant_of-result g c =
@@ -49,21 +46,17 @@ invariant_of-result g c =
     record {
       tidy = c.self.invariant.tidy;
       tops_are = c.self.invariant.tops_are;
-      going = λ _. subst (λ (all : List Asked). IsGoing inside.stack.now c.in-Ok-rerun.mapper player.stack.now player.playing.values.disks.items all c.keep.new.writes.items) (sym c.add.ensures)
-          (subst (λ (writes : List KeptWrite). IsGoing inside.stack.now c.in-Ok-rerun.mapper player.stack.now player.playing.values.disks.items (inside.asked ++ kept_request request device (Some c.args.units) ∷ []) writes) (sym c.in-Ok-keep.ensures)
-          (going_halted inside.stack.now inside.player.stack.now player.stack.now inside.mapper c.in-Ok-rerun.mapper inside.player.playing.values.disks.items player.playing.values.disks.items inside.asked inside.writes.items request device c.args.units size
+      going = λ _. rw (c.add.ensures, c.in-Ok-keep.ensures) (going_halted inside.stack.now inside.player.stack.now player.stack.now inside.mapper c.in-Ok-rerun.mapper inside.player.playing.values.disks.items player.playing.values.disks.items inside.asked inside.writes.items request device c.args.units size
           one going again.going again.stack did.stack
-          (again.state ∙ ap (rerun_from inside.stack.now (start_state inside.stack.now)) (c.deref-2.ensures.value ∙ c.in-Ok-keep.ensures)) did.values did.disks whole));
+          (again.state ∙ ap (rerun_from inside.stack.now (start_state inside.stack.now)) (c.deref.ensures.value ∙ c.in-Ok-keep.ensures)) did.values did.disks whole);
     }
 
 pub returns-clause-asked : goal.returns-clause-asked
 returns-clause-asked g c =
     let inside = c.self.inside in let request = c.args.request.now in
-    c.add.ensures
-    ∙ ap (λ (id : ℕ). inside.asked ++ kept_request request id (Some c.args.units) ∷ []) (named_id inside.stack.now request.device.now c.in-Some.device c.in-Some.ensures.some.0)
-    ∙ ap (λ (r : Replaying). r.asked ++ halted_request r.stack request c.args.units ∷ []) c.self.view_is
+    rw (← c.self.view_is, ← named_id inside.stack.now request.device.now c.in-Some.device c.in-Some.ensures.some.0) c.add.ensures
 
 pub returns-clause-top : goal.returns-clause-top
 returns-clause-top g c =
     let found = c.in-Some.ensures.some in
-    subst (λ (r : Replaying). HasTop r.stack c.args.request.now.device.now) c.self.view_is (record { id = c.in-Some.device; named = found.0; top = found.1 })
+    rw (← c.self.view_is) (record { id = c.in-Some.device; named = found.0; top = found.1 })

@@ -11,7 +11,7 @@ invariant_of-result g c =
     let stack = c.args.stack.now in let made = c.in-Ok-new.ensures in let player = c.new-in-Ok-new in
     record {
       tidy = c.in_ok-refuse_clash.ensures.tidy;
-      tops_are = c.in-Ok.ensures;
+      tops_are = rw c.from_vec.ensures.items c.in-Ok.ensures;
       going = λ _. subst (λ (all : List Asked). IsGoing stack c.in-Ok-new.mapper player.result.stack.now player.result.playing.values.disks.items all c.new-in-Ok-new-3.result.items) (sym c.new-in-Ok-new-2.ensures)
           (subst (λ (writes : List KeptWrite). IsGoing stack c.in-Ok-new.mapper player.result.stack.now player.result.playing.values.disks.items [] writes) (sym c.new-in-Ok-new-3.ensures.items)
           (going_first stack player.result.stack.now c.in-Ok-new.mapper player.result.playing.values.disks.items made.going (made.stack ∙ c.looker.ensures.stack) (made.state ∙ ap start_state c.looker.ensures.stack) player.ensures.stack player.ensures.ranges));

@@ -1,12 +1,8 @@
-use Rattle.std.proofs.Common.{◌≡◌, ℕ, Some, sym, ◌∙◌, subst}
-use Rattle.std.specs.Prelude.{IfOk, position}
-use Rattle.dm_table.specs.declared.requests.request.Op.TheVariants.{Read}
+use Rattle.std.proofs.Common.{◌≡◌, Some, sym, ◌∙◌, subst}
+use Rattle.std.specs.Prelude.{position}
 use Rattle.dm_stack.specs.Claims.{IsTop}
 use Rattle.dm_stack.specs.Description.{is_same}
-use Rattle.dm_replay.specs.Histories.{asked_answers, world_after}
-use Rattle.dm_replay.specs.Replay.{HasTop, Replaying, whole_request}
-use Rattle.dm_replay.specs.Rows.{AreOfRow, rows_after}
-use Rattle.dm_replay.specs.Runs.{flat}
+use Rattle.dm_replay.specs.Replay.{HasTop, Replaying}
 use Rattle.dm_replay.proofs.NamedLemmas.{answered_top, named_id, named_top, top_named, unanswered_result}
 use Rattle.dm_replay.proofs.replay.Replay.request.Goals as goal
 
@@ -14,15 +10,13 @@ pub returns-in-Some-clause-answers : goal.returns-in-Some-clause-answers
 returns-in-Some-clause-answers g c =
     let old = c.args.self.now in let request = c.args.request.now in
     let named = subst (λ (r : Replaying). position (λ device. is_same device.name request.device.now) r.stack.devices ≡ Some c.in-Some.device) c.self.view_is (sym c.device.ensures ∙ c.in-Some.is) in
-    subst (λ (id : ℕ). IfOk c.request_of.result (λ runs. flat runs.items ≡ asked_answers old.stack (world_after old.stack old.asked) (whole_request request id)))
-    (named_id old.stack request.device.now c.in-Some.device named) c.request_of.ensures.answers
+    rw (← named_id old.stack request.device.now c.in-Some.device named) c.request_of.ensures.answers
 
 pub returns-in-Some-clause-own : goal.returns-in-Some-clause-own
 returns-in-Some-clause-own g c =
     let old = c.args.self.now in let request = c.args.request.now in
     let named = subst (λ (r : Replaying). position (λ device. is_same device.name request.device.now) r.stack.devices ≡ Some c.in-Some.device) c.self.view_is (sym c.device.ensures ∙ c.in-Some.is) in
-    subst (λ (id : ℕ). IfOk c.request_of.result (λ runs. request.op ≡ Read → AreOfRow (rows_after old.stack old.asked) id request.start (flat runs.items)))
-    (named_id old.stack request.device.now c.in-Some.device named) c.request_of.ensures.own
+    rw (← named_id old.stack request.device.now c.in-Some.device named) c.request_of.ensures.own
 
 pub returns-in-Some-clause-top : goal.returns-in-Some-clause-top
 returns-in-Some-clause-top g c =

@@ -1,12 +1,7 @@
-use Rattle.std.proofs.Common.{◌<◌, false, List, [], ◌∷◌, ◌++◌, length, refl, sym, ap, ◌∙◌, subst, arith}
+use Rattle.std.proofs.Common.{◌<◌, false, length, refl, sym, ap, ◌∙◌, subst, arith}
 use Rattle.std.proofs.lemmas.List.{get_or_read}
 use Rattle.dm_stack.specs.Claims.{IsTop}
-use Rattle.dm_replay.specs.declared.kept_write.KeptWrite.{KeptWrite}
-use Rattle.dm_replay.specs.Histories.{Asked, asked_answers, world_after}
-use Rattle.dm_replay.specs.Replay.{IsGoing, Replaying, whole_request}
-use Rattle.dm_replay.specs.Rows.{AreOfRow, rows_after}
-use Rattle.dm_replay.specs.Runs.{flat}
-use Rattle.dm_replay.specs.Values.{Answer}
+use Rattle.dm_replay.specs.Replay.{Replaying, whole_request}
 use Rattle.dm_replay.proofs.NamedLemmas.{noted_top}
 use Rattle.dm_replay.proofs.OneRuns.{one_runs}
 use Rattle.dm_replay.proofs.OwnReads.{own_answers}
@@ -33,29 +28,26 @@ invariant_of-self-2 g c =
     record {
       tidy = c.self.invariant.tidy;
       tops_are = c.self.invariant.tops_are;
-      going = λ _. subst (λ (all : List Asked). IsGoing inside.stack.now c.play_request.new.mapper newer.stack.now newer.playing.values.disks.items all c.keep.new.writes.items) (sym c.add.ensures)
-          (subst (λ (writes : List KeptWrite). IsGoing inside.stack.now c.play_request.new.mapper newer.stack.now newer.playing.values.disks.items (inside.asked ++ whole_request request device ∷ []) writes) (sym c.in-Ok-keep.ensures)
-          (going_whole inside.stack.now inside.player.stack.now newer.stack.now inside.mapper c.play_request.new.mapper inside.player.playing.values.disks.items newer.playing.values.disks.items inside.asked inside.writes.items request device
+      going = λ _. rw (c.add.ensures, c.in-Ok-keep.ensures) (going_whole inside.stack.now inside.player.stack.now newer.stack.now inside.mapper c.play_request.new.mapper inside.player.playing.values.disks.items newer.playing.values.disks.items inside.asked inside.writes.items request device
           (is_kept inside.stack.now request device request.len within top (omega arith))
-          (c.self.invariant.going c.if-self.false) did.going did.stack did.same_stack did.state did.values did.disks));
+          (c.self.invariant.going c.if-self.false) did.going did.stack did.same_stack did.state did.values did.disks);
     }
 
 pub returns-clause-answers : goal.returns-clause-answers
 returns-clause-answers g c =
     let inside = c.self.inside in let request = c.args.request.now in let did = c.in-Ok.ensures in
-    answers_after inside.stack.now inside.player.stack.now inside.mapper inside.player.playing.values.disks.items inside.asked inside.writes.items request c.args.device c.in-Ok.runs.items (c.self.invariant.going c.if-self.false) did.answers
-    ∙ ap (λ (r : Replaying). asked_answers r.stack (world_after r.stack r.asked) (whole_request request c.args.device)) c.self.view_is
+    rw (← c.self.view_is) (answers_after inside.stack.now inside.player.stack.now inside.mapper inside.player.playing.values.disks.items inside.asked inside.writes.items request c.args.device c.in-Ok.runs.items (c.self.invariant.going c.if-self.false) did.answers)
 
 pub returns-clause-top : goal.returns-clause-top
 returns-clause-top g c =
     let within = subst (λ (r : Replaying). c.args.device < length r.stack.devices) (sym c.self.view_is) c.requires in
     let top = noted_top c.self.inside.stack.now c.self.inside.tops.items c.args.device c.index.result c.index-2.result.now c.self.invariant.tops_are within c.index.ensures
     (get_or_read c.self.inside.tops.items c.index.result c.index-2.result.now (omega (arith, within, c.index.ensures, c.self.invariant.tops_are.all)) c.index-2.ensures false) c.if-not-index.false in
-    subst (λ (r : Replaying). IsTop r.stack c.args.device) c.self.view_is top
+    rw (← c.self.view_is) top
 
 pub returns-clause-asked : goal.returns-clause-asked
 returns-clause-asked g c =
-    c.add.ensures ∙ ap (λ (r : Replaying). r.asked ++ whole_request c.args.request.now c.args.device ∷ []) c.self.view_is
+    rw (← c.self.view_is) c.add.ensures
 
 pub returns-clause-own : goal.returns-clause-own
 returns-clause-own g c reads =
@@ -65,10 +57,7 @@ returns-clause-own g c reads =
     let within = subst (λ (r : Replaying). c.args.device < length r.stack.devices) (sym c.self.view_is) c.requires in
     let top = noted_top c.self.inside.stack.now c.self.inside.tops.items c.args.device c.index.result c.index-2.result.now c.self.invariant.tops_are within c.index.ensures
     (get_or_read c.self.inside.tops.items c.index.result c.index-2.result.now (omega (arith, within, c.index.ensures, c.self.invariant.tops_are.all)) c.index-2.ensures false) c.if-not-index.false in
-    subst (λ (r : Replaying). AreOfRow (rows_after r.stack r.asked) device request.start (flat c.in-Ok.runs.items)) c.self.view_is
-    (subst (λ (answers : List Answer). AreOfRow (rows_after inside.stack.now inside.asked) device request.start answers)
-    (sym (answers_after inside.stack.now inside.player.stack.now inside.mapper inside.player.playing.values.disks.items inside.asked inside.writes.items request device c.in-Ok.runs.items going did.answers))
-    (own_answers inside.stack.now inside.asked (whole_request request device) (record { begins = law.start; stays = law.request; stops = law.halted; few = law.few }) c.self.invariant.tidy going.asked_are top refl reads))
+    rw (← c.self.view_is, answers_after inside.stack.now inside.player.stack.now inside.mapper inside.player.playing.values.disks.items inside.asked inside.writes.items request device c.in-Ok.runs.items going did.answers) (own_answers inside.stack.now inside.asked (whole_request request device) (record { begins = law.start; stays = law.request; stops = law.halted; few = law.few }) c.self.invariant.tidy going.asked_are top refl reads)
 
 pub returns-clause-one : goal.returns-clause-one
 returns-clause-one g c = λ others are same. one_runs others c.in-Ok.runs.items are c.in-Ok.ensures.maximal same

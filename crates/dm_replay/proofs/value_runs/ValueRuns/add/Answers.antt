@@ -1,6 +1,6 @@
-use Rattle.std.proofs.Common.{◌++◌, sym, ap, ◌∙◌, subst, List, arith}
+use Rattle.std.proofs.Common.{sym, ap, ◌∙◌, subst, List, arith}
 use Rattle.dm_replay.specs.declared.value_run.ValueRun.{ValueRun}
-use Rattle.dm_replay.specs.Runs.{AreMaximal, flat, run_answers}
+use Rattle.dm_replay.specs.Runs.{AreMaximal, flat}
 use Rattle.dm_replay.proofs.RunLemmas.{flat_longer, maximal_front, maximal_longer, maximal_push}
 use Rattle.dm_replay.proofs.value_runs.ValueRuns.add.Goals as goal
 
@@ -21,7 +21,5 @@ invariant_of-self-2 c =
 
 pub returns : goal.returns
 returns c =
-    ap flat c.in_ok-push-4.ensures.items
-    ∙ flat_longer c.pop.new.self.items c.in-Some.last c.args.run c.with_len.result c.if-not-joins.ensures.joins c.with_len.ensures.first
-    (omega (arith, c.with_len.ensures.len, c.in-Some-checked_add.ensures, c.len.ensures, c.len-2.ensures))
-    ∙ ap (λ (runs : List ValueRun). flat runs ++ run_answers c.args.run) (sym c.in-Some.ensures.items ∙ c.self.view_is)
+    rw (← (sym c.in-Some.ensures.items ∙ c.self.view_is)) (ap flat c.in_ok-push-4.ensures.items ∙ flat_longer c.pop.new.self.items c.in-Some.last c.args.run c.with_len.result c.if-not-joins.ensures.joins c.with_len.ensures.first
+    (omega (arith, c.with_len.ensures.len, c.in-Some-checked_add.ensures, c.len.ensures, c.len-2.ensures)))

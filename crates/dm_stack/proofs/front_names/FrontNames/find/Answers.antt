@@ -7,9 +7,9 @@ use Rattle.dm_stack.proofs.front_names.FrontNames.find.Goals as goal
 
 pub loop-place-init : goal.loop-place-init
 loop-place-init c =
-    let places = c.deref.result.now in
+    let places = c.as_slice-places.result.now in
     let part = c.in_ok-place-items.place-items.now in
-    subst (λ (xs : List Place). All (Contains xs) part) (c.deref.ensures.value ∙ c.self.view_is)
+    subst (λ (xs : List Place). All (Contains xs) part) (c.as_slice-places.ensures ∙ c.self.view_is)
     (part_of places c.in_ok-ahead.ahead.now part c.first_place.result 8 c.in_ok-ahead.ensures.lookup.0.2 c.in_ok-place-items.ensures.lookup.0.2)
 
 pub returns-then-is : goal.returns-then-is

@@ -1,20 +1,20 @@
-use Rattle.std.proofs.Common.{◌≡◌, ◌<◌, List, ℕ, Some, take, true, sym, ap, subst, ◌∙◌, arith}
+use Rattle.std.proofs.Common.{◌≡◌, ◌<◌, List, ℕ, Some, get_or, take, true, sym, ap, subst, ◌∙◌, arith}
 use Rattle.std.specs.Prelude.{position}
-use Rattle.std.proofs.lemmas.List.{take-take}
+use Rattle.std.proofs.lemmas.List.{get_or-take, take-take}
 use Rattle.std.proofs.lemmas.List.Elements.{All-contains}
 use Rattle.dm_table.specs.words.Name.{is_device_name}
 use Rattle.dm_stack.specs.Description.{Description, is_same}
 use Rattle.dm_stack.specs.FrontNames.{IsPlaceOf}
 use Rattle.dm_stack.specs.declared.front_names.Place.{Place}
 use Rattle.dm_stack.specs.declared.name_key.TheConstants.{ROOM}
-use Rattle.dm_stack.proofs.KeyLemmas.{same_name}
+use Rattle.dm_stack.proofs.KeyLemmas.{same_name, space_cut}
 use Rattle.dm_stack.proofs.stack.Stack.front.Goals as goal
 use Rattle.dm_stack.proofs.stack.Stack.front.Goals.{In_ok-device}
 
 -- the place that was found is that of the name in the text
 record IsOf (c : In_ok-device) : Type 0 where
   place : Place
-  of : IsPlaceOf c.self.inside.devices.items place
+  of : IsPlaceOf c.self.inside.devices place
   name : take c.in-Some.len c.args.text.now ≡ of.name
   device : place.device ≡ c.in_ok-device.device
 
@@ -22,7 +22,7 @@ is_of : (c : In_ok-device) → IsOf c
 is_of c =
     let found = c.in_ok-device.ensures in
     let place = found.0 in
-    let of = All-contains (λ (p : Place). p.key.len < ROOM → IsPlaceOf c.self.inside.devices.items p) c.self.inside.fronts place c.self.invariant.fronts found.1 found.2 in
+    let of = All-contains (λ (p : Place). p.key.len < ROOM → IsPlaceOf c.self.inside.devices p) c.self.inside.fronts place c.self.invariant.fronts found.1 found.2 in
     let len = c.in-Some.len in
     let room : take len c.in_ok-room.room.now ≡ take len c.args.text.now = ap (λ (xs : List ℕ). take len xs) c.in_ok-room.ensures.cases.same ∙ take-take len 16 c.args.text.now (omega (arith, c.in-Some.ensures.within)) in
     record {
@@ -37,7 +37,16 @@ returns-clause-device c =
     let is = is_of (goal.at.returns-clause-device c).In_ok-device in
     let name = take c.in-Some.len c.args.text.now in
     subst (λ (of : Description). position (λ device. is_same device.name name) of.devices ≡ Some c.in_ok-device.device) c.self.view_is
-    (ap (λ (text : List ℕ). position (λ device. is_same device.name text) c.self.inside.devices.items) is.name ∙ is.of.found ∙ ap Some is.device)
+    (ap (λ (text : List ℕ). position (λ device. is_same device.name text) c.self.inside.devices) is.name ∙ is.of.found ∙ ap Some is.device)
 
 pub returns-clause-name : goal.returns-clause-name
 returns-clause-name c = let is = is_of (goal.at.returns-clause-name c).In_ok-device in subst (λ (text : List ℕ). is_device_name text ≡ true) (sym is.name) is.of.named
+
+pub returns-clause-space : goal.returns-clause-space
+returns-clause-space c =
+    let text = c.args.text.now in
+    let len = c.in-Some.len in
+    let room = c.in_ok-room.ensures.cases in
+    let within = c.in-Some.ensures.within in
+    let is : get_or text len 0 ≡ 32 = sym (get_or-take 16 text len 0 within) ∙ ap (λ (xs : List ℕ). get_or xs len 0) (sym room.same) ∙ c.in-Some.ensures.space in
+    space_cut text len (omega (arith, within, room.enough)) is

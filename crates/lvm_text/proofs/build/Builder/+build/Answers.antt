@@ -1,14 +1,11 @@
-use Rattle.std.proofs.Common.{◌≡◌, sym, ◌∙◌, ap, subst, ◌+◌, List, [], ◌∷◌, ◌++◌, drop, arith}
+use Rattle.std.proofs.Common.{◌≡◌, sym, ◌∙◌, ap, ◌+◌, [], ◌∷◌, ◌++◌, drop, arith}
 use Rattle.std.specs.Prelude.{is_some}
 use Rattle.std.proofs.lemmas.Result.{err_from_is_err_and}
-use Rattle.lvm_text.specs.Positions.{position_of}
-use Rattle.lvm_text.specs.Build.{ReadsValues}
 use Rattle.lvm_text.specs.TokenView.{view, views}
-use Rattle.lvm_text.specs.View.{values_of, lines_agree}
-use Rattle.lvm_text.specs.Checks.{twice_lines}
+use Rattle.lvm_text.specs.View.{lines_agree}
 use Rattle.lvm_text.specs.declared.tree.Entry.{Entry}
 use Rattle.lvm_text.specs.declared.tree.Value.TheVariants as values
-use Rattle.lvm_text.proofs.Building.{ValuesSoFar, values_more, values_end, value_nothing, value_section, value_leaf, views_after, lines_agree-push}
+use Rattle.lvm_text.proofs.Building.{values_more, values_end, value_nothing, value_section, value_leaf, views_after, lines_agree-push}
 use Rattle.lvm_text.proofs.Twice.{differ_push, key_twice, twice_inside, twice_opened}
 use Rattle.lvm_text.proofs.build.Builder.+build.Goals as goal
 
@@ -21,11 +18,10 @@ section_at-loop-key-preserved t c =
     c.loop-key.invariant.so_far c.in-Some.ensures.0 c.in_ok-value.ensures.read in
     let added : c.put_entry.new.entries.items ≡ c.loop-key.entries.items ++ entry ∷ [] = c.in_ok-put_entry.ensures.added in
     record {
-      so_far = subst (λ (es : List Entry). ValuesSoFar start es after) (sym added) more;
+      so_far = rw added more;
       agree = ap lines_agree added ∙ lines_agree-push c.loop-key.entries.items entry c.loop-key.invariant.agree c.in_ok-value.ensures.agrees;
       finds = c.in_ok-put_entry.ensures.finds;
-      differ = ap (λ (es : List Entry). twice_lines [] (values_of es)) added
-          ∙ differ_push c.loop-key.entries.items entry c.loop-key.invariant.differ (sym c.if-is_some.false ∙ c.is_some.ensures ∙ ap is_some c.position_of.ensures ∙ ap (λ (es : List Entry). is_some (position_of c.in-Some.key.now 0 es)) c.as_slice.ensures.value) c.in_ok-value.ensures.differ;
+      differ = rw added (differ_push c.loop-key.entries.items entry c.loop-key.invariant.differ (rw (← c.as_slice.ensures.value) (sym c.if-is_some.false ∙ c.is_some.ensures ∙ ap is_some c.position_of.ensures)) c.in_ok-value.ensures.differ);
       begun = omega (arith, c.in_ok-value.ensures.later, c.loop-key.invariant.begun);
       within = c.in_ok-value.ensures.later.1;
     }
@@ -33,13 +29,13 @@ section_at-loop-key-preserved t c =
 pub section_at-returns-then-is_some-clause-twice : goal.section_at-returns-then-is_some-clause-twice
 section_at-returns-then-is_some-clause-twice t c =
     key_twice (views (drop c.args.start c.args.self.now.tokens.now)) c.loop-key.entries.items (views (drop c.loop-key.at c.args.self.now.tokens.now)) (views (drop (c.loop-key.at + 1) c.args.self.now.tokens.now)) c.in-Some.key.now c.in-Some.key_line
-    c.loop-key.invariant.so_far c.in-Some.ensures.0 c.loop-key.invariant.differ (sym c.if-is_some.true ∙ c.is_some.ensures ∙ ap is_some c.position_of.ensures ∙ ap (λ (es : List Entry). is_some (position_of c.in-Some.key.now 0 es)) c.as_slice.ensures.value)
+    c.loop-key.invariant.so_far c.in-Some.ensures.0 c.loop-key.invariant.differ (rw (← c.as_slice.ensures.value) (sym c.if-is_some.true ∙ c.is_some.ensures ∙ ap is_some c.position_of.ensures))
 
 pub section_at-returns-in_err-value-clause-twice : goal.section_at-returns-in_err-value-clause-twice
 section_at-returns-in_err-value-clause-twice t c =
-    let p = err_from_is_err_and c.from_residual.result c.from_residual.ensures.1 in
+    let p = err_from_is_err_and c.from_residual-in_err-value.result c.from_residual-in_err-value.ensures.1 in
     rw p.1 (rw p.2 (twice_inside (views (drop c.args.start c.args.self.now.tokens.now)) c.loop-key.entries.items (views (drop c.loop-key.at c.args.self.now.tokens.now)) (views (drop (c.loop-key.at + 1) c.args.self.now.tokens.now)) c.in-Some.key.now c.in-Some.key_line
-    c.in_err-value.field-0.0 c.loop-key.invariant.so_far c.in-Some.ensures.0 c.loop-key.invariant.differ (sym c.if-is_some.false ∙ c.is_some.ensures ∙ ap is_some c.position_of.ensures ∙ ap (λ (es : List Entry). is_some (position_of c.in-Some.key.now 0 es)) c.as_slice.ensures.value) c.in_err-value.ensures.twice))
+    c.in_err-value.field-0.0 c.loop-key.invariant.so_far c.in-Some.ensures.0 c.loop-key.invariant.differ (rw (← c.as_slice.ensures.value) (sym c.if-is_some.false ∙ c.is_some.ensures ∙ ap is_some c.position_of.ensures)) c.in_err-value.ensures.twice))
 
 pub value_at-returns-in_err-section-clause-twice : goal.value_at-returns-in_err-section-clause-twice
 value_at-returns-in_err-section-clause-twice t c =
@@ -51,7 +47,7 @@ pub section_at-returns-clause-read : goal.section_at-returns-clause-read
 section_at-returns-clause-read t c =
     let start = views (drop c.args.start c.args.self.now.tokens.now) in
     let rest = views (drop c.loop-key.at c.args.self.now.tokens.now) in
-    subst (λ (es : List Entry). ReadsValues start (values_of es) rest) (sym c.shrink_to_fit.ensures.items) (values_end start c.loop-key.entries.items rest c.loop-key.invariant.so_far c.in_default.ensures)
+    rw c.shrink_to_fit.ensures.items (values_end start c.loop-key.entries.items rest c.loop-key.invariant.so_far c.in_default.ensures)
 
 pub value_at-returns-in_default-clause-read : goal.value_at-returns-in_default-clause-read
 value_at-returns-in_default-clause-read t c = value_nothing c.args.line (views (drop c.args.start c.args.self.now.tokens.now)) (values.Int 0) (views (drop c.args.start c.args.self.now.tokens.now)) (ap views c.in_default.ensures)

@@ -1,9 +1,8 @@
-use Rattle.std.proofs.Common.{sym, ◌∙◌, ap, subst, ◌≡◌, ◌++◌, ◌∷◌, [], List, drop, arith}
+use Rattle.std.proofs.Common.{◌∙◌, ap, ◌≡◌, ◌++◌, ◌∷◌, [], drop, arith}
 use Rattle.std.proofs.lemmas.List.{map_push}
-use Rattle.lvm_text.specs.Tree as tree
 use Rattle.lvm_text.specs.TokenView.{views}
 use Rattle.lvm_text.specs.View.{scalar_view, scalar_views}
-use Rattle.lvm_text.proofs.Building.{ListSoFar, list_more, list_ends, views_after}
+use Rattle.lvm_text.proofs.Building.{list_more, list_ends, views_after}
 use Rattle.lvm_text.proofs.build.Builder.scalars_at.Goals as goal
 
 pub loop-scalar-preserved : goal.loop-scalar-preserved
@@ -14,7 +13,7 @@ loop-scalar-preserved c =
     let pushed : scalar_views c.push.new.self.items ≡ scalar_views c.loop-scalar.scalars.items ++ scalar_view c.in-Some.scalar ∷ [] =
     ap scalar_views c.in_ok-push.ensures.items ∙ map_push scalar_view c.loop-scalar.scalars.items c.in-Some.scalar in
     record {
-      so_far = subst (λ (xs : List tree.Scalar). ListSoFar start xs after) (sym pushed) more;
+      so_far = rw pushed more;
       begun = omega (arith, c.in-Some.ensures.later, c.loop-scalar.invariant.begun);
       within = c.in-Some.ensures.later.1;
     }

@@ -1,8 +1,5 @@
-use Rattle.std.proofs.Common.{sym, ap, subst, ◌∙◌, Some, arith}
-use Rattle.lvm_text.specs.Tree.{Tree, node_of}
-use Rattle.lvm_text.specs.View.{node_view}
+use Rattle.std.proofs.Common.{sym, ap, subst, ◌∙◌, arith}
 use Rattle.lvm_text.specs.Positions.{Finds, position_of}
-use Rattle.lvm_text.specs.declared.tree.Entry.{Entry}
 use Rattle.lvm_text.proofs.KeyPositions.{stands_at, absent}
 use Rattle.lvm_text.proofs.tree.Section.get.Goals as goal
 
@@ -11,8 +8,7 @@ position_of-requires c = subst (Finds c.self.inside.index) (sym c.as_slice.ensur
 
 pub returns-in_err-at : goal.returns-in_err-at
 returns-in_err-at c =
-    rw c.from_residual.ensures (sym (absent c.self.inside.entries.items c.args.key.now 0 c.self.invariant.lines (ap (position_of c.args.key.now 0) (sym c.as_slice.ensures.value) ∙ sym c.in_err-at.ensures))
-    ∙ ap (λ (t : Tree). node_of c.args.key.now t.values) c.self.view_is)
+    rw c.from_residual.ensures (rw (← c.self.view_is) (sym (absent c.self.inside.entries.items c.args.key.now 0 c.self.invariant.lines (ap (position_of c.args.key.now 0) (sym c.as_slice.ensures.value) ∙ sym c.in_err-at.ensures))))
 
 pub index-requires : goal.index-requires
 index-requires c =
@@ -22,4 +18,4 @@ index-requires c =
 pub returns : goal.returns
 returns c =
     let s = stands_at c.self.inside.entries.items c.args.key.now c.in_ok-at.at c.self.invariant.lines (ap (position_of c.args.key.now 0) (sym c.as_slice.ensures.value) ∙ sym c.in_ok-at.ensures) in
-    ap (λ (e : Entry). Some (node_view e.node)) c.index.ensures ∙ sym (s.1 c.index.result.now) ∙ ap (λ (t : Tree). node_of c.args.key.now t.values) c.self.view_is
+    rw (c.index.ensures, ← c.self.view_is) (sym (s.1 c.index.result.now))

@@ -1,0 +1,7 @@
+-- Memory that was taken while loading.
+use Rattle.std.specs.Prelude.{ℕ, List}
+
+-- values in their order, and for how many there is room
+pub record Reservation (T : Type 0) : Type 0 where
+  pub items : List T
+  pub room : ℕ
