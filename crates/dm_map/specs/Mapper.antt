@@ -19,18 +19,18 @@ abbrev pub with_looked : MapperView → Counts → MapperView
 with_looked mapper counts = record { stack = mapper.stack; state = mapper.state; failed = mapper.failed; looked = counts; last = mapper.last }
 
 -- where the result is that the sink failed, or that the mapper had failed before
-abbrev pub OnSinkFault : {F : Type 0} → Result (Unit {0}) (MapFault F) → Type 0 → Type 0
+abbrev pub OnSinkFault : {R F : Type 0} → Result R (MapFault F) → Type 0 → Type 0
 OnSinkFault (Ok done) P = Unit {0}
 OnSinkFault (Err (faults.Sink fault)) P = P
 OnSinkFault (Err faults.Stopped) P = Unit {0}
 
-abbrev pub OnStopped : {F : Type 0} → Result (Unit {0}) (MapFault F) → Type 0 → Type 0
+abbrev pub OnStopped : {R F : Type 0} → Result R (MapFault F) → Type 0 → Type 0
 OnStopped (Ok done) P = Unit {0}
 OnStopped (Err (faults.Sink fault)) P = Unit {0}
 OnStopped (Err faults.Stopped) P = P
 
 -- where the mapper had not failed before
-abbrev pub OnTried : {F : Type 0} → Result (Unit {0}) (MapFault F) → Type 0 → Type 0
+abbrev pub OnTried : {R F : Type 0} → Result R (MapFault F) → Type 0 → Type 0
 OnTried (Ok done) P = P
 OnTried (Err (faults.Sink fault)) P = P
 OnTried (Err faults.Stopped) P = Unit {0}

@@ -2,6 +2,7 @@
 -- that does it.
 pub mod Bound
 pub mod Chunk
+pub mod Home
 pub mod Homes
 pub mod Levels
 pub mod Mapping

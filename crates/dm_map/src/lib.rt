@@ -28,4 +28,5 @@ pub use state::run_taken::RunTaken;
 pub use state::taken::Taken;
 pub use state::trie_taken::TrieTaken;
 pub use state::usage::Usage;
+pub use walk::home::Home;
 pub use walk::levels::levels_are_enough;

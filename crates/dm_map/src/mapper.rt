@@ -11,12 +11,14 @@ ghost use Rattle.dm_stack.specs.Depth.{stack_depth};
 ghost use Rattle.dm_map.specs.walk.Mapping.{request_step, step_for};
 ghost use Rattle.dm_map.specs.state.Counts.{grown_by, most_comparisons, no_counts, AreAdded};
 ghost use Rattle.dm_map.specs.state.Fitting.{IsWithinPlaces};
+ghost use Rattle.dm_map.specs.declared.mapper.MapFault.TheVariants.{Sink};
 ghost use Rattle.dm_map.specs.Mapper.{with_looked, OnSinkFault, OnStopped, OnTried};
 ghost use Rattle.dm_map.specs.walk.Path.{read_stretches};
 ghost use Rattle.dm_map.specs.pieces.Sink.{OfBeginning};
 ghost use Rattle.dm_map.specs.state.State.{start_state, taken_at};
 ghost use Rattle.dm_map.specs.state.Tables.{snapshot_at};
 ghost use Rattle.dm_map.specs.state.Usage.{usage_of};
+ghost use Rattle.dm_map.specs.walk.Home.{HasTakenOrIsHome};
 ghost use Rattle.dm_map.specs.walk.Range.{HasRoomFor, IsWalked};
 
 use crate::pieces::sink::Sink;
@@ -24,7 +26,8 @@ use crate::state::tables::empty_tables;
 use crate::state::taken::Taken;
 use crate::state::usage::{Usage, usage_of};
 use crate::state::walker::Walker;
-use crate::walk::range::{fail, map_top};
+use crate::walk::home::{Home, handed};
+use crate::walk::range::{disk_piece, fail, map_top};
 use dm_stack::{DeviceId, Looker};
 use dm_table::{Op, Request};
 use std::alloc::{AllocError, Global};
@@ -155,6 +158,51 @@ impl<'s, T: Taken> Mapper<'s, T> {
             request.now.start request.now.len) }
         ensures within { IsWithinPlaces self.new.stack self.new.state }
     {
+        let Some(home) = self.request_or_home(request, device, &mut *sink)? else {
+            return Ok(());
+        };
+        match sink.piece(disk_piece(request.op, home.disk, home.start, request.len)) {
+            Ok(()) => Ok(()),
+            Err(fault) => Err(self.stop(fault)),
+        }
+    }
+
+    /// The same, but where all sectors of the request lie in a row on a disk, below one line of its device,
+    /// nothing is handed over: where they lie is returned.
+    #[inline(always)]
+    pub fn request_or_home<S: Sink>(
+        &mut self,
+        request: &Request<'_>,
+        device: DeviceId,
+        sink: &mut S,
+    ) -> Result<Option<Home>, MapFault<S::Fault>>
+        requires device { device < length self.old.stack.devices }
+        requires stack { (S.view sink.old).stack ≡ self.old.stack }
+        requires room { request.now.len ≤ (S.view sink.old).room }
+        ensures stack { self.new.stack ≡ self.old.stack }
+        ensures took { OnOk result (HasTakenOrIsHome S.took self.old.stack request.now.op request.now.len result
+            sink.old (step_for self.old.stack request.now device self.old.state).units sink.new) }
+        ensures state { OnOk result (self.new.state
+            ≡ (step_for self.old.stack request.now device self.old.state).state) }
+        ensures kept { OnOk result (((S.view sink.new).stack ≡ (S.view sink.old).stack)
+            × ((S.view sink.new).faults ≡ (S.view sink.old).faults)) }
+        ensures going { OnOk result ((self.old.failed ≡ false) × (self.new.failed ≡ false)) }
+        ensures left { OnSinkFault result
+            (OfBeginning S.left sink.old
+            (step_for self.old.stack request.now device self.old.state).units sink.new) }
+        ensures failed { OnSinkFault result ((S.view sink.new).faults ≡ (S.view sink.old).faults + 1) }
+        ensures stops { OnSinkFault result ((self.old.failed ≡ false) × (self.new.failed ≡ true)) }
+        ensures stopped { OnStopped result
+            ((self.old.failed ≡ true) × (self.new ≡ self.old) × (sink.new ≡ sink.old)) }
+        ensures counted { OnTried result (self.new.looked ≡ grown_by self.old.looked self.new.last) }
+        ensures few { OnTried result (self.new.last.comparisons ≤ most_comparisons * self.new.last.searches) }
+        ensures bounded { OnTried result
+            (request.now.op ≡ Read
+            → self.new.last.searches
+            ≤ stack_depth self.old.stack * read_stretches self.old.stack self.old.state device
+            request.now.start request.now.len) }
+        ensures within { IsWithinPlaces self.new.stack self.new.state }
+    {
         if self.failed {
             self.walker.recall_places();
             return Err(MapFault::Stopped);
@@ -171,12 +219,18 @@ impl<'s, T: Taken> Mapper<'s, T> {
         );
         self.walker.recall_places();
         match mapped {
-            Ok(()) => Ok(()),
-            Err(fault) => {
-                self.failed = true;
-                Err(MapFault::Sink(fault))
-            }
+            Ok(home) => Ok(home),
+            Err(fault) => Err(self.stop(fault)),
         }
+    }
+
+    /// The sink failed: nothing more is mapped.
+    fn stop<F>(&mut self, fault: F) -> MapFault<F>
+        ensures fault { result ≡ Sink fault }
+        ensures failed { self.new ≡ record self.old { failed = true } }
+    {
+        self.failed = true;
+        MapFault::Sink(fault)
     }
 
     /// Reads what a look-up of a chunk of a snapshot reads first, so that it is in the cache by then.
@@ -230,7 +284,8 @@ impl<'s, T: Taken> Mapper<'s, T> {
     }
 }
 
-/// Hands over the units of a request, whose fields are passed one by one: that keeps them in registers.
+/// Hands over the units of a request, or returns where they lie. The fields are passed one by one: that keeps
+/// them in registers.
 #[inline(always)]
 fn map_request<S: Sink, T: Taken>(
     walker: &mut Walker<'_, T>,
@@ -239,11 +294,11 @@ fn map_request<S: Sink, T: Taken>(
     start: u64,
     len: u64,
     sink: &mut S,
-) -> Result<(), S::Fault>
+) -> Result<Option<Home>, S::Fault>
     requires some { 1 ≤ len }
     requires device { device < length walker.old.stack.devices }
     requires sink { HasRoomFor S.view sink.old walker.old.stack len }
-    ensures walked { IsWalked S.took S.left S.view
+    ensures walked { IsWalked (HasTakenOrIsHome S.took walker.old.stack op len result) S.left S.view
         result sink.old sink.new walker.old walker.new
         (request_step walker.old.stack op device start len walker.old.state) len }
     ensures bounded { op ≡ Read → walker.new.looked.searches ≤ walker.old.looked.searches
@@ -252,7 +307,7 @@ fn map_request<S: Sink, T: Taken>(
     walker.recall_soundness();
     let end = walker.len(device);
     if passes_end(start, len, end) {
-        return fail(len, sink);
+        return handed(fail(len, sink));
     }
     map_top(walker, op, device, start, len, sink)
 }

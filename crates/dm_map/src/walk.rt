@@ -2,6 +2,7 @@
 //! that does it.
 
 pub(crate) mod chunk;
+pub(crate) mod home;
 pub(crate) mod homes;
 pub(crate) mod levels;
 pub(crate) mod range;

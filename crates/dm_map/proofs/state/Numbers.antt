@@ -43,11 +43,6 @@ distinct_more c (x ∷ xs) distinct none =
     let parts = none_parts (x == c) (number_in c xs) none in
     (all_more (λ y. nat_eq x y ≡ false) xs c distinct.0 parts.0, distinct_more c xs distinct.1 parts.1)
 
--- a list that a push succeeded or failed at
-pub distinct_pushed : (pushed : Bool) (c : ℕ) (xs ys : List ℕ) → ys ≡ cond pushed (xs ++ c ∷ []) xs → IsDistinct nat_eq xs → number_in c xs ≡ None → IsDistinct nat_eq ys
-distinct_pushed true c xs ys is distinct none = subst (IsDistinct nat_eq) (sym is) (distinct_more c xs distinct none)
-distinct_pushed false c xs ys is distinct none = subst (IsDistinct nat_eq) (sym is) distinct
-
 -- a list that grows: what was there keeps its number, and what comes last has the next one
 some_cons : (b : Bool) (o p : Option ℕ) (i : ℕ) → ((j : ℕ) → o ≡ Some j → p ≡ Some j) → cond b (Some 0) (option_map suc o) ≡ Some i → cond b (Some 0) (option_map suc p) ≡ Some i
 some_cons true o p i later e = e

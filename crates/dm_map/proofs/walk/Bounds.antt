@@ -32,7 +32,7 @@ use Rattle.dm_map.proofs.walk.Rows.{walked_as}
 -- A line, by what lies below it
 
 -- each of these sectors lies on the next one of a device or a disk, and they are in one chunk
-pub mapped_below : {S F : Type 0} {took left : S → List BlockUnit → S → Type 0} {view : S → SinkView} {result : Result (Unit {0}) F} {old new : S} {before after : WalkerView} {step : Description → State → ℕ → Step} {sector n : ℕ}
+pub mapped_below : {S R F : Type 0} {took left : S → List BlockUnit → S → Type 0} {view : S → SinkView} {result : Result R F} {old new : S} {before after : WalkerView} {step : Description → State → ℕ → Step} {sector n : ℕ}
     (op : Op) (levels device start distance at : ℕ) (line : FoundLine) (target : FoundTarget) (to : Lower) → found_at before.stack device at ≡ Some line → line.target ≡ target → 1 ≤ n
     → ((i : ℕ) → i < n → below_target (read_over (taken_at before.state device)) target (distance + i) ≡ Lies to (sector + i)) → ((i : ℕ) → i < n → chunk_at target (distance + i) ≡ chunk_at target distance)
     → steps (step before.stack) before.state sector n ≡ line_step before.stack op levels device target before.state distance n
@@ -74,7 +74,7 @@ unfolding path
 line_at stack state levels fewer device sector line more found = rw (more, found) refl
 
 -- what it hands over, and its searches, and that which found the line
-pub mapped_line : {S F : Type 0} {took left : S → List BlockUnit → S → Type 0} {view : S → SinkView} {result : Result (Unit {0}) F} {old new : S} {before after : WalkerView} (op : Op) (levels fewer device sector n : ℕ) (line : FoundLine)
+pub mapped_line : {S R F : Type 0} {took left : S → List BlockUnit → S → Type 0} {view : S → SinkView} {result : Result R F} {old new : S} {before after : WalkerView} (op : Op) (levels fewer device sector n : ℕ) (line : FoundLine)
     → levels ≡ suc fewer → refuses before.stack op device ≡ false → IsLineOf before.stack device line sector → 1 ≤ n → sector + n ≤ line.start + line.len
     → IsMapped took left view result old new before after (target_mapping op fewer device line.start line.target) (sector - line.start) n → IsMapped took left view result old new before after (found_mapping op levels device) sector n
 mapped_line {before} {after} op levels fewer device sector n line more passes of some inside mapped =
@@ -106,7 +106,7 @@ lines_apart stack state levels fewer device at n line next more some of end afte
 
 -- A request inside its device
 
-pub request_bound : {S F : Type 0} {took left : S → List BlockUnit → S → Type 0} {view : S → SinkView} {result : Result (Unit {0}) F} {old new : S} {before after : WalkerView} (op : Op) (device start len : ℕ)
+pub request_bound : {S R F : Type 0} {took left : S → List BlockUnit → S → Type 0} {view : S → SinkView} {result : Result R F} {old new : S} {before after : WalkerView} (op : Op) (device start len : ℕ)
     → IsSound before.stack → device < length before.stack.devices → nat_lt (device_len before.stack device) (start + len) ≡ false
     → IsMapped took left view result old new before after (range_mapping op MOST_DEPTH (Device device)) start len → op ≡ Read → after.looked.searches ≤ before.looked.searches + stack_depth before.stack * read_stretches before.stack before.state device start len
 request_bound {before} {after} op device start len sound there inside mapped is =

@@ -1,5 +1,5 @@
 -- The legs of a line.
-use Rattle.std.proofs.Common.{◌≡◌, ℕ, ◌+◌, ◌≤◌, subst, arith}
+use Rattle.std.proofs.Common.{◌≡◌, ℕ, ◌+◌, ◌≤◌, subst, sym, arith}
 use Rattle.dm_stack.specs.declared.found_line.FoundLine.{FoundLine}
 use Rattle.dm_stack.specs.declared.found_line.FoundTarget.{FoundTarget}
 use Rattle.dm_stack.specs.declared.leg.Leg.{Leg}
@@ -7,6 +7,7 @@ use Rattle.dm_stack.specs.Below.{IsLine, IsTargetSound}
 use Rattle.dm_stack.specs.Description.{Description}
 use Rattle.dm_stack.specs.Leg.{AreInside, HasSectors, IsLeg}
 use Rattle.dm_stack.specs.Soundness.{IsSound}
+use Rattle.dm_stack.proofs.LegLemmas.{leg_lies_inside}
 use Rattle.dm_map.specs.walk.Range.{IsLegOf}
 
 -- a line has its sectors
@@ -19,6 +20,12 @@ pub leg_of : (stack : Description) (device distance len : ℕ) (line : FoundLine
     → ((other : Description) (id start line_len : ℕ) → IsTargetSound other id start line_len line.target → distance + len ≤ line_len → AreInside other leg.len leg.below) → IsLegOf stack device line distance leg
 leg_of stack device distance len line leg of inside is lies =
     record { of = of; some = is.some; inside = omega (arith, inside, is.within); is = is.is; lies = lies stack device line.start line.len of.target inside }
+
+-- one of a row of them, of which the stack is still that
+pub leg_within : (stack old : Description) (device at left : ℕ) (line : FoundLine) (leg : Leg) → stack ≡ old → IsLine old device line → at + left ≤ line.len → IsLeg line.target at left leg → IsLegOf stack device line at leg
+leg_within stack old device at left line leg same of inside is =
+    leg_of stack device at left line leg (subst (λ (s : Description). IsLine s device line) (sym same) of) inside is
+    (λ other id start line_len sound inside. leg_lies_inside other id start line_len at left line.target leg is sound inside)
 
 -- a leg of one that is left of a row of legs
 pub leg_at : (target other : FoundTarget) (distance at most : ℕ) (leg : Leg) → other ≡ target → distance ≡ at → IsLeg other distance most leg → IsLeg target at most leg

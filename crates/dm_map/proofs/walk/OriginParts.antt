@@ -35,7 +35,7 @@ served_is stack origin over at state list = ap (λ (xs : List FoundOver). serve 
 
 -- the sink failed at what serving gives
 pub serve_failed : {S F : Type 0} {took left : S → List BlockUnit → S → Type 0} {view : S → SinkView} {fault : F} {old new : S} {before after : WalkerView} {over : List FoundOver} (levels at n : ℕ) (origin : FoundOrigin) → over ≡ origin.over → 1 ≤ n
-    → IsWalked {R = Unit {0}} took left view (Err fault) old new before after (serve before.stack over at before.state) 0 → IsMapped took left view (Err fault) old new before after (origin_mapping ops.Write levels origin) at n
+    → IsWalked {R = Unit {0}} took left view (Err fault) old new before after (serve before.stack over at before.state) 0 → IsMapped {R = Unit {0}} took left view (Err fault) old new before after (origin_mapping ops.Write levels origin) at n
 serve_failed levels at zero origin list some walk = absurd (omega (arith, some))
 serve_failed {left} {old} {new} {before} {over} levels at (suc k) origin list some walk =
     let first = serve before.stack origin.over at before.state in

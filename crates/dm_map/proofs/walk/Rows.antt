@@ -63,7 +63,7 @@ walked_within {view} {result} {old} {new} {few} {len} within walked = record {
 }
 
 -- one piece as a walk
-pub walked_piece : {S F : Type 0} {took left : S → List BlockUnit → S → Type 0} {view : S → SinkView} {result : Result (Unit {0}) F} {old new : S} {walk : WalkerView} {units : List BlockUnit} {step : Step} {diskless len : ℕ}
+pub walked_piece : {S R F : Type 0} {took left : S → List BlockUnit → S → Type 0} {view : S → SinkView} {result : Result R F} {old new : S} {walk : WalkerView} {units : List BlockUnit} {step : Step} {diskless len : ℕ}
     → keep units walk.state ≡ step → diskless ≤ len → OnOk result (took old units new) → OnErr result (left old units new) → (view new).faults ≡ (view old).faults + fault_of result → OnOk result ((view new).stack ≡ (view old).stack) → OnOk result ((view old).room ≤ (view new).room + diskless)
     → IsWalked took left view result old new walk walk step len
 walked_piece {left} {view} {result} {old} {new} {walk} {units} {diskless} {len} same few took_is left_is faults_is kept_is room_is =

@@ -165,7 +165,7 @@ mapped_whole {F} {took} {left} {view} {fine} {old} {new} {before} {after} {mappi
 
 -- or a beginning of the next ones, and then a fault
 pub mapped_cut : {S F : Type 0} {took left : S → List BlockUnit → S → Type 0} {view : S → SinkView} {fault : F} {result : Result (Unit {0}) F} {old middle new : S} {before between after : WalkerView} {mapping : Mapping} {found first len at rest n : ℕ} → ((a b c : S) (us vs : List BlockUnit) → took a us b → left b vs c → left a (us ++ vs) c)
-    → Keeps mapping → IsErr result → IsMappedTo took left view old middle before between mapping first len at rest → IsMapped took left view (Err fault) middle new between after (record mapping { found = found }) at n → 1 ≤ n → n ≤ rest → IsMapped took left view result old new before after (record mapping { found = found }) first len
+    → Keeps mapping → IsErr result → IsMappedTo took left view old middle before between mapping first len at rest → IsMapped {R = Unit {0}} took left view (Err fault) middle new between after (record mapping { found = found }) at n → 1 ≤ n → n ≤ rest → IsMapped took left view result old new before after (record mapping { found = found }) first len
 mapped_cut {result = Ok done} both keeps is_err one two some few = absurd cc
 mapped_cut {took} {left} {result = Err cause} {old} {middle} {new} {before} {between} {after} {mapping} {found} {first} {len} {at} {rest} {n} both keeps is_err one two some few =
     let done = len - rest in let first_walk = one.mapped.walked in let walk = walked_as (next_step n one) two.walked in
@@ -192,7 +192,7 @@ mapped_last {result = Err fault} both cut keeps one two some = mapped_cut {fault
 
 -- A look changes nothing but the counts, and is at most one search
 
-pub mapped_after_look : {S F : Type 0} {took left : S → List BlockUnit → S → Type 0} {view : S → SinkView} {result : Result (Unit {0}) F} {old new : S} {before looked after : WalkerView} {first len : ℕ} (mapping : Mapping) → mapping.found ≡ 0
+pub mapped_after_look : {S R F : Type 0} {took left : S → List BlockUnit → S → Type 0} {view : S → SinkView} {result : Result R F} {old new : S} {before looked after : WalkerView} {first len : ℕ} (mapping : Mapping) → mapping.found ≡ 0
     → stack_state looked ≡ stack_state before → AreAdded before.looked looked.looked → looked.looked.searches ≤ before.looked.searches + 1 → IsMapped took left view result old new looked after (record mapping { found = 1 }) first len → IsMapped took left view result old new before after mapping first len
 mapped_after_look {before} {looked} {after} {first} {len} mapping none same added one mapped =
     let walk = walked_as (ap (λ (v : StackState). steps (mapping.step v.stack) v.state first len) same) mapped.walked in

@@ -51,6 +51,6 @@ target_mapping op levels device start target =
     record { op = op; step = λ stack. target_step stack op levels device target; path = λ stack state. target_path stack state levels device start target; depth = λ stack. depth_of stack device - 1; found = 0 }
 
 -- len sectors from the first one on were mapped in this way. A read searched at most once a level for each stretch of their paths, with the searches that were made before
-pub record IsMapped {S F : Type 0} (takes leaves : S → List BlockUnit → S → Type 0) (view : S → SinkView) (result : Result (Unit {0}) F) (old new : S) (before after : WalkerView) (mapping : Mapping) (first len : ℕ) : Type 0 where
+pub record IsMapped {S R F : Type 0} (takes leaves : S → List BlockUnit → S → Type 0) (view : S → SinkView) (result : Result R F) (old new : S) (before after : WalkerView) (mapping : Mapping) (first len : ℕ) : Type 0 where
   pub walked : IsWalked takes leaves view result old new before after (steps (mapping.step before.stack) before.state first len) len
   pub bounded : mapping.op ≡ Read → IsSound before.stack → after.looked.searches + mapping.found ≤ before.looked.searches + mapping.depth before.stack * stretches (mapping.path before.stack before.state) first len

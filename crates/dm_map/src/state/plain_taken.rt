@@ -3,12 +3,13 @@
 //! A chunk is found by a walk over those that were taken, so it suits snapshots with few of them.
 //! All memory is reserved when the list is made.
 
-ghost use Rattle.std.specs.Prelude.{◌≡◌, ◌≤◌, length, nat_eq, vec_capacity};
+ghost use Rattle.std.specs.Prelude.{◌≡◌, ◌≤◌, length, nat_eq};
 ghost use Rattle.dm_map.specs.state.Snapshots.{number_in};
 ghost use Rattle.std.specs.List.{IsDistinct};
 ghost use Rattle.std.proofs.lemmas.Map.Keys.{IsDistinct-prop};
 
 use crate::state::taken::Taken;
+use dm_table::Reserved;
 use std::alloc::{AllocError, Global};
 
 #[cfg(test)]
@@ -17,10 +18,10 @@ mod tests;
 /// The chunks in the order in which they were taken.
 #[derive(Drop)]
 pub struct PlainTaken {
-    chunks: Vec<u64>,
+    chunks: Reserved<u64>,
     places: usize,
     valid: bool,
-    ghost reserved: { places ≤ vec_capacity chunks },
+    ghost reserved: { places ≤ chunks.room },
     ghost fits: { length chunks.items ≤ places },
     ghost once: { IsDistinct nat_eq chunks.items } by { IsDistinct-prop nat_eq chunks.items },
 }
@@ -34,7 +35,7 @@ impl Taken for PlainTaken {
 
     fn with_places(alloc: Global, count: usize) -> Result<PlainTaken, AllocError> {
         Ok(PlainTaken {
-            chunks: Vec::with_capacity(alloc, count)?,
+            chunks: Reserved::from_vec(Vec::with_capacity(alloc, count)?),
             places: count,
             valid: true,
         })
@@ -57,10 +58,7 @@ impl Taken for PlainTaken {
     }
 
     fn take(&mut self, chunk: u64) {
-        // The memory was reserved when the list was made.
-        let Ok(()) = self.chunks.push(chunk) else {
-            unreachable!()
-        };
+        self.chunks.push(chunk);
     }
 
     fn invalidate(&mut self) {

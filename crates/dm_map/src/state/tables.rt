@@ -10,6 +10,7 @@ ghost use Rattle.dm_map.specs.state.Tables.{AreTables, has_room, state_of};
 use crate::state::taken::Taken;
 use crate::state::walker::lower_len;
 use dm_stack::{DeviceId, FoundTarget, Looker, place_count};
+use dm_table::Reserved;
 use std::alloc::{AllocError, Global};
 
 /// A table for each device of the looker's stack, with nothing taken: for a snapshot with the places
@@ -21,7 +22,7 @@ use std::alloc::{AllocError, Global};
 pub(crate) fn empty_tables<T: Taken>(
     alloc: Global,
     looker: &mut Looker<'_>,
-) -> Result<Vec<T>, AllocError>
+) -> Result<Reserved<T>, AllocError>
     ensures tables { IfOk result (λ tables. AreTables T.places looker.old.stack tables.items) }
     ensures state { IfOk result (λ tables. state_of T.chunks T.valid tables.items
         ≡ start_state looker.old.stack) }
@@ -35,7 +36,7 @@ pub(crate) fn empty_tables<T: Taken>(
         let table = T::with_places(alloc, places_of(looker, device))?;
         tables[device.index()] = table;
     }
-    Ok(tables)
+    Ok(Reserved::from_vec(tables))
 }
 
 /// `count` tables, each without a place.

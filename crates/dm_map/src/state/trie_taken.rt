@@ -4,7 +4,7 @@
 //! it forks that test one bit each, lead from a chunk to the number of the only one that it may be. A
 //! chunk whose way ends at another one's number puts a fork there; nothing else is ever moved.
 
-ghost use Rattle.std.specs.Prelude.{◌≡◌, ◌<◌, ◌≤◌, ◌+◌, ◌*◌, ◌^◌, ◌++◌, ◌∷◌, [], None, length, nat_eq, replicate, vec_capacity, IfOk};
+ghost use Rattle.std.specs.Prelude.{◌≡◌, ◌<◌, ◌≤◌, ◌+◌, ◌*◌, ◌^◌, ◌++◌, ◌∷◌, [], None, true, length, nat_eq, replicate, vec_capacity, IfOk, OnOk};
 ghost use Rattle.std.specs.List.{IsDistinct};
 ghost use Rattle.std.specs.Int.{bit_at};
 ghost use Rattle.std.proofs.lemmas.Map.Keys.{IsDistinct-prop};
@@ -18,6 +18,7 @@ mod tests;
 
 use crate::state::taken::Taken;
 use crate::state::trie_taken::link::{Link, Node};
+use dm_table::Reserved;
 use std::alloc::{AllocError, Global};
 
 /// How many places there can be, so that the index of each link fits a fork.
@@ -34,15 +35,15 @@ const MOST_PLACES: usize = 1 << 23;
 /// refuses more than 2²³ places as too much memory.
 #[derive(Drop)]
 pub struct TrieTaken {
-    chunks: Vec<u64>,
+    chunks: Reserved<u64>,
     /// The table, and then the two links of each fork.
-    links: Vec<Link>,
+    links: Reserved<Link>,
     /// The bits of a chunk that say where in the table its way begins.
     mask: u64,
     places: usize,
     valid: bool,
-    ghost reserved: { places ≤ vec_capacity chunks },
-    ghost room: { mask + 1 + 2 * places ≤ vec_capacity links },
+    ghost reserved: { places ≤ chunks.room },
+    ghost room: { mask + 1 + 2 * places ≤ links.room },
     ghost small: { mask + 1 + 2 * places < 2 ^ 25 },
     ghost slots: { mask < length links.items },
     ghost forks: { length links.items ≤ mask + 1 + 2 * length chunks.items },
@@ -101,7 +102,7 @@ impl TrieTaken {
         ensures valid { self.new.valid ≡ self.old.valid }
     {
         self.links[at] = Link::number(self.chunks.len() as u32);
-        self.chunks.push_reserved(chunk);
+        self.chunks.push(chunk);
     }
 
     /// Takes a chunk whose way ends at the number of another one: puts a fork there, on the lowest bit in
@@ -118,11 +119,11 @@ impl TrieTaken {
         let there = self.chunks[other as usize];
         let bit = (there ^ chunk).trailing_zeros();
         let pair = self.links.len();
-        self.links.push_reserved(Link::number(other));
-        self.links.push_reserved(Link::number(other));
+        self.links.push(Link::number(other));
+        self.links.push(Link::number(other));
         self.links[pair + bit_of(chunk, bit)] = Link::number(self.chunks.len() as u32);
         self.links[at] = Link::fork(bit, pair as u32);
-        self.chunks.push_reserved(chunk);
+        self.chunks.push(chunk);
     }
 }
 
@@ -133,14 +134,20 @@ impl Taken for TrieTaken {
 
     ghost valid = { λ taken. taken.valid };
 
-    fn with_places(alloc: Global, count: usize) -> Result<TrieTaken, AllocError> {
+    /// It refuses more than 2²³ places as too much memory.
+    fn with_places(alloc: Global, count: usize) -> Result<TrieTaken, AllocError>
+        ensures chunks { IfOk result (λ taken. ⟦<TrieTaken as Taken>⟧.chunks taken ≡ []) }
+        ensures places { IfOk result (λ taken. ⟦<TrieTaken as Taken>⟧.places taken ≡ count) }
+        ensures valid { IfOk result (λ taken. ⟦<TrieTaken as Taken>⟧.valid taken ≡ true) }
+        ensures few { OnOk result (count ≤ 2 ^ 23) }
+    {
         if count > MOST_PLACES {
             return Err(AllocError);
         }
         let slots = count.next_power_of_two();
         Ok(TrieTaken {
-            chunks: Vec::with_capacity(alloc, count)?,
-            links: slots_with_room(alloc, slots, slots + 2 * count)?,
+            chunks: Reserved::from_vec(Vec::with_capacity(alloc, count)?),
+            links: Reserved::from_vec(slots_with_room(alloc, slots, slots + 2 * count)?),
             mask: slots as u64 - 1,
             places: count,
             valid: true,
@@ -157,8 +164,17 @@ impl Taken for TrieTaken {
     fn prefetch(&self, chunk: u64) -> u64 {
         match self.links[(chunk & self.mask) as usize].node() {
             Node::Empty => 0,
-            Node::Number(number) => self.chunks.get(number as usize).copied().unwrap_or(0),
-            Node::Fork(_, pair) => self.links.get(pair as usize).map_or(0, Link::code),
+            Node::Number(number) => self
+                .chunks
+                .as_slice()
+                .get(number as usize)
+                .copied()
+                .unwrap_or(0),
+            Node::Fork(_, pair) => self
+                .links
+                .as_slice()
+                .get(pair as usize)
+                .map_or(0, Link::code),
         }
     }
 

@@ -18,13 +18,14 @@ ghost use Rattle.dm_map.specs.state.Walker.{stack_state};
 
 use crate::state::taken::Taken;
 use dm_stack::{DeviceId, Found, Looker, Lower};
+use dm_table::Reserved;
 use std::marker::Model;
 
 /// A stack, seen through its looker, and the state of its devices.
 #[derive(Drop)]
 pub(crate) struct Walker<'s, T: Taken> {
     looker: Looker<'s>,
-    tables: Vec<T>,
+    tables: Reserved<T>,
 }
 
 impl<'s, T: Taken> Model for Walker<'s, T> {
@@ -58,7 +59,7 @@ pub(crate) fn lower_len(looker: &Looker<'_>, lower: Lower) -> u64
 
 impl<'s, T: Taken> Walker<'s, T> {
     /// A walker of the looker's stack, in the state of these tables.
-    pub(crate) fn new(looker: Looker<'s>, tables: Vec<T>) -> Walker<'s, T>
+    pub(crate) fn new(looker: Looker<'s>, tables: Reserved<T>) -> Walker<'s, T>
         requires { AreTables T.places looker.stack tables.items }
         ensures stack { result.stack ≡ looker.entry.stack }
         ensures state { result.state ≡ state_of T.chunks T.valid tables.items }
@@ -175,7 +176,7 @@ impl<'s, T: Taken> Walker<'s, T> {
     /// Reads ahead what is looked up first for a chunk of a snapshot.
     #[inline(always)]
     pub(crate) fn prefetch(&self, device: DeviceId, chunk: u64) -> u64 {
-        match self.tables.get(device.index()) {
+        match self.tables.as_slice().get(device.index()) {
             Some(table) => table.prefetch(chunk),
             None => 0,
         }

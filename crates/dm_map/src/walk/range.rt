@@ -20,6 +20,7 @@ ghost use Rattle.dm_map.specs.walk.Bound.{found_mapping, origin_mapping, range_m
 ghost use Rattle.dm_map.specs.walk.Bound.{IsMapped};
 ghost use Rattle.dm_map.specs.pieces.Units.{diskless_len, piece_len, units_in, units_of};
 ghost use Rattle.dm_map.specs.pieces.Units.{Fails, IsOnDisk, IsOnDisks};
+ghost use Rattle.dm_map.specs.walk.Home.{HasTakenOrIsHome};
 ghost use Rattle.dm_map.specs.walk.Range.{disk_unit, zero_unit, refuses};
 ghost use Rattle.dm_map.specs.walk.Range.{AreAsked, AreAskedOfChunk, AreAskedOfOrigin};
 ghost use Rattle.dm_map.specs.walk.Range.{HasRoomFor, IsAtLine, IsHanded, IsLegOf, IsWalked};
@@ -30,6 +31,7 @@ use crate::pieces::sink::Sink;
 use crate::state::taken::Taken;
 use crate::state::walker::Walker;
 use crate::walk::chunk::{part_of_chunk, read_at};
+use crate::walk::home::{Home, handed, home_in};
 use crate::walk::serving::{serve, settled_part};
 use crate::walk::step::part_in;
 use crate::walk::write_chunk::write_chunk;
@@ -66,8 +68,8 @@ pub(crate) fn map_range<S: Sink, T: Taken>(
     }
 }
 
-/// Hands over the units of sectors of a request's device, through as many levels as there may be. Those
-/// of a line on a disk, as mostly, cost no call.
+/// Hands over the units of sectors of a request's device, through as many levels as there may be. Where the
+/// sectors lie in a row on a disk, below one line, as mostly, nothing is handed over, and this is returned.
 #[inline(always)]
 pub(crate) fn map_top<S: Sink, T: Taken>(
     walker: &mut Walker<'_, T>,
@@ -76,32 +78,21 @@ pub(crate) fn map_top<S: Sink, T: Taken>(
     sector: u64,
     len: u64,
     sink: &mut S,
-) -> Result<(), S::Fault>
+) -> Result<Option<Home>, S::Fault>
     requires { AreAsked S.view sink.old walker.old.stack (Device device) sector len }
-    ensures { IsMapped S.took S.left S.view result sink.old sink.new walker.old walker.new
-        (range_mapping op MOST_DEPTH (Device device)) sector len }
+    ensures { IsMapped (HasTakenOrIsHome S.took walker.old.stack op len result) S.left S.view result sink.old sink.new
+        walker.old walker.new (range_mapping op MOST_DEPTH (Device device)) sector len }
 {
     if refuses(walker, op, device) {
-        return fail(len, sink);
+        return handed(fail(len, sink));
     }
     let line = walker.look(device, sector);
-    if is_on_disk(line) && len <= line.len - (sector - line.start) {
-        // Here the target is known, so that no more is left of this call than a piece.
-        return map_line(walker, op, MOST_DEPTH, device, line, sector, len, sink);
-    }
-    map_lines(walker, op, MOST_DEPTH, device, line, sector, len, sink)
-}
-
-/// Whether a line is a part of a disk.
-#[inline(always)]
-fn is_on_disk(line: &FoundLine) -> bool {
-    matches!(
-        line.target,
-        FoundTarget::Linear {
-            to: Lower::Disk(_),
-            ..
+    if len <= line.len - (sector - line.start) {
+        if let Some(home) = home_in(walker, device, line, sector, len) {
+            return Ok(Some(home));
         }
-    )
+    }
+    handed(map_lines(walker, op, MOST_DEPTH, device, line, sector, len, sink))
 }
 
 /// Hands over the units of sectors of a device. A read-only device fails a write of all of them.
@@ -195,7 +186,7 @@ fn map_line<S: Sink, T: Taken>(
     let distance = sector - line.start;
     let leg = line.target.leg(distance, len);
     if leg.len == len {
-        return map_leg(walker, op, levels - 1, device, line, &leg, distance, sink);
+        return map_leg(walker, op, levels - 1, device, &leg, distance, sink);
     }
     map_legs(walker, op, levels - 1, device, line, distance, len, sink)
 }
@@ -228,7 +219,7 @@ fn map_legs<S: Sink, T: Taken>(
     let mut legs = line.target.legs(distance, len);
     let mut at = distance;
     'legs: while let Some(leg) = legs.next_leg() {
-        map_leg(walker, op, levels, device, line, &leg, at, sink)?;
+        map_leg(walker, op, levels, device, &leg, at, sink)?;
         at += leg.len;
     }
     Ok(())
@@ -243,15 +234,15 @@ fn map_leg<S: Sink, T: Taken>(
     op: Op,
     levels: u32,
     device: DeviceId,
-    line: &FoundLine,
     leg: &Leg<'_>,
     distance: u64,
     sink: &mut S,
 ) -> Result<(), S::Fault>
-    requires leg { IsLegOf walker.old.stack device line.now distance leg.now }
+    requires leg { (line : FoundLine) × IsLegOf walker.old.stack device line distance leg.now }
     requires sink { HasRoomFor S.view sink.old walker.old.stack leg.now.len }
-    ensures { IsMapped S.took S.left S.view result sink.old sink.new walker.old walker.new
-        (target_mapping op levels device line.now.start line.now.target) distance leg.now.len }
+    ensures { (line : FoundLine) → IsLegOf walker.old.stack device line distance leg.now
+        → IsMapped S.took S.left S.view result sink.old sink.new walker.old walker.new
+        (target_mapping op levels device line.start line.target) distance leg.now.len }
 {
     let len = leg.len;
     match &leg.below {
@@ -416,7 +407,7 @@ fn refuses<T: Taken>(walker: &Walker<'_, T>, op: Op, device: DeviceId) -> bool
 
 /// What is done at sectors of a disk. The sink's code is put in line after this, and where the two kinds
 /// come from an `if`, it has no jump by a table of all kinds.
-fn disk_piece(op: Op, disk: DiskId, start: u64, len: u64) -> Piece
+pub(crate) fn disk_piece(op: Op, disk: DiskId, start: u64, len: u64) -> Piece
     ensures units { units_of result ≡ units_in (disk_unit op disk start) len }
     ensures len { piece_len result ≡ len }
     ensures diskless { diskless_len result ≡ 0 }

@@ -16,7 +16,7 @@ use crate::state::walker::Walker;
 use crate::walk::range::map_range;
 use crate::walk::stretch::{Ground, Stretch, first_stretch};
 use dm_stack::{Lower, MOST_DEPTH, Stack};
-use dm_table::{Op, parse_request};
+use dm_table::{Op, Reserved, parse_request};
 use std::alloc::Global;
 use std::process::Abort;
 
@@ -86,7 +86,7 @@ fn a_stretch_is_the_first_piece_of_a_read(rt: HostRuntime) {
         let end = stack.len(device);
         assert!(&rt; start < end && len <= end - start, "inside");
         let mut looker = stack.looker();
-        let tables: Vec<PlainTaken> = empty_tables(alloc, &mut looker).expect(&rt, "tables");
+        let tables: Reserved<PlainTaken> = empty_tables(alloc, &mut looker).expect(&rt, "tables");
         let mut walker = Walker::new(looker, tables);
         let stretch = first_stretch(&mut walker, MOST_DEPTH, Lower::Device(device), start, len);
         assert_eq!(&rt; stretch.len, want, "{line}");
@@ -125,7 +125,7 @@ fn walker_after<'s>(
     ensures { result.stack ≡ stack.now }
 {
     let mut looker = stack.looker();
-    let tables: Vec<PlainTaken> = empty_tables(alloc, &mut looker).expect(rt, "tables");
+    let tables: Reserved<PlainTaken> = empty_tables(alloc, &mut looker).expect(rt, "tables");
     let mut walker = Walker::new(looker, tables);
     let (lower, start, len) = sectors_of(rt, stack, write);
     let mut list = PieceList::new(alloc, stack);

@@ -2,6 +2,7 @@ use Rattle.std.proofs.Common.{◌≡◌, ◌+◌, false, true, ap, sym, ◌∙�
 use Rattle.std.specs.Prelude.{nat_lt}
 use Rattle.dm_stack.specs.Description.{device_len}
 use Rattle.dm_map.proofs.walk.Bounds.{request_bound}
+use Rattle.dm_map.proofs.walk.HomeLemmas.{walked_over}
 use Rattle.dm_map.proofs.walk.Rows.{step_past_end, walked_piece}
 use Rattle.dm_map.proofs.mapper.map_request.Goals as goal
 
@@ -9,8 +10,8 @@ pub returns-then-passes_end-clause-walked : goal.returns-then-passes_end-clause-
 returns-then-passes_end-clause-walked g c =
     let a = c.args in let m = a.walker.now in let f = c.fail in
     let past : nat_lt (device_len m.stack a.device) (a.start + a.len) ≡ true = ap (λ end. nat_lt end (a.start + a.len)) (sym c.len-end.ensures.len) ∙ sym c.if-passes_end.ensures in
-    walked_piece (step_past_end m.stack a.op a.device a.start a.len m.state past) (omega arith)
-    f.ensures.took f.ensures.left f.ensures.faults f.ensures.stack f.ensures.room
+    walked_over m.stack a.op a.len c.handed.ensures (walked_piece (step_past_end m.stack a.op a.device a.start a.len m.state past) (omega arith)
+    f.ensures.took f.ensures.left f.ensures.faults f.ensures.stack f.ensures.room)
 
 pub returns-clause-walked : goal.returns-clause-walked
 returns-clause-walked g c =

@@ -4,6 +4,7 @@ ghost use Rattle.std.specs.Prelude.{◌≡◌, ◌∷◌, [], ◌++◌, ◌<◌,
 ghost use Rattle.dm_map.specs.state.Runs.{longer, run_at};
 
 use crate::state::run_taken::run::{Rest, Run};
+use dm_table::Reserved;
 use std::alloc::{AllocError, Global};
 use std::marker::Model;
 
@@ -13,12 +14,12 @@ use std::marker::Model;
 /// a row of their own, of which a cache holds twice as many as of whole runs.
 #[derive(Drop)]
 pub(crate) struct Runs {
-    firsts: Vec<u64>,
-    rests: Vec<Rest>,
+    firsts: Reserved<u64>,
+    rests: Reserved<Rest>,
 }
 
 impl Model for Runs {
-    ghost use Rattle.std.specs.Prelude.{◌≡◌, length, min, vec_capacity};
+    ghost use Rattle.std.specs.Prelude.{◌≡◌, length, min};
     ghost use Rattle.dm_map.specs.state.Runs.{RunRow, joined};
 
     ghost Value = { RunRow };
@@ -26,8 +27,7 @@ impl Model for Runs {
     ghost view = { λ runs.
         record {
           items = joined runs.firsts.items runs.rests.items;
-          room = min (vec_capacity runs.firsts)
-              (vec_capacity runs.rests);
+          room = min runs.firsts.room runs.rests.room;
         } };
 
     ghost invariant = { λ runs. length runs.rests.items ≡ length runs.firsts.items };
@@ -40,8 +40,8 @@ impl Runs {
         ensures room { IfOk result (λ runs. count ≤ runs.room) }
     {
         Ok(Runs {
-            firsts: Vec::with_capacity(alloc, count)?,
-            rests: Vec::with_capacity(alloc, count)?,
+            firsts: Reserved::from_vec(Vec::with_capacity(alloc, count)?),
+            rests: Reserved::from_vec(Vec::with_capacity(alloc, count)?),
         })
     }
 
@@ -90,8 +90,8 @@ impl Runs {
         ensures items { self.new.items ≡ self.old.items ++ run ∷ [] }
         ensures room { self.new.room ≡ self.old.room }
     {
-        self.firsts.push_reserved(run.first);
-        self.rests.push_reserved(Rest {
+        self.firsts.push(run.first);
+        self.rests.push(Rest {
             number: run.number,
             len: run.len,
         });

@@ -1,12 +1,13 @@
 use Rattle.std.proofs.Common.{rules, ◌≡◌, ℕ, ◌+◌, ◌-◌, ◌^◌, ◌≤◌, List, Some, refl, sym, ap, subst, ◌∙◌, arith}
 use Rattle.dm_table.specs.declared.requests.request.Op.{Op}
+use Rattle.dm_stack.specs.declared.found_line.FoundLine.{FoundLine}
 use Rattle.dm_stack.specs.declared.found_line.FoundTarget.{FoundTarget}
 use Rattle.dm_stack.specs.declared.found_line.FoundTarget.TheVariants.{Snapshot, Origin}
 use Rattle.dm_stack.specs.declared.id.Lower.{Lower}
 use Rattle.dm_stack.specs.declared.leg.Beneath.{Beneath}
 use Rattle.dm_stack.specs.Leg.{AreInside, LegsView}
 use Rattle.dm_stack.specs.declared.id.Lower.TheVariants.{Device, Disk}
-use Rattle.dm_stack.specs.Below.{IsLine, IsLineOf, IsOriginSound, IsSnapshotSound, IsTargetSound, found_at}
+use Rattle.dm_stack.specs.Below.{IsLineOf, IsOriginSound, IsSnapshotSound, IsTargetSound, found_at}
 use Rattle.dm_stack.specs.Description.{Description, lower_len}
 use Rattle.dm_map.specs.walk.Bound.{IsMapped, origin_mapping, range_mapping, target_mapping}
 use Rattle.dm_map.specs.pieces.Units.{BlockUnit, units_in}
@@ -14,14 +15,14 @@ use Rattle.dm_map.specs.state.Snapshots.{read_over}
 use Rattle.dm_map.specs.state.State.{taken_at}
 use Rattle.dm_map.specs.walk.Steps.{keep}
 use Rattle.dm_map.specs.state.Walker.{StackState, WalkerView}
-use Rattle.dm_map.specs.walk.Range.{disk_unit, origin_step, range_step, line_step, AreAsked, AreAskedOfChunk, AreAskedOfOrigin, HasRoomFor, IsAtLine}
+use Rattle.dm_map.specs.walk.Range.{disk_unit, origin_step, range_step, line_step, AreAsked, AreAskedOfChunk, AreAskedOfOrigin, HasRoomFor, IsAtLine, IsLegOf}
 use Rattle.dm_stack.proofs.InStack.{device_there, lower_small}
-use Rattle.dm_stack.proofs.LegLemmas.{leg_lies_inside}
 use Rattle.dm_stack.proofs.StripeLemmas.{other_chunk}
 use Rattle.dm_map.proofs.state.FoundLines.{first_line}
 use Rattle.dm_map.proofs.walk.Bounds.{lines_apart, mapped_below, mapped_line, mapped_target, parts_apart}
 use Rattle.dm_map.proofs.walk.Chunks.{chunk_read, in_one_chunk, in_snapshot, lost_read, same_chunk, write_line_step}
-use Rattle.dm_map.proofs.walk.LineRanges.{leg_at, leg_of, line_sectors}
+use Rattle.dm_map.proofs.walk.HomeLemmas.{disk_step}
+use Rattle.dm_map.proofs.walk.LineRanges.{leg_at, leg_of, leg_within, line_sectors}
 use Rattle.dm_map.proofs.walk.Ranges.{beneath_as, leg_errors, leg_lies, leg_zeros, line_served, origin_read, range_deepest, range_disk, range_refused}
 use Rattle.dm_map.proofs.walk.OriginParts.{line_overs, part_mapped, serve_failed}
 use Rattle.dm_map.proofs.walk.Rows.{walked_as, walked_piece}
@@ -31,10 +32,6 @@ use Rattle.dm_map.proofs.walk.range.+walk.Goals as goal
 use Rattle.dm_map.proofs.walk.range.+walk.Goals.{map_device-then-levels-eq0-via-then-levels-eq0, map_device-then-levels-eq0-via-else-levels-eq0+then-refuses}
 
 -- A disk
-
-disk_step : (w : WalkerView) (op : Op) (levels : ℕ) (lower : Lower) (disk sector len : ℕ) (units : List BlockUnit) → lower ≡ Disk disk → units ≡ units_in (disk_unit op disk sector) len → keep units w.state ≡ range_step w.stack op levels lower w.state sector len
-disk_step w op levels lower disk sector len units is units_is =
-    ap (λ (us : List BlockUnit). keep us w.state) units_is ∙ sym (range_disk w.stack op levels disk sector len w.state) ∙ ap (λ l. range_step w.stack op levels l w.state sector len) (sym is)
 
 pub map_range-returns-in-Disk : goal.map_range-returns-in-Disk
 map_range-returns-in-Disk g t c =
@@ -118,14 +115,16 @@ map_line-leg-leg-requires-clause-there g t c =
 pub map_line-map_leg-requires : goal.map_line-map_leg-requires
 map_line-map_leg-requires g t c κs within =
     let a = c.args in
-    let leg = leg_of a.walker.now.stack a.device (a.sector - a.line.now.start) a.len a.line.now c.leg-leg.result c.requires.at.of.is (omega (arith, c.requires.inside, c.requires.at.of.from)) c.leg-leg.ensures.leg c.leg-leg.ensures.inside in
+    let leg : (line : FoundLine) × IsLegOf a.walker.now.stack a.device line (a.sector - a.line.now.start) c.leg-leg.result =
+    (a.line.now, leg_of a.walker.now.stack a.device (a.sector - a.line.now.start) a.len a.line.now c.leg-leg.result c.requires.at.of.is (omega (arith, c.requires.inside, c.requires.at.of.from)) c.leg-leg.ensures.leg c.leg-leg.ensures.inside) in
     search rules
 
 pub map_line-returns-then-leg-len : goal.map_line-returns-then-leg-len
 map_line-returns-then-leg-len g t c =
     let a = c.args in let w = a.walker.now in let walk = c.map_leg in let line = a.line.now in
+    let leg = leg_of w.stack a.device (a.sector - line.start) a.len line c.leg-leg.result c.requires.at.of.is (omega (arith, c.requires.inside, c.requires.at.of.from)) c.leg-leg.ensures.leg c.leg-leg.ensures.inside in
     mapped_line a.op a.levels (a.levels - 1) a.device a.sector a.len line (omega (arith, c.requires.at.deep)) c.requires.at.passes c.requires.at.of c.requires.some c.requires.inside
-    (subst (λ (n : ℕ). IsMapped g.S.Sink.took g.S.Sink.left g.S.Sink.view walk.result a.sink.now walk.new.sink w walk.new.walker (target_mapping a.op (a.levels - 1) a.device line.start line.target) (a.sector - line.start) n) c.if-leg-len.true walk.ensures)
+    (subst (λ (n : ℕ). IsMapped g.S.Sink.took g.S.Sink.left g.S.Sink.view walk.result a.sink.now walk.new.sink w walk.new.walker (target_mapping a.op (a.levels - 1) a.device line.start line.target) (a.sector - line.start) n) c.if-leg-len.true (walk.ensures line leg))
 
 pub map_line-returns : goal.map_line-returns
 map_line-returns g t c =
@@ -151,25 +150,28 @@ pub map_legs-map_leg-requires : goal.map_legs-map_leg-requires
 map_legs-map_leg-requires g t c κs within =
     let a = c.args in let l = c.legs in let leg = c.in-Some.leg in let so_far = l.invariant.so_far in let walked = so_far.mapped.walked in
     let is = leg_at a.line.now.target l.legs.target l.legs.distance l.at l.legs.left leg l.invariant.target l.invariant.here c.in-Some.ensures.leg in
-    let of = leg_of l.walker.stack a.device l.at l.legs.left a.line.now leg (subst (λ (s : Description). IsLine s a.device a.line.now) (sym walked.stack) c.requires.line) (omega (arith, so_far.position, c.requires.inside)) is
-    (λ other id start line_len sound inside. leg_lies_inside other id start line_len l.at l.legs.left a.line.now.target leg is sound inside) in
+    let of : (line : FoundLine) × IsLegOf l.walker.stack a.device line l.at leg = (a.line.now, leg_within l.walker.stack a.walker.now.stack a.device l.at l.legs.left a.line.now leg walked.stack c.requires.line (omega (arith, so_far.position, c.requires.inside)) is) in
     let stack : (g.S.Sink.view l.sink).stack ≡ l.walker.stack = walked.kept ∙ c.requires.sink.stack ∙ sym walked.stack in
     let room : leg.len ≤ (g.S.Sink.view l.sink).room = omega (arith, is.within, c.requires.sink.room, walked.room, so_far.within) in
     search rules
 
 pub map_legs-returns-in_err-map_leg : goal.map_legs-returns-in_err-map_leg
 map_legs-returns-in_err-map_leg g t c =
-    let a = c.args in let l = c.legs in let leg = c.in-Some.ensures.leg in
-    mapped_cut g.met.S.Sink.took_then_left (target_keeps a.op a.levels a.device a.line.now.start a.line.now.target) c.from_residual.ensures.0 l.invariant.so_far c.in_err-map_leg.ensures leg.some leg.within
+    let a = c.args in let l = c.legs in let leg = c.in-Some.ensures.leg in let so_far = l.invariant.so_far in
+    let is = leg_at a.line.now.target l.legs.target l.legs.distance l.at l.legs.left c.in-Some.leg l.invariant.target l.invariant.here leg in
+    let of = leg_within l.walker.stack a.walker.now.stack a.device l.at l.legs.left a.line.now c.in-Some.leg so_far.mapped.walked.stack c.requires.line (omega (arith, so_far.position, c.requires.inside)) is in
+    mapped_cut g.met.S.Sink.took_then_left (target_keeps a.op a.levels a.device a.line.now.start a.line.now.target) c.from_residual.ensures.0 so_far (c.in_err-map_leg.ensures a.line.now of) leg.some leg.within
 
 pub map_legs-legs-preserved : goal.map_legs-legs-preserved
 map_legs-legs-preserved g t c =
     let a = c.args in let w = a.walker.now in let l = c.legs in let line = a.line.now in let leg = c.in-Some.ensures.leg in let n = c.in-Some.leg.len in let after = c.in-Some.ensures.after in
+    let so_far = l.invariant.so_far in
     let is = leg_at line.target l.legs.target l.legs.distance l.at l.legs.left c.in-Some.leg l.invariant.target l.invariant.here leg in
+    let of = leg_within l.walker.stack w.stack a.device l.at l.legs.left line c.in-Some.leg so_far.mapped.walked.stack c.requires.line (omega (arith, so_far.position, c.requires.inside)) is in
     record {
       so_far = subst (λ (left : ℕ). IsMappedTo g.S.Sink.took g.S.Sink.left g.S.Sink.view a.sink.now c.map_leg.new.sink w c.map_leg.new.walker (target_mapping a.op a.levels a.device line.start line.target) a.distance a.len (l.at + n) left)
           (sym (ap (λ (v : LegsView). v.left) after))
-          (mapped_on g.met.S.Sink.took_then_took (target_keeps a.op a.levels a.device line.start line.target) l.invariant.so_far c.in_ok-map_leg.ensures leg.some leg.within
+          (mapped_on g.met.S.Sink.took_then_took (target_keeps a.op a.levels a.device line.start line.target) so_far (c.in_ok-map_leg.ensures line of) leg.some leg.within
           (λ read more. parts_apart w.stack w.state a.levels a.device line.start (l.at + n) line.target (is.next more)));
       target = ap (λ (v : LegsView). v.target) after ∙ l.invariant.target;
       here = ap (λ (v : LegsView). v.distance) after ∙ ap (λ (p : ℕ). p + n) l.invariant.here;
@@ -179,49 +181,49 @@ map_legs-legs-preserved g t c =
 
 pub map_leg-map_range-requires : goal.map_leg-map_range-requires
 map_leg-map_range-requires g t c κs within =
-    let a = c.args in let of = c.requires.leg in
+    let a = c.args in let of = c.requires.leg.1 in
     let asked : AreAsked g.S.Sink.view a.sink.now a.walker.now.stack c.in-Lies.to c.in-Lies.sector a.leg.now.len =
     record { some = of.some; inside = subst (λ (b : Beneath). AreInside a.walker.now.stack a.leg.now.len b) c.in-Lies.is of.lies; sink = c.requires.sink } in
     search rules
 
 pub map_leg-returns-in-Lies : goal.map_leg-returns-in-Lies
-map_leg-returns-in-Lies g t c =
-    let a = c.args in let w = a.walker.now in let of = c.requires.leg in let line = a.line.now in
+map_leg-returns-in-Lies g t c line of =
+    let a = c.args in let w = a.walker.now in
     let on = beneath_as line.target a.distance a.leg.now.len _ _ c.in-Lies.is of.is in
     mapped_below a.op a.levels a.device line.start a.distance line.start line line.target c.in-Lies.to (of.of.all line.start (omega arith) (omega (arith, of.some, of.inside))) refl of.some
     (λ i within. below_is (read_over (taken_at w.state a.device)) line.target (a.distance + i) on.plain ∙ on.below i within) on.chunk
     (sym (leg_lies w.stack a.op a.levels a.device line.target c.in-Lies.to a.distance c.in-Lies.sector a.leg.now.len w.state on)) c.map_range.ensures
 
 pub map_leg-returns-in-Zeros : goal.map_leg-returns-in-Zeros
-map_leg-returns-in-Zeros g t c =
-    let a = c.args in let w = a.walker.now in let line = a.line.now in
+map_leg-returns-in-Zeros g t c line of =
+    let a = c.args in let w = a.walker.now in
     mapped_handed (target_mapping a.op a.levels a.device line.start line.target) refl
-    (sym (leg_zeros w.stack a.op a.levels a.device line.target a.distance a.leg.now.len w.state (beneath_as line.target a.distance a.leg.now.len _ _ c.in-Zeros.is c.requires.leg.is))) c.hand_zeros.ensures
+    (sym (leg_zeros w.stack a.op a.levels a.device line.target a.distance a.leg.now.len w.state (beneath_as line.target a.distance a.leg.now.len _ _ c.in-Zeros.is of.is))) c.hand_zeros.ensures
 
 pub map_leg-returns-in-Errors : goal.map_leg-returns-in-Errors
-map_leg-returns-in-Errors g t c =
-    let a = c.args in let w = a.walker.now in let line = a.line.now in
+map_leg-returns-in-Errors g t c line of =
+    let a = c.args in let w = a.walker.now in
     mapped_handed (target_mapping a.op a.levels a.device line.start line.target) refl
-    (sym (leg_errors w.stack a.op a.levels a.device line.target a.distance a.leg.now.len w.state (beneath_as line.target a.distance a.leg.now.len _ _ c.in-Errors.is c.requires.leg.is))) c.fail.ensures
+    (sym (leg_errors w.stack a.op a.levels a.device line.target a.distance a.leg.now.len w.state (beneath_as line.target a.distance a.leg.now.len _ _ c.in-Errors.is of.is))) c.fail.ensures
 
 pub map_leg-map_snapshot-requires : goal.map_leg-map_snapshot-requires
 map_leg-map_snapshot-requires g t c κs within =
-    let a = c.args in let of = c.requires.leg in
-    let kind = beneath_as a.line.now.target a.distance a.leg.now.len _ _ c.in-Snapshot.is of.is in
-    let inside = in_snapshot a.walker.now.stack a.device a.distance a.leg.now.len a.line.now c.in-Snapshot.snapshot.now of.of kind of.some of.inside in
+    let a = c.args in let line = c.requires.leg.0 in let of = c.requires.leg.1 in
+    let kind = beneath_as line.target a.distance a.leg.now.len _ _ c.in-Snapshot.is of.is in
+    let inside = in_snapshot a.walker.now.stack a.device a.distance a.leg.now.len line c.in-Snapshot.snapshot.now of.of kind of.some of.inside in
     let small : a.distance + a.leg.now.len ≤ 2 ^ 50 = omega (arith, of.inside, of.of.small) in
     search rules
 
 pub map_leg-returns-in-Snapshot : goal.map_leg-returns-in-Snapshot
-map_leg-returns-in-Snapshot g t c =
-    let a = c.args in let line = a.line.now in let of = c.requires.leg in let snapshot = c.in-Snapshot.snapshot.now in
+map_leg-returns-in-Snapshot g t c line of =
+    let a = c.args in let snapshot = c.in-Snapshot.snapshot.now in
     let kind = beneath_as line.target a.distance a.leg.now.len _ _ c.in-Snapshot.is of.is in
     let sound : IsSnapshotSound a.walker.now.stack a.device line.start line.len snapshot = subst (λ (t : FoundTarget). IsTargetSound a.walker.now.stack a.device line.start line.len t) kind of.of.target in
     mapped_target a.op a.levels a.device line.start 0 line.target (Snapshot snapshot) sound.from kind c.map_snapshot.ensures
 
 pub map_leg-map_origin-requires : goal.map_leg-map_origin-requires
 map_leg-map_origin-requires g t c κs within =
-    let a = c.args in let of = c.requires.leg in let line = a.line.now in let origin = c.in-Origin.origin.now in
+    let a = c.args in let line = c.requires.leg.0 in let of = c.requires.leg.1 in let origin = c.in-Origin.origin.now in
     let kind = beneath_as line.target a.distance a.leg.now.len _ _ c.in-Origin.is of.is in
     let sound : IsOriginSound a.walker.now.stack a.device line.start line.len origin = subst (λ (t : FoundTarget). IsTargetSound a.walker.now.stack a.device line.start line.len t) kind of.of.target in
     let asked : AreAskedOfOrigin g.S.Sink.view a.sink.now a.walker.now.stack origin a.distance a.leg.now.len =
@@ -229,8 +231,8 @@ map_leg-map_origin-requires g t c κs within =
     search rules
 
 pub map_leg-returns-in-Origin : goal.map_leg-returns-in-Origin
-map_leg-returns-in-Origin g t c =
-    let a = c.args in let w = a.walker.now in let line = a.line.now in let of = c.requires.leg in let origin = c.in-Origin.origin.now in
+map_leg-returns-in-Origin g t c line of =
+    let a = c.args in let w = a.walker.now in let origin = c.in-Origin.origin.now in
     let kind = beneath_as line.target a.distance a.leg.now.len _ _ c.in-Origin.is of.is in
     mapped_target a.op a.levels a.device line.start line.start line.target (Origin origin) refl kind
     (mapped_below a.op a.levels a.device line.start a.distance line.start line (Origin origin) origin.to (of.of.all line.start (omega arith) (omega (arith, of.some, of.inside))) kind of.some (λ i within. refl) (λ i within. refl)

@@ -1,8 +1,13 @@
-use Rattle.std.proofs.Common.{refl, sym, ◌∙◌, arith}
+use Rattle.std.proofs.Common.{◌≡◌, ◌≤◌, ℕ, false, Some, refl, sym, ap, subst, ◌∙◌, arith}
 use Rattle.dm_stack.specs.declared.graph.TheConstants.{MOST_DEPTH}
-use Rattle.dm_stack.specs.declared.id.Lower.TheVariants.{Device}
+use Rattle.dm_stack.specs.declared.id.Lower.TheVariants.{Device, Disk}
+use Rattle.dm_stack.specs.Description.{Description}
+use Rattle.dm_stack.specs.Below.{IsLineOf}
 use Rattle.dm_stack.proofs.InStack.{device_there}
+use Rattle.dm_map.specs.state.Walker.{StackState}
 use Rattle.dm_map.specs.walk.Bound.{range_mapping}
+use Rattle.dm_map.specs.walk.Range.{AreAsked, IsAtLine, refuses}
+use Rattle.dm_map.proofs.walk.HomeLemmas.{home_mapped, mapped_over}
 use Rattle.dm_map.proofs.walk.Ranges.{range_refused}
 use Rattle.dm_map.proofs.walk.WalkedOn.{mapped_after_look, mapped_handed}
 use Rattle.dm_map.proofs.walk.range.map_top.Goals as goal
@@ -10,15 +15,33 @@ use Rattle.dm_map.proofs.walk.range.map_top.Goals as goal
 pub returns-then-refuses : goal.returns-then-refuses
 returns-then-refuses g c =
     let a = c.args in let w = a.walker.now in
-    mapped_handed (range_mapping a.op MOST_DEPTH (Device a.device)) refl (sym (range_refused w.stack a.op MOST_DEPTH a.device a.sector a.len w.state (sym c.refuses.ensures ∙ c.if-refuses.true))) c.fail.ensures
+    mapped_over w.stack a.op a.len c.handed.ensures (mapped_handed (range_mapping a.op MOST_DEPTH (Device a.device)) refl (sym (range_refused w.stack a.op MOST_DEPTH a.device a.sector a.len w.state (sym c.refuses.ensures ∙ c.if-refuses.true))) c.fail.ensures)
 
 pub look-line-requires-clause-device : goal.look-line-requires-clause-device
 look-line-requires-clause-device g c = device_there c.args.walker.now.stack c.args.device c.args.sector (omega (arith, c.requires.inside, c.requires.some))
 
-pub returns-then-len-line : goal.returns-then-len-line
-returns-then-len-line g c =
-    let a = c.args in let look = c.look-line.ensures in mapped_after_look (range_mapping a.op MOST_DEPTH (Device a.device)) refl look.same look.looked look.one c.map_line.ensures
+pub home_in-requires-clause-line : goal.home_in-requires-clause-line
+home_in-requires-clause-line g c = subst (λ (s : Description). IsLineOf s c.args.device c.look-line.result.now c.args.sector) (sym (ap (λ (v : StackState). v.stack) c.look-line.ensures.same)) c.look-line.ensures.line
+
+pub map_lines-requires : goal.map_lines-requires
+map_lines-requires g c =
+    let a = c.args in let look = c.look-line.ensures in let line = c.look-line.result.now in
+    let stack : c.look-line.new.self.stack ≡ a.walker.now.stack = ap (λ (v : StackState). v.stack) look.same in
+    record {
+      at = subst (λ (v : StackState). IsAtLine v.stack a.op MOST_DEPTH a.device line a.sector) (sym look.same) (record { deep = omega arith; passes = sym c.refuses.ensures ∙ c.if-refuses.false; of = look.line });
+      asked = subst (λ (s : Description). AreAsked g.S.Sink.view a.sink.now s (Device a.device) a.sector a.len) (sym stack) c.requires;
+    }
+
+pub returns-in-Some : goal.returns-in-Some
+returns-in-Some g c =
+    let a = c.args in let look = c.look-line.ensures in let line = c.look-line.result.now in let w = c.look-line.new.self in
+    let stack : w.stack ≡ a.walker.now.stack = ap (λ (v : StackState). v.stack) look.same in
+    mapped_after_look (range_mapping a.op MOST_DEPTH (Device a.device)) refl look.same look.looked look.one
+    (home_mapped g.S.Sink.took g.S.Sink.left g.S.Sink.view a.sink.now w a.op a.device a.sector a.len line c.in-Some.home a.walker.now.stack (sym stack)
+    (subst (λ (s : Description). refuses s a.op a.device ≡ false) (sym stack) (sym c.refuses.ensures ∙ c.if-refuses.false))
+    (subst (λ (s : Description). IsLineOf s a.device line a.sector) (sym stack) look.line) c.requires.some
+    (omega (arith, c.if-len-line.true, look.line.from, look.line.before)) c.in-Some.ensures)
 
 pub returns : goal.returns
 returns g c =
-    let a = c.args in let look = c.look-line.ensures in mapped_after_look (range_mapping a.op MOST_DEPTH (Device a.device)) refl look.same look.looked look.one c.map_lines.ensures
+    let a = c.args in let look = c.look-line.ensures in mapped_over a.walker.now.stack a.op a.len c.handed-2.ensures (mapped_after_look (range_mapping a.op MOST_DEPTH (Device a.device)) refl look.same look.looked look.one c.map_lines.ensures)

@@ -8,7 +8,7 @@ use Rattle.dm_map.proofs.state.TrieLemmas.{end_within, last_read, not_taken, num
 use Rattle.dm_map.proofs.state.trie_taken.TrieTaken.find_counted.Goals as goal
 
 pub index-requires : goal.index-requires
-index-requires c = omega (arith, end_within c.args.self.now c.args.chunk, c.end_of-at.ensures.at, c.args.self.now.links.ok)
+index-requires c = omega (arith, end_within c.args.self.now c.args.chunk, c.end_of-at.ensures.at)
 
 pub returns-in_default : goal.returns-in_default
 returns-in_default c =
@@ -26,7 +26,7 @@ pub index-requires-2 : goal.index-requires-2
 index-requires-2 c =
     let taken = c.args.self.now in
     let last = last_read taken c.args.chunk _ _ _ c.end_of-at.ensures.at c.index.ensures c.node.ensures ∙ c.in-Number.is in
-    omega (arith, number_within taken c.args.chunk c.in-Number.number last, taken.chunks.ok)
+    omega (arith, number_within taken c.args.chunk c.in-Number.number last)
 
 pub returns-then-index-chunk-clause-found : goal.returns-then-index-chunk-clause-found
 returns-then-index-chunk-clause-found c =

@@ -51,20 +51,20 @@ invariant_of-self c =
     let bit = lowest at_other in
     let parted = is_parted nodes here bit c.args.chunk c.index-there.result.now (length chunks) c.args.other (end_within taken c.args.chunk) apart.1 in
     let made = ∥∥₁_map taken.leads (λ trie. part_trie chunks nodes _ taken.mask bit c.args.chunk c.index-there.result.now c.args.other trie taken.slots apart.0 apart.1 (ends_at_other at_other) (sym (other_read at_other)) parted) in
-    let items = c.push_reserved-3.ensures.items in
+    let items = c.push-3.ensures.items in
     let more = ap length items ∙ length_push chunks c.args.chunk in
-    let first : c.push_reserved.new.self.items ≡ nodes ++ number ∷ [] = c.push_reserved.ensures.items ∙ ap (λ node. nodes ++ node ∷ []) c.number.ensures in
-    let both : c.push_reserved-2.new.self.items ≡ (nodes ++ number ∷ []) ++ number ∷ [] =
-    c.push_reserved-2.ensures.items ∙ ap (λ xs. xs ++ c.number-2.result ∷ []) first ∙ ap (λ node. (nodes ++ number ∷ []) ++ node ∷ []) c.number-2.ensures in
-    let pair : c.len-pair.result ≡ length nodes = c.len-pair.ensures ∙ taken.links.ok.0 in
+    let first : c.push.new.self.items ≡ nodes ++ number ∷ [] = c.push.ensures.items ∙ ap (λ node. nodes ++ node ∷ []) c.number.ensures in
+    let both : c.push-2.new.self.items ≡ (nodes ++ number ∷ []) ++ number ∷ [] =
+    c.push-2.ensures.items ∙ ap (λ xs. xs ++ c.number-2.result ∷ []) first ∙ ap (λ node. (nodes ++ number ∷ []) ++ node ∷ []) c.number-2.ensures in
+    let pair : c.len-pair.result ≡ length nodes = c.len-pair.ensures in
     let slot : c.len-pair.result + c.bit_of.result ≡ length nodes + bit_at c.args.chunk bit = omega (arith, pair, c.bit_of.ensures) in
-    let new : c.number-3.result ≡ Number (length chunks) = c.number-3.ensures ∙ ap Number (c.len.ensures ∙ taken.chunks.ok.0) in
+    let new : c.number-3.result ≡ Number (length chunks) = c.number-3.ensures ∙ ap Number c.len.ensures in
     let fork : c.fork.result ≡ Fork bit (length nodes) = c.fork.ensures ∙ ap (Fork bit) pair in
-    let after = same_sets c.push_reserved-2.new.self.items ((nodes ++ number ∷ []) ++ number ∷ []) (c.len-pair.result + c.bit_of.result) (length nodes + bit_at c.args.chunk bit) c.args.at here c.number-3.result (Number (length chunks)) c.fork.result (Fork bit (length nodes)) both slot new c.requires.at fork in
+    let after = same_sets c.push-2.new.self.items ((nodes ++ number ∷ []) ++ number ∷ []) (c.len-pair.result + c.bit_of.result) (length nodes + bit_at c.args.chunk bit) c.args.at here c.number-3.result (Number (length chunks)) c.fork.result (Fork bit (length nodes)) both slot new c.requires.at fork in
     let count = ap length after ∙ parted.count in
     record {
-      reserved = omega (arith, taken.reserved, c.push_reserved-3.ensures.capacity);
-      room = omega (arith, taken.room, c.push_reserved.ensures.capacity, c.push_reserved-2.ensures.capacity);
+      reserved = omega (arith, taken.reserved, c.push-3.ensures.room);
+      room = omega (arith, taken.room, c.push.ensures.room, c.push-2.ensures.room);
       small = taken.small;
       slots = omega (arith, taken.slots, count);
       forks = omega (arith, taken.forks, count, more);

@@ -8,22 +8,22 @@ use Rattle.dm_map.proofs.state.TrieLemmas.{end_within, put_trie}
 use Rattle.dm_map.proofs.state.trie_taken.TrieTaken.put.Goals as goal
 
 pub index_mut-requires : goal.index_mut-requires
-index_mut-requires c = omega (arith, end_within c.args.self.now c.args.chunk, c.requires.at, c.args.self.now.links.ok)
+index_mut-requires c = omega (arith, end_within c.args.self.now c.args.chunk, c.requires.at)
 
 pub invariant_of-self : goal.invariant_of-self
 invariant_of-self c =
     let taken = c.args.self.now in
     let chunks = taken.chunks.items in
     let nodes = taken.links.items in
-    let items = c.push_reserved.ensures.items in
+    let items = c.push.ensures.items in
     let more = ap length items ∙ length_push chunks c.args.chunk in
     let empty = subst (λ at. node_at nodes at ≡ Empty) c.requires.at c.requires.empty in
     let made : ∥ IsTrie (chunks ++ c.args.chunk ∷ []) (set nodes (end_of nodes taken.mask c.args.chunk) (Number (length chunks))) taken.mask ∥₁ =
     ∥∥₁_map taken.leads (λ trie. put_trie chunks nodes taken.mask c.args.chunk trie taken.slots empty) in
-    let number : c.number.result ≡ Number (length chunks) = c.number.ensures ∙ ap Number (c.len.ensures ∙ taken.chunks.ok.0) in
+    let number : c.number.result ≡ Number (length chunks) = c.number.ensures ∙ ap Number c.len.ensures in
     let same = length-set nodes c.args.at c.number.result in
     record {
-      reserved = omega (arith, taken.reserved, c.push_reserved.ensures.capacity);
+      reserved = omega (arith, taken.reserved, c.push.ensures.room);
       room = taken.room;
       small = taken.small;
       slots = omega (arith, taken.slots, same);

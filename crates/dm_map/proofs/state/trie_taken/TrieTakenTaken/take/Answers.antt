@@ -4,7 +4,7 @@ use Rattle.dm_map.proofs.state.TrieLemmas.{end_stops, end_within, last_read}
 use Rattle.dm_map.proofs.state.trie_taken.TrieTakenTaken.take.Goals as goal
 
 pub index-requires : goal.index-requires
-index-requires c = omega (arith, end_within c.args.self.now c.args.chunk, c.end_of-at.ensures.at, c.args.self.now.links.ok)
+index-requires c = omega (arith, end_within c.args.self.now c.args.chunk, c.end_of-at.ensures.at)
 
 pub put-requires-clause-empty : goal.put-requires-clause-empty
 put-requires-clause-empty c =

@@ -11,15 +11,13 @@ pub invariant_of-result : goal.invariant_of-result
 unfolding IsDistinct
 invariant_of-result c =
     let slots = c.next_power_of_two-slots.result in
-    let chunks = c.in_ok-with_capacity.field-0 in
-    let links = c.in_ok-slots_with_room.field-0 in
-    let none : chunks.items ≡ [] = c.in_ok-with_capacity.ensures.items in
-    let empty : links.items ≡ replicate slots Empty = c.in_ok-slots_with_room.ensures.items in
+    let none : c.from_vec.result.items ≡ [] = c.from_vec.ensures.items ∙ c.in_ok-with_capacity.ensures.items in
+    let empty : c.from_vec-2.result.items ≡ replicate slots Empty = c.from_vec-2.ensures.items ∙ c.in_ok-slots_with_room.ensures.items in
     let count = ap length empty ∙ length-replicate slots Empty in
     let some : 0 < slots = let power = c.next_power_of_two-slots.ensures.power in omega (arith, power.1, pow_pos power.0) in
     record {
-      reserved = c.in_ok-with_capacity.ensures.capacity;
-      room = omega (arith, some, c.in_ok-slots_with_room.ensures.room);
+      reserved = omega (arith, c.from_vec.ensures.room, c.in_ok-with_capacity.ensures.capacity);
+      room = omega (arith, some, c.from_vec-2.ensures.room, c.in_ok-slots_with_room.ensures.room);
       small = omega (arith, some, c.next_power_of_two-slots.ensures.upper_bound);
       slots = omega (arith, some, count);
       forks = omega (arith, some, count);

@@ -9,10 +9,10 @@ count_is : (c : After-self) → length c.self.inside.firsts.items ≡ length c.a
 count_is c = length-runs c.self.inside.firsts.items c.self.inside.rests.items c.args.self.now.items c.self.invariant (ap (λ row. row.items) c.self.view_is)
 
 pub index-rest-requires : goal.index-rest-requires
-index-rest-requires c = omega (arith, c.requires, c.self.inside.rests.ok, c.self.invariant, count_is c)
+index-rest-requires c = omega (arith, c.requires, c.self.invariant, count_is c)
 
 pub index-requires : goal.index-requires
-index-requires c = omega (arith, c.requires, c.self.inside.firsts.ok, count_is (goal.at.index-requires c).After-self)
+index-requires c = omega (arith, c.requires, count_is (goal.at.index-requires c).After-self)
 
 pub returns : goal.returns
 returns c =

@@ -7,7 +7,7 @@ pub index-requires : goal.index-requires
 index-requires c =
     let runs = c.self.inside in
     let long = length-runs runs.firsts.items runs.rests.items c.args.self.now.items c.self.invariant (ap (λ row. row.items) c.self.view_is) in
-    omega (arith, c.requires, runs.firsts.ok, long)
+    omega (arith, c.requires, long)
 
 pub returns : goal.returns
 returns c =

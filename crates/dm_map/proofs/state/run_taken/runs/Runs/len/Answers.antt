@@ -7,4 +7,4 @@ returns c =
     let firsts = c.self.inside.firsts in
     let long = length-joined firsts.items c.self.inside.rests.items c.self.invariant in
     let items = ap (λ row. length row.items) c.self.view_is in
-    omega (arith, c.len.ensures, firsts.ok, long, items)
+    omega (arith, c.len.ensures, long, items)

@@ -14,7 +14,7 @@ place_there : (c : After-index_mut) → (place c < length c.self.inside.rests.it
 place_there c =
     let runs = c.self.inside in
     let long = length-runs runs.firsts.items runs.rests.items c.args.self.now.items c.self.invariant (ap (λ row. row.items) c.self.view_is) in
-    (omega (arith, c.requires.some, c.len-last.ensures, runs.rests.ok, c.self.invariant, long), omega (arith, c.len-last.ensures, runs.rests.ok, c.self.invariant, long))
+    (omega (arith, c.requires.some, c.len-last.ensures, c.self.invariant, long), omega (arith, c.len-last.ensures, c.self.invariant, long))
 
 -- the rest that was read there
 rest_is : (c : After-index_mut) → c.index_mut.result.now ≡ get_or c.self.inside.rests.items (place c) no_rest

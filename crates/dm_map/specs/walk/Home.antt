@@ -1,0 +1,23 @@
+-- Where all sectors of a request lie, if they lie in a row on a disk: then they are not handed over, and this is returned.
+use Rattle.std.specs.Prelude.{ℕ, ◌≡◌, List, Option, None, Some, Result, Ok, Err}
+use Rattle.dm_table.specs.declared.requests.request.Op.{Op}
+use Rattle.dm_stack.specs.Description.{Description}
+use Rattle.dm_map.specs.declared.walk.home.Home.{Home}
+use Rattle.dm_map.specs.pieces.Units.{BlockUnit, IsOnDisk, units_in}
+use Rattle.dm_map.specs.walk.Range.{disk_unit}
+
+-- these are the units of len sectors of a disk from here on, and the disk has them
+pub record IsHome (stack : Description) (op : Op) (len : ℕ) (home : Home) (of : List BlockUnit) : Type 0 where
+  pub units : of ≡ units_in (disk_unit op home.disk home.start) len
+  pub lies : IsOnDisk stack home.disk home.start len
+
+-- a sink took the units, or it is as it was and they lie where the result says
+abbrev pub HasTakenOrIsHome : {S F : Type 0} → (S → List BlockUnit → S → Type 0) → Description → Op → ℕ → Result (Option Home) F → S → List BlockUnit → S → Type 0
+HasTakenOrIsHome takes stack op len (Ok (Some home)) old units new = IsHome stack op len home units × (new ≡ old)
+HasTakenOrIsHome takes stack op len (Ok None) old units new = takes old units new
+HasTakenOrIsHome takes stack op len (Err fault) old units new = Unit {0}
+
+-- the result where all units were handed over
+abbrev pub handed : {F : Type 0} → Result (Unit {0}) F → Result (Option Home) F
+handed (Ok done) = Ok None
+handed (Err fault) = Err fault

@@ -1,0 +1,73 @@
+//! Requests whose sectors lie in a row on a disk, as those of most do.
+//!
+//! Where they lie is returned to the caller of the mapper, which then knows that nothing else comes of the request.
+
+ghost use Rattle.std.specs.Prelude.{◌≡◌, ◌+◌, ◌-◌, ◌≤◌, IfSome};
+ghost use Rattle.dm_stack.specs.Below.{IsLineOf};
+ghost use Rattle.dm_stack.specs.declared.id.Lower.TheVariants.{Disk};
+ghost use Rattle.dm_stack.specs.declared.leg.Beneath.TheVariants.{Lies};
+ghost use Rattle.dm_map.specs.walk.Home.{handed};
+ghost use Rattle.dm_map.specs.walk.Range.{IsLegOf};
+
+use crate::state::taken::Taken;
+use crate::state::walker::Walker;
+use dm_stack::{Beneath, DeviceId, DiskId, FoundLine, FoundTarget, Leg, Lower};
+
+/// Where sectors lie in a row: from a sector of a disk on.
+#[derive(Clone, Copy, Drop)]
+pub struct Home {
+    pub disk: DiskId,
+    pub start: u64,
+}
+
+/// Where sectors of a line lie, if they lie in a row on a disk, as a part of one of it does.
+#[inline(always)]
+pub(crate) fn home_in<T: Taken>(
+    walker: &Walker<'_, T>,
+    device: DeviceId,
+    line: &FoundLine,
+    sector: u64,
+    len: u64,
+) -> Option<Home>
+    requires line { IsLineOf walker.now.stack device line.now sector }
+    requires some { 1 ≤ len }
+    requires inside { sector + len ≤ line.now.start + line.now.len }
+    ensures { IfSome result (λ home. IsLegOf walker.now.stack device line.now (sector - line.now.start)
+        (record { below = Lies (Disk home.disk) home.start; len = len })) }
+{
+    if !is_on_disk(line) {
+        return None;
+    }
+    walker.recall_soundness();
+    let Leg { below, len: part } = line.target.leg(sector - line.start, len);
+    let Beneath::Lies { to, sector: start } = below else {
+        return None;
+    };
+    match to {
+        Lower::Disk(disk) if part == len => Some(Home { disk, start }),
+        _ => None,
+    }
+}
+
+/// Whether a line is a part of a disk.
+#[inline(always)]
+fn is_on_disk(line: &FoundLine) -> bool {
+    matches!(
+        line.target,
+        FoundTarget::Linear {
+            to: Lower::Disk(_),
+            ..
+        }
+    )
+}
+
+/// The result where all units were handed over.
+#[inline(always)]
+pub(crate) fn handed<F>(answer: Result<(), F>) -> Result<Option<Home>, F>
+    ensures { result ≡ handed answer }
+{
+    match answer {
+        Ok(()) => Ok(None),
+        Err(fault) => Err(fault),
+    }
+}
