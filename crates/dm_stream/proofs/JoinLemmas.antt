@@ -61,6 +61,11 @@ text_run stack number first (suc len) some =
 pub held_text : (stack : Description) (number : ℕ) (piece : code.Piece) → 1 ≤ piece_len piece → piece_text stack number (piece_view piece) ≡ pieces_text stack number (fewest (units_of piece))
 held_text stack number piece some = text_run stack number (first_unit piece) (piece_len piece) some
 
+-- so is the line of a piece beside what is held
+pub line_beside : (inside held : Pending) (piece : code.Piece) → inside ≡ held → 1 ≤ piece_len piece → piece_text inside.stack inside.number (piece_view piece) ≡ pieces_text held.stack held.number (fewest (units_of piece))
+line_beside inside held piece same some =
+    held_text inside.stack inside.number piece some ∙ ap (λ (h : Pending). pieces_text h.stack h.number (fewest (units_of piece))) same
+
 -- the line of the held piece is the text of what is held
 pub held_line : (inside held : Pending) (piece : code.Piece) → inside ≡ held → inside.piece ≡ Some piece → IsHeld inside.stack inside.piece
     → piece_text inside.stack inside.number (piece_view piece) ≡ pieces_text held.stack held.number (fewest (held_units held.piece))

@@ -1,11 +1,14 @@
 -- What is written for a request: its units were taken, or a part of them was left; and what it adds to the outcome.
-use Rattle.std.proofs.Common.{◌≡◌, ℕ, ◌++◌, List, [], ◌∷◌, Option, None, Some, Result, Err, sym, ap, refl, ◌∙◌, append_assoc, subst, decimal}
+use Rattle.std.proofs.Common.{◌≡◌, ℕ, ◌++◌, List, [], ◌∷◌, Option, None, Some, Result, Ok, Err, OnOk, sym, ap, refl, ◌∙◌, append_assoc, subst, decimal}
 use Rattle.std.proofs.lemmas.Grind.{flat_map-append}
 use Rattle.std.proofs.lemmas.List.{append-nil}
 use Rattle.dm_table.specs.io.DeviceIo.{OutputPast, since, written_since}
 use Rattle.dm_stack.specs.Description.{Description}
 use Rattle.dm_map.specs.Mapper.{OnSinkFault}
+use Rattle.dm_table.specs.declared.requests.request.Op.{Op}
+use Rattle.dm_map.specs.declared.walk.home.Home.{Home}
 use Rattle.dm_map.specs.pieces.Units.{BlockUnit}
+use Rattle.dm_map.specs.walk.Home.{HasTakenOrIsHome, IsHome}
 use Rattle.dm_map.specs.declared.mapper.MapFault.{MapFault}
 use Rattle.dm_map.specs.declared.mapper.MapFault.TheVariants as faults
 use Rattle.dm_stream.specs.Pending.{Pending, held_units}
@@ -24,8 +27,24 @@ use Rattle.dm_table.specs.io.WriteAll.{IsBeginning, IsCutShort}
 use Rattle.dm_table.proofs.WriteLemmas.{and_then}
 use Rattle.dm_table.specs.io.Progress.{HasWritten, Wrote}
 
-pub on_sink : {F : Type 0} (r : Result (Unit {0}) (MapFault F)) (fault : F) (P : Type 0) → r ≡ Err (faults.Sink fault) → OnSinkFault r P → P
-on_sink r fault P e h = subst (λ (x : Result (Unit {0}) (MapFault _)). OnSinkFault x P) e h
+pub on_sink : {R F : Type 0} (r : Result R (MapFault F)) (fault : F) (P : Type 0) → r ≡ Err (faults.Sink fault) → OnSinkFault r P → P
+on_sink {R} {F} r fault P e h = subst (λ (x : Result R (MapFault F)). OnSinkFault x P) e h
+
+-- what came of a request, by what a match found: its units were handed over, or its sectors lie in a row on a disk
+pub took_all : {S F : Type 0} {old new : S} {units : List BlockUnit} (takes : S → List BlockUnit → S → Type 0) (stack : Description) (op : Op) (len : ℕ) (r : Result (Option Home) (MapFault F)) → r ≡ Ok None
+    → OnOk r (HasTakenOrIsHome takes stack op len r old units new) → takes old units new
+took_all {F} {old} {new} {units} takes stack op len r is took = subst (λ (x : Result (Option Home) (MapFault F)). OnOk x (HasTakenOrIsHome takes stack op len x old units new)) is took
+
+pub at_home : {S F : Type 0} {stack : Description} {op : Op} {len : ℕ} {old new : S} {units : List BlockUnit} (takes : S → List BlockUnit → S → Type 0) (r : Result (Option Home) (MapFault F)) (home : Home) → r ≡ Ok (Some home)
+    → OnOk r (HasTakenOrIsHome takes stack op len r old units new) → IsHome stack op len home units × (new ≡ old)
+at_home {F} {stack} {op} {len} {old} {new} {units} takes r home is took = subst (λ (x : Result (Option Home) (MapFault F)). OnOk x (HasTakenOrIsHome takes stack op len x old units new)) is took
+
+pub on_ok : {R F : Type 0} (r : Result R F) (P : Type 0) → P → OnOk r P
+on_ok (Ok done) P holds = holds
+on_ok (Err fault) P holds = tt
+
+pub state_at : {F : Type 0} (r : Result (Option Home) (MapFault F)) (answer : Option Home) (P : Type 0) → r ≡ Ok answer → OnOk r P → P
+state_at {F} r answer P is h = subst (λ (x : Result (Option Home) (MapFault F)). OnOk x P) is h
 
 -- a text with a byte in it begins with one
 some_byte : (xs : List ℕ) (byte : ℕ) (more : List ℕ) → (first : ℕ) × (rest : List ℕ) × (xs ++ byte ∷ more ≡ first ∷ rest)
@@ -103,6 +122,14 @@ taken_wrote {a = a} {b = b} stack number old new units start taken moved wrote =
     sym (same_text stack number old (fewest units) start) ∙ taken_text old new units a.written b.written (ap (λ (h : Pending). h.piece) start) taken
     ∙ ap (λ (xs : List ℕ). first ++ xs) (sym (text_kept old new (fewest (held_units new.piece)) taken.stack taken.number)) in
     and_then first last whole (record { moved = moved; ok = refl; left = tt }) wrote
+
+-- the line of a row of sectors is the text of all units
+pub home_wrote : {S E : Type 0} {c : OutputPast} {result : Result (Unit {0}) E} (old new : S) (past : S → OutputPast) (held : S → Pending) (stack : Description) (number : ℕ) (units row : List BlockUnit) → new ≡ old → held old ≡ at_start stack number → units ≡ row
+    → Wrote (past new) c result (pieces_text (held new).stack (held new).number (fewest row)) → Wrote (past old) c result (pieces_text stack number (fewest units))
+home_wrote {S} {c = c} {result = result} old new past held stack number units row same start is wrote =
+    subst (λ (us : List BlockUnit). Wrote (past old) c result (pieces_text stack number (fewest us))) (sym is)
+    (subst (λ (h : Pending). Wrote (past old) c result (pieces_text h.stack h.number (fewest row))) start
+    (subst (λ (s : S). Wrote (past s) c result (pieces_text (held s).stack (held s).number (fewest row))) same wrote))
 
 -- the join failed at a piece
 pub cut_short : (stack : Description) (number : ℕ) (old new : Pending) (front rest units : List BlockUnit) (before after : List ℕ) → old ≡ at_start stack number → front ++ rest ≡ units → HasLeft old new front before after

@@ -2,14 +2,17 @@
 //!
 //! Both kinds go one way: which of them comes next is not foreseen by the processor.
 
-ghost use Rattle.std.specs.Prelude.{◌≡◌, ◌+◌, ◌==◌, MatchOption};
-ghost use Rattle.dm_map.specs.pieces.Units.{first_unit};
-ghost use Rattle.dm_stream.specs.Pending.{Fits, IsNoRange, piece_of};
+ghost use Rattle.std.specs.Prelude.{◌≡◌, ◌+◌, ◌≤◌, ◌==◌, Some, MatchOption};
+ghost use Rattle.dm_stack.specs.Description.{Description};
+ghost use Rattle.dm_map.specs.pieces.Units.{IsOnDisk, first_unit, units_in, units_of};
+ghost use Rattle.dm_map.specs.walk.Range.{disk_unit};
+ghost use Rattle.dm_stream.specs.Pending.{Fits, IsHeld, IsNoRange, piece_of};
 ghost use Rattle.dm_stream.specs.Pieces.{is_after};
 
 use crate::letter::Letter;
-use dm_map::Piece;
+use dm_map::{Home, Piece};
 use dm_stack::{DiskId, Stack};
+use dm_table::Op;
 
 /// Consecutive sectors of a disk, and the letter of what is done at them.
 #[derive(Clone, Copy, Drop)]
@@ -36,6 +39,21 @@ impl DiskRange {
                 })
             }
             _ => None,
+        }
+    }
+
+    /// The range of sectors of a request that lie in a row on a disk.
+    #[inline(always)]
+    pub(crate) fn at(op: Op, home: Home, len: u64) -> DiskRange
+        ensures units { units_of (piece_of result) ≡ units_in (disk_unit op home.disk home.start) len }
+        ensures held { (stack : Description) → 1 ≤ len → IsOnDisk stack home.disk home.start len
+            → IsHeld stack (Some (piece_of result)) }
+    {
+        DiskRange {
+            letter: Letter::new(matches!(op, Op::Write)),
+            disk: home.disk,
+            start: home.start,
+            len,
         }
     }
 

@@ -13,12 +13,12 @@ ghost use Rattle.dm_table.specs.io.DeviceIo.{delivery};
 ghost use Rattle.dm_table.specs.io.Progress.{IsReadOn};
 
 use crate::ending::{Ending, RequestWord};
-use crate::handler::Handler;
+use crate::handler::{Handler, ReadsFrom};
 use crate::request_mapper::read_ahead;
 use crate::requests::handle_requests;
 use dm_map::{Discard, MapFault, Mapper, Taken};
 use dm_stack::{DeviceId, Stack};
-use dm_table::{Input, Request};
+use dm_table::{InFault, Input, Request};
 use std::marker::PhantomData;
 
 /// Why earlier requests were refused.
@@ -92,8 +92,19 @@ impl<'s, T: Taken> Handler for EarlierPlayer<'s, T> {
         let read = read_ahead(stack, mapper, device, start);
         self.prefetched = self.prefetched.wrapping_add(read);
     }
+}
+
+/// No answer is kept back, since there is none.
+impl<T: Taken, R: Input> ReadsFrom<R> for EarlierPlayer<'_, T> {
+    ghost asked = { R.past };
+
+    ghost is_out = { λ h. Unit {0} };
 
     fn before_read(&mut self) {}
+
+    fn read(&self, requests: &mut R, buffer: &mut [u8]) -> Result<usize, InFault> {
+        requests.read(buffer)
+    }
 }
 
 /// Plays requests, line by line, and answers none: the mapper's state moves on as if they had been answered.

@@ -4,13 +4,14 @@
 //! handler says what becomes of a request, and why it stops; its relations speak of requests in a row, so
 //! the reader of lines knows nothing of answers.
 
-ghost use Rattle.std.specs.Prelude.{◌≡◌, List, [], ◌∷◌, ◌++◌, OnOk, IfErr};
+ghost use Rattle.std.specs.Prelude.{◌≡◌, ◌≤◌, List, [], ◌∷◌, ◌++◌, length, OnOk, IfErr, IfOk};
+ghost use Rattle.dm_table.specs.io.DeviceIo.{InputPast, after_read};
 ghost use Rattle.dm_stack.specs.Description.{Description};
 ghost use Rattle.dm_stream.specs.Outcome.{device_of};
 ghost use Rattle.dm_stream.specs.Requests.{NumberedRequest, numbered};
 
 use dm_stack::{DeviceId, Stack};
-use dm_table::Request;
+use dm_table::{InFault, Request};
 
 /// Who answers requests to the devices of a stack, one after the other.
 pub trait Handler {
@@ -58,12 +59,6 @@ pub trait Handler {
         ensures ready { ready stack.now self.old source.now → ready stack.now self.new source.now }
     {}
 
-    /// No request is at hand, and reading one may have to wait: the answers gathered so far can be passed on.
-    /// Nothing is answered.
-    fn before_read(&mut self)
-        ensures answered { (stack : Description) (source : Self.Source) → answered stack self.old source [] self.new source }
-        ensures ready { (stack : Description) (source : Self.Source) → ready stack self.old source → ready stack self.new source };
-
     /// No requests are answered where nothing changes.
     ghost answered_none: { (stack : Description) (h : Self) (s : Self.Source) → answered stack h s [] h s };
 
@@ -76,4 +71,28 @@ pub trait Handler {
     ghost answered_then_stopped: { (stack : Description) (a b c : Self) (s t u : Self.Source) (us vs : List NumberedRequest)
         (fault : Self.Fault)
         → answered stack a s us b t → stopped stack b t vs fault c u → stopped stack a s (us ++ vs) fault c u };
+}
+
+/// A handler whose requests are read from `Q`. A read may have to wait, so it comes only once all answers are out.
+pub trait ReadsFrom<Q>: Handler {
+    /// What the requests did so far, as of any input.
+    ghost asked: { Q → InputPast };
+
+    /// All answers were passed on, or passing them on failed.
+    ghost is_out: { Self → Type 0 };
+
+    /// No request is at hand, and reading one may have to wait: the answers gathered so far are passed on.
+    /// Nothing is answered.
+    fn before_read(&mut self)
+        ensures answered { (stack : Description) (source : Self.Source)
+            → Self.answered stack self.old source [] self.new source }
+        ensures ready { (stack : Description) (source : Self.Source)
+            → Self.ready stack self.old source → Self.ready stack self.new source }
+        ensures out { is_out self.new };
+
+    /// Reads as an input does.
+    fn read(&self, requests: &mut Q, buffer: &mut [u8]) -> Result<usize, InFault>
+        requires { is_out self.now }
+        ensures within { IfOk result (λ n. n ≤ length buffer.new) }
+        ensures past { asked requests.new ≡ after_read (asked requests.old) result buffer.new };
 }

@@ -6,14 +6,14 @@
 ghost use Rattle.std.specs.Bool.{OnTrue, OnFalse};
 ghost use Rattle.std.specs.Prelude.{◌≡◌, ◌+◌, ◌-◌, ◌≤◌, ◌++◌, ◌^◌, List, OnErr, OnOk, Some, None};
 ghost use Rattle.dm_map.specs.pieces.Units.{BlockUnit, IsOnDisks, diskless_len, first_unit, piece_len, units_of};
-ghost use Rattle.dm_stream.specs.Pending.{Fits, HoldsNoRange, IsHeld, IsNoRange, goes_on, held_diskless, held_units};
+ghost use Rattle.dm_stream.specs.Pending.{Fits, HoldsNoRange, IsHeld, IsNoRange, goes_on, held_diskless, held_units, piece_of};
 ghost use Rattle.dm_stream.specs.PieceText.{pieces_text};
 ghost use Rattle.dm_stream.specs.Pieces.{fewest, is_after};
 ghost use Rattle.dm_table.specs.io.Progress.{Wrote};
 
 use crate::disk_range::{DiskRange, follows};
 use crate::number_prefix::NumberPrefix;
-use crate::piece_text::{put_other, put_range};
+use crate::piece_text::{put_alone, put_other, put_range};
 use crate::range_text::RangeText;
 use dm_map::Piece;
 use dm_stack::Stack;
@@ -184,6 +184,20 @@ impl<'s> HeldPiece<'s> {
         let wrote = put_other(writer, &self.prefix, self.text.ends(), self.stack, other);
         self.other = None;
         wrote
+    }
+
+    /// Writes the line of a range that is all of a request's answer, so that nothing is held.
+    #[inline(always)]
+    pub(crate) fn write_range<W: Output>(
+        &self,
+        range: &DiskRange,
+        writer: &mut W,
+    ) -> Result<(), OutFault>
+        requires { IsHeld self.now.stack (Some (piece_of range.now)) }
+        ensures { Wrote (W.past writer.old) (W.past writer.new) result
+            (pieces_text self.now.stack self.now.number (fewest (units_of (piece_of range.now)))) }
+    {
+        put_alone(writer, &self.prefix, self.text.ends(), self.stack, range)
     }
 }
 

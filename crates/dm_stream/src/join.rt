@@ -3,9 +3,9 @@
 //! One piece is held while others continue it, so a request takes no memory however long it is. What
 //! a join took is stated in whole pieces, whatever units follow; keep that when you change it.
 
-ghost use Rattle.std.specs.Prelude.{◌≡◌, ◌-◌, ◌^◌, List, None};
-ghost use Rattle.dm_map.specs.pieces.Units.{BlockUnit};
-ghost use Rattle.dm_stream.specs.Pending.{held_diskless, held_units};
+ghost use Rattle.std.specs.Prelude.{◌≡◌, ◌-◌, ◌^◌, List, None, Some};
+ghost use Rattle.dm_map.specs.pieces.Units.{BlockUnit, units_of};
+ghost use Rattle.dm_stream.specs.Pending.{IsHeld, held_diskless, held_units, piece_of};
 ghost use Rattle.dm_stream.specs.Join.{HasTaken, HasLeft};
 ghost use Rattle.dm_stream.specs.Pieces.{AreFewest, fewest};
 ghost use Rattle.dm_stream.specs.PieceText.{pieces_text};
@@ -13,6 +13,8 @@ ghost use Rattle.dm_stream.specs.laws.Join.{took_none, took_more, left_more};
 ghost use Rattle.dm_table.specs.io.Progress.{HasWrittenTo, IsSameReference, Wrote};
 ghost use Rattle.dm_table.specs.laws.Progress.{written_to_none, written_to_more};
 
+use crate::disk_range::DiskRange;
+use crate::exchange::Exchange;
 use crate::held_piece::HeldPiece;
 use dm_map::{Piece, Sink};
 use dm_stack::Stack;
@@ -73,13 +75,28 @@ impl<'s, W: Output> Join<'s, W> {
         self.held.write(&mut *self.writer)
     }
 
-    /// Has the writer hand on what it gathered. Nothing is written or flushed.
-    pub(crate) fn drain(&mut self)
+    /// Writes a range that is all of a request's answer. Nothing is held, before and afterwards.
+    ///
+    /// `OutFault` if a write failed: a beginning of the line was written, and not all of it. No memory is taken.
+    #[inline(always)]
+    pub(crate) fn write_range(&mut self, range: &DiskRange) -> Result<(), OutFault>
+        requires { IsHeld self.old.held.stack (Some (piece_of range.now)) }
+        ensures wrote { Wrote (W.past self.old.writer.now) (W.past self.new.writer.now) result
+            (pieces_text self.old.held.stack self.old.held.number (fewest (units_of (piece_of range.now)))) }
+        ensures held { self.new.held ≡ self.old.held }
+        ensures same_reference { IsSameReference self.old.writer self.new.writer }
+    {
+        self.held.write_range(range, &mut *self.writer)
+    }
+
+    /// Has the writer pass on what it gathered, before requests are read. Nothing is written or flushed.
+    pub(crate) fn pass_on<Q: Exchange<W>>(&mut self)
         ensures held { self.new.held ≡ self.old.held }
         ensures moved { HasWrittenTo W.past self.old.writer self.new.writer 0 }
         ensures written { (W.past self.new.writer.now).written ≡ (W.past self.old.writer.now).written }
+        ensures out { Q.is_out self.new.writer.now }
     {
-        self.writer.drain();
+        Q::pass_on(&mut *self.writer);
     }
 
     /// Ends the join, after its last request was finished, and gives its writer back as it is:

@@ -7,7 +7,8 @@ ghost use Rattle.dm_table.specs.words.Fields.{parts_at};
 ghost use Rattle.dm_table.specs.io.Progress.{HasRead};
 ghost use Rattle.dm_table.specs.words.Bytes.{newline};
 
-use dm_table::{InFault, Input};
+use crate::handler::ReadsFrom;
+use dm_table::InFault;
 use memchr::memchr;
 
 /// The length of the first line, where its newline is held. The first `searched` bytes have none,
@@ -41,16 +42,18 @@ pub(crate) fn make_room(buffer: &mut [u8], start: usize, end: usize, room: usize
 }
 
 /// Reads once, into the buffer after its first `end` bytes.
-pub(crate) fn read_after<R: Input>(
+pub(crate) fn read_after<Q, H: ReadsFrom<Q>>(
     buffer: &mut [u8],
     end: usize,
-    reader: &mut R,
+    requests: &mut Q,
+    handler: &H,
 ) -> Result<usize, InFault>
-    requires { end < length buffer.old }
+    requires room { end < length buffer.old }
+    requires out { H.is_out handler.now }
     ensures within { IfOk result (λ n. end + n ≤ length buffer.new) }
     ensures kept { take end buffer.new ≡ take end buffer.old }
-    ensures read { HasRead (R.past reader.old) (R.past reader.new) result
+    ensures read { HasRead (H.asked requests.old) (H.asked requests.new) result
         (given result (drop end buffer.new)) }
 {
-    reader.read(&mut buffer[end..])
+    handler.read(requests, &mut buffer[end..])
 }

@@ -2,15 +2,16 @@
 //! Clauses see only those bytes, so lines depend on the bytes and never on how reads cut them.
 //! No memory is taken, and the search for a newline continues where the last one stopped: each byte is
 //! searched once.
-ghost use Rattle.std.specs.Prelude.{◌≡◌, ◌+◌, ◌≤◌, ◌++◌, [], ◌∷◌, length, take, drop, IfOk, OnErr};
+ghost use Rattle.std.specs.Prelude.{◌≡◌, ◌+◌, ◌≤◌, ◌++◌, ◌≢◌, [], ◌∷◌, length, take, drop, IfOk, OnErr};
+ghost use Rattle.std.specs.Bool.{OnTrue, OnFalse};
 ghost use Rattle.std.specs.Borrow.{sem};
 ghost use Rattle.std.specs.Io.BufRead.{Rests};
 ghost use Rattle.dm_table.specs.io.DeviceIo.{delivery, since};
 ghost use Rattle.dm_table.specs.io.Progress.{HasRead, IsReadOn, MetNothing};
 
+use crate::handler::ReadsFrom;
 use crate::line_buffer::{line_len, make_room, read_after};
-use dm_table::{InFault, Input};
-use memchr::memchr;
+use dm_table::InFault;
 use std::marker::Model;
 
 /// The most bytes of a line, without its newline.
@@ -88,8 +89,11 @@ impl Lines {
     }
 
     /// Whether a newline is held, so that the next line is there without a read.
-    pub(crate) fn has_newline(&self) -> bool {
-        memchr(b'\n', self.held()).is_some()
+    pub(crate) fn has_newline(&self) -> bool
+        ensures held { OnTrue result (line_parts self.now ≢ self.now ∷ []) }
+        ensures none { OnFalse result (line_parts self.now ≡ self.now ∷ []) }
+    {
+        line_len(self.held(), 0).is_some()
     }
 
     /// Lets the first bytes go that are held.
@@ -130,11 +134,12 @@ impl Lines {
     }
 
     /// Reads once, after the held bytes.
-    fn fill<R: Input>(&mut self, reader: &mut R) -> Result<usize, InFault>
-        requires { length self.old ≤ MOST_LINE_BYTES }
-        ensures read { HasRead (R.past reader.old) (R.past reader.new) result
-            (since (R.past reader.old).handed (R.past reader.new).handed) }
-        ensures held { self.new ≡ self.old ++ since (R.past reader.old).handed (R.past reader.new).handed }
+    fn fill<Q, H: ReadsFrom<Q>>(&mut self, requests: &mut Q, handler: &H) -> Result<usize, InFault>
+        requires room { length self.old ≤ MOST_LINE_BYTES }
+        requires out { H.is_out handler.now }
+        ensures read { HasRead (H.asked requests.old) (H.asked requests.new) result
+            (since (H.asked requests.old).handed (H.asked requests.new).handed) }
+        ensures held { self.new ≡ self.old ++ since (H.asked requests.old).handed (H.asked requests.new).handed }
         ensures count { IfOk result (λ n. length self.new ≡ length self.old + n) }
         ensures none { IfOk result (λ n. n ≡ 0 → self.new ≡ self.old) }
         ensures err { OnErr result (self.new ≡ self.old) }
@@ -143,18 +148,19 @@ impl Lines {
         let held = self.end - self.start;
         self.start = make_room(&mut self.buffer, self.start, self.end, MOST_LINE_BYTES);
         self.end = self.start + held;
-        let n = read_after(&mut self.buffer, self.end, reader)?;
+        let n = read_after(&mut self.buffer, self.end, requests, handler)?;
         self.end += n;
         Ok(n)
     }
 
     /// Reads until the held bytes settle what comes next. A line stays held.
-    fn advance<R: Input>(&mut self, reader: &mut R) -> NextHeld
-        ensures reads { IsReadOn (R.past reader.old) (R.past reader.new) }
-        ensures held { self.new ≡ self.old ++ since (R.past reader.old).handed (R.past reader.new).handed }
+    fn advance<Q, H: ReadsFrom<Q>>(&mut self, requests: &mut Q, handler: &H) -> NextHeld
+        requires { line_parts self.old ≡ self.old ∷ [] → H.is_out handler.now }
+        ensures reads { IsReadOn (H.asked requests.old) (H.asked requests.new) }
+        ensures held { self.new ≡ self.old ++ since (H.asked requests.old).handed (H.asked requests.new).handed }
         ensures fits { FitsIn result self.new }
-        ensures quiet { OnHeldLine result (MetNothing (R.past reader.old) (R.past reader.new)) }
-        ensures answer { next_answer (delivery (R.past reader.old) (R.past reader.new)).stand
+        ensures quiet { OnHeldLine result (MetNothing (H.asked requests.old) (H.asked requests.new)) }
+        ensures answer { next_answer (delivery (H.asked requests.old) (H.asked requests.new)).stand
             (line_parts self.new)
             ≡ held_answer result self.new }
     {
@@ -164,7 +170,7 @@ impl Lines {
                 return found;
             }
             searched = self.len();
-            match self.fill(reader) {
+            match self.fill(requests, handler) {
                 Err(InFault) => return NextHeld::ReadFault,
                 Ok(0) => {
                     return if searched == 0 {
@@ -181,19 +187,21 @@ impl Lines {
     /// The next line, or why there is none. Only a line leaves the held bytes.
     ///
     /// Cost: time linear in the bytes read, however they arrive. Takes no memory.
-    pub fn next<R: Input>(&mut self, reader: &mut R) -> Next<'_>
+    pub fn next<Q, H: ReadsFrom<Q>>(&mut self, requests: &mut Q, handler: &H) -> Next<'_>
+        // Nothing is read where a whole line is held, and else all answers are out.
+        requires { line_parts self.old ≡ self.old ∷ [] → H.is_out handler.now }
         ensures* after { sem 𝓛 (Rests the_row self.entry (λ new.
             new ≡ left_of (answer_of result)
-            (self.old ++ since (R.past reader.old).handed (R.past reader.new).handed))) }
+            (self.old ++ since (H.asked requests.old).handed (H.asked requests.new).handed))) }
         // Nothing is read after an end or a fault.
-        ensures reads { IsReadOn (R.past reader.old) (R.past reader.new) }
+        ensures reads { IsReadOn (H.asked requests.old) (H.asked requests.new) }
         // A line is returned, or is too long, before an end or a fault is met.
-        ensures quiet { OnLine result (MetNothing (R.past reader.old) (R.past reader.new)) }
+        ensures quiet { OnLine result (MetNothing (H.asked requests.old) (H.asked requests.new)) }
         ensures answer { answer_of result
-            ≡ next_answer (delivery (R.past reader.old) (R.past reader.new)).stand
-            (line_parts (self.old ++ since (R.past reader.old).handed (R.past reader.new).handed)) }
+            ≡ next_answer (delivery (H.asked requests.old) (H.asked requests.new)).stand
+            (line_parts (self.old ++ since (H.asked requests.old).handed (H.asked requests.new).handed)) }
     {
-        match self.advance(reader) {
+        match self.advance(requests, handler) {
             NextHeld::Line(n) => {
                 let start = self.start;
                 self.start = start + n + 1;

@@ -19,6 +19,7 @@ ghost use Rattle.dm_table.specs.io.Progress.{HasWritten, HasWrittenTo, IsReadOn,
 
 use crate::closing::close_and_tell;
 use crate::ending::{Ending, NotMapped, RequestWord};
+use crate::exchange::Exchange;
 use crate::join::Join;
 use crate::message::message_of;
 use crate::request_mapper::RequestMapper;
@@ -26,7 +27,7 @@ use crate::requests::handle_requests;
 use crate::status_lines::write_status;
 use dm_map::{Mapper, Taken};
 use dm_stack::Stack;
-use dm_table::{Input, OutFault, Output};
+use dm_table::{OutFault, Output};
 use std::marker::PhantomData;
 
 /// How a run ends when a request was not mapped.
@@ -41,7 +42,7 @@ fn ending_of(cause: NotMapped) -> Ending
 
 /// Answers the requests up to the first bad one, an end or a fault, through one mapper and one join.
 /// Nothing is flushed.
-fn map_lines<'s, T: Taken, R: Input, W: Output>(
+fn map_lines<'s, T: Taken, R: Exchange<W>, W: Output>(
     stack: &Stack,
     requests: &mut R,
     mapper: &mut Mapper<'s, T>,
@@ -67,7 +68,7 @@ fn map_lines<'s, T: Taken, R: Input, W: Output>(
 }
 
 /// Answers them to an output, through a join that is made for it and gone at the return.
-fn map_requests<'s, T: Taken, R: Input, W: Output>(
+fn map_requests<'s, T: Taken, R: Exchange<W>, W: Output>(
     stack: &'s Stack,
     mapper: &mut Mapper<'s, T>,
     requests: &mut R,
@@ -129,11 +130,12 @@ fn write_rest<T: Taken, W: Output>(
 ///
 /// The mapper is one of this stack and has not failed; its state moves on with the requests. The output
 /// is flushed once at the end, unless a write failed; then a message of one line is written, except
-/// at `Done`. An output is not written to if there is nothing to write.
+/// at `Done`. An output is not written to if there is nothing to write. Requests and output are an
+/// exchange, as any input is with any output: no request is waited for while an answer is kept back.
 ///
 /// Cost: time linear in the bytes read and written, plus what the mapper takes for each request. No
 /// memory is taken.
-pub fn run<'s, T: Taken, R: Input, W: Output, E: Output>(
+pub fn run<'s, T: Taken, R: Exchange<W>, W: Output, E: Output>(
     stack: &'s Stack,
     mapper: &mut Mapper<'s, T>,
     requests: &mut R,

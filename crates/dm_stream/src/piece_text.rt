@@ -18,7 +18,7 @@ use crate::disk_range::DiskRange;
 use crate::line_ends::LineEnds;
 use crate::number_prefix::NumberPrefix;
 use crate::plain_word::PlainWord;
-use crate::range_text::RangeText;
+use crate::range_text::{RangeText, put_next_range};
 use dm_map::Piece;
 use dm_stack::{DiskId, Stack};
 use dm_table::{OutFault, Output, Text, put_bytes, put_digits};
@@ -63,6 +63,46 @@ impl<'a> Text for RangeLine<'a> {
             range.disk,
         );
         self.text.put_into(block, at, range.start, range.len)
+    }
+}
+
+/// The line of a range that is all of a request's answer: the next one isn't likely to end with the same.
+#[derive(Drop)]
+struct AloneLine<'a> {
+    prefix: &'a NumberPrefix,
+    ends: &'a LineEnds,
+    stack: &'a Stack,
+    range: &'a DiskRange,
+}
+
+impl<'a> Model for AloneLine<'a> {
+    ghost use Rattle.std.specs.Prelude.{ℕ, List, ◌<◌, length};
+    ghost use Rattle.dm_stream.specs.PieceText.{letter_for, range_line};
+
+    ghost Value = { List ℕ };
+
+    ghost view = { λ line. range_line line.stack.now line.prefix.now
+        (letter_for line.range.now.letter) line.range.now.disk line.range.now.start
+        line.range.now.len };
+
+    ghost invariant = { λ line. line.range.now.disk < length line.stack.now.disks };
+}
+
+impl<'a> Text for AloneLine<'a> {
+    ghost text = { λ line. line };
+
+    #[inline(always)]
+    fn put_into(&self, block: &mut [u8], at: usize) -> usize {
+        let range = self.range;
+        let at = self.prefix.put_into(block, at);
+        let at = put_named(
+            block,
+            at,
+            &[range.letter.byte(), b' '],
+            self.stack,
+            range.disk,
+        );
+        put_next_range(self.ends, block, at, range.start, range.len)
     }
 }
 
@@ -144,6 +184,28 @@ pub(crate) fn put_range<W: Output>(
     writer.put(&RangeLine {
         prefix,
         text,
+        stack,
+        range,
+    })
+}
+
+/// Has a writer put the line of a range that is all of a request's answer, under a number. It fails where the
+/// writer does.
+#[inline(always)]
+pub(crate) fn put_alone<W: Output>(
+    writer: &mut W,
+    prefix: &NumberPrefix,
+    ends: &LineEnds,
+    stack: &Stack,
+    range: &DiskRange,
+) -> Result<(), OutFault>
+    requires lies { IsOnDisks stack.now (piece_of range.now) }
+    ensures { Wrote (W.past writer.old) (W.past writer.new) result
+        (piece_text stack.now prefix.now (piece_view (piece_of range.now))) }
+{
+    writer.put(&AloneLine {
+        prefix,
+        ends,
         stack,
         range,
     })

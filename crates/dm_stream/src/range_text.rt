@@ -110,7 +110,13 @@ impl RangeText {
 /// Puts a start, a length and a newline at an offset in a block, after at least four bytes, and returns
 /// where they end.
 #[inline(never)]
-fn put_next_range(ends: &LineEnds, block: &mut [u8], at: usize, start: u64, len: u64) -> usize
+pub(crate) fn put_next_range(
+    ends: &LineEnds,
+    block: &mut [u8],
+    at: usize,
+    start: u64,
+    len: u64,
+) -> usize
     requires after { 4 ≤ at }
     requires within { at + ROOM ≤ length block.old }
     ensures put { IsPut (range_text start len) at block.old block.new result }

@@ -12,12 +12,14 @@ ghost use Rattle.dm_table.specs.laws.Progress.{written_to_none, written_to_more}
 ghost use Rattle.dm_stream.specs.Requests.{numbered};
 ghost use Rattle.std.proofs.Common.{refl, ◌∙◌};
 
+use crate::disk_range::DiskRange;
 use crate::ending::NotMapped;
-use crate::handler::Handler;
+use crate::exchange::Exchange;
+use crate::handler::{Handler, ReadsFrom};
 use crate::join::Join;
 use dm_map::{MapFault, Mapper, Taken};
 use dm_stack::{DeviceId, Prefetched, Stack};
-use dm_table::{OutFault, Output, Request};
+use dm_table::{InFault, OutFault, Output, Request};
 use std::marker::PhantomData;
 
 /// Joins the units of a request of a device of the stack, and writes them. Nothing is held before.
@@ -44,8 +46,9 @@ fn map_request<T: Taken, W: Output>(
         (request_answer join.old.held.stack device (numbered request.now) mapper.old.state) }
 {
     join.begin(request.number);
-    match mapper.request(request, device, join) {
-        Ok(()) => join.finish(),
+    match mapper.request_or_home(request, device, join) {
+        Ok(None) => join.finish(),
+        Ok(Some(home)) => join.write_range(&DiskRange::at(request.op, home, request.len)),
         Err(MapFault::Sink(fault)) => Err(fault),
         Err(MapFault::Stopped) => unreachable!(),
     }
@@ -144,8 +147,18 @@ impl<'s, T: Taken, W: Output> Handler for RequestMapper<'_, 's, T, W> {
         let read = read_ahead(stack, mapper, device, start);
         self.prefetched = self.prefetched.wrapping_add(read);
     }
+}
+
+impl<T: Taken, W: Output, Q: Exchange<W>> ReadsFrom<Q> for RequestMapper<'_, '_, T, W> {
+    ghost asked = { Q.past };
+
+    ghost is_out = { λ h. Q.is_out h.join.writer.now };
 
     fn before_read(&mut self) {
-        self.join.drain();
+        self.join.pass_on::<Q>();
+    }
+
+    fn read(&self, requests: &mut Q, buffer: &mut [u8]) -> Result<usize, InFault> {
+        requests.read(&*self.join.writer, buffer)
     }
 }

@@ -7,15 +7,16 @@ ghost use Rattle.std.specs.Prelude.{◌≡◌, ◌≢◌, ◌+◌, ◌<◌, ◌�
 ghost use Rattle.dm_stack.specs.Description.{Description};
 ghost use Rattle.dm_table.specs.io.DeviceIo.{delivery};
 ghost use Rattle.dm_table.specs.io.Progress.{IsReadOn, MetNothing};
+ghost use Rattle.dm_stream.specs.Lines.{line_parts};
 ghost use Rattle.dm_stream.specs.Requests.{HasMet, IsAmong, Requests, after_requests, is_bad, line_requests, numbered, requests_of, word_for};
 
 use crate::batch::{Answered, answer_gathered};
 use crate::ending::{Ending, RequestWord};
 use crate::front::{Front, front_of};
-use crate::handler::Handler;
+use crate::handler::{Handler, ReadsFrom};
 use crate::lines::{Lines, Next};
 use dm_stack::Stack;
-use dm_table::{Input, Request, RequestFault, parse_request};
+use dm_table::{Request, RequestFault, parse_request};
 
 /// The most requests of a run.
 pub const MOST_REQUESTS: u64 = 1_000_000_000_000;
@@ -50,11 +51,12 @@ fn request_of(line: &[u8], number: u64) -> Result<Request<'_>, RequestWord>
 }
 
 /// Lets the handler know of a read that may wait: one comes where no newline is held.
-fn before_read<H: Handler>(handler: &mut H, lines: &Lines)
+fn before_read<Q, H: ReadsFrom<Q>>(handler: &mut H, lines: &Lines)
     ensures answered { (stack : Description) (source : H.Source)
         → H.answered stack handler.old source [] handler.new source }
     ensures ready { (stack : Description) (source : H.Source)
         → H.ready stack handler.old source → H.ready stack handler.new source }
+    ensures out { line_parts lines.now ≡ lines.now ∷ [] → H.is_out handler.new }
 {
     if !lines.has_newline() {
         handler.before_read();
@@ -89,30 +91,30 @@ fn handle_named<H: Handler>(
 ///
 /// The fault with which the handler stopped at one of the requests. Nothing is read after that.
 #[inline(never)]
-pub fn handle_requests<R: Input, H: Handler>(
+pub fn handle_requests<Q, H: ReadsFrom<Q>>(
     stack: &Stack,
-    requests: &mut R,
+    requests: &mut Q,
     handler: &mut H,
     source: &mut H::Source,
 ) -> Result<Ending, H::Fault>
     requires { H.ready stack.now handler.old source.old }
-    ensures moved { IsReadOn (R.past requests.old) (R.past requests.new) }
+    ensures moved { IsReadOn (H.asked requests.old) (H.asked requests.new) }
     // Any read may fail or come to an end, so where neither was met none was asked for after the line.
-    ensures met { IfOk result (λ ending. HasMet ending (R.past requests.old) (R.past requests.new)) }
+    ensures met { IfOk result (λ ending. HasMet ending (H.asked requests.old) (H.asked requests.new)) }
     // All requests were answered, and they end by themselves.
     ensures answered { IfOk result
         (λ ending. H.answered stack.now handler.old source.old
-        (requests_of (delivery (R.past requests.old) (R.past requests.new))).all handler.new source.new) }
+        (requests_of (delivery (H.asked requests.old) (H.asked requests.new))).all handler.new source.new) }
     ensures ending { IfOk result
-        (λ ending. (requests_of (delivery (R.past requests.old) (R.past requests.new))).ending
+        (λ ending. (requests_of (delivery (H.asked requests.old) (H.asked requests.new))).ending
         ≡ Some ending) }
     ensures no_write_fault { IfOk result (λ ending. ending ≢ Ending.WriteFault) }
     ensures ready { OnOk result (H.ready stack.now handler.new source.new) }
     // The handler stopped at one of them.
     ensures stopped { IfErr result
         (λ fault. IsAmong (λ first. H.stopped stack.now handler.old source.old first fault handler.new source.new)
-        (requests_of (delivery (R.past requests.old) (R.past requests.new))).all) }
-    ensures unread { OnErr result (MetNothing (R.past requests.old) (R.past requests.new)) }
+        (requests_of (delivery (H.asked requests.old) (H.asked requests.new))).all) }
+    ensures unread { OnErr result (MetNothing (H.asked requests.old) (H.asked requests.new)) }
 {
     let gathers = handler.gathers(stack);
     let mut lines = Lines::new();
@@ -142,8 +144,8 @@ pub fn handle_requests<R: Input, H: Handler>(
             lines.skip(len + 1);
             continue;
         }
-        before_read(handler, &lines);
-        match lines.next(requests) {
+        before_read::<Q, H>(handler, &lines);
+        match lines.next(requests, handler) {
             Next::Line(line) => match request_of(line, number) {
                 Ok(request) => {
                     if let Err(fault) = handle_named(stack, handler, &mut *source, &request) {

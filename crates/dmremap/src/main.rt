@@ -22,7 +22,7 @@ mod stack_room;
 mod status;
 mod words;
 
-use dm_stream::Ending;
+use dm_stream::{Ending, InTurn};
 use dm_table::{Counted, Gathered};
 use exit::Exit;
 use job::{Job, Source};
@@ -85,7 +85,7 @@ fn arguments_of(rt: &HostRuntime) -> Result<Vec<String>, WordsFault> {
 fn map_files(rt: &HostRuntime, source: Source<'_>, earlier: Option<&str>, status: bool) -> u8 {
     let mut file = file_at(rt, source.file());
     let mut disks = disks_at(rt, source);
-    let mut requests = Counted::new(rt.stdin());
+    let mut requests = InTurn::new(Counted::new(rt.stdin()));
     let mut output = Gathered::new(Counted::new(rt.stdout()));
     let mut messages = Counted::new(rt.stderr());
     match earlier {
@@ -126,7 +126,7 @@ fn do_other<'r>(rt: &'r HostRuntime, job: &'r Job<'r>) -> u8
         job,
         &mut source,
         &mut disks,
-        &mut Counted::new(rt.stdin()),
+        &mut InTurn::new(Counted::new(rt.stdin())),
         &mut Gathered::new(Counted::new(rt.stdout())),
         &mut Counted::new(rt.stderr()),
     )

@@ -21,7 +21,7 @@ use crate::exit::{Exit, Refusal};
 use crate::job::Format;
 use crate::load::load;
 use dm_map::{Mapper, TrieTaken};
-use dm_stream::{play_earlier, run};
+use dm_stream::{Exchange, play_earlier, run};
 use dm_table::{Input, LoadFault, Output, Part};
 use std::alloc::Global;
 
@@ -34,7 +34,7 @@ use std::alloc::Global;
 /// Cost: that of `map_whole`, and less than as much for each earlier request as for one that is answered. No
 /// memory is taken once the load is done.
 #[tactic(auto, using(crate::proofs::ExitLemmas::exits_told))]
-pub fn map_after<S: Input, D: Input, B: Input, Q: Input, W: Output, M: Output>(
+pub fn map_after<S: Input, D: Input, B: Input, Q: Exchange<W>, W: Output, M: Output>(
     alloc: Global,
     format: Format,
     status: bool,

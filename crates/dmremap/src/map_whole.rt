@@ -28,7 +28,7 @@ use crate::exit::Exit;
 use crate::job::Format;
 use crate::load::load;
 use dm_map::{Mapper, TrieTaken};
-use dm_stream::run;
+use dm_stream::{Exchange, run};
 use dm_table::{Input, LoadFault, Output, Part};
 use std::alloc::Global;
 
@@ -45,14 +45,15 @@ use std::alloc::Global;
 /// | 5 | writing or flushing the output failed |
 /// | 6 | memory ran out while loading; nothing was written or flushed |
 ///
-/// At most one message is written, after the output was flushed. A refused load has the message of
-/// its first fault; a disk list that is missing where the format has one is refused as one that can't be
-/// read. No memory is taken once the load is done.
+/// Requests and output are an exchange, as any input is with any output: no request is waited for
+/// while an answer is kept back. At most one message is written, after the output was flushed. A refused
+/// load has the message of its first fault; a disk list that is missing where the format has one is refused
+/// as one that can't be read. No memory is taken once the load is done.
 ///
 /// Cost: near-linear in the source and the disk list; then in the requests, and for each request
 /// in its stretches times the binary digits of the line counts of the devices that they go through.
 #[tactic(auto, using(crate::proofs::ExitLemmas::exits_told))]
-pub fn map_whole<S: Input, D: Input, Q: Input, W: Output, M: Output>(
+pub fn map_whole<S: Input, D: Input, Q: Exchange<W>, W: Output, M: Output>(
     alloc: Global,
     format: Format,
     status: bool,

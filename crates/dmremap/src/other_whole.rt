@@ -24,6 +24,7 @@ use crate::job::{Format, Job};
 use crate::load::load_if;
 use crate::printing::{print_name, print_parts, print_report, print_stack};
 use crate::replay_run::replay_stack;
+use dm_stream::Exchange;
 use dm_table::{Input, Output};
 use std::alloc::Global;
 
@@ -49,7 +50,7 @@ use std::alloc::Global;
 /// `Replay::request` for each request. Its memory grows with the ranges that are stored and with the
 /// requests.
 #[tactic(auto, using(crate::proofs::ExitLemmas::exits_told))]
-pub fn other_whole<S: Input, D: Input, Q: Input, W: Output, M: Output>(
+pub fn other_whole<S: Input, D: Input, Q: Exchange<W>, W: Output, M: Output>(
     alloc: Global,
     job: &Job<'_>,
     source: &mut Option<S>,
@@ -93,7 +94,7 @@ pub fn other_whole<S: Input, D: Input, Q: Input, W: Output, M: Output>(
 
 /// Does what a job asks for, and says how the command would exit. Nothing is flushed.
 #[tactic(auto, using(crate::proofs::LoadLemmas::untouched))]
-fn answer<S: Input, D: Input, Q: Input, W: Output>(
+fn answer<S: Input, D: Input, Q: Exchange<W>, W: Output>(
     alloc: Global,
     job: Job<'_>,
     source: &mut Option<S>,
@@ -133,7 +134,7 @@ fn answer<S: Input, D: Input, Q: Input, W: Output>(
 }
 
 /// Replays requests on the disks of a source.
-fn replay<S: Input, D: Input, Q: Input, W: Output>(
+fn replay<S: Input, D: Input, Q: Exchange<W>, W: Output>(
     alloc: Global,
     format: Format,
     source: &mut Option<S>,

@@ -18,8 +18,8 @@ use crate::exit::{Exit, Refusal};
 use dm_map::TrieTaken;
 use dm_replay::{Replay, ReplayFault, write_runs};
 use dm_stack::{DeviceId, Stack};
-use dm_stream::{Ending, Handler, handle_requests};
-use dm_table::{Input, LoadFault, OutFault, Output, Part, Request};
+use dm_stream::{Ending, Exchange, Handler, ReadsFrom, handle_requests};
+use dm_table::{InFault, LoadFault, OutFault, Output, Part, Request};
 use std::alloc::Global;
 use std::marker::PhantomData;
 
@@ -86,14 +86,24 @@ impl<'s, W: Output> Handler for RequestPlayer<'_, 's, W> {
             Err(ReplayFault::Untidy | ReplayFault::Stopped) => unreachable!(),
         }
     }
+}
+
+impl<W: Output, Q: Exchange<W>> ReadsFrom<Q> for RequestPlayer<'_, '_, W> {
+    ghost asked = { Q.past };
+
+    ghost is_out = { λ h. Q.is_out h.output.now };
 
     fn before_read(&mut self) {
-        self.output.drain();
+        Q::pass_on(&mut *self.output);
+    }
+
+    fn read(&self, requests: &mut Q, buffer: &mut [u8]) -> Result<usize, InFault> {
+        requests.read(&*self.output, buffer)
     }
 }
 
 /// Plays requests through a player, up to the first bad one, an end or a fault. Nothing is flushed.
-fn play_lines<'s, Q: Input, W: Output>(
+fn play_lines<'s, Q: Exchange<W>, W: Output>(
     stack: &Stack,
     requests: &mut Q,
     replay: &mut Replay<'s, TrieTaken>,
@@ -114,7 +124,7 @@ fn play_lines<'s, Q: Input, W: Output>(
 }
 
 /// Plays requests to an output, up to the first bad one, an end or a fault. Nothing is flushed.
-fn play_requests<'s, Q: Input, W: Output>(
+fn play_requests<'s, Q: Exchange<W>, W: Output>(
     alloc: Global,
     stack: &Stack,
     replay: &mut Replay<'s, TrieTaken>,
@@ -142,7 +152,7 @@ fn play_requests<'s, Q: Input, W: Output>(
 }
 
 /// Replays requests on the disks of a stack, and says how the command would exit. Nothing is flushed.
-pub(crate) fn replay_stack<Q: Input, W: Output>(
+pub(crate) fn replay_stack<Q: Exchange<W>, W: Output>(
     alloc: Global,
     stack: &Stack,
     requests: &mut Q,

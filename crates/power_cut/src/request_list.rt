@@ -14,8 +14,8 @@ ghost use Rattle.power_cut.specs.Fault.{AreRefused};
 use crate::fault::Fault;
 use crate::owned_request::OwnedRequest;
 use dm_stack::{DeviceId, Stack};
-use dm_stream::{Ending, Handler, handle_requests};
-use dm_table::{Input, Request};
+use dm_stream::{Ending, Handler, ReadsFrom, handle_requests};
+use dm_table::{InFault, Input, Request};
 use std::alloc::{AllocError, Global};
 
 /// Keeps the requests that it is handed.
@@ -53,8 +53,19 @@ impl Handler for RequestKeeper {
         list.push(request)?;
         Ok(())
     }
+}
+
+/// No answer is kept back, since there is none.
+impl<R: Input> ReadsFrom<R> for RequestKeeper {
+    ghost asked = { R.past };
+
+    ghost is_out = { λ keeper. Unit {0} };
 
     fn before_read(&mut self) {}
+
+    fn read(&self, requests: &mut R, buffer: &mut [u8]) -> Result<usize, InFault> {
+        requests.read(buffer)
+    }
 }
 
 /// The requests of an input to a stack, of which all have to be good.

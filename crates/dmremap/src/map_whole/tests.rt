@@ -13,6 +13,7 @@ use dm_table::{ShortIn, ShortOut};
 use std::alloc::AllocError;
 use std::process::Abort;
 
+mod batches;
 mod counted;
 mod described;
 mod fault_texts;

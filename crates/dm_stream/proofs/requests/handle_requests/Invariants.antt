@@ -7,7 +7,7 @@ abbrev pub invariant-lines : goal.invariant-lines
 invariant-lines g l = record {
   ready : g.H.Handler.ready l.stack l.handler l.source;
   few : l.number ≤ MOST_REQUESTS;
-  turned : HasHandled (g.H.Handler.answered l.stack) (g.R.Input.past l.fn.requests) (g.R.Input.past l.requests) l.fn.handler l.handler l.fn.source l.source l.lines (l.number + 1);
+  turned : HasHandled (g.H.Handler.answered l.stack) (g.H.ReadsFrom.asked l.fn.requests) (g.H.ReadsFrom.asked l.requests) l.fn.handler l.handler l.fn.source l.source l.lines (l.number + 1);
 }
 
 abbrev pub decreases-lines : goal.decreases-lines

@@ -56,7 +56,7 @@ returns-in-Ok-play_earlier-clause-whole g c = λ five six.
 pub returns-in-Ok-play_earlier-clause-beginning : goal.returns-in-Ok-play_earlier-clause-beginning
 returns-in-Ok-play_earlier-clause-beginning g c = λ five.
     let before = delivery (g.B.Input.past c.args.earlier.now) (g.B.Input.past c.play_earlier.new.requests) in
-    let requests = delivery (g.Q.Input.past c.args.requests.now) (g.Q.Input.past c.run.new.requests) in
+    let requests = delivery (g.Q.Exchange.past c.args.requests.now) (g.Q.Exchange.past c.run.new.requests) in
     let starts : c.in-Ok-new.mapper.state ≡ start_state c.in-Ok.stack = c.in-Ok-new.ensures.state ∙ ap start_state c.looker.ensures.stack in
     let done = c.in-Ok-play_earlier.ensures.played.done in
     record {

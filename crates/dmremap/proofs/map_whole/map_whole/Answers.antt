@@ -35,7 +35,7 @@ returns-in-Ok-new-clause-whole g c = λ five six.
 
 pub returns-in-Ok-new-clause-beginning : goal.returns-in-Ok-new-clause-beginning
 returns-in-Ok-new-clause-beginning g c = λ five.
-    let requests = delivery (g.Q.Input.past c.args.requests.now) (g.Q.Input.past c.run.new.requests) in
+    let requests = delivery (g.Q.Exchange.past c.args.requests.now) (g.Q.Exchange.past c.run.new.requests) in
     let starts : c.in-Ok-new.mapper.state ≡ start_state c.in-Ok.stack = c.in-Ok-new.ensures.state ∙ ap start_state c.looker.ensures.stack in
     record {
       description = c.in-Ok.stack;

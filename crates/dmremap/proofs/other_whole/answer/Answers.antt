@@ -15,7 +15,7 @@ returns-in-Ok-load_if-clause-did g c =
 
 pub returns-in-Ok-load_if-clause-asked : goal.returns-in-Ok-load_if-clause-asked
 returns-in-Ok-load_if-clause-asked g c =
-    asked_none (ReportSays (SoundAs c.in-Ok-load_if.stack)) (written_since (g.W.Output.past c.args.output.now) (g.W.Output.past c.print_report.new.output)) c.print_report.result (g.Q.Input.past c.args.requests.now) c.print_report.ensures.printed
+    asked_none (ReportSays (SoundAs c.in-Ok-load_if.stack)) (written_since (g.W.Output.past c.args.output.now) (g.W.Output.past c.print_report.new.output)) c.print_report.result (g.Q.Exchange.past c.args.requests.now) c.print_report.ensures.printed
 
 pub returns-in-Name-clause-did : goal.returns-in-Name-clause-did
 returns-in-Name-clause-did g c = rw c.in-Name.is c.print_name.ensures.printed

@@ -4,7 +4,7 @@ use Rattle.dmremap.proofs.replay_run.replay_stack.Goals as goal
 
 pub returns-in-Ok-clause-did : goal.returns-in-Ok-clause-did
 returns-in-Ok-clause-did g c =
-    played_stack _ (delivery (g.Q.Input.past c.args.requests.now) (g.Q.Input.past c.play_requests.new.requests)) _ c.play_requests.result c.in-Ok.ensures.tidy
+    played_stack _ (delivery (g.Q.Exchange.past c.args.requests.now) (g.Q.Exchange.past c.play_requests.new.requests)) _ c.play_requests.result c.in-Ok.ensures.tidy
     c.play_requests.ensures.played
 
 pub returns-in-Ok-clause-asked : goal.returns-in-Ok-clause-asked

@@ -15,29 +15,41 @@ static NAMES: [&str; 4] = [
         on_until_all_of_them_are_here",
 ];
 
+/// Names of which eight at a time begin to be looked for at one place, which is as many as are found from there.
+static MEETING: [&str; 40] = [
+    "a3", "b81", "g14", "h36", "l35", "m57", "o0", "p51", "d83", "i16", "j38", "l10", "o59", "q9",
+    "q31", "r53", "a64", "b86", "f85", "g19", "i5", "k18", "n12", "o34", "c66", "d88", "f60",
+    "h87", "j3", "k81", "p14", "q36", "a2", "b71", "d98", "f70", "g92", "l25", "q46", "r68",
+];
+
 /// What follows a name in a request, and more bytes than the longest name has.
 const REST: &str =
     " 0 1\nR n 0 1\nR n 0 1\nR n 0 1\nR n 0 1\nR n 0 1\nR n 0 1\nR n 0 1\nR n 0 1\nR n 0 1\n\
     R n 0 1\nR n 0 1\nR n 0 1\nR n 0 1\nR n 0 1\nR n 0 1\nR n 0 1\nR n 0 1\nR n 0 1\n";
 
-#[test]
-fn names_are_found_where_they_stand(rt: HostRuntime) {
-    let alloc = rt.alloc();
+/// Asserts that each of some names is found where it stands, where all are those of devices.
+fn check_fronts(rt: &impl Abort, alloc: Global, names: &[&str]) {
     let mut table = String::new(alloc);
-    for name in &NAMES {
-        let line = format!(in alloc; "{name}: 0 1 zero\n").expect(&rt, "a line");
-        table.push_str(&line).expect(&rt, "a table");
+    for name in names {
+        let line = format!(in alloc; "{name}: 0 1 zero\n").expect(rt, "a line");
+        table.push_str(&line).expect(rt, "a table");
     }
-    let devices = parse_table(alloc, table.as_bytes()).expect(&rt, "devices");
-    let disks = parse_disks(alloc, b"").expect(&rt, "no disks");
-    let stack = Stack::load(alloc, devices, disks).expect(&rt, "a stack");
-    for name in &NAMES {
-        let text = format!(in alloc; "{name}{REST}").expect(&rt, "a text");
-        let device = stack.device(name).expect(&rt, "a device");
-        assert_eq!(&rt;
+    let devices = parse_table(alloc, table.as_bytes()).expect(rt, "devices");
+    let disks = parse_disks(alloc, b"").expect(rt, "no disks");
+    let stack = Stack::load(alloc, devices, disks).expect(rt, "a stack");
+    for name in names {
+        let text = format!(in alloc; "{name}{REST}").expect(rt, "a text");
+        let device = stack.device(name).expect(rt, "a device");
+        assert_eq!(rt;
             stack.front(text.as_bytes()),
             Some((device, name.len())),
             "{name}"
         );
     }
+}
+
+#[test]
+fn names_are_found_where_they_stand(rt: HostRuntime) {
+    check_fronts(&rt, rt.alloc(), &NAMES);
+    check_fronts(&rt, rt.alloc(), &MEETING);
 }

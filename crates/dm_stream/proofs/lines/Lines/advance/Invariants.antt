@@ -7,11 +7,12 @@ use Rattle.dm_stream.proofs.lines.Lines.advance.Given as goal
 -- what came is held, its front was searched, and neither an end nor a fault was met
 abbrev pub invariant-turns : goal.invariant-turns
 invariant-turns g l =
-    let old = g.R.Input.past l.fn.reader in
-    let new = g.R.Input.past l.reader in
+    let old = g.H.ReadsFrom.asked l.fn.requests in
+    let new = g.H.ReadsFrom.asked l.requests in
     record {
       within : l.searched ≤ length l.self;
       clear : line_parts (take l.searched l.self) ≡ take l.searched l.self ∷ [];
+      out : line_parts l.self ≡ l.self ∷ [] → g.H.ReadsFrom.is_out l.handler;
       held : l.self ≡ l.fn.self ++ since old.handed new.handed;
       bytes : new.handed ≡ old.handed ++ since old.handed new.handed;
       faults : new.faults ≡ old.faults;

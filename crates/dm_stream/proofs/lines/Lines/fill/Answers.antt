@@ -7,7 +7,7 @@ pub returns-clause-held : goal.returns-clause-held
 returns-clause-held g c =
     let start = c.make_room-self-inside.result in
     let len = c.self.inside.end - c.self.inside.start in
-    refilled c.read_after.new.buffer c.args.self.now (g.R.Input.past c.args.reader.now).handed (g.R.Input.past c.read_after.new.reader).handed start len c.in_ok-n.n
+    refilled c.read_after.new.buffer c.args.self.now (g.H.ReadsFrom.asked c.args.requests.now).handed (g.H.ReadsFrom.asked c.read_after.new.requests).handed start len c.in_ok-n.n
     (same_range c.read_after.new.buffer c.make_room-self-inside.new.buffer c.args.self.now start len c.read_after.ensures.kept (c.make_room-self-inside.ensures.kept ∙ c.self.view_is))
     c.in_ok-n.ensures.read.hands
 
@@ -30,4 +30,4 @@ returns-in_err-n-clause-held g c =
     let start = c.make_room-self-inside.result in
     let len = c.self.inside.end - c.self.inside.start in
     same_range c.read_after.new.buffer c.make_room-self-inside.new.buffer c.args.self.now start len c.read_after.ensures.kept (c.make_room-self-inside.ensures.kept ∙ c.self.view_is)
-    ∙ quiet_since (g.R.Input.past c.args.reader.now).handed (g.R.Input.past c.read_after.new.reader).handed c.args.self.now c.in_err-n.ensures.read.hands
+    ∙ quiet_since (g.H.ReadsFrom.asked c.args.requests.now).handed (g.H.ReadsFrom.asked c.read_after.new.requests).handed c.args.self.now c.in_err-n.ensures.read.hands

@@ -9,7 +9,7 @@ returns-in-Line g c =
     let a = c.self.inside in
     let n = c.in-Line.n in
     let held = c.advance.new.self in
-    let stand = (delivery (g.R.Input.past c.args.reader.now) (g.R.Input.past c.advance.new.reader)).stand in (
+    let stand = (delivery (g.H.ReadsFrom.asked c.args.requests.now) (g.H.ReadsFrom.asked c.advance.new.requests)).stand in (
       (refl, λ _. tt, after_bytes a.buffer held a.start a.end n c.self.view_is c.in-Line.ensures.fits ∙ ap (drop _) c.in-Line.ensures.held),
       record {
         after = tt;
