@@ -1,23 +1,26 @@
 #!/usr/bin/env python3
 """Time and memory of the commands of dmremap-tools, for a number of lines and for a tenth of them.
 
-Usage: benches/tools.py [MOST]
+Usage: benches/tools.py [--before FOLDER] [MOST [COMMAND ..]]
 
-Each line tells a command and its input of MOST lines (1000000 if not said), the least seconds of processor time of three
-runs, how much longer they are than those of a tenth, and the greatest memory in MiB. Time that is linear grows by a factor
-of up to 10. `physicals` has a physical volume, and `chain` two volumes, for as many lines as the generator says. The lines
-after these are of single inputs: 3,000 devices of which each stands on the one before, 400 devices on two each, half a MiB of
-what looks like the beginning of a text, and a volume of 128 MiB, on two images in turn, that is saved.
+Each line tells a command and its input of MOST lines (1000000 if not said), the least seconds of processor time of five
+runs, how much longer they are than those of a tenth, and the greatest memory in MiB of a tenth and of all. Time that is linear
+grows by a factor of up to 10. With --before, FOLDER has the scripts of awk that did the same before there was one tool, which
+mawk runs in turn with ours: their least seconds stand last. `physicals` has a physical volume, and `chain` two volumes, for as
+many lines as the generator says. The lines after these are of single inputs, where no COMMAND is named: 3,000 devices of which
+each stands on the one before, 400 devices on two each, half a MiB of what looks like the beginning of a text, and a volume of
+128 MiB, on two images in turn, that is saved.
 """
 
+import argparse
 import os
 import random
 import subprocess
 import sys
 import tempfile
 
-TOOL = os.path.join(os.path.dirname(os.path.dirname(os.path.realpath(__file__))), "dmremap-tools")
-RUNS = 3
+TOOL = [sys.executable, os.path.join(os.path.dirname(os.path.dirname(os.path.realpath(__file__))), "dmremap-tools")]
+RUNS = 5
 EXTENTS = ("Filesystem type is: ef53\nFile size of /f is %d (%d blocks of 512 bytes)\n"
            " ext:     logical_offset:        physical_offset: length:   expected: flags:\n")
 
@@ -41,6 +44,12 @@ def queued(count, dice):
     for it in range(count):
         yield ("253,0  %3d %8d %5d.%09d  4101  Q %3s %d + 8 [fio]\n"
                % (it % 4, it, it // 1000, it % 1000 * 1000000, dice.choice(("R", "WS")), dice.randrange(1 << 31)))
+
+
+def traced(count, dice):
+    for it in range(count):
+        yield ("             fio-4101    [%03d] .....  %d.%06d: block_bio_queue: 253,0 %s %d + 8 [fio]\n"
+               % (it % 4, it // 1000, it % 1000 * 1000, dice.choice(("R", "WS")), dice.randrange(1 << 31)))
 
 
 def logged(count, dice):
@@ -105,18 +114,24 @@ def chain(count, _):
 
 def wide():
     """Many lines on one disk, with the store of a snapshot over all of it."""
-    return "".join("d%d: 0 16 linear sda %d\n" % (it, 16 * it) for it in range(60000)) + "s: 0 960000 snapshot base sda P 8\n"
+    for it in range(60000):
+        yield "d%d: 0 16 linear sda %d\n" % (it, 16 * it)
+    yield "s: 0 960000 snapshot base sda P 8\n"
 
 
-SMALL = {"ls": "a\t(253:0)\n", "table": "a: 0 1048576 linear sda 0\n", "wide": wide()}
+SMALL = {"ls": ["a\t(253:0)\n"], "table": ["a: 0 1048576 linear sda 0\n"], "wide": wide()}
 ROWS = [
-    (["bytes"], in_bytes), (["cut"], in_bytes), (["trace", "ls", "table"], queued), (["fio", "table"], logged),
-    (["filefrag", "a"], extents), (["totals"], pieces), (["totals"], snapshot_pieces), (["histogram"], pieces),
-    (["splits"], pieces), (["seeks"], pieces), (["json"], pieces), (["to-fio"], pieces), (["dd", "--image", "x"], pieces),
+    (["bytes"], in_bytes), (["cut"], in_bytes), (["trace", "ls", "table"], queued), (["trace", "ls", "table"], traced),
+    (["trace", "--times", "beside", "ls", "table"], queued), (["fio", "table"], logged), (["filefrag", "a"], extents),
+    (["totals"], pieces), (["totals"], snapshot_pieces), (["histogram"], pieces), (["splits"], pieces), (["times", "moments"], pieces),
+    (["seeks"], pieces), (["json"], pieces), (["to-fio"], pieces), (["dd", "--image", "x"], pieces),
     (["free"], spans), (["clashes"], spans), (["clashes"], origins), (["owner", "table", "-"], places),
     (["owner", "wide", "-"], places), (["store-size"], writes),
     (["lvm2-text", "-"], physicals), (["lvm2-text", "-"], chain),
 ]
+# The commands that were scripts of this name, and what these had for words of ours.
+SCRIPTS = ("bytes", "cut", "trace", "fio", "filefrag", "totals", "histogram", "to-fio")
+BEFORE = {"--times": ["-v"], "beside": ["times=beside"], "a": ["-v", "volume=a"]}
 # Single inputs: what a command is called, its words, and its files.
 DEVICES, LEVELS = 3000, 200
 SINGLE = [
@@ -136,21 +151,39 @@ CHUNKS, CHUNK = 2048, 1 << 16
 
 
 def main():
-    most = int(sys.argv[1]) if len(sys.argv) > 1 else 1000000
+    parser = argparse.ArgumentParser()
+    parser.add_argument("--before", metavar="FOLDER")
+    parser.add_argument("most", metavar="MOST", type=int, nargs="?", default=1000000)
+    parser.add_argument("commands", metavar="COMMAND", nargs="*")
+    asked = parser.parse_args()
     with tempfile.TemporaryDirectory() as room:
-        for name, text in SMALL.items():
-            write(os.path.join(room, name), [text])
+        for name, parts in SMALL.items():
+            write(os.path.join(room, name), parts)
+        write(os.path.join(room, "moments"), ("%d.%06d\n" % divmod(it, 1000000) for it in range(asked.most)))
         for words, lines in ROWS:
-            seconds, memory = least(words, lines, most, room)
-            tenth, _ = least(words, lines, most // 10, room)
-            print("%-22s %-16s %6.2f s %5.1f %5d MiB" % (" ".join(words), lines.__name__, seconds, seconds / tenth, memory), flush=True)
-        for name, words, files in SINGLE:
-            for file, text in files.items():
-                write(os.path.join(room, file), [text])
-            ran = [measured(words, os.devnull, room) for _ in range(RUNS)]
-            print("%-22s %-16s %6.2f s       %5d MiB" % (" ".join(words[:2]), name, min(it[0] for it in ran), max(it[1] for it in ran)), flush=True)
-        seconds, memory = least_of_saves(room)
-        print("%-22s %-16s %6.2f s       %5d MiB" % ("save", "%d pieces" % CHUNKS, seconds, memory))
+            if not asked.commands or words[0] in asked.commands:
+                show(words, lines, asked.most, asked.before, room)
+        if not asked.commands:
+            show_single(room)
+
+
+def show(words, lines, most, before, room):
+    """Prints the line of a command."""
+    tenth, memory_of_tenth, _ = least(words, lines, most // 10, None, room)
+    seconds, memory, seconds_before = least(words, lines, most, before, room)
+    print("%-22s %-16s %6.2f s %5.1f %5d %5d MiB%s" % (" ".join(words), lines.__name__, seconds, seconds / tenth, memory_of_tenth, memory,
+                                                       "  %6.2f s" % seconds_before if seconds_before else ""), flush=True)
+
+
+def show_single(room):
+    """Prints the lines of the single inputs."""
+    for name, words, files in SINGLE:
+        for file, text in files.items():
+            write(os.path.join(room, file), [text])
+        ran = [measured(TOOL + words, os.devnull, room) for _ in range(RUNS)]
+        print("%-22s %-16s %6.2f s       %5d MiB" % (" ".join(words[:2]), name, min(it[0] for it in ran), max(it[1] for it in ran)), flush=True)
+    seconds, memory = least_of_saves(room)
+    print("%-22s %-16s %6.2f s       %5d MiB" % ("save", "%d pieces" % CHUNKS, seconds, memory))
 
 
 def least_of_saves(room):
@@ -163,28 +196,44 @@ def least_of_saves(room):
     write(os.path.join(room, "disks"), ["left %d\nright %d\n" % (sectors // 2, sectors // 2)])
     ran = []
     for _ in range(RUNS):
-        ran.append(measured(["save", "v", "saved", "table", "volume", "disks"], os.devnull, room))
+        ran.append(measured(TOOL + ["save", "v", "saved", "table", "volume", "disks"], os.devnull, room))
         os.remove(os.path.join(room, "saved"))
     return min(it[0] for it in ran), max(it[1] for it in ran)
 
 
-def least(words, lines, count, room):
-    """The least seconds of some runs, and the greatest memory."""
+def least(words, lines, count, before, room):
+    """The least seconds of some runs, the greatest memory, and the least seconds of the script that did it before, or none."""
     path = os.path.join(room, "input")
     write(path, lines(count, random.Random(1)))
-    ran = [measured(words, path, room) for _ in range(RUNS)]
-    return min(it[0] for it in ran), max(it[1] for it in ran)
+    ran, ran_before = [], []
+    for _ in range(RUNS):
+        ran.append(measured(TOOL + words, path, room))
+        if before and words[0] in SCRIPTS:
+            ran_before.append(measured(scripted(os.path.abspath(before), words), path, room))
+    return min(it[0] for it in ran), max(it[1] for it in ran), min((it[0] for it in ran_before), default=None)
+
+
+def scripted(folder, words):
+    """The words by which mawk runs a script of that folder."""
+    variables = [part for it in words for part in BEFORE.get(it, [])]
+    scripts = [part for it in ("base", words[0].replace("-", "_")) for part in ("-f", os.path.join(folder, it + ".awk"))]
+    return ["mawk", *variables, *scripts, *(it for it in words[1:] if it not in BEFORE), "input"]
 
 
 def write(path, parts):
-    with open(path, "w") as it:
-        it.writelines(parts)
+    """Writes a file, in a process of its own: what this one has in memory is counted for those that it starts."""
+    child = os.fork()
+    if child == 0:
+        with open(path, "w") as it:
+            it.writelines(parts)
+        os._exit(0)
+    os.waitpid(child, 0)
 
 
 def measured(words, path, room):
     """The seconds of processor time that a run takes, and its memory in MiB."""
     with open(path, "rb") as given:
-        child = subprocess.Popen([TOOL, *words], stdin=given, stdout=subprocess.DEVNULL, stderr=subprocess.DEVNULL, cwd=room)
+        child = subprocess.Popen(words, stdin=given, stdout=subprocess.DEVNULL, stderr=subprocess.DEVNULL, cwd=room)
         _, status, used = os.wait4(child.pid, 0)
     if status:
         sys.exit("%s: it ended with %d" % (" ".join(words), status))

@@ -19,7 +19,7 @@ _dmremap_tools() {
             partitions) offered="--help --lsblk --disks --image --group --missing --sector-size" ;;
             disks) offered="--help --image --paths" ;;
             elsewhere) offered="--help --paths --prefix --missing --losetup" ;;
-            luks) offered="--help --name --length" ;;
+            luks) offered="--help --name --partition --length" ;;
             aliases) offered="--help" ;;
             metadata) offered="--help --partition --start --area --list --seqno --at" ;;
             lvm2-text) offered="--help --only" ;;

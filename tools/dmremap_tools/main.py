@@ -58,6 +58,9 @@ def run(words: List[str]) -> int:
         return _end(OUTPUT_FAILED, "%s: %s" % (name, failed), is_fed)
     except streams.ReaderGone:
         return _end(READER_GONE, "", is_fed)
+    except OSError as fault:
+        # Of a file for what is kept meanwhile: those that are named are told where they are opened.
+        return _end(OUTPUT_FAILED, "%s: a temporary file: %s" % (name, streams.why(fault)), is_fed)
     except KeyboardInterrupt:
         return _end(INTERRUPTED, "", is_fed)
     except Exception as fault:

@@ -20,10 +20,10 @@ def run(words: Namespace) -> None:
     """Counts until the answers end."""
     counts: Dict[Tuple[str, int], int] = {}
     source = pieces.Answers(words.file)
-    for disk, what, count in source.uses():
+    for disk, what, count, times in source.uses():
         if disk:
             key = disk + " " + what, count.bit_length()
-            counts[key] = counts.get(key, 0) + 1
+            counts[key] = counts.get(key, 0) + times
     source.tell_if_none()
     greatest = max(counts.values(), default=0)
     for key in sorted(counts):

@@ -38,7 +38,9 @@ def run(words: Namespace) -> Optional[int]:
     steps = Steps()
     for at, piece in placed(places, pieces.Answers(words.pieces)):
         steps.add(at, piece)
-    sources = Sources(paths.read(words.paths) if words.paths is not None else {})
+    found = paths.places(words.paths)
+    paths.tell_unknown(words.paths, found, steps.ends)
+    sources = Sources(found)
     for name, end in steps.ends.items():
         sources.check(name, end)
     target, gaps = Target(words.file, places.size), Gaps()

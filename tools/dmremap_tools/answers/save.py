@@ -1,12 +1,16 @@
 """Saves a whole volume, or a file of it, out of disks or images of them.
 
 Has a VOLUME, FORMAT, FILE and DISKS, as `dmremap map` takes them, and the disks that they name: each at its name, or where
---paths says. Gets TARGET, a file with what the volume has, with holes where it reads as zeros; or with --extents, which is
-what `filefrag -v` printed of a file of the volume, that file.
+--paths says. With lvm, a whole disk will do for a partition, as the ids in labels tell. Gets TARGET, a file with what the
+volume has, with holes where it reads as zeros; or with --extents, which is what `filefrag -v` printed of a file of the
+volume, that file.
 
 Sectors that can't be read, and those of disks that aren't there, are told and are holes; the status is 4 then, or 0 with
 --allow-missing. With --map MAP these areas are written as a map of ddrescue, and where MAP is there already, a run that was
 broken off goes on, and tries what was missing again. Refuses a TARGET that is there already, but for that.
+
+If a disk has errors, read it into an image with ddrescue first. A file system in TARGET is mounted by
+`mount -o ro,loop,noload`, or its files are taken by `debugfs -R 'dump /FILE OUT' TARGET`.
 """
 
 import time
@@ -19,9 +23,11 @@ from dmremap_tools.answers.read_back import placed
 from dmremap_tools.answers.saved_map import SavedMap
 from dmremap_tools.answers.sources import Sources
 from dmremap_tools.answers.target import Target
-from dmremap_tools.base import names, numbers, paths, pieces, program, quoting, requests, streams
+from dmremap_tools.base import given, names, numbers, paths, pieces, program, quoting, requests, streams
 from dmremap_tools.base.refusal import INCOMPLETE, Refusal
 from dmremap_tools.layouts.rescue_map import BAD, FINISHED, UNTRIED
+from dmremap_tools.layers.stack import sizes_of
+from dmremap_tools.machines.placed import by_ids
 from dmremap_tools.requests import filefrag
 
 EXAMPLE = "dmremap-tools save vg0-lv0 lv0.img lvm vg0.backup --paths paths --map lv0.map"
@@ -40,8 +46,7 @@ def add_words(parser: ArgumentParser) -> None:
     """Adds the arguments."""
     parser.add_argument("volume", metavar="VOLUME", help="the device, by its name or path")
     parser.add_argument("target", metavar="TARGET")
-    parser.add_argument("format", metavar="FORMAT", choices=("table", "concise", "lvm"))
-    parser.add_argument("sources", metavar="FILE", nargs="+", help="FILE and DISKS")
+    given.add_words(parser)
     parser.add_argument("--extents", metavar="EXTENTS", help="what filefrag -v printed of a file")
     parser.add_argument("--map", metavar="MAP", help="a map of ddrescue, which is written, and by which a run goes on")
     parser.add_argument("--allow-missing", action="store_true", help="end with status 0 where sectors are missing")
@@ -52,10 +57,19 @@ def add_words(parser: ArgumentParser) -> None:
 
 def run(words: Namespace) -> Optional[int]:
     """Makes the file, or goes on with it."""
+    with given.plain(words, "VOLUME TARGET FORMAT FILE [DISKS]") as source:
+        gaps = save(words, source)
+    return INCOMPLETE if gaps.were_any and not words.allow_missing else None
+
+
+def save(words: Namespace, source: given.Given) -> Gaps:
+    """The same, from this source; returns what is missing."""
     volume = names.Names(words.ls).device(words.volume, names.Word("VOLUME"))
-    command = [program.dmremap(words.program), "map", words.format, *words.sources]
-    size, extents = extents_of(words.extents, volume) if words.extents is not None else whole(command, volume)
-    sources = Sources(paths.read(words.paths) if words.paths is not None else {})
+    command = [program.dmremap(words.program), "map", *source.words()]
+    size, extents = extents_of(words.extents, volume) if words.extents is not None else whole(command, volume, words.file)
+    places, sizes = paths.places(words.paths), sizes_of(source)
+    paths.check_known(words.paths, places, sizes)
+    sources = Sources(by_ids(source.file if source.form == "lvm" else None, places, sizes))
     areas = [(it.at * numbers.SECTOR, (it.at + it.count) * numbers.SECTOR) for it in extents]
     saved = SavedMap(words.map, size, areas)
     target = Target(words.target, size, saved.is_begun)
@@ -74,7 +88,7 @@ def run(words: Namespace) -> Optional[int]:
     finally:
         if is_kept:
             saved.write()
-    return INCOMPLETE if gaps.were_any and not words.allow_missing else None
+    return gaps
 
 
 def fill(command: List[str], volume: str, todo: List[Extent], saver: "Saver") -> Gaps:
@@ -87,12 +101,12 @@ def fill(command: List[str], volume: str, todo: List[Extent], saver: "Saver") ->
     return saver.gaps
 
 
-def whole(command: List[str], volume: str) -> Tuple[int, List[Extent]]:
-    """The length of a volume in bytes, and all of it as one extent."""
+def whole(command: List[str], volume: str, name: str) -> Tuple[int, List[Extent]]:
+    """The length of a volume in bytes, and all of it as one extent. `name` is what FILE is called."""
     printed = program.ask([command[0], "table", *command[2:]])
     lines = [row.split(" ") for row in printed.split("\n") if row.startswith(volume + ": ")]
     if not lines:
-        raise Refusal(command[3], "no device " + volume)
+        raise Refusal(quoting.shown(name), "no device " + volume)
     length = int(lines[-1][1]) + int(lines[-1][2])
     return length * numbers.SECTOR, [Extent(0, 0, length)]
 

@@ -1,6 +1,7 @@
 """How far a file is put together, as a map of ddrescue, by which a later run goes on."""
 
 import bisect
+import errno
 import itertools
 import os
 from typing import Iterable, Iterator, List, Optional, Tuple
@@ -54,7 +55,7 @@ class SavedMap:
             raise streams.OutputFailed("%s: %s" % (quoting.shown(self._path), streams.why(fault)))
 
     def _read(self) -> List[Area]:
-        source = streams.Lines(self._path or "")
+        source = streams.Lines(_opening(self._path or ""))
         rows = (it for it in source if it and not it.startswith("#"))
         if not rescue_map.CURRENT.fullmatch(next(rows, "")):
             source.refuse("not a map of ddrescue")
@@ -62,6 +63,17 @@ class SavedMap:
         if (areas[0].begin, areas[-1].end) != (0, self._size) if areas else self._size:
             raise Refusal(quoting.shown(self._path or ""), "a map of another file than one of %d bytes" % self._size)
         return areas
+
+
+def _opening(path: str) -> str:
+    """The path of a map that is there. As it is written, too, one that can't be opened is an output that failed."""
+    try:
+        if os.path.isdir(path):
+            raise IsADirectoryError(errno.EISDIR, os.strerror(errno.EISDIR))
+        os.close(os.open(path, os.O_RDONLY))
+    except OSError as fault:
+        raise streams.OutputFailed("%s: %s" % (quoting.shown(path), streams.why(fault)))
+    return path
 
 
 def first_areas(size: int, wanted: Iterable[Tuple[int, int]]) -> Iterator[Area]:

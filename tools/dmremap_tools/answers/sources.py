@@ -4,7 +4,8 @@ import os
 import stat
 from typing import Dict, Iterator, Optional, Tuple
 
-from dmremap_tools.base import numbers, quoting, streams
+from dmremap_tools.base import disk_image, numbers, quoting, streams
+from dmremap_tools.base.paths import Place
 from dmremap_tools.base.refusal import Refusal
 
 # Bytes that are read at once, and disks that are open at once.
@@ -12,20 +13,21 @@ BLOCK, MOST_OPEN = 1 << 20, 64
 
 
 class Sources:
-    """Disks by their names, each at the path that `paths` has for it, or at its name."""
+    """Disks by their names, each at the place that `places` has for it, or at its name."""
 
-    def __init__(self, paths: Dict[str, str]) -> None:
-        self._paths = paths
+    def __init__(self, places: Dict[str, Place]) -> None:
+        self._places = places
         self._open: Dict[str, int] = {}
         self._missing: Dict[str, str] = {}
 
     def check(self, name: str, end: int) -> None:
         """Refuses a disk that isn't there, or ends before this sector."""
         missing = self.missing(name)
+        path, start = self._place(name)
         if missing is not None:
-            raise Refusal(quoting.shown(self._path(name)), missing)
-        if os.lseek(self._open[name], 0, os.SEEK_END) < end * numbers.SECTOR:
-            raise Refusal(quoting.shown(self._path(name)), "it ends before sector %d" % end)
+            raise Refusal(quoting.shown(path), missing)
+        if os.lseek(self._open[name], 0, os.SEEK_END) < start + end * numbers.SECTOR:
+            raise Refusal(quoting.shown(path), "it ends before sector %d" % end)
 
     def missing(self, name: str) -> Optional[str]:
         """Why a disk isn't there, or None if it is."""
@@ -33,14 +35,15 @@ class Sources:
             if len(self._open) == MOST_OPEN:
                 os.close(self._open.pop(next(iter(self._open))))
             try:
-                self._open[name] = opened(self._path(name))
+                self._open[name] = opened(self._place(name).path)
             except Refusal as refusal:
                 self._missing[name] = str(refusal).partition(": ")[2]
         return self._missing.get(name)
 
     def parts(self, name: str, start: int, count: int) -> Iterator[Tuple[int, bytes]]:
         """The bytes of some sectors, in parts: how many they are, and they themselves, or none where they can't be read."""
-        at, end = start * numbers.SECTOR, (start + count) * numbers.SECTOR
+        at = self._place(name).start + start * numbers.SECTOR
+        end = at + count * numbers.SECTOR
         if self.missing(name) is not None:
             yield end - at, b""
             return
@@ -49,8 +52,8 @@ class Sources:
             yield from read(self._open[name], at, size)
             at += size
 
-    def _path(self, name: str) -> str:
-        return self._paths.get(name, name)
+    def _place(self, name: str) -> Place:
+        return self._places.get(name) or Place(name)
 
 
 def opened(path: str) -> int:
@@ -63,6 +66,7 @@ def opened(path: str) -> int:
     if not stat.S_ISREG(kind) and not stat.S_ISBLK(kind):
         os.close(descriptor)
         raise Refusal(quoting.shown(path), "neither a file nor a disk")
+    disk_image.check_form(descriptor, quoting.shown(path))
     return descriptor
 
 

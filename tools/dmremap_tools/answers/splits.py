@@ -11,6 +11,8 @@ from dmremap_tools.base import pieces, streams
 
 EXAMPLE = "dmremap map lvm vg0.backup < requests | dmremap-tools splits"
 
+MOVES = "R ", "W "
+
 add_words = pieces.add_words
 
 
@@ -18,14 +20,12 @@ def run(words: Namespace) -> None:
     """Counts until the answers end."""
     counts: Dict[int, int] = {}
     source = pieces.Answers(words.file)
-    request = count = 0
-    for piece in source:
-        if piece.request != request:
-            if piece.request < request:
-                source.refuse_line("out of order")
+    last = count = 0
+    for request, rest in source.by_request():
+        if request != last:
             counts[count] = counts.get(count, 0) + 1
-            request, count = piece.request, 0
-        count += piece.what in ("R", "W")
+            last, count = request, 0
+        count += rest.startswith(MOVES)
     source.tell_if_none()
     counts[count] = counts.get(count, 0) + 1
     for count in sorted(counts.keys() - {0}):

@@ -21,12 +21,10 @@ def run(words: Namespace) -> None:
     """Joins the two as they come."""
     times, source = streams.Lines(words.times), pieces.Answers(words.file)
     coming, time = iter(times), ""
-    for piece in source:
-        if piece.request < times.number:
-            source.refuse_line("out of order")
-        while times.number < piece.request:
+    for request, rest in source.by_request():
+        while times.number < request:
             time = next(coming, "")
             if not time:
                 source.refuse_line("no time of the request")
-        streams.out.write("%s %s\n" % (time, source.line.partition(" ")[2]))
+        streams.out.write(f"{time} {rest}\n")
     source.tell_if_none()

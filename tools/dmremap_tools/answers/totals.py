@@ -18,13 +18,13 @@ def run(words: Namespace) -> None:
     """Counts until the answers end."""
     totals: Dict[str, List[int]] = {}
     source = pieces.Answers(words.file)
-    for disk, what, count in source.uses():
+    for disk, what, count, times in source.uses():
         key = (disk or "-") + " " + what
         if key not in totals:
             totals[key] = [0, 0]
         total = totals[key]
-        total[0] += 1
-        total[1] += count
+        total[0] += times
+        total[1] += times * count
     source.tell_if_none()
     for key in sorted(totals):
         count, sectors = totals[key]

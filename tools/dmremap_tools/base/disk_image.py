@@ -1,12 +1,22 @@
 """The image of a disk, or the disk itself, as bytes at their places."""
 
+import contextlib
 import errno
 import os
+import stat
 from typing import BinaryIO, Optional, Tuple
 
-from dmremap_tools.base import streams
+from dmremap_tools.base import plain_text, streams
 from dmremap_tools.base.numbers import SECTOR
 from dmremap_tools.base.refusal import Refusal
+
+# What the images of virtual machines begin with that aren't the bytes of a disk in their order.
+FORMS = {b"QFI\xfb": "qcow2", b"KDMV": "VMDK", b"vhdxfile": "VHDX"}
+LONGEST_MAGIC = 8
+
+
+class Unreadable(Refusal):
+    """An image, or bytes of it, can't be read."""
 
 
 class Image:
@@ -35,7 +45,7 @@ class Image:
                 parts.append(part)
                 left -= len(part)
         except OSError as fault:
-            raise Refusal(self.path, "byte %d and those after it can't be read: %s" % (self.base + at, streams.why(fault)))
+            raise Unreadable(self.path, "byte %d and those after it can't be read: %s" % (self.base + at, streams.why(fault)))
         return b"".join(parts)
 
     def next_data(self, at: int) -> int:
@@ -64,11 +74,38 @@ def open_image(path: str) -> Image:
     try:
         file = open(0 if path == "-" else path, "rb", buffering=0, closefd=path != "-", opener=_open)
     except OSError as fault:
-        raise Refusal(name, streams.why(fault))
+        raise Unreadable(name, streams.why(fault))
     image = Image(file, name)
     if not image.size:
-        raise Refusal(name, "it is empty")
+        raise Unreadable(name, "it is empty")
     return image
+
+
+def raw_image(path: str) -> Image:
+    """The same, unless it begins as a file does that has no bytes of a disk in their order."""
+    image = open_image(path)
+    check_form(image.file.fileno(), image.path)
+    return image
+
+
+def check_form(descriptor: int, path: str) -> None:
+    """Refuses a file that begins as an image does that is compressed or of another form."""
+    why = ""
+    # What can't be read there is met later.
+    with contextlib.suppress(OSError):
+        if stat.S_ISREG(os.fstat(descriptor).st_mode):
+            why = other_form(os.pread(descriptor, LONGEST_MAGIC, 0))
+    if why:
+        raise Refusal(path, why)
+
+
+def other_form(beginning: bytes) -> str:
+    """What is said of an image with this beginning, if it is compressed or of another form, or nothing."""
+    compression = plain_text.compression(beginning)
+    if compression:
+        return "it is compressed (%s)" % compression
+    form = next((form for magic, form in FORMS.items() if beginning.startswith(magic)), "")
+    return form and "it is an image of %s: convert it with qemu-img convert -O raw" % form
 
 
 def _open(path: str, flags: int) -> int:

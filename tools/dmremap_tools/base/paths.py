@@ -1,9 +1,17 @@
 """Where disks are on this machine: lines `NAME PATH`, for --paths."""
 
 from argparse import ArgumentParser
-from typing import Dict, Pattern
+from typing import Container, Dict, Iterable, NamedTuple, Optional, Pattern
 
 from dmremap_tools.base import quoting, streams
+from dmremap_tools.base.refusal import Refusal
+
+
+class Place(NamedTuple):
+    """Where the bytes of a disk are: a file or a disk here, and the byte at which they begin in it."""
+
+    path: str
+    start: int = 0
 
 
 def add_words(parser: ArgumentParser, is_needed: bool = False) -> None:
@@ -26,3 +34,23 @@ def read(path: str, form: "Pattern[str] | None" = None) -> Dict[str, str]:
         found[name] = place
         taken.add(place)
     return found
+
+
+def places(path: Optional[str]) -> Dict[str, Place]:
+    """The place of each name, of a file that may not be given."""
+    return {name: Place(it) for name, it in read(path).items()} if path is not None else {}
+
+
+def check_known(where: Optional[str], named: Iterable[str], disks: Container[str]) -> None:
+    """Refuses a name of what was given there, as a file, that no disk has: the disk that was meant would be read at its own
+    name on this machine."""
+    for name in named:
+        if name not in disks:
+            raise Refusal(streams.name_of(where or "--paths"), "no disk is called " + quoting.shown(name))
+
+
+def tell_unknown(where: Optional[str], named: Iterable[str], disks: Container[str]) -> None:
+    """Tells these names, where a file may be for more disks than those that are known."""
+    for name in named:
+        if name not in disks:
+            streams.tell("%s: nothing is read of %s" % (streams.name_of(where or "--paths"), quoting.shown(name)))

@@ -2,18 +2,23 @@
 
 import re
 from argparse import ArgumentParser
-from typing import Iterator, NamedTuple, Optional, Tuple
+from collections import Counter
+from itertools import repeat
+from typing import Callable, Iterator, List, NamedTuple, Optional, Tuple
 
 from dmremap_tools.base import numbers, streams
 
 # Most pieces are of one form, and their numbers are short enough to be below 2^64 in any case.
-_MOST = re.compile(r"^([1-9][0-9]{0,17}) ([RW]) (\S+) %s ([1-9][0-9]{0,17})$" % numbers.SHORT, re.M)
-# The same, with what `uses` needs of it alone, and all other pieces with such numbers.
-_MOVE_USE = r"([RW]) (\S+) (?:0|[1-9][0-9]{0,17}) ([1-9][0-9]{0,17})"
-_OTHER_USES = (r"copy (\S+) (?:0|[1-9][0-9]{0,17}) ([1-9][0-9]{0,17}) (\S+) (?:0|[1-9][0-9]{0,17})"
-               r"|fill ([1-9][0-9]{0,17}) (\S+) (?:0|[1-9][0-9]{0,17})|(zero|drop|error) ([1-9][0-9]{0,17})")
-_MOST_USES = re.compile(r"^[1-9][0-9]{0,17} %s$" % _MOVE_USE, re.M)
-_ALL_USES = re.compile(r"^[1-9][0-9]{0,17} (?:%s|%s)$" % (_MOVE_USE, _OTHER_USES), re.M)
+_COUNT = "[1-9][0-9]{0,17}"
+_START = "(?:0|%s)" % _COUNT
+_MOST = re.compile(r"^(%s) ([RW]) (\S+) %s (%s)$" % (_COUNT, numbers.SHORT, _COUNT), re.M)
+# What `uses` needs of those, and of all pieces with such numbers.
+_MOVE_USE = r"^{0} (?:([RW] \S+) {1} ({0})".format(_COUNT, _START)
+_MOST_USES = re.compile(_MOVE_USE + ")$", re.M)
+_ALL_USES = re.compile(_MOVE_USE + r"|(?:copy (\S+) {1}|fill) ({0}) (\S+) {1}|(zero|drop|error) ({0}))$".format(_COUNT, _START), re.M)
+# The request of a piece, and all that its line has after that.
+_LINES = re.compile(r"^({0}) ([RW] \S+ {1} {0}|copy \S+ {1} {0} \S+ {1}|fill {0} \S+ {1}|(?:zero|drop|error) {0})$"
+                    .format(_COUNT, _START), re.M)
 _N = "(0|[1-9][0-9]{0,19})"
 _MOVED = re.compile(r"%s ([RW]) (\S+) %s %s" % (_N, _N, _N))
 _COPY = re.compile(r"%s copy (\S+) %s %s (\S+) %s" % (_N, _N, _N, _N))
@@ -40,35 +45,67 @@ class Piece(NamedTuple):
     to_start: int = 0
 
 
+_make = tuple.__new__
+# The words of a piece that is R or W: its request, what, the disk, the start and how many sectors.
+Move = Tuple[str, str, str, str, str]
+
+
 class Answers(streams.Lines):
     """The pieces of answers, as they come. Lines of `--status` are passed over, others refused."""
 
     statuses = 0
 
     def __iter__(self) -> Iterator[Piece]:
-        make = tuple.__new__
-        for fields in self.rows(_MOST):
-            if isinstance(fields, tuple):
-                request, what, disk, start, count = fields
-                yield make(Piece, (int(request), what, int(count), disk, int(start), "", 0))
-            else:
-                piece = self._read(fields)
-                if piece:
-                    yield piece
+        return filter(None, map(self._piece, self.rows(_MOST)))
 
-    def uses(self) -> Iterator[Tuple[str, str, int]]:
-        """For each piece the disk, what is done with it, and the number of sectors: R or W, for a copy both. There is no
-        disk where that is `zero`, `drop` or `error`."""
-        for fields in self.rows(_MOST_USES, _ALL_USES):
+    def hand_on_moves(self, take_all: Callable[[List[Move]], bool], take: Callable[[Piece], None]) -> None:
+        """Hands the pieces on: many at once where all are R or W and `take_all` takes them, which it says; else one by one."""
+        for found, form in self.blocks(_MOST):
+            if not form or not take_all(found):
+                for piece in filter(None, map(self._piece, self.each(_MOST))):
+                    take(piece)
+
+    def _piece(self, fields: "Tuple[str, ...] | str") -> Optional[Piece]:
+        """The piece that a line is, or None for a status."""
+        if isinstance(fields, str):
+            return self._read(fields)
+        request, what, disk, start, count = fields
+        return _make(Piece, (int(request), what, int(count), disk, int(start), "", 0))
+
+    def by_request(self) -> Iterator[Tuple[int, str]]:
+        """For each piece the number of its request, and the rest of its line. Refuses pieces out of order."""
+        last = 0
+        for fields in self.rows(_LINES):
             if isinstance(fields, str):
                 piece = self._read(fields)
-                if piece:
-                    yield from _uses(piece.what, piece.disk, piece.count, piece.to)
-            elif fields[0]:
-                yield fields[1], fields[0], int(fields[2])
+                if not piece:
+                    continue
+                request, rest = piece.request, fields.partition(" ")[2]
             else:
-                _, _, _, disk, copied, to, filled, filled_to, what, count = fields
-                yield from _uses(what, disk, int(copied or filled or count), to or filled_to)
+                request, rest = int(fields[0]), fields[1]
+            if request < last:
+                self.refuse_line("out of order")
+            last = request
+            yield request, rest
+
+    def uses(self) -> Iterator[Tuple[str, str, int, int]]:
+        """What pieces do, though not in which order: the disk, what is done with it, the number of sectors, and how many
+        pieces do this. It is R or W, for a copy both. There is no disk where it is `zero`, `drop` or `error`."""
+        for found, form in self.blocks(_MOST_USES, _ALL_USES):
+            for fields, times in Counter(found).items() if form else zip(self.each(_ALL_USES), repeat(1)):
+                for use in self._uses_of(fields):
+                    yield (*use, times)
+
+    def _uses_of(self, fields: "Tuple[str, ...] | str") -> Iterator[Tuple[str, str, int]]:
+        if isinstance(fields, str):
+            piece = self._read(fields)
+            if piece:
+                yield from _uses(piece.what, piece.disk, piece.count, piece.to)
+        elif fields[0]:
+            yield fields[0][2:], fields[0][0], int(fields[1])
+        else:
+            _, _, disk, moved, to, what, count = fields
+            yield from _uses(what, disk, int(moved or count), to)
 
     def tell_if_none(self) -> None:
         """Tells at the end if there was no piece."""
@@ -76,7 +113,7 @@ class Answers(streams.Lines):
             streams.tell("no piece came")
 
     def _read(self, line: str) -> Optional[Piece]:
-        """The piece that a line is, or None for a status."""
+        """The same of a line of any form."""
         if _STATUS.fullmatch(line):
             self.statuses += 1
             return None

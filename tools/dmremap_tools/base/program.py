@@ -5,7 +5,7 @@ import shutil
 import subprocess
 import sys
 from argparse import ArgumentParser
-from typing import List, Optional, Sequence
+from typing import IO, Optional, Sequence, Tuple
 
 from dmremap_tools.base import streams
 from dmremap_tools.base.refusal import Refusal
@@ -30,10 +30,13 @@ def dmremap(given: Optional[str]) -> str:
     return shutil.which("dmremap") or "dmremap"
 
 
-def ask(words: Sequence[str], most: int = streams.MOST_TEXT, given: Optional[int] = None) -> str:
+def ask(words: Sequence[str], most: int = streams.MOST_TEXT, given: Optional[int] = None, said: Optional[IO[bytes]] = None) -> str:
     """What a program prints, at most so many bytes; `given` is a descriptor for its standard input. Its messages are
-    passed on. Where it fails, so does this."""
-    return _asked(words, most, given, None).decode("utf-8", "surrogateescape")
+    passed on, or go into the file `said`. Where it fails, so does this."""
+    printed, status = _asked(words, most, given, said)
+    if status:
+        fail(words[0], status)
+    return printed
 
 
 def found(name: str) -> str:
@@ -45,12 +48,12 @@ def ask_quietly(words: Sequence[str], most: int = streams.MOST_TEXT, given: Opti
     """What a program prints on its two outputs, whatever its status is, in English."""
     import tempfile
     with tempfile.TemporaryFile() as said:
-        printed = _asked(words, most, given, said).decode("utf-8", "surrogateescape")
+        printed, _ = _asked(words, most, given, said)
         said.seek(0)
         return printed, said.read(most).decode("utf-8", "surrogateescape")
 
 
-def _asked(words: Sequence[str], most: int, given: Optional[int], said) -> bytes:
+def _asked(words: Sequence[str], most: int, given: Optional[int], said: Optional[IO[bytes]]) -> Tuple[str, int]:
     streams.flush()
     try:
         child = subprocess.Popen([it.encode("utf-8", "surrogateescape") for it in words], stdout=subprocess.PIPE, stderr=said,
@@ -66,9 +69,7 @@ def _asked(words: Sequence[str], most: int, given: Optional[int], said) -> bytes
         if child.poll() is None:
             child.kill()
             child.wait()
-    if said is None and status:
-        fail(words[0], status)
-    return printed
+    return printed.decode("utf-8", "surrogateescape"), status
 
 
 def fail(name: str, status: int) -> None:

@@ -1,9 +1,16 @@
-"""How many chunks the stores of snapshots have places for."""
+"""How long the chunks of snapshots are, and how many their stores have places for."""
 
 from typing import Optional
 
 # How many dmremap counts in all stores together.
 MOST = 4194304
+# How many sectors a chunk has at most, here and for a kernel.
+MOST_IN_CHUNK, KERNELS_MOST = 1 << 10, 1 << 21
+
+
+def is_chunk(chunk: int) -> bool:
+    """Whether a kernel takes chunks of so many sectors."""
+    return 0 < chunk <= KERNELS_MOST and chunk & (chunk - 1) == 0
 
 
 def places(chunk: Optional[int], length: int) -> int:

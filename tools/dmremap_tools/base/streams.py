@@ -6,13 +6,14 @@ grows. Whatever an output doesn't take ends the command: see `main.py`.
 
 import os
 import stat
-from typing import Iterator, List, NoReturn, Pattern, Tuple
+from typing import Callable, Dict, Iterator, List, NoReturn, Optional, Pattern, Tuple
 
 from dmremap_tools.base import numbers, plain_text, quoting
 from dmremap_tools.base.refusal import Refusal, WrongWords
 
 CHUNK = 1 << 16
-MOST_PARTS = 1 << 10
+# Parts of an output that are gathered, and how long one is that isn't held back.
+MOST_PARTS, LONG_PART = 1 << 10, 1 << 10
 LONGEST_LINE = 1 << 16
 MOST_TEXT = 64 << 20
 SPOILED = "refused\n"
@@ -40,7 +41,7 @@ class Output:
         """Writes text, now or later."""
         parts = self._parts
         parts.append(text)
-        if len(parts) >= MOST_PARTS or len(text) > CHUNK:
+        if len(parts) >= MOST_PARTS or len(text) > LONG_PART:
             self.flush()
 
     def flush(self) -> None:
@@ -89,6 +90,8 @@ class Lines:
         self.number = 0
         self._descriptor = _open(path)
         self._block, self._before = "", 0
+        # Those of the block, once one of them is asked for.
+        self._lines: List[str] = []
 
     def __iter__(self) -> Iterator[str]:
         for block in self._blocks():
@@ -96,24 +99,53 @@ class Lines:
                 self.number += 1
                 yield line
 
-    def rows(self, form: Pattern[str], wider: "Pattern[str] | None" = None) -> "Iterator[Tuple[str, ...] | str]":
-        """For each line what the groups of a form have, or the line itself where it is of another form. The form has
-        several groups, is compiled with re.M, and begins with ^ and ends with $: so many lines are read at once. Where it
-        isn't the form of all of them, a wider one is tried, which has more groups."""
+    def blocks(self, *forms: Pattern[str]) -> "Iterator[Tuple[List[Tuple[str, ...]], Optional[Pattern[str]]]]":
+        """Many lines at once: what the groups of a form have of each, and which of some forms it is; none where not all lines
+        are of one, which `each` reads then. A form has several groups, is compiled with re.M, and begins with ^ and ends
+        with $. `number` is that of the line before them."""
+        form = forms[0]
         for block in self._blocks():
-            found, count = form.findall(block), block.count("\n")
-            if wider and len(found) != count:
-                found = wider.findall(block)
-            if len(found) != count:
-                found = [match.groups() if match else line
-                         for line in block[:-1].split("\n") for match in (form.match(line),)]
-            for self.number, fields in enumerate(found, self.number + 1):
-                yield fields
+            count = block.count("\n")
+            # The form of the lines before is tried first.
+            for form in dict.fromkeys((form, *forms)):
+                found = form.findall(block)
+                if len(found) == count:
+                    yield found, form
+                    break
+            else:
+                yield [], None
+            self.number = self._before + count
+
+    def each(self, form: Pattern[str]) -> "Iterator[Tuple[str, ...] | str]":
+        """For each line of a block what the groups of a form have, or the line itself where it is of another form."""
+        for self.number, line in enumerate(self._block[:-1].split("\n"), self._before + 1):
+            match = form.match(line)
+            yield match.groups("") if match else line
+
+    def rows(self, form: Pattern[str]) -> "Iterator[Tuple[str, ...] | str]":
+        """The same for all lines, as they come."""
+        for found, known in self.blocks(form):
+            if known:
+                for self.number, fields in enumerate(found, self._before + 1):
+                    yield fields
+            else:
+                yield from self.each(form)
+
+    def hand_on(self, takes: "Dict[Pattern[str], Callable[[List[Tuple[str, ...]]], bool]]",
+                take: "Callable[[Tuple[str, ...] | str], None]") -> None:
+        """Hands lines on as they come: many at once to what `takes` has for their form, if it takes them, which it says;
+        otherwise one by one what `rows` has for the last of the forms."""
+        for found, form in self.blocks(*takes):
+            if not form or not takes[form](found):
+                for fields in self.each(list(takes)[-1]):
+                    take(fields)
 
     @property
     def line(self) -> str:
         """The line that was read last."""
-        return self._block.split("\n")[self.number - self._before - 1]
+        if not self._lines:
+            self._lines = self._block.split("\n")
+        return self._lines[self.number - self._before - 1]
 
     def tell_if_none(self) -> None:
         """Tells at the end if there was no line."""
@@ -121,8 +153,8 @@ class Lines:
             tell("no line came")
 
     def refuse(self, reason: str) -> NoReturn:
-        """Refuses the line that was read last."""
-        raise Refusal("%s:%d" % (self.name, self.number), reason)
+        """Refuses the line that was read last, or an input without lines."""
+        raise Refusal("%s:%d" % (self.name, self.number) if self.number else self.name, reason)
 
     def refuse_line(self, reason: str) -> NoReturn:
         """The same, with what stands there."""
@@ -144,7 +176,7 @@ class Lines:
             end = chunk.rfind(b"\n") + 1
             if end:
                 lines = plain_text.with_plain_ends(rest + chunk[:end])
-                self._block, self._before = lines.decode("utf-8", "surrogateescape"), self.number
+                self._block, self._before, self._lines = lines.decode("utf-8", "surrogateescape"), self.number, []
                 rest = chunk[end:]
                 yield self._block
             else:
@@ -207,7 +239,7 @@ def beside(path: str) -> Output:
     try:
         made = Output(os.open(path, os.O_WRONLY | os.O_CREAT | os.O_TRUNC, 0o666), path)
     except OSError as fault:
-        raise Refusal(path, why(fault))
+        raise OutputFailed("%s: %s" % (path, why(fault)))
     _besides.append(made)
     return made
 

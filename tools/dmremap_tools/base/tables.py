@@ -1,13 +1,15 @@
 """Devices and their lines, in table text and in concise text."""
 
 import re
-from typing import Callable, Iterator, List, NoReturn, Optional, Sequence, Tuple
+from typing import Callable, Iterator, List, Optional, Sequence, Tuple
 
 from dmremap_tools.base import names, numbers, quoting, streams
 from dmremap_tools.base.refusal import Refusal
 
 # How many words follow a target that dmremap reads. Those of `striped` depend on its columns.
 TARGETS = {"linear": 2, "striped": None, "zero": 0, "error": 0, "snapshot": 4, "snapshot-origin": 1}
+# The kinds of snapshots' stores.
+KINDS = ("P", "N", "K")
 MOST_COLUMNS, LONGEST_CHUNK = 128, (1 << 32) - 1
 
 
@@ -60,7 +62,7 @@ class Line:
             columns, chunk = int(words[0]), int(words[1])
             if columns > MOST_COLUMNS or not 0 < chunk <= LONGEST_CHUNK or self.length % (columns * chunk):
                 return "stripes that don't divide it"
-        if self.target == "snapshot" and words[2] not in ("P", "N", "K"):
+        if self.target == "snapshot" and words[2] not in KINDS:
             return "a snapshot of another kind"
         return None
 

@@ -59,14 +59,20 @@ class Chunk:
         if self.profile in PARITY:
             streams.tell("left out: the chunk at %d, which is of %s" % (self.start, self.profile))
             return tables.Line(self.sectors(self.start), self.sectors(self.length), "error", [])
-        columns = [self.stripes[copy % self.count]]
+        copies = self.copies()
+        if copy >= copies > 1:
+            self.refuse("the chunk at %d has %d copies, counted from 0" % (self.start, copies))
+        columns = [self.stripes[copy % copies]]
         if self.profile in ("RAID0", "RAID10"):
-            each = self.each if self.profile == "RAID10" else 1
-            columns = self.stripes[copy % each::each]
+            columns = self.stripes[copy % copies::copies]
         words = [word for it in columns for word in self._spot(disks, *it)]
         is_striped = len(columns) > 1
         return tables.Line(self.sectors(self.start), self.sectors(self.length), "striped" if is_striped else "linear",
                            [str(len(columns)), str(self.sectors(self.size))] * is_striped + words)
+
+    def copies(self) -> int:
+        """How many copies it has."""
+        return 1 if self.profile in ("RAID0", *PARITY) else self.each if self.profile == "RAID10" else self.count
 
     def _spot(self, disks: Dict[str, str], device: str, offset: int) -> List[str]:
         if device not in disks:
@@ -91,6 +97,8 @@ def run(words: Namespace) -> None:
     if not chunks:
         raise Refusal(quoting.shown(words.chunks), "no chunks of a btrfs file system")
     device = parts.device_of(words.name, "", lines_of(chunks, disks, words.copy), parts.part_of(words))
+    if words.copy >= max(1, *(it.copies() for it in chunks)):
+        raise Refusal(quoting.shown(words.chunks), "no chunk has a copy %d, counted from 0" % words.copy)
     streams.out.write(tables.text_of([device], False))
 
 

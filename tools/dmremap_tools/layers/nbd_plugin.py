@@ -7,6 +7,7 @@ nbdkit takes these parameters with it:
     disks=DISKS                 its disks; not with lvm
     device=DEVICE               what is served, by its name or path
     image=NAME=PATH             where a disk of the stack is read
+    image=PATH                  the same with lvm, of a disk or of one with a partition, whose label has the id of a physical volume
     paths=PATHS                 the same for all: lines NAME PATH
     store=SNAPSHOT=IMAGE        the store of a snapshot, as with `used`
     fresh=SNAPSHOT              a snapshot with nothing in its store
@@ -25,7 +26,6 @@ import zlib
 from argparse import ArgumentParser, Namespace
 
 from dmremap_tools.base import streams
-from dmremap_tools.base.refusal import Refusal
 
 EXAMPLE = """nbdkit python "$(dmremap-tools nbd-plugin)" format=lvm source=vg0.backup device=vg0-lv0 image=/dev/sda1=sda1.img"""
 FILE = "nbd_volume.py"
@@ -55,5 +55,5 @@ def _cached(packed: str) -> str:
             it.write(TEXT % packed)
         os.replace(path + ".new", path)
     except OSError as fault:
-        raise Refusal(path, streams.why(fault))
+        raise streams.OutputFailed("%s: %s" % (path, streams.why(fault)))
     return path

@@ -1,39 +1,23 @@
 """A stack as dmremap loads it from FILE and DISKS."""
 
 import os
-import re
-from typing import Dict, Iterable, List, NamedTuple, Optional
+import tempfile
+from typing import Dict, List, NamedTuple, Optional
 
 from dmremap_tools.base import disks, names, program, quoting, streams, tables
+from dmremap_tools.base.given import Given, put
 from dmremap_tools.base.refusal import Refusal
+from dmremap_tools.layers import refused
 from dmremap_tools.machines.disks import of_group
-
-MOST_TEXT = 1 << 20
-FORMATS = ("table", "concise", "lvm")
-OTHERS = {r" snapshot-merge [^\n,;]*": "a kernel writes this snapshot back to its origin as it goes, which dmremap can't follow",
-          r" snapshot \S+ \S+ PO [^\n,;]*": "a kernel lets reads of kind PO go on when the store is full, and dmremap has no such kind; "
-                                          "write P, whose stores are the same"}
-
-
-class Given(NamedTuple):
-    """What dmremap loads: a format, FILE, and DISKS unless it is metadata."""
-
-    form: str
-    file: str
-    disks: Optional[str]
-
-    def fault(self) -> Optional[str]:
-        """What is wrong with these words, or None."""
-        if self.form not in FORMATS:
-            return "a format is table, concise or lvm"
-        return "give DISKS, or leave it out with lvm" if (self.form == "lvm") == (self.disks is not None) else None
 
 
 class Stack(NamedTuple):
-    """The devices in their order, and the length of each disk in sectors."""
+    """The devices in their order, and the length of each disk in sectors; `group` is the file with the metadata that it was
+    loaded from."""
 
     devices: List[tables.Device]
     sizes: Dict[str, int]
+    group: Optional[str] = None
 
     def by_path(self) -> Dict[str, tables.Device]:
         """The devices, each by its path."""
@@ -48,39 +32,29 @@ class Stack(NamedTuple):
 
 
 def load(asked: str, given: Given, room: str) -> Stack:
-    """Loads it by asking dmremap, which is `asked`. FILE and DISKS are read once, so they may be pipes."""
-    file, listed = os.path.join(room, "given"), os.path.join(room, "given.disks")
-    _copy(given.file, file)
-    if given.form != "lvm":
-        _check_kinds(given.file, file)
-    source = [given.form, file]
-    if given.disks is not None:
-        _copy(given.disks, listed)
-        source.append(listed)
+    """Loads it by asking dmremap, which is `asked`."""
+    copy = given.copied(room)
     text = os.path.join(room, "given.concise")
-    put(text, [program.ask([asked, "concise", *source])])
-    devices = tables.read(text)[0]
-    return Stack(devices, dict(of_group(file)) if given.disks is None else disks.read(listed))
+    put(text, [_concise(asked, copy, given.file)])
+    return Stack(tables.read(text)[0], sizes_of(copy), copy.file if copy.disks is None else None)
 
 
-def _check_kinds(name: str, path: str) -> None:
-    """Refuses snapshots that dmremap doesn't read at all, with what a kernel does with them."""
-    text = streams.read(path)
-    for form, why in OTHERS.items():
-        found = re.search(form, text)
-        if found:
-            raise Refusal(quoting.shown(name), "%s: %s" % (why, quoting.shown(found[0].strip())))
+def sizes_of(given: Given) -> Dict[str, int]:
+    """The sectors of the disks."""
+    return dict(of_group(given.file)) if given.disks is None else disks.read(given.disks)
 
 
-def put(path: str, parts: Iterable[str]) -> None:
-    """Writes the parts of a text to a file."""
-    try:
-        with open(path, "w", encoding="utf-8", errors="surrogateescape") as it:
-            it.writelines(parts)
-    except OSError as fault:
-        raise streams.OutputFailed("%s: %s" % (path, streams.why(fault)))
-
-
-def _copy(path: str, to: str) -> None:
-    put(to, [streams.read(path, MOST_TEXT)])
-
+def _concise(asked: str, copy: Given, name: str) -> str:
+    """Its tables in the concise form. A snapshot or a store that dmremap refuses is refused with what a kernel does with it."""
+    with tempfile.TemporaryFile() as said:
+        try:
+            return program.ask([asked, "concise", *copy.words()], said=said)
+        except Refusal:
+            said.seek(0)
+            message = said.read().decode("utf-8", "surrogateescape")
+            where, why = refused.told(quoting.shown(name), copy.form, streams.read(copy.file), lambda: sizes_of(copy), message)
+            if why:
+                raise Refusal(where, why)
+            if message:
+                streams.tell(message.rstrip("\n"))
+            raise

@@ -10,10 +10,13 @@ import subprocess
 from typing import Dict, Iterator, List, NamedTuple, Tuple
 
 from dmremap_tools.base import names, paths, program, quoting, streams, tables
+from dmremap_tools.base.given import put
+from dmremap_tools.base.paths import Place
 from dmremap_tools.base.refusal import Refusal, WrongWords
 from dmremap_tools.layers import stores
 from dmremap_tools.layers.mapper import Mapper
-from dmremap_tools.layers.stack import Stack, put
+from dmremap_tools.layers.refused import LOST
+from dmremap_tools.layers.stack import Stack
 from dmremap_tools.layers.stores import INVALID, Snapshot
 
 MOST_SECTORS = 1 << 20
@@ -24,11 +27,11 @@ LONGEST = 40
 
 
 class Wanted(NamedTuple):
-    """What is said of stores: the image of each snapshot that has one, snapshots that are fresh, and paths of disks."""
+    """What is said of stores: the image of each snapshot that has one, snapshots that are fresh, and places of disks."""
 
     images: Dict[str, str]
     fresh: List[str]
-    paths: Dict[str, str]
+    places: Dict[str, Place]
 
 
 class Prepared(NamedTuple):
@@ -55,7 +58,7 @@ def wanted_in(words: argparse.Namespace) -> Wanted:
         if not image or name in images or name in words.fresh:
             raise WrongWords("not SNAPSHOT=IMAGE, or of one that was given before: " + quoting.shown(word), "usage: --store SNAPSHOT=IMAGE")
         images[name] = image
-    return Wanted(images, words.fresh, paths.read(words.paths) if words.paths is not None else {})
+    return Wanted(images, words.fresh, paths.places(words.paths))
 
 
 def prepare(asked: str, stack: Stack, wanted: Wanted, room: str) -> Prepared:
@@ -68,6 +71,9 @@ def prepare(asked: str, stack: Stack, wanted: Wanted, room: str) -> Prepared:
     for snapshot in look:
         if snapshot.kind == "N":
             snapshot.refuse("it isn't persistent, so no disk says what is in it; --fresh %s takes it as fresh" % snapshot.name)
+        for other in found:
+            if snapshot.store == other.origin if other is snapshot else snapshot.store == other.store:
+                snapshot.refuse("it is %s, too, which a kernel refuses" % ("the origin" if other is snapshot else "that of " + other.name))
     if look:
         _look_into(asked, stack, wanted, look, room)
     for it in look:
@@ -90,11 +96,11 @@ def _look_into(asked: str, stack: Stack, wanted: Wanted, look: List[Snapshot], r
         for it in look:
             length = lower[it.store].end() if it.store in lower else stack.sizes[it.store]
             if it.name in wanted.images:
-                reader = stores.Image(files, wanted.images[it.name])
+                reader = stores.Image(files, Place(wanted.images[it.name]))
             elif it.store in lower:
-                reader = stores.Spread(files, mapper, lower[it.store].name, wanted.paths)
+                reader = stores.Spread(files, mapper, lower[it.store].name, wanted.places)
             else:
-                reader = stores.Image(files, wanted.paths.get(it.store, it.store))
+                reader = stores.Image(files, wanted.places.get(it.store) or Place(it.store))
             stores.look_into(it, reader, length)
     finally:
         mapper.close()
@@ -160,8 +166,7 @@ def _check_origins(words: List[str], before: str, renamed: Dict[str, str]) -> No
             _, name, start, _ = next(itertools.islice(lines, number - 1, None)).split()
         name = renamed.get(name, name)
         raise Refusal("the store of " + name, "it has what was written from sector %s on, and the origin fails to be read there, so "
-                      "dmremap would take the snapshot for invalid. Put a disk in the place of what is lost: in FILE write "
-                      "`linear lost 0` for `error`, and in DISKS `lost` with that line's length" % start)
+                      "dmremap would take the snapshot for invalid: %s" % (start, LOST))
 
 
 def _first_error(words: List[str], given: int) -> int:

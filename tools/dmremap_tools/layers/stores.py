@@ -10,7 +10,8 @@ import sys
 from array import array
 from typing import Dict, Iterable, Iterator, NamedTuple, NoReturn, Tuple
 
-from dmremap_tools.base import numbers, quoting, streams, tables
+from dmremap_tools.base import disk_image, numbers, quoting, store_places, streams, tables
+from dmremap_tools.base.paths import Place
 from dmremap_tools.base.refusal import Refusal
 from dmremap_tools.layers.mapper import READ, Mapper
 
@@ -50,17 +51,19 @@ class Files:
     def __init__(self) -> None:
         self._opened: Dict[str, int] = {}
 
-    def read(self, path: str, start: int, count: int) -> bytes:
+    def read(self, place: Place, first: int, count: int) -> bytes:
         """So many sectors from this one on."""
+        path, start = place
         try:
             if path not in self._opened:
                 self._opened[path] = os.open(path, os.O_RDONLY)
+                disk_image.check_form(self._opened[path], quoting.shown(path))
                 self._tell_if_live(path)
-            found = os.pread(self._opened[path], count * numbers.SECTOR, start * numbers.SECTOR)
+            found = os.pread(self._opened[path], count * numbers.SECTOR, start + first * numbers.SECTOR)
         except OSError as fault:
             raise Refusal(quoting.shown(path), streams.why(fault))
         if len(found) < count * numbers.SECTOR:
-            raise Refusal(quoting.shown(path), "it ends before sector %d, where a store has its list" % (start + count))
+            raise Refusal(quoting.shown(path), "it ends before sector %d, where a store has its list" % (first + count))
         return found
 
     def close(self) -> None:
@@ -77,12 +80,12 @@ class Files:
 class Image:
     """A store in a file or a disk of its own."""
 
-    def __init__(self, files: Files, path: str) -> None:
-        self._files, self._path = files, path
+    def __init__(self, files: Files, place: Place) -> None:
+        self._files, self._place = files, place
 
     def read(self, spans: Iterable[Tuple[int, int]]) -> Iterator[bytes]:
         """The content of each span of sectors."""
-        return (self._files.read(self._path, *it) for it in spans)
+        return (self._files.read(self._place, *it) for it in spans)
 
 
 class Spread(NamedTuple):
@@ -91,14 +94,14 @@ class Spread(NamedTuple):
     files: Files
     mapper: Mapper
     device: str
-    paths: Dict[str, str]
+    places: Dict[str, Place]
 
     def read(self, spans: Iterable[Tuple[int, int]]) -> Iterator[bytes]:
         """The content of each span of sectors."""
         for parts in self.mapper.read(self.device, spans):
             if any(it.what != READ for it in parts):
                 raise Refusal(self.device, "the list of a store lies where no disk is read")
-            yield b"".join(self.files.read(self.paths.get(it.disk, it.disk), it.start, it.count) for it in parts)
+            yield b"".join(self.files.read(self.places.get(it.disk) or Place(it.disk), it.start, it.count) for it in parts)
 
 
 def look_into(snapshot: Snapshot, reader: "Image | Spread", length: int) -> None:
@@ -114,8 +117,12 @@ def look_into(snapshot: Snapshot, reader: "Image | Spread", length: int) -> None
     if version != VERSION:
         snapshot.refuse("it is of version %d, and a kernel refuses all but 1" % version)
     if chunk != snapshot.chunk:
-        snapshot.refuse("its chunks have %d sectors, and %d in the table: a kernel goes by the store, so write %d there"
-                        % (chunk, snapshot.chunk, chunk))
+        told = "so write %d there" % chunk
+        if not store_places.is_chunk(chunk):
+            told = "and refuses it"
+        elif chunk > store_places.MOST_IN_CHUNK:
+            told = "and dmremap takes none of more than %d" % store_places.MOST_IN_CHUNK
+        snapshot.refuse("its chunks have %d sectors, and %d in the table: a kernel goes by the store, %s" % (chunk, snapshot.chunk, told))
     if valid == 0:
         snapshot.state = INVALID
         return

@@ -8,10 +8,12 @@ With --keep, FILE, DISKS and BEFORE stay in a folder as they were made: `dmremap
 
 Refuses a snapshot of kind N unless --fresh takes it as new, a store that is too short, that has no header, or that is of
 another version or another size of chunks than the table says, and lists that dmremap can't follow: chunks out of order, past
-the end, or twice. A chunk whose origin fails to be read today is refused, too; the message says how to go on.
+the end, or twice. A chunk whose origin fails to be read today is refused, too; the message says how to go on. Of snapshots
+and stores that dmremap doesn't load it says what a kernel does with them.
 
-The store of a snapshot in use changes, and the kernel keeps what is read of it: suspend the snapshot, or read an image with
-O_DIRECT. It takes 8 bytes for each chunk of the stores, and a file of about 20 in the folder for temporary files.
+The store of a snapshot in use changes, and the kernel keeps what is read of it: suspend the snapshot (`dmsetup suspend
+vg0-snap`), or read an image with O_DIRECT (`dd if=/dev/mapper/vg0-snap-cow of=snap.store bs=64k iflag=direct`). It takes 8
+bytes for each chunk of the stores, and a file of about 20 in the folder for temporary files.
 """
 
 import argparse
@@ -21,9 +23,9 @@ import subprocess
 import tempfile
 from typing import BinaryIO, Dict
 
-from dmremap_tools.base import program, streams
-from dmremap_tools.base.refusal import Refusal, WrongWords
+from dmremap_tools.base import given, paths, program, streams
 from dmremap_tools.layers import stack, state
+from dmremap_tools.machines.placed import by_ids
 
 EXAMPLE = "echo 'R vg0-snap 8000 16' | dmremap-tools used --paths paths map lvm vg0-snapshot.backup"
 PIECE = 1 << 18
@@ -35,20 +37,18 @@ def add_words(parser: argparse.ArgumentParser) -> None:
     state.add_words(parser)
     parser.add_argument("--keep", metavar="FOLDER", help="where FILE, DISKS and BEFORE are left")
     parser.add_argument("map", choices=["map"], metavar="map", help="the words of a map begin here")
-    parser.add_argument("form", metavar="FORMAT", choices=stack.FORMATS, help="table, concise or lvm")
-    parser.add_argument("file", metavar="FILE")
-    parser.add_argument("disks", metavar="DISKS", nargs="?", help="with table and concise")
+    given.add_words(parser)
     parser.add_argument("--status", action="store_true", help="how full the stores are, after the answers")
 
 
 def run(words: argparse.Namespace) -> None:
     """Maps from the state of the stores."""
-    given, wanted, asked = stack.Given(words.form, words.file, words.disks), state.wanted_in(words), program.dmremap(words.program)
-    fault = given.fault()
-    if fault:
-        raise WrongWords(fault, "usage: map FORMAT FILE [DISKS] [--status]")
+    source = given.given_in(words, "map FORMAT FILE [DISKS] [--status]")
+    wanted, asked = state.wanted_in(words), program.dmremap(words.program)
     with tempfile.TemporaryDirectory(prefix="dmremap-tools-") as room:
-        loaded = stack.load(asked, given, room)
+        loaded = stack.load(asked, source, room)
+        paths.check_known(words.paths, wanted.places, loaded.sizes)
+        wanted = wanted._replace(places=by_ids(loaded.group, wanted.places, loaded.sizes))
         prepared = state.prepare(asked, loaded, wanted, room if words.keep is None else _folder(words.keep))
         _map(prepared, words.status)
 
@@ -57,7 +57,7 @@ def _folder(path: str) -> str:
     try:
         os.makedirs(path, exist_ok=True)
     except OSError as fault:
-        raise Refusal(path, streams.why(fault))
+        raise streams.OutputFailed("%s: %s" % (path, streams.why(fault)))
     return os.path.abspath(path)
 
 

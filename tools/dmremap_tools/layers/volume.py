@@ -13,10 +13,14 @@ from typing import Any, Callable, Dict, Iterator, List, NoReturn, Optional, Tupl
 
 import nbdkit  # type: ignore
 
+from dmremap_tools.answers.sources import opened
 from dmremap_tools.base import names, numbers, paths, program, quoting, streams
+from dmremap_tools.base.given import Given
+from dmremap_tools.base.paths import Place
 from dmremap_tools.base.refusal import Refusal
 from dmremap_tools.layers import stack, state
 from dmremap_tools.layers.mapper import READ, ZERO, Mapper, Part
+from dmremap_tools.machines.placed import by_ids
 
 __all__ = ["API_VERSION", "thread_model", "config", "config_complete", "get_ready", "cleanup", "open", "get_size", "can_multi_conn",
            "can_extents", "pread", "extents"]
@@ -31,15 +35,15 @@ class Volume:
     """What is served: a device, its sectors, the files that it is read from by the names of their disks, and children that
     say where. As many of these run as requests are answered at a time."""
 
-    def __init__(self, device: str, size: int, words: List[str], images: Dict[str, str]) -> None:
+    def __init__(self, device: str, size: int, words: List[str], places: Dict[str, Place]) -> None:
         self.device, self.size, self._words = device, size, words
-        self._files = {name: os.open(path, os.O_RDONLY) for name, path in images.items()}
+        self._files = {name: (opened(place.path), place.start) for name, place in places.items()}
         self._idle: List[Mapper] = []
 
     def tell_short(self, sizes: Dict[str, int]) -> None:
         """Tells the files that end before their disks do."""
-        for disk, file in self._files.items():
-            size = os.lseek(file, 0, os.SEEK_END)
+        for disk, (file, start) in self._files.items():
+            size = max(0, os.lseek(file, 0, os.SEEK_END) - start)
             if size < sizes[disk] * numbers.SECTOR:
                 streams.tell("the image of %s has %d bytes of %d: what lies after them fails to be read"
                              % (disk, size, sizes[disk] * numbers.SECTOR))
@@ -81,9 +85,10 @@ class Volume:
     def _fill(self, view: memoryview, part: Part, skipped: int) -> None:
         if part.disk not in self._files:
             raise OSError(errno.EIO, "no image of " + part.disk)
-        place = part.start * numbers.SECTOR + skipped
+        file, start = self._files[part.disk]
+        place = start + part.start * numbers.SECTOR + skipped
         while view:
-            count = os.preadv(self._files[part.disk], [view], place)
+            count = os.preadv(file, [view], place)
             if not count:
                 raise OSError(errno.EIO, "the image of %s ends" % part.disk)
             view, place = view[count:], place + count
@@ -148,38 +153,38 @@ def get_ready() -> None:
     device = loaded.by_path().get(names.MAPPER + name)
     if device is None:
         raise Refusal(quoting.shown(_given["device"]), "source has no such device")
-    images = _images()
+    places = _places(loaded.group, loaded.sizes)
     below, disks = _below(loaded, names.MAPPER + name)
-    for disk in sorted(disks - set(images)):
+    for disk in sorted(disks - set(places)):
         streams.tell("no image of %s: what lies there fails to be read" % disk)
     # What isn't read may have stores that nobody has.
     others = [it.name for it in loaded.devices if names.MAPPER + it.name not in below and it.lines[0].target == "snapshot"]
     fresh = _lists["fresh"] + others
-    prepared = state.prepare(asked, loaded, state.Wanted(_pairs("store"), fresh, images), _room)
-    try:
-        _volume = Volume(name, device.end(), prepared.words, {disk: path for disk, path in images.items() if disk in disks})
-    except OSError as fault:
-        raise Refusal(quoting.shown(str(fault.filename)), streams.why(fault))
+    prepared = state.prepare(asked, loaded, state.Wanted(_pairs("store", _lists["store"]), fresh, places), _room)
+    _volume = Volume(name, device.end(), prepared.words, {disk: it for disk, it in places.items() if disk in disks})
     _volume.tell_short(loaded.sizes)
 
 
-def _stack() -> stack.Given:
-    return stack.Given(_given["format"], _given["source"], _given.get("disks"))
+def _stack() -> Given:
+    return Given(_given["format"], _given["source"], _given.get("disks"))
 
 
-def _images() -> Dict[str, str]:
-    """The image or path of each disk."""
-    found = {name: os.path.abspath(path) for name, path in _pairs("image").items()}
-    if "paths" in _given:
-        found = {**paths.read(_given["paths"]), **found}
-    if not found:
+def _places(group: Optional[str], sizes: Dict[str, int]) -> Dict[str, Place]:
+    """Where each disk is. In a group, the labels of images without a name say what they are."""
+    bare = [os.path.abspath(it) for it in _lists["image"] if "=" not in it] if group is not None else []
+    named = _pairs("image", [it for it in _lists["image"] if "=" in it or group is None])
+    listed = paths.places(_given.get("paths"))
+    paths.check_known(_given.get("paths"), listed, sizes)
+    paths.check_known("image", named, sizes)
+    found = {**listed, **{name: Place(os.path.abspath(path)) for name, path in named.items()}}
+    if not found and not bare:
         raise Refusal("image", "no disk to read from: image=NAME=PATH, or paths=PATHS")
-    return found
+    return by_ids(group, found, sizes, bare)
 
 
-def _pairs(key: str) -> Dict[str, str]:
+def _pairs(key: str, words: List[str]) -> Dict[str, str]:
     found: Dict[str, str] = {}
-    for word in _lists[key]:
+    for word in words:
         name, _, path = word.partition("=")
         if not path or name in found:
             raise Refusal(key, "not %s=NAME=PATH, or twice: %s" % (key, quoting.shown(word)))

@@ -1,13 +1,14 @@
 """A stack as a picture: a graph for Graphviz.
 
 Has FILE, table text or concise text. Gets devices, and the disks in boxes, with an edge for each line from its device to what
-it lies on. `dot -Tsvg` draws it.
+it lies on. `dot -Tsvg` draws it. Refuses devices that stand on themselves, or more than 32 on each other, as dmremap does.
 """
 
 import argparse
 from typing import Set
 
 from dmremap_tools.base import names, streams, tables
+from dmremap_tools.layouts import stacked
 
 EXAMPLE = "dmremap-tools dot stack.table | dot -Tsvg > stack.svg"
 
@@ -20,8 +21,9 @@ def add_words(parser: argparse.ArgumentParser) -> None:
 def run(words: argparse.Namespace) -> None:
     """Prints the graph."""
     drawn: Set[str] = set()
+    devices = stacked.devices_in(words.file)
     streams.out.write("digraph stack {\n")
-    for device in tables.read(words.file)[0]:
+    for device in devices:
         name = node(device.name)
         for line in device.lines:
             for place, lower in enumerate(line.lowers()):

@@ -12,15 +12,15 @@ from dmremap_tools.layouts.debugfs import Debugfs, quoted, tell
 NAMED = re.compile(r"([1-9][0-9]{0,9})\t(/.*)")
 FOUND = re.compile(r"Inode ([1-9][0-9]{0,9}) is part of ")
 ROOT = 2
-# debugfs ends its search once it has as many names as the inodes have, so it would miss those of an inode that is lost.
-# The root is asked for as well, as it has no name.
-NCHECK = "ncheck %d" % ROOT
+# debugfs ends its search once it has as many names as the inodes say that they have, and one that is lost says none. The
+# root counts as one and has no name: asked for as well, and as often, it lets the search go on.
+NCHECK = "ncheck" + " %d" % ROOT * 1000
 
 
 def names_of(debugfs: Debugfs, inodes: Sequence[int]) -> Dict[int, List[str]]:
     """The paths of each of these inodes, which may be none."""
     found: Dict[int, List[str]] = {it: [] for it in inodes}
-    for _, printed, complaints in debugfs.ask_for(NCHECK, inodes):
+    for _, printed, complaints in debugfs.ask_for(NCHECK, [it for inode in inodes for it in (ROOT, inode)]):
         tell(complaints)
         for match in map(NAMED.fullmatch, printed.split("\n")):
             if match and int(match[1]) in found:

@@ -1,7 +1,7 @@
 """What the metadata of a volume group says of physical volumes: what they have for themselves, and which extents belong to
 volumes that no line names."""
 
-from typing import Collection, Dict, Iterator, List, NamedTuple
+from typing import Collection, Dict, Iterator, List, NamedTuple, Optional
 
 from dmremap_tools.base import config_text, quoting, streams
 from dmremap_tools.base.config_text import Node
@@ -23,10 +23,11 @@ class Taken(NamedTuple):
 
 
 class PhysicalVolume(NamedTuple):
-    """A physical volume: its key and path in the metadata, where its extents begin, and what is taken of it."""
+    """A physical volume: its key, path and id in the metadata, and what is taken of it."""
 
     key: str
     path: str
+    identity: Optional[bytes]
     taken: List[Taken]
 
 
@@ -37,7 +38,8 @@ def physical_volumes(path: str, named: Collection[str]) -> Iterator[PhysicalVolu
     if not groups:
         raise Refusal(path, "no physical volumes of a group")
     for group in groups:
-        found = {key: PhysicalVolume(word_of(key), word_of(node.value(b"device", bytes) or b"no path"), own(path, group, node))
+        found = {key: PhysicalVolume(word_of(key), word_of(node.value(b"device", bytes) or b"no path"), node.value(b"id", bytes),
+                                     own(path, group, node))
                  for key, node in group.physicals.items()}
         for name, volume in group.volumes.items():
             device = word_of(b"-".join(it.replace(b"-", b"--") for it in (group.name, name)))

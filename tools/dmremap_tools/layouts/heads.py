@@ -10,6 +10,8 @@ from dmremap_tools.base.refusal import Refusal
 from dmremap_tools.machines import luks_header
 from dmremap_tools.metadata import physical_volume
 
+OF_LVM = "-of-LVM"
+
 
 class Head(NamedTuple):
     """A range of sectors, and what it is."""
@@ -23,12 +25,12 @@ def heads_of(image: Image) -> Iterator[Head]:
     """What is taken of an image. What isn't sound is passed over."""
     label, _ = physical_volume.label_of(image)
     if label:
-        yield Head(label.sector, label.sector + 1, "label-of-LVM")
+        yield Head(label.sector, label.sector + 1, "label" + OF_LVM)
         for start, size in label.areas:
             if start + size <= label.size:
-                yield Head(start // SECTOR, -(-(start + size) // SECTOR), "area-of-LVM")
+                yield Head(start // SECTOR, -(-(start + size) // SECTOR), "area" + OF_LVM)
         return
-    if image.read(0, len(luks_header.MAGIC)) == luks_header.MAGIC:
+    if luks_header.is_container(image):
         try:
             yield Head(0, luks_header.container_in(image).start, "header-of-LUKS")
         except Refusal:

@@ -5,20 +5,20 @@ of which the lines with `dev DISK, sector N` are taken, or what biosnoop prints.
 which the areas that couldn't be read are asked for, or a list of badblocks; with --trace it is a trace of disks.
 
 Gets a line for each run of sectors that goes one way up, and that way. A sector of an origin belongs to its snapshots
-`until it is copied`; of the store of a snapshot only that is said. Many chunks of a striped line, on which nothing lies, are
-one run: `= mail 0, 128 of every 256`.
+`until it is copied`; of the store of a snapshot only that is said. Many chunks of a striped line are one run, as far as what lies on
+them has them whole: `= mail 0, 128 of every 256`.
 
-A kernel's log counts in 512 bytes. Other tools count in the sectors of the disk, as smartctl, or in bytes:
---sector-size and --bytes say so.
+A kernel's log counts in 512 bytes. Other tools count in the sectors of the disk (`blockdev --getss`), as smartctl, or in
+bytes: --sector-size and --bytes say so.
 """
 
 import argparse
 import itertools
 from typing import Dict, Iterator, Optional
 
-from dmremap_tools.base import listings, quoting, streams, tables
+from dmremap_tools.base import listings, quoting, streams
 from dmremap_tools.base.refusal import Refusal
-from dmremap_tools.layouts import sectors_asked
+from dmremap_tools.layouts import sectors_asked, stacked
 from dmremap_tools.layouts.uses import Step, Uses, Way
 
 EXAMPLE = "echo 'sda 12096' | dmremap-tools owner stack.table -"
@@ -41,7 +41,7 @@ def add_words(parser: argparse.ArgumentParser) -> None:
 def run(words: argparse.Namespace) -> None:
     """Prints the ways up from each of the sectors that are asked for."""
     minors = {number.partition(":")[2]: name for name, number in listings.read_ls(words.ls)} if words.ls else {}
-    uses = Uses(tables.read(words.file)[0], minors)
+    uses = Uses(stacked.devices_in(words.file), minors)
     known: Dict[str, Optional[str]] = {}
     for query in queries(words, uses):
         if query.disk not in known:

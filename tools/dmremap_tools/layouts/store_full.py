@@ -11,10 +11,11 @@ origin ends it.
 
 import os
 import stat
+import tempfile
 from argparse import ArgumentParser, Namespace
-from typing import Dict, Optional, Tuple
+from typing import BinaryIO, Dict, List, Optional, Tuple
 
-from dmremap_tools.base import program, streams
+from dmremap_tools.base import given, plain_text, program, streams
 from dmremap_tools.base.refusal import Refusal
 from dmremap_tools.layouts.statuses import statuses_after
 
@@ -27,17 +28,21 @@ LONGEST = 8192
 def add_words(parser: ArgumentParser) -> None:
     """Adds the arguments."""
     parser.add_argument("requests", metavar="REQUESTS")
-    parser.add_argument("format", metavar="FORMAT", choices=("table", "concise", "lvm"))
-    parser.add_argument("sources", metavar="FILE", nargs="+", help="FILE and DISKS")
+    given.add_words(parser)
     program.add_words(parser)
 
 
 def run(words: Namespace) -> None:
     """Prints a line for each snapshot."""
-    command = [program.dmremap(words.program), "map", words.format, *words.sources, "--status"]
-    runs = Runs(words.requests, command)
+    requests = opened(words.requests)
+    with given.plain(words, "REQUESTS FORMAT FILE [DISKS]") as source:
+        tell(words.requests, Runs(requests, [program.dmremap(words.program), "map", *source.words(), "--status"]))
+
+
+def tell(name: str, runs: "Runs") -> None:
+    """Says when each snapshot becomes invalid."""
     if not runs.statuses(runs.size):
-        raise Refusal(words.requests, "the command knows no snapshot")
+        raise Refusal(name, "the command knows no snapshot")
     for name, status in runs.statuses(runs.size).items():
         if status == INVALID:
             low, high = runs.last_valid(name)
@@ -46,19 +51,31 @@ def run(words: Namespace) -> None:
             streams.out.write("%s: valid to the end, %s\n" % (name, status))
 
 
+def opened(path: str) -> BinaryIO:
+    """A file of requests, or a copy of it without a byte order mark and carriage returns."""
+    try:
+        file: BinaryIO = open(path, "rb")
+        is_file = stat.S_ISREG(os.fstat(file.fileno()).st_mode)
+    except OSError as fault:
+        raise Refusal(path, streams.why(fault))
+    if not is_file:
+        raise Refusal(path, "not a file of requests")
+    beginning = file.read(LONGEST)
+    if plain_text.with_plain_ends(plain_text.begun(path, beginning)) == beginning:
+        return file
+    copy = tempfile.NamedTemporaryFile()
+    for line in streams.Lines(path):
+        copy.write(line.encode("utf-8", "surrogateescape") + b"\n")
+    copy.flush()
+    return copy  # type: ignore
+
+
 class Runs:
     """dmremap over the beginnings of a file, in bytes. Each run is made once."""
 
-    def __init__(self, path: str, command: "list[str]") -> None:
-        self._command = command
-        try:
-            self._file = open(path, "rb")
-            found = os.fstat(self._file.fileno())
-        except OSError as fault:
-            raise Refusal(path, streams.why(fault))
-        if not stat.S_ISREG(found.st_mode):
-            raise Refusal(path, "not a file of requests")
-        self.size = found.st_size
+    def __init__(self, file: BinaryIO, command: List[str]) -> None:
+        self._file, self._command = file, command
+        self.size = os.fstat(file.fileno()).st_size
         self._known: Dict[int, Dict[str, str]] = {}
 
     def statuses(self, size: int) -> Dict[str, str]:

@@ -7,11 +7,10 @@ themselves, or lie on each other more than 32 deep, neither of which dmremap loa
 import argparse
 from typing import Dict, Iterator, List, Optional, Set, Tuple
 
-from dmremap_tools.base import names, quoting, streams, tables
-from dmremap_tools.base.refusal import Refusal
+from dmremap_tools.base import names, streams, tables
+from dmremap_tools.layouts import stacked
 
 EXAMPLE = "dmremap-tools tree stack.table"
-DEEPEST = 32
 # A line of the tree, and the device that is shown below it.
 Row = Tuple[str, Optional[str]]
 
@@ -24,7 +23,7 @@ def add_words(parser: argparse.ArgumentParser) -> None:
 def run(words: argparse.Namespace) -> None:
     """Prints the tree."""
     lines: Dict[str, List[tables.Line]] = {}
-    for device in tables.read(words.file)[0]:
+    for device in stacked.devices_in(words.file):
         lines.setdefault(device.name, []).extend(device.lines)
     if not lines:
         streams.tell("no device came")
@@ -33,9 +32,6 @@ def run(words: argparse.Namespace) -> None:
     for name in lines:
         if names.MAPPER + name not in under:
             show(name, lines, shown)
-    for name in lines:
-        if name not in shown:
-            raise Refusal(words.file, "devices stand on themselves: " + quoting.shown(name))
 
 
 def show(top: str, lines: Dict[str, List[tables.Line]], shown: Set[str]) -> None:
@@ -49,8 +45,6 @@ def show(top: str, lines: Dict[str, List[tables.Line]], shown: Set[str]) -> None
             continue
         streams.out.write(text + "\n")
         if lower is not None:
-            if len(levels) == DEEPEST:
-                raise Refusal(quoting.shown(top), "devices stand on themselves, or on too many others")
             levels.append(rows(lower, "|    " * len(levels), lines, shown))
 
 

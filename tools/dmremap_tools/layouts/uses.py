@@ -1,14 +1,13 @@
 """What uses the sectors of each disk and device of a stack, and so what lies above a sector."""
 
+import itertools
 from typing import Dict, Iterator, List, NamedTuple, Optional, Sequence, Tuple
 
-from dmremap_tools.base import names, numbers, quoting, tables
-from dmremap_tools.base.refusal import Refusal
+from dmremap_tools.base import names, numbers, tables
 from dmremap_tools.layouts.overlaps import Overlaps
 
-DEEPEST = 32
-# More chunks than these of a striped line, with nothing above them, are told as one run.
-MOST_CHUNKS = 64
+# More chunks than these of a striped line are told as one run, as long as no more than these uses lie above them.
+MOST_CHUNKS, MOST_USES = 64, 64
 
 
 class Step(NamedTuple):
@@ -55,6 +54,39 @@ class Use:
         return (begin, stop) if columns > 1 and stop - begin > MOST_CHUNKS * chunk else (first, first)
 
 
+class Comb(NamedTuple):
+    """Chunks that follow each other on what lies below, and lie apart above that: the steps of the first up to there, and those
+    after that; of how many sectors each is, after how many the next one begins, and how many there are."""
+
+    below: Way
+    above: Way
+    chunk: int
+    every: int
+    count: int
+
+    def span(self) -> Tuple[int, int]:
+        """The first sector on the last device, and the one after the last."""
+        first = self.above[-1].sector or 0
+        return first, first + (self.count - 1) * self.every + self.chunk
+
+    def part(self, begin: int, stop: int) -> "Comb":
+        """Those from a number up to another."""
+        return Comb(moved(self.below, begin * self.chunk), moved(self.above, begin * self.every), self.chunk, self.every, stop - begin)
+
+    def met_by(self, use: Use) -> List[int]:
+        """The number of the first chunk that a use has sectors of, of the first that it has whole, and those after the last
+        that it has whole, and has sectors of."""
+        begin, end = use.first - self.span()[0], use.end - self.span()[0]
+        numbers = ((begin - self.chunk) // self.every + 1, -(-begin // self.every),
+                   (end - self.chunk) // self.every + 1, -(-end // self.every))
+        return [min(max(it, 0), self.count) for it in numbers]
+
+    def way(self) -> Way:
+        """The way of all of them."""
+        note = ", %d of every %d" % (self.chunk, self.every) if self.count > 1 else ""
+        return self.below + tuple(it._replace(note=it.note + note) for it in self.above)
+
+
 class Uses:
     """What uses each disk and device. `minors` has the name of each device by its minor number."""
 
@@ -75,8 +107,6 @@ class Uses:
 
     def ways(self, on: Optional[str], first: int, end: int, way: Way) -> Iterator[Tuple[Way, int]]:
         """Each way up from these sectors, and the number of sectors that go it."""
-        if len(way) > DEEPEST + 1:
-            raise Refusal(quoting.shown(way[0].name), "devices stand on themselves, or on too many others")
         at = first
         uses = self._uses.get(on)
         for use in uses.meeting(first, end) if uses else ():
@@ -84,11 +114,11 @@ class Uses:
             if at < begin:
                 yield moved(way, at - first), begin - at
             whole, rest = use.whole_chunks(begin, stop)
-            if whole < rest and not self._is_any(use, whole, rest):
+            if whole < rest:
                 yield from self._through(use, begin, whole, moved(way, begin - first))
                 (_, _, to), (columns, chunk) = next(use.runs(whole, rest)), use.stripes()
-                step = Step(use.device, to, ", %d of every %d" % (chunk, columns * chunk))
-                yield moved(way, whole - first) + (step,), rest - whole
+                comb = Comb(moved(way, whole - first), (Step(use.device, to),), chunk, columns * chunk, (rest - whole) // chunk)
+                yield from self._combed(names.MAPPER + use.device, comb)
                 begin = rest
             yield from self._through(use, begin, stop, moved(way, begin - first))
             at = max(at, stop)
@@ -100,15 +130,53 @@ class Uses:
         for sector, count, to in use.runs(first, end):
             below = moved(way, sector - first)
             if use.is_store():
-                yield below + (Step("in the store of " + use.device, None),), count
+                yield below + (store_of(use),), count
             else:
-                step = Step(use.device, to, " until it is copied" if use.line.target == "snapshot" else "")
-                yield from self.ways(names.MAPPER + use.device, to, to + count, below + (step,))
+                yield from self.ways(names.MAPPER + use.device, to, to + count, below + (step_of(use, to),))
 
-    def _is_any(self, use: Use, first: int, end: int) -> bool:
-        """Whether anything lies on the device of a use, from where the first to where the last of these sectors is on it."""
-        (_, _, begin), (_, count, last) = next(use.runs(first, end)), next(use.runs(end - use.stripes()[1], end))
-        return next(self._uses[names.MAPPER + use.device].meeting(begin, last + count), None) is not None
+    def _combed(self, on: str, comb: Comb) -> Iterator[Tuple[Way, int]]:
+        """Each way up of chunks that lie apart on a device: together, as long as what uses them uses them whole."""
+        uses = list(itertools.islice(self._uses[on].meeting(*comb.span()), MOST_USES + 1))
+        met = [comb.met_by(it) for it in uses]
+        if len(uses) > MOST_USES:
+            yield from self._one_by_one(on, comb)
+            return
+        cuts = sorted({0, comb.count, *(number for it in met for number in it)})
+        for begin, stop in zip(cuts, cuts[1:]):
+            part = comb.part(begin, stop)
+            over = [(use, it) for use, it in zip(uses, met) if it[0] < stop and begin < it[3]]
+            if not over:
+                yield part.way(), part.count * part.chunk
+            elif all(it[1] <= begin and stop <= it[2] and (use.is_store() or use.stripes()[0] == 1) for use, it in over):
+                for use, _ in over:
+                    yield from self._over(use, part)
+            else:
+                yield from self._one_by_one(on, part)
+
+    def _over(self, use: Use, comb: Comb) -> Iterator[Tuple[Way, int]]:
+        """Each way up of chunks that goes through a use of one column."""
+        if use.is_store():
+            yield comb.way() + (store_of(use),), comb.count * comb.chunk
+        else:
+            (_, _, to) = next(use.runs(comb.span()[0], use.end))
+            yield from self._combed(names.MAPPER + use.device, comb._replace(above=comb.above + (step_of(use, to),)))
+
+    def _one_by_one(self, on: str, comb: Comb) -> Iterator[Tuple[Way, int]]:
+        """Each way up of each of the chunks."""
+        for number in range(comb.count):
+            part = comb.part(number, number + 1)
+            first, end = part.span()
+            yield from self.ways(on, first, end, part.below + part.above)
+
+
+def store_of(use: Use) -> Step:
+    """The step to a snapshot by its store."""
+    return Step("in the store of " + use.device, None)
+
+
+def step_of(use: Use, sector: int) -> Step:
+    """The step to a sector of the device that uses another."""
+    return Step(use.device, sector, " until it is copied" if use.line.target == "snapshot" else "")
 
 
 def end_of(line: tables.Line, place: int, first: int, count: Optional[int]) -> int:

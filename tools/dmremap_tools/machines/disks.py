@@ -14,6 +14,7 @@ from typing import Dict, Iterator, List, Tuple
 from dmremap_tools.base import disk_image, numbers, paths, streams
 from dmremap_tools.base.config_text import Document, Node, shown
 from dmremap_tools.base.refusal import Refusal, WrongWords
+from dmremap_tools.metadata.chosen_part import table_in
 from dmremap_tools.metadata.physical_volume import label_of
 from dmremap_tools.metadata.volume_group import disk_names, sections_in
 from dmremap_tools.metadata.volumes_within import taken_from_array
@@ -41,7 +42,7 @@ def run(words: argparse.Namespace) -> None:
             streams.out.write("%s %d\n" % row)
     else:
         for name, path in paths.read(words.paths).items():
-            streams.out.write("%s %d\n" % (name, disk_image.open_image(path).size // numbers.SECTOR))
+            streams.out.write("%s %d\n" % (name, disk_image.raw_image(path).size // numbers.SECTOR))
 
 
 def of_group(path: str) -> Iterator[Tuple[str, int]]:
@@ -59,8 +60,10 @@ def found_images(text: str, images: List[str]) -> Iterator[Tuple[str, str]]:
     of = names_by_id(text)
     found: Dict[str, str] = {}
     for path in images:
-        image = taken_from_array(disk_image.open_image(path))
+        image = taken_from_array(disk_image.raw_image(path))
         label, _ = label_of(image)
+        if label is None and table_in(image):
+            raise Refusal(image.path, "it is the image of a whole disk: `partitions --group` finds the physical volumes on it")
         if label is None:
             raise Refusal(image.path, "there is no label in the first four sectors: it is no physical volume")
         name = of.get(label.identity)

@@ -6,6 +6,10 @@ or `zero` in the place of a disk that PATHS has not. --losetup prints, in place 
 that is one linear line on a disk, as that needs no device-mapper; FILE may be table text then, and where PATHS is not
 given, IMAGE is to be replaced by the image of the disk behind `#`.
 
+`losetup -r` makes a disk of an image that nothing writes to, and with -P also its partitions. A kernel reads from a
+snapshot's store which chunks it has, so such a snapshot shows its copies. Mount with `-o ro,noload`, so that ext4 doesn't
+replay its journal; for XFS it is `norecovery`.
+
 Refuses a disk that has no path here, unless --missing is given.
 """
 

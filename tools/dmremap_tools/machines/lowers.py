@@ -7,6 +7,9 @@ from dmremap_tools.base.refusal import Refusal
 from dmremap_tools.machines.sfdisk_text import Partition, path_of
 
 
+NO_LENGTH = ": --lsblk or its image says it, and --missing puts a device in its place"
+
+
 class Lowers:
     """What stands in the new text for what FILE names, and how long each disk is."""
 
@@ -52,5 +55,5 @@ class Lowers:
         for disk in dict.fromkeys(lowers):
             length = self._lengths.get(disk)
             if not length:
-                raise Refusal(lsblk or "--lsblk", "no length of " + disk)
+                raise Refusal(lsblk or "--disks", "no length of %s%s" % (disk, "" if lsblk else NO_LENGTH))
             yield disk, length

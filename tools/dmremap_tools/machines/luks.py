@@ -1,19 +1,23 @@
 """A container of LUKS as a device, so that the tables of what is within go on to its disk.
 
 Have: HEADER, the disk or an image of it or of its first MiB, or what `cryptsetup luksDump` prints of it; and DISK, what
-tables call that disk. Get: table text of a linear device, named NAME or luks-UUID, from the first sector of the data on.
-`under` puts it below the tables of a volume group: their disk is the key of the physical volume, as pv0, which `disks`
-lists with its id. What lies there is encrypted, so compare nothing with it.
+tables call that disk. Of a whole disk it is the partition that has a header, or the one that --partition names. Get: table
+text of a linear device, named NAME or luks-UUID, from the first sector of the data on. `under` puts it below the tables of a
+volume group: their disk is the key of the physical volume, as pv0, of which `disks --image` says whether it is the opened
+container, or its image where `partitions --group` put that. What lies there is encrypted, so compare nothing with it.
 
 Refuses a header that its sum doesn't confirm (version 1 has none), one of a container that is being encrypted anew, and an
 image that ends before the data: --length says how many sectors the disk has.
 """
 
 import argparse
+from typing import Optional
 
 from dmremap_tools.base import disk_image, names, numbers, quoting, streams
-from dmremap_tools.base.refusal import Refusal
-from dmremap_tools.machines.luks_header import container_in, is_text
+from dmremap_tools.base.partition_table import Partition
+from dmremap_tools.base.refusal import Refusal, WrongWords
+from dmremap_tools.machines.luks_header import container_in, is_container, is_text
+from dmremap_tools.metadata.chosen_part import numbers_of, part_of, partition_of, table_in
 
 EXAMPLE = "dmremap-tools luks /dev/sda2 sda2.img > luks.table && dmremap-tools under --disk pv0 home vg0.table luks.table"
 
@@ -21,6 +25,7 @@ EXAMPLE = "dmremap-tools luks /dev/sda2 sda2.img > luks.table && dmremap-tools u
 def add_words(parser: argparse.ArgumentParser) -> None:
     """Adds DISK, HEADER and the name."""
     parser.add_argument("--name", metavar="NAME", help="the name of the device, if not luks-UUID")
+    parser.add_argument("--partition", type=numbers.word, metavar="N", help="the partition of a whole disk")
     parser.add_argument("--length", type=numbers.word, metavar="SECTORS", help="how many sectors the disk has, if HEADER isn't all of it")
     parser.add_argument("disk", metavar="DISK")
     parser.add_argument("header", metavar="HEADER")
@@ -28,17 +33,49 @@ def add_words(parser: argparse.ArgumentParser) -> None:
 
 def run(words: argparse.Namespace) -> None:
     """Prints the device."""
-    image = disk_image.open_image(words.header)
+    image = disk_image.raw_image(words.header)
+    first, length = 0, words.length
+    if is_text(image) and words.partition is not None:
+        raise WrongWords("--partition is of an image, and luksDump tells of one container")
+    if not is_text(image):
+        partition = _partition_with_header(image, words.partition)
+        first = partition.start // numbers.SECTOR
+        length = _length_of(partition, length)
+        if partition.number and length <= 0:
+            raise Refusal(image.path, "partition %d begins at sector %d, and the disk ends at sector %d" % (partition.number, first, words.length))
+        image = part_of(image, partition)
     container = container_in(image)
     name = words.name if words.name is not None else "luks-" + container.uuid
     if not names.FORM.fullmatch(name):
         raise Refusal("NAME", "no name of a device: '%s'" % quoting.shown(name))
     if not names.DISK.fullmatch(words.disk) and not words.disk.startswith(names.MAPPER):
         raise Refusal("DISK", "no name of a disk: '%s'" % quoting.shown(words.disk))
-    length = words.length if words.length is not None or is_text(image) else image.size // numbers.SECTOR
     count = container.length if container.length is not None else (length or 0) - container.start
     if count <= 0:
         raise Refusal(image.path, "how long is the disk? Its data begins at sector %d: give --length" % container.start)
     if length is not None and container.start + count > length:
         raise Refusal(image.path, "the data ends at sector %d, and the disk at sector %d" % (container.start + count, length))
-    streams.out.write("%s: 0 %d linear %s %d\n" % (name, count, words.disk, container.start))
+    streams.out.write("%s: 0 %d linear %s %d\n" % (name, count, words.disk, first + container.start))
+
+
+def _length_of(partition: Partition, of_disk: Optional[int]) -> int:
+    """The sectors up to the end of a partition, and not past that of its disk, if it is known. A disk without partitions is as
+    long as is said."""
+    size = partition.size // numbers.SECTOR
+    if of_disk is None:
+        return size
+    return min(size, of_disk - partition.start // numbers.SECTOR) if partition.number else of_disk
+
+
+def _partition_with_header(disk: disk_image.Image, number: Optional[int]) -> Partition:
+    """The partition of this number, or the one that has a header, or the disk itself where it has no partitions."""
+    table = None if is_container(disk) else table_in(disk)
+    if number is not None:
+        return partition_of(disk, table, number)
+    if table is None:
+        return Partition(0, 0, disk.size)
+    found = [it for it in table.partitions if is_container(part_of(disk, it))]
+    if len(found) != 1:
+        raise Refusal(disk.path, "the image of a whole disk (%s), of which %s: give --partition N"
+                      % (table.kind, "the partitions %s have one" % numbers_of(found) if found else "no partition has a header of LUKS"))
+    return found[0]

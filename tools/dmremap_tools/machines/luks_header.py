@@ -43,7 +43,12 @@ def container_in(image: Image) -> Container:
         found = _second_version(image, place)
         if found:
             return found
-    raise Refusal(image.path, "no header of LUKS, and no text of luksDump" if not head.startswith(MAGIC) else "its header of LUKS is damaged")
+    raise Refusal(image.path, "no header of LUKS, and no text of luksDump" if not is_container(image) else "its header of LUKS is damaged")
+
+
+def is_container(image: Image) -> bool:
+    """Whether a header begins an image."""
+    return image.read(0, len(MAGIC)) == MAGIC
 
 
 def is_text(image: Image) -> bool:

@@ -14,7 +14,8 @@ FILE names. Numbers of devices become their names, numbers of disks their paths,
 lies there is encrypted, so compare nothing with it. `dmsetup table` doesn't say which devices are read-only, so all count
 as writable then. One device alone: `dmsetup table NAME | sed 's/^/NAME: /'`.
 
-A device that dmremap can't follow is told and left out; to the devices above it, it is a disk. Such are
+A device that dmremap can't follow is told and left out; to the devices above it, it is a disk, by the kernel's path, at
+which answers end. Such are
 
     devices of other targets, as thin, raid, mirror, cache, multipath, verity, integrity and snapshot-merge;
     those without a table, or with a name that dmremap doesn't take (`dmsetup rename` gives another);
@@ -36,9 +37,13 @@ from typing import Dict, List, Optional, Tuple
 from dmremap_tools.base import disk_image, listings, numbers, paths, quoting, streams, tables
 from dmremap_tools.base.refusal import Refusal, WrongWords
 from dmremap_tools.machines.found import NOT_ASKED, Found, leave_others, leave_unknown, read_status, read_tables
+from dmremap_tools.machines.placed import partitioned
 from dmremap_tools.machines.stack import Stack
 
 EXAMPLE = "dmremap-tools machine --disks disks ls.txt status.txt lsblk.txt concise.txt > tables"
+# The numbers of disks called sd: each has a minor that is a multiple of 16, and its partitions have those after it.
+SD_MAJORS = [str(it) for it in (8, *range(65, 72), *range(128, 136))]
+SD_MINORS = 16
 
 
 def add_words(parser: argparse.ArgumentParser) -> None:
@@ -59,6 +64,7 @@ def run(words: argparse.Namespace) -> None:
     is_known = {**read_status(words.status), **{it.partition("=")[0]: True for it in words.store}}
     stack = Stack(devices, *lengths_of(words))
     is_concise = read_tables(words.table, devices)
+    check_stores(words.store, devices)
     leave_unknown(devices, is_known)
     if words.only:
         leave_others(devices, words.only)
@@ -71,6 +77,13 @@ def run(words: argparse.Namespace) -> None:
     streams.out.write(tables.text_of(kept, is_concise))
 
 
+def check_stores(given: List[str], devices: Dict[str, Found]) -> None:
+    """Refuses stores that are given of no snapshot, as that which was meant would be left out."""
+    for name in (it.partition("=")[0] for it in given):
+        if not any(it.origins and it.name == name for it in devices.values()):
+            raise Refusal("--store", "no snapshot " + quoting.shown(name))
+
+
 def lengths_of(words: argparse.Namespace) -> Tuple[Dict[str, Optional[int]], Dict[str, str]]:
     """By number, the length of each device and disk, and its path. What PATHS has is as long as it is there."""
     if words.lsblk is None and words.paths is None:
@@ -78,8 +91,27 @@ def lengths_of(words: argparse.Namespace) -> Tuple[Dict[str, Optional[int]], Dic
     sizes, of = listings.read_lsblk(words.lsblk) if words.lsblk is not None else ({}, {})
     numbers_of = {path: number for number, path in of.items()}
     for name, path in (paths.read(words.paths) if words.paths is not None else {}).items():
-        sizes[numbers_of.get(name, name)] = disk_image.open_image(path).size // numbers.SECTOR
+        number = numbers_of.get(name, name)
+        sizes[number] = length_in(path, number, sizes.get(number))
     return sizes, of
+
+
+def length_in(path: str, number: str, known: Optional[int]) -> int:
+    """The sectors of the image of a disk. That of a whole disk isn't as long as a partition of it, by its number, and is
+    refused, unless it is as long as lsblk says."""
+    image = disk_image.raw_image(path)
+    length = image.size // numbers.SECTOR
+    kind, _ = partitioned(image) if length != known and is_partition(number) else ("", 0)
+    if kind:
+        raise Refusal(image.path, "the image of a whole disk (%s), and %s is a partition: give that, cut out with dd"
+                      % (kind, quoting.shown(number)))
+    return length
+
+
+def is_partition(number: str) -> bool:
+    """Whether a number is that of a partition of a disk that the kernel calls sd."""
+    major, _, minor = number.partition(":")
+    return major in SD_MAJORS and minor.isdecimal() and int(minor) % SD_MINORS != 0
 
 
 def say_left_out(stack: Stack, disks: Dict[str, int]) -> None:

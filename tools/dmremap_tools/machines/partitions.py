@@ -96,7 +96,9 @@ def partitions_of(path: str, lowers: Lowers, sector: int, names_of: Dict[bytes, 
     for place, name in bound.items():
         lowers.bind(name, place)
     if is_bare and not bound:
-        raise Refusal(path, "no physical volume of the group is in it: none of its labels has such an id")
+        array = "; %s is a member of an md array: `md` makes its table, and `under` puts that below those of the group" % image.members[0] \
+            if image.members else ""
+        raise Refusal(path, "no physical volume of the group is in it: none of its labels has such an id" + array)
     return image.partitions
 
 

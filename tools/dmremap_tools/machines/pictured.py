@@ -4,30 +4,28 @@ from typing import Dict, List, NamedTuple
 
 from dmremap_tools.base import disk_image, numbers
 from dmremap_tools.machines.sfdisk_text import Partition, path_of
-from dmremap_tools.metadata.chosen_part import table_in
+from dmremap_tools.metadata.chosen_part import part_of, table_in
 from dmremap_tools.metadata.physical_volume import label_of
+from dmremap_tools.metadata.volumes_within import superblocks
 
 
 class Pictured(NamedTuple):
-    """An image: its length in sectors, its partitions, and the ids of physical volumes by the paths of the image or of a
-    partition."""
+    """An image: its length in sectors, its partitions, the ids of physical volumes by the paths of the image or of a
+    partition, and which of these are members of md arrays."""
 
     length: int
     partitions: List[Partition]
     identities: Dict[str, bytes]
+    members: List[str]
 
 
 def pictured(path: str, sector: int) -> Pictured:
     """What an image has, whose MBR counts in sectors of so many bytes."""
-    image = disk_image.open_image(path)
+    image = disk_image.raw_image(path)
     table = table_in(image, sector)
-    made, identities = [], {}
-    for name, part in [(path_of(path, str(it.number)), it) for it in table.partitions] if table else []:
-        made.append(Partition(path, name, part.start // numbers.SECTOR, part.size // numbers.SECTOR))
-        label, _ = label_of(image.part(part.start, part.size))
-        if label:
-            identities[name] = label.identity
-    label, _ = (None, None) if table else label_of(image)
-    if label:
-        identities[path] = label.identity
-    return Pictured(image.size // numbers.SECTOR, made, identities)
+    parts = {path_of(path, str(it.number)): it for it in table.partitions} if table else {}
+    places = {name: part_of(image, it) for name, it in parts.items()} if table else {path: image}
+    return Pictured(image.size // numbers.SECTOR,
+                    [Partition(path, name, it.start // numbers.SECTOR, it.size // numbers.SECTOR) for name, it in parts.items()],
+                    {name: label.identity for name, it in places.items() for label in label_of(it)[:1] if label},
+                    [name for name, it in places.items() if any(superblocks(it))])

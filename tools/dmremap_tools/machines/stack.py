@@ -3,11 +3,11 @@
 from typing import Dict, List, Optional, Set, Tuple
 
 from dmremap_tools.base import names, tables
-from dmremap_tools.base.store_places import MOST, places
+from dmremap_tools.base.store_places import MOST, MOST_IN_CHUNK, places
 from dmremap_tools.machines.found import LONGEST, Found
 
-# Limits of dmremap: how many devices stand on each other, and the sectors of a chunk.
-DEEPEST, MOST_IN_CHUNK = 32, 1024
+# How many devices stand on each other at most.
+DEEPEST = 32
 TOO_DEEP = "it stands on itself, or on too many others"
 
 

@@ -1,8 +1,8 @@
-"""The physical volume in an image: the image itself, or one of its partitions."""
+"""The physical volumes in an image: the image itself, or partitions of it."""
 
 from typing import List, Optional
 
-from dmremap_tools.base import quoting
+from dmremap_tools.base import quoting, streams
 from dmremap_tools.base.disk_image import Image, dd
 from dmremap_tools.base.numbers import SECTOR
 from dmremap_tools.base.partition_table import DamagedTable, Partition, Table, backup_of, table_of
@@ -14,27 +14,49 @@ from dmremap_tools.metadata.volumes_within import array_data, where_volumes_begi
 HEAD = 1 << 20
 
 
-def chosen_part(disk: Image, number: Optional[int]) -> Image:
-    """The physical volume: the image itself, or a partition of it."""
+def chosen_parts(disk: Image, number: Optional[int]) -> List[Image]:
+    """The physical volumes: the image itself, or the partition of it with this number, or each that is one."""
     if number == 0:
-        return disk
+        return [disk]
     try:
         table = table_in(disk)
     except DamagedTable as damaged:
         raise Refusal(disk.path, damaged.why + where_volumes_begin(disk))
-    if number is None and table is None:
-        return disk
-    if number is None:
-        raise Refusal(disk.path, whole_disk(disk, table))
+    if number is not None:
+        return [part_of(disk, partition_of(disk, table, number))]
+    return [disk] if table is None else volumes_of(disk, table)
+
+
+def partition_of(disk: Image, table: Optional[Table], number: int) -> Partition:
+    """The partition of this number."""
     if table is None:
         raise Refusal(disk.path, "there is no partition table: leave --partition out")
     chosen = [it for it in table.partitions if it.number == number]
     if not chosen:
-        raise Refusal(disk.path, "there is no partition %d: there are %s" % (number, numbers(table.partitions)))
+        raise Refusal(disk.path, "there is no partition %d: there are %s" % (number, numbers_of(table.partitions)))
     if chosen[0].start >= disk.size:
         raise Refusal(disk.path, "partition %d begins after the end of this image: fetch its head, and take that as HEAD: %s"
                       % (number, dd(disk, "head.img", chosen[0].start, HEAD)))
-    return disk.part(chosen[0].start, chosen[0].size)
+    return chosen[0]
+
+
+def part_of(disk: Image, partition: Partition) -> Image:
+    """The image of a partition, as far as it is there."""
+    return disk.part(partition.start, partition.size)
+
+
+def volumes_of(disk: Image, table: Table) -> List[Image]:
+    """The partitions of a whole disk that are physical volumes, which is told, or why there is none."""
+    if label_of(disk)[0]:
+        raise Refusal(disk.path, "there are both a partition table (%s) and the label of a physical volume, which lvm2 doesn't take then: "
+                      "--partition N takes a partition, and --partition 0 the disk itself" % table.kind)
+    there = [it for it in table.partitions if it.start < disk.size]
+    volumes = [it for it in there if has_volume(part_of(disk, it))]
+    if not volumes:
+        raise Refusal(disk.path, no_volume(disk, table, len(there)))
+    which = "partitions %s are physical volumes: these are" if len(volumes) > 1 else "partition %s is a physical volume: that is"
+    streams.tell("%s: the image of a whole disk (%s), whose %s read" % (disk.path, table.kind, which % numbers_of(volumes)))
+    return [part_of(disk, it) for it in volumes]
 
 
 def table_in(disk: Image, sector: int = SECTOR) -> Optional[Table]:
@@ -43,25 +65,16 @@ def table_in(disk: Image, sector: int = SECTOR) -> Optional[Table]:
     return table_of(disk, sector) or (backup_of(disk) if label_of(disk)[0] is None else None)
 
 
-def whole_disk(disk: Image, table: Table) -> str:
-    """Why a whole disk is no physical volume, and what to try."""
-    if label_of(disk)[0]:
-        return ("there are both a partition table (%s) and the label of a physical volume, which lvm2 doesn't take then: "
-                "--partition N takes a partition, and --partition 0 the disk itself" % table.kind)
+def no_volume(disk: Image, table: Table, there: int) -> str:
+    """Why no partition is a physical volume, of which so many are there, and what to try."""
     found = "the image of a whole disk (%s)" % table.kind
-    there = [it for it in table.partitions if it.start < disk.size]
-    volumes = [it for it in there if has_volume(disk.part(it.start, it.size))]
-    if len(volumes) == 1:
-        return "%s, whose partition %s is a physical volume: take --partition %s, or cut it out" % ((found,) + 2 * (numbers(volumes),))
-    if volumes:
-        return "%s, whose partitions %s are physical volumes: take --partition N for one, or cut it out" % (found, numbers(volumes))
-    if len(there) < len(table.partitions):
+    if there < len(table.partitions):
         first = next(it for it in table.partitions if it.start >= disk.size)
         others = ["%d from sector %d on" % (it.number, it.start // SECTOR) for it in table.partitions]
         return ("%s, which ends before its partitions do (%s): fetch the head of the one that you want, and take that as HEAD; "
                 "for %d it is %s" % (found, quoting.some(others), first.number, dd(disk, "head.img", first.start, HEAD)))
     return ("%s, none of whose partitions (%s) has a sound label: take --partition N for one, or cut it out%s"
-            % (found, numbers(table.partitions) or "-", where_volumes_begin(disk)))
+            % (found, numbers_of(table.partitions) or "-", where_volumes_begin(disk)))
 
 
 def has_volume(part: Image) -> bool:
@@ -69,6 +82,6 @@ def has_volume(part: Image) -> bool:
     return label_of(part)[0] is not None or array_data(part) is not None
 
 
-def numbers(partitions: List[Partition]) -> str:
+def numbers_of(partitions: List[Partition]) -> str:
     """The numbers of some partitions, in words."""
     return quoting.some([str(it.number) for it in partitions])

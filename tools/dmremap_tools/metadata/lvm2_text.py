@@ -16,10 +16,15 @@ Changed are a disk that is shorter than its extents, as after pvresize, one with
 volumes that are read-only, and what lvm2 reads and dmremap doesn't: octal numbers, single quotes, `linear`, a string in
 place of a list, commas too many or too few, fields that are there twice, other white space, bytes that are no UTF-8.
 
+The parts of a volume that is left out stay, under the names that they have in the kernel: `r1_rimage_0` is one half of the
+mirror `r1`, and `pool_tdata` has the data of a thin pool. For a cached volume, the cache may have newer data than
+`home_corig`. Of a snapshot that is being merged, what isn't merged yet is read from its store, which answers don't show.
+
 With --only, which may be given several times, the copy has that volume, and its origin if it is a snapshot.
 
 Refuses a text of which no volume would be left, one that is no metadata of a group, and forms that lvm2 never writes.
-Nothing about the copy is proved. The text can't say whether it is the newest.
+Nothing about the copy is proved. The text can't say whether it is the newest, and a machine's devices are those of the text
+only if `dmsetup table` says so.
 """
 
 import argparse

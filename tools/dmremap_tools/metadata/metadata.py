@@ -1,18 +1,22 @@
 """The metadata text of the group that a physical volume of LVM2 belongs to.
 
-Have: HEAD, the physical volume, or an image of its beginning, such as its first MiB, or of the whole disk, whose
-partition --partition chooses. A volume that begins elsewhere is taken with --start. In a member of an md array it is
-found behind the superblock. Several HEADs have to agree.
+Have: HEAD, the physical volume, or an image of its beginning, such as its first MiB, or of the whole disk, of which each
+partition with a sound label is taken, or the one that --partition names. A volume that begins elsewhere is taken with
+--start. In a member of an md array it is found behind the superblock (1.1 or 1.2). Several physical volumes have to agree.
+`dd if=/dev/sda1 of=head.img bs=1M count=1` makes an image of the beginning; where there is lvm2, `pvck --dump metadata -f
+TEXT head.img` does the same.
 
 Get: the valid text. The label says where the metadata areas are, and the header of an area which of its texts is valid.
-Each of the three has a sum. If the first area is damaged, the second is taken, where there is one. If both are sound,
-the text with the higher seqno. With --list, what is left of older texts: the place of each in HEAD, its group, the
-group's id, the seqno and the time; `cut` is a text that isn't there to its end. --seqno and --at print one of these.
+Each of the three has a sum. If the first area is damaged, the second is taken, where there is one. If both are sound, the
+text with the higher seqno; two groups, or two texts with one number, are refused. If all are damaged, take another physical
+volume of the group, or a text in /etc/lvm/backup. With --list, what is left of older texts: the place of each in HEAD, its
+group, the group's id, the seqno and the time; `cut` is a text that isn't there to its end. --seqno and --at print one of
+these.
 
 Without a sound label, areas are looked for in the first and the last 4 MiB, and then labels in the whole image. A GPT
 whose first copy is damaged is read by its second one.
 
-Refuses whatever no sum confirms, and a volume that belongs to no group. Of HEADs that differ each is told with its
+Refuses whatever no sum confirms, and a volume that belongs to no group. Of texts that differ each is told with its
 volumes. A text that lvm2 was about to make the valid one isn't taken; nor does lvm2 take it. Older texts have no sum:
 choose one by the group's id and the time, as a group that was removed may have had the same name, and higher numbers.
 No sum tells whether another physical volume has a later text, or whether the disks still hold what it says.
@@ -25,7 +29,7 @@ from dmremap_tools.base import numbers, streams
 from dmremap_tools.base.disk_image import Image, open_image
 from dmremap_tools.base.numbers import SECTOR
 from dmremap_tools.base.refusal import Refusal, WrongWords
-from dmremap_tools.metadata.chosen_part import chosen_part
+from dmremap_tools.metadata.chosen_part import chosen_parts
 from dmremap_tools.metadata.group_text import summary, without_time
 from dmremap_tools.metadata.older_texts import text_at, text_with, texts_in
 from dmremap_tools.metadata.valid_text import areas_of, valid_text, with_fetched
@@ -49,30 +53,33 @@ def add_words(parser: argparse.ArgumentParser) -> None:
 
 def run(words: argparse.Namespace) -> None:
     """Prints what is asked for."""
-    if len(words.heads) > 1 and (words.list or any(it is not None for it in (words.area, words.seqno, words.at))):
+    is_of_one = words.list or any(it is not None for it in (words.area, words.seqno, words.at))
+    if len(words.heads) > 1 and is_of_one:
         raise WrongWords("--area, --list, --seqno and --at take one HEAD")
-    image = volume_in(words.heads[0], words)
+    images = [it for path in words.heads for it in volumes_in(path, words)]
+    if len(images) > 1 and is_of_one:
+        raise Refusal(images[0].path, "it has several physical volumes: take one with --partition N")
     if words.list:
-        for text in texts_in(image):
+        for text in texts_in(images[0]):
             streams.out.write(text.line())
         return
     if words.seqno is not None:
-        content = text_with(image, words.seqno)
+        content = text_with(images[0], words.seqno)
     elif words.at is not None:
-        content = text_at(image, words.at)
+        content = text_at(images[0], words.at)
     else:
-        content = first_if_equal(words.heads, [text_of(image, words.area)] + [text_of(volume_in(it, words), None) for it in words.heads[1:]])
+        content = first_if_equal(images, [text_of(it, words.area) for it in images])
     streams.out.write(content.decode("utf-8", "surrogateescape"))
 
 
-def volume_in(path: str, words: argparse.Namespace) -> Image:
-    """The physical volume in a HEAD."""
+def volumes_in(path: str, words: argparse.Namespace) -> List[Image]:
+    """The physical volumes in a HEAD."""
     disk = open_image(path)
     if words.start is None:
-        return taken_from_array(chosen_part(disk, words.partition))
+        return [taken_from_array(it) for it in chosen_parts(disk, words.partition)]
     if words.start * SECTOR >= disk.size:
         raise Refusal(disk.path, "it ends before sector %d" % words.start)
-    return taken_from_array(disk.part(words.start * SECTOR, disk.size))
+    return [taken_from_array(disk.part(words.start * SECTOR, disk.size))]
 
 
 def text_of(image: Image, area: Optional[str]) -> bytes:
@@ -81,10 +88,11 @@ def text_of(image: Image, area: Optional[str]) -> bytes:
     return valid_text(image, with_fetched(image, areas, open_image(area)) if area is not None else areas)
 
 
-def first_if_equal(paths: List[str], texts: List[bytes]) -> bytes:
-    """The first of some texts, which are one but for their times."""
+def first_if_equal(images: List[Image], texts: List[bytes]) -> bytes:
+    """The first of the texts of these volumes, which are one but for their times."""
     if len({without_time(it) for it in texts}) > 1:
-        for path, text in zip(paths, texts):
-            streams.tell("%s: %s" % (path, summary(text)))
-        raise Refusal(paths[0], "the texts differ: look at what each has, and take the HEAD that is right alone")
+        for image, text in zip(images, texts):
+            where = " from sector %d on" % (image.base // SECTOR) if image.base else ""
+            streams.tell("%s%s: %s" % (image.path, where, summary(text)))
+        raise Refusal(images[0].path, "the texts differ: look at what each has, and take the volume that is right alone")
     return texts[0]

@@ -3,9 +3,8 @@
 from typing import List
 
 from dmremap_tools.base import quoting, streams
-from dmremap_tools.base.disk_image import Image, dd
+from dmremap_tools.base.disk_image import Image, dd, other_form
 from dmremap_tools.base.numbers import SECTOR
-from dmremap_tools.base.plain_text import COMPRESSED
 from dmremap_tools.base.refusal import Refusal
 from dmremap_tools.metadata import physical_volume
 from dmremap_tools.metadata.group_text import beginning_of, summary, without_time
@@ -14,14 +13,7 @@ from dmremap_tools.metadata.physical_volume import (EMPTY, MISSING, MOST_AREAS, 
 from dmremap_tools.metadata.volumes_within import where_volumes_begin
 
 OTHER = "try another physical volume of the group, or a file in /etc/lvm/backup"
-# What else a disk or an image may begin with, and what to do then.
-OTHERS = {
-    b"LUKS\xba\xbe": "it is encrypted with LUKS: open it with cryptsetup, and take what is opened",
-    b"QFI\xfb": "it is an image of qcow2: convert it with qemu-img convert -O raw",
-    b"KDMV": "it is an image of VMDK: convert it with qemu-img convert -O raw",
-    b"vhdxfile": "it is an image of VHDX: convert it with qemu-img convert -O raw",
-    **{magic: "it is compressed (%s)" % kind for magic, kind in COMPRESSED.items()},
-}
+LUKS, ENCRYPTED = b"LUKS\xba\xbe", "it is encrypted with LUKS: open it with cryptsetup, and take what is opened"
 
 
 def areas_of(image: Image) -> List[Area]:
@@ -71,8 +63,8 @@ def misplaced(image: Image, at: int, belongs: int) -> str:
 def what_else(image: Image) -> str:
     """What to try where nothing of a physical volume is found."""
     first = image.read(0, SECTOR)
-    known = [advice for magic, advice in OTHERS.items() if first.startswith(magic)]
-    return known[0] if known else "take the physical volume from its first byte on, or " + OTHER
+    known = ENCRYPTED if first.startswith(LUKS) else other_form(first)
+    return known or "take the physical volume from its first byte on, or " + OTHER
 
 
 def with_fetched(image: Image, areas: List[Area], fetched: Image) -> List[Area]:

@@ -8,24 +8,42 @@ from typing import Iterator, Optional
 from dmremap_tools.base import quoting, streams
 from dmremap_tools.base.disk_image import Image
 from dmremap_tools.base.numbers import SECTOR
+from dmremap_tools.base.refusal import Refusal
 from dmremap_tools.metadata.physical_volume import LABEL, LABEL_SECTORS, label_fault, label_of
 
-# The superblock of an md array, of the two versions that lie before the data, and where it says in which sector that begins.
-MD_MAGIC, MD_PLACES, MD_DATA = b"\xfc\x4e\x2b\xa9\x01\0\0\0", (0, 4096), 128
+# The superblock of an md array, of the two versions that lie before the data, where it says of which level the array is, and
+# in which sector the data begins.
+MD_MAGIC, MD_PLACES, MD_LEVEL, MD_DATA = b"\xfc\x4e\x2b\xa9\x01\0\0\0", (0, 4096), 72, 128
+MIRRORED = 1
 WINDOW = 4 << 20
 PROGRESS = 64
 
 
-def array_data(image: Image) -> Optional[Image]:
-    """The physical volume in a member of an md array, if the image is one and there is a sound label."""
+def superblocks(image: Image) -> Iterator[bytes]:
+    """What looks like the superblock of an md array in an image of a member."""
     for place in MD_PLACES:
         superblock = image.read(place, SECTOR)
         if superblock[:len(MD_MAGIC)] == MD_MAGIC and len(superblock) == SECTOR:
-            start, = struct.unpack_from("<Q", superblock, MD_DATA)
-            data = image.part(start * SECTOR, image.size)
-            if label_of(data)[0]:
-                return data
+            yield superblock
+
+
+def array_data(image: Image) -> Optional[Image]:
+    """The physical volume in a member of an md array, if the image is one and there is a sound label."""
+    for superblock in superblocks(image):
+        start, = struct.unpack_from("<Q", superblock, MD_DATA)
+        data = image.part(start * SECTOR, image.size)
+        if label_of(data)[0]:
+            return data
     return None
+
+
+def check_mirrored(image: Image) -> None:
+    """Refuses a member of an md array that doesn't have all of its data."""
+    for superblock in superblocks(image):
+        level, = struct.unpack_from("<l", superblock, MD_LEVEL)
+        if level != MIRRORED and label_of(image)[0] is None:
+            raise Refusal(image.path, "a member of an md array that isn't raid1, so that no member has all of a physical volume: "
+                          "`md` makes a table of the array, and `under` puts it below those of the group")
 
 
 def taken_from_array(image: Image) -> Image:

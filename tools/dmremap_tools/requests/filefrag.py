@@ -4,7 +4,8 @@ Has the extents of one file or of several, in blocks of any size. Gets requests 
 with --places what `read-back` needs to put a single file together. Unwritten extents are told and left out: they read as
 zeros. Refuses file systems other than ext2, ext3, ext4 and XFS, as the extents of btrfs are no places on its device:
 with --addresses, VOLUME is the device that `btrfs` makes of it. Refuses extents without a place, as `delalloc`, `inline` and
-`encoded`, and a text that isn't whole.
+`encoded`, and a text that isn't whole. With -s, filefrag has the file written out first: before that, new blocks have no
+place, and preallocated ones count as unwritten.
 
 It can't see two things: the numbers of `filefrag -X` are hexadecimal and may look decimal, and a file in the realtime
 part of XFS has its extents on another device.

@@ -15,9 +15,9 @@ class Kept:
         if not self.names:
             raise Refusal(streams.name_of(path), "no device in it")
 
-    def leave(self, to: str) -> None:
-        """Counts a request that is left out."""
-        self._left[to] = self._left.get(to, 0) + 1
+    def leave(self, to: str, count: int = 1) -> None:
+        """Counts requests that are left out."""
+        self._left[to] = self._left.get(to, 0) + count
 
     def tell(self) -> None:
         """Tells them, in the order in which they came first."""

@@ -11,20 +11,28 @@ Trace top devices only: a request to a device on another one shows up at both, a
 
 import re
 from argparse import ArgumentParser, Namespace
+from collections import Counter
 from functools import lru_cache
-from typing import Dict, Optional, Tuple, Union
+from itertools import compress
+from operator import not_
+from typing import Dict, List, Optional, Sequence, Tuple, Union
 
 from dmremap_tools.base import listings, numbers, requests, streams
 from dmremap_tools.requests.kept import Kept
 
 EXAMPLE = "btrace /dev/dm-0 | dmremap-tools trace ls.txt vg0.table | dmremap map lvm vg0.backup | dmremap-tools totals"
 
+Column = Sequence[str]
 EVENT = "block_bio_queue:"
 # A line of blkparse, up to the action. Those of the action Q, a request that comes, are read whole where they are of the
 # usual form; of other actions there is nothing to read. A process may have a name that looks like such a line.
 PARSED = r" *([0-9]+,[0-9]+) +[0-9]+ +[0-9]+ +([0-9.]+) +[0-9]+ +"
-LINE = re.compile(r"^%s(?:Q +(\S+) %s \+ %s .*|[A-PR-Za-z][A-Za-z]* (?!.*%s).*)$"
-                  % (PARSED, numbers.SHORT, numbers.SHORT, EVENT), re.M)
+# What names no event: each colon in it ends something else.
+NO_EVENT = r"[^:\n]*(?::(?<!%s)[^:\n]*)*" % EVENT
+LINE = re.compile(r"^%s(?:Q +(\S+) %s \+ %s .*|[A-PR-Za-z][A-Za-z]* %s)$" % (PARSED, numbers.SHORT, numbers.SHORT, NO_EVENT), re.M)
+# An event as ftrace and perf mostly print it, after a processor in brackets.
+EVENTS = re.compile(r"^(?! *[0-9]+,|CPU| *Skips:)[^:\]\n]*(?::(?<!{0})[0-9][^:\]\n]*)*\](?: [^ :\n]+)? +([0-9.]+): (?:block:)?{0}"
+                    r" ([0-9]+,[0-9]+) ([A-Z]+) {1} \+ {1}(?: .*)?$".format(EVENT, numbers.SHORT), re.M)
 ANY_QUEUED = re.compile(PARSED + r"Q (.*)")
 LOST = re.compile(r"CPU:? ?[0-9]+ \[.*(?:LOST|DROPPED).*| *Skips: +0*[1-9].*")
 TIME = re.compile(r"[0-9.]+:?")
@@ -47,8 +55,7 @@ def run(words: Namespace) -> None:
     times = streams.beside(words.times) if words.times is not None else None
     names = {number.replace(":", ","): name for name, number in listings.read_ls(words.ls)}
     reader = RequestMaker(streams.Lines(words.file), names, Kept(words.tables), times)
-    for fields in reader.source.rows(LINE):
-        reader.take_line(fields)
+    reader.source.hand_on({EVENTS: reader.take_events, LINE: reader.take_lines}, reader.take_line)
     reader.end()
 
 
@@ -108,26 +115,67 @@ class RequestMaker(Reader):
         super().__init__(source)
         self.names, self.kept, self.times = names, kept, times
         self.dropped = self.made = 0
+        self._beginning = lru_cache(maxsize=1024)(self._beginning_of)
+
+    def take_lines(self, lines: List[Tuple[str, ...]]) -> bool:
+        """Takes many lines of blkparse, unless a request has to be refused or cut."""
+        return self._take_all(len(lines), list(zip(*(it for it in lines if it[2]))))
+
+    def take_events(self, lines: List[Tuple[str, ...]]) -> bool:
+        """Takes many events, unless a request has to be refused or cut."""
+        columns = list(zip(*(it for it in lines if it[4] != "0")))
+        return self._take_all(len(lines), columns[1:2] + columns[:1] + columns[2:])
+
+    def _take_all(self, events: int, columns: List[Column]) -> bool:
+        if columns and not self._print_all(*columns):
+            return False
+        self.events += events
+        return True
+
+    def _print_all(self, devices: Column, times: Column, whats: Column, firsts: Column, counts: Column) -> bool:
+        begun = list(map(self._beginning, devices, whats))
+        if not requests.are_short(counts) or not all(begun) and None in begun:
+            return False
+        if not all(begun):
+            for device, count in Counter(compress(devices, map(not_, begun))).items():
+                self._leave(device, count)
+        made = [f"{beginning} {first} {count}\n" for beginning, first, count in zip(begun, firsts, counts) if beginning]
+        self.made += len(made)
+        streams.out.write("".join(made))
+        if self.times:
+            self.times.write("".join([time + "\n" for time in compress(times, begun)]))
+        return True
 
     def take(self, number: str, what: str, first: int, count: int, time: str) -> None:
         """Prints a request, or leaves it out."""
-        name = self.names.get(number)
-        if name is None:
-            self.kept.leave("%s, which dmsetup ls has not" % number)
-            return
-        if name not in self.kept.names:
-            self.kept.leave("%s (%s), which the tables have not" % (name, number))
-            return
-        operation = _operation_of(what)
-        if operation is None:
+        beginning = self._beginning(number, what)
+        if beginning is None:
             self.source.refuse_line("neither a read nor a write")
-        if not operation:
-            self.dropped += 1
+        if not beginning:
+            self._leave(number, 1)
             return
-        made = requests.write(self.source, operation, name, first, count)
+        made = requests.write(self.source, beginning[0], beginning[2:], first, count)
         self.made += made
         if self.times:
             self.times.write((time + "\n") * made)
+
+    def _beginning_of(self, number: str, what: str) -> Optional[str]:
+        """What a request begins with: R or W, and the device. Nothing if it is left out, None if it isn't known what it does."""
+        name = self.names.get(number)
+        if name not in self.kept.names:
+            return ""
+        operation = _operation_of(what)
+        return operation and operation + " " + name
+
+    def _leave(self, number: str, count: int) -> None:
+        """Counts requests that are left out."""
+        name = self.names.get(number)
+        if name is None:
+            self.kept.leave("%s, which dmsetup ls has not" % number, count)
+        elif name not in self.kept.names:
+            self.kept.leave("%s (%s), which the tables have not" % (name, number), count)
+        else:
+            self.dropped += count
 
     def end(self) -> None:
         """Refuses a text without events, and tells what was left out."""
@@ -140,7 +188,6 @@ class RequestMaker(Reader):
             streams.tell("no request came to a device of the tables: what a trace of the disks below has, `owner --trace` says")
 
 
-@lru_cache(maxsize=1024)
 def _operation_of(what: str) -> Optional[str]:
     """R or W by what a kernel calls an operation, nothing for what is left out, and None for what isn't known."""
     if EITHER.fullmatch(what):

@@ -1,0 +1,190 @@
+"""Why dmremap loads no stack with this snapshot or this store, and what a kernel does with it, in words."""
+
+import re
+from typing import Callable, Dict, Iterator, List, NamedTuple, Optional
+
+from dmremap_tools.base import names, quoting, store_places, tables
+from dmremap_tools.base.config_text import Document
+from dmremap_tools.metadata.volume_group import Group, Record, Volume
+
+SAID = re.compile(r"dmremap: source: (text|field|syntax|extents|snapshot|store|limit) at ([0-9]{1,20})\n")
+LOST = "put a disk in the place of what is lost: in FILE write `linear lost 0` for `error`, and in DISKS `lost` with that line's length"
+
+MERGING = "a kernel writes this snapshot back to its origin as it goes, which dmremap can't follow"
+OVERFLOWS = "a kernel lets reads of kind PO go on when the store is full, and dmremap has no such kind; write P, whose stores are the same"
+ANOTHER_KIND = "a kernel refuses this kind of store"
+FEATURES = "a kernel takes features of a snapshot, which change discards alone, and dmremap takes none: let the line end after the chunk"
+BESIDE = "a kernel takes it beside other lines, and dmremap doesn't: give it a device of its own, and write a linear line to that here"
+NO_CHUNK = "a kernel takes a chunk of 0 for 32 sectors: write 32"
+WRONG_CHUNK = "a kernel refuses this chunk"
+LONG_CHUNK = "a kernel takes this chunk, and dmremap none of more than %d sectors" % store_places.MOST_IN_CHUNK
+LONGER = "a kernel refuses it, as it is longer than its origin"
+SHORTER = "a kernel takes it, though it is shorter than its origin, and dmremap doesn't"
+ORIGIN_BETWEEN = SHORTER + ": put a linear device of its length on the origin, and name that as the origin"
+PLACES = "a kernel takes stores of any length, and dmremap counts %d places for chunks in all" % store_places.MOST
+STORE_BETWEEN = (PLACES + ": put a linear device on the store, as long as what `dmsetup status` says is in use of it, and name that as "
+                 "the store")
+READ_ONLY = "a kernel takes a store that is read-only, and writes to it all the same, with a warning in its log: write rw"
+NOTHING_KEPT = "a kernel takes a store of zeros, which keeps nothing, and refuses one whose list fails to be read"
+ON_ANOTHER = "a kernel keeps a store on %s, and dmremap doesn't: put a disk of its length in its place, and give what it holds by --store"
+STORES = {"zero": "a kernel takes a store of zeros, which keeps nothing, so that it is fresh each time: put a disk in its place, and give "
+                  "--fresh",
+          "error": "a kernel refuses a store whose list fails to be read, and takes one of which other chunks are lost: " + LOST,
+          "snapshot-origin": "a kernel keeps a store on an origin, and first copies what it writes there to the snapshots of that: name "
+                             "what the origin is of, which reads the same"}
+COPY = "; dmremap-tools lvm2-text makes a copy without it"
+OF_STORE = {"store": NOTHING_KEPT, "limit": PLACES}
+ODD_RECORD = "lvm2 writes no such record of a snapshot"
+OTHER_COPY = "dmremap can't follow what stands there; dmremap-tools lvm2-text makes a copy without it"
+
+
+class Row(NamedTuple):
+    """A line of a device as it stands in a text, whose words may make no sense."""
+
+    number: int
+    device: str
+    flags: str
+    words: List[str]
+
+    @property
+    def target(self) -> str:
+        """The target, or nothing."""
+        return "".join(self.words[2:3])
+
+
+def told(name: str, form: str, text: str, sizes: Callable[[], Dict[str, int]], said: str) -> "tuple[str, str]":
+    """Where in a text of this name and form that stands which dmremap refuses with these words, and what a kernel does with
+    it, or nothing if it is no such matter. `sizes` reads the sectors of the disks."""
+    match = SAID.fullmatch(said)
+    if not match:
+        return name, ""
+    where, number = "%s:%s" % (name, match[2]), int(match[2])
+    if form == "lvm":
+        return where, _why_of_group(match[1], number, Document(name, text.encode("utf-8", "surrogateescape")))
+    rows = Rows(form, text, sizes)
+    for row in rows.by_number.get(number, ()):
+        why = rows.why(match[1], row)
+        if why:
+            return where, "%s: %s" % (why, quoting.shown(" ".join(row.words)))
+    return where, ""
+
+
+class Rows:
+    """The lines of a text, by the numbers that dmremap gives them and by the paths of their devices."""
+
+    def __init__(self, form: str, text: str, sizes: Callable[[], Dict[str, int]]) -> None:
+        self.by_number: Dict[int, List[Row]] = {}
+        self._by_path: Dict[str, List[Row]] = {}
+        self._sizes = sizes
+        for row in (_of_table if form == "table" else _of_concise)(text.rstrip("\n")):
+            self.by_number.setdefault(row.number, []).append(row)
+            self._by_path.setdefault(names.MAPPER + row.device, []).append(row)
+
+    def why(self, word: str, row: Row) -> Optional[str]:
+        """What a kernel does with a line that dmremap refuses with this word, or None."""
+        if word == "field":
+            return self._why_unread(row)
+        if row.target not in ("snapshot", "snapshot-origin"):
+            return None
+        if word == "snapshot":
+            return self._why_snapshot(row)
+        if word == "store":
+            return self._why_store(row)
+        return STORE_BETWEEN if word == "limit" and self._places() > store_places.MOST else None
+
+    def _why_unread(self, row: Row) -> Optional[str]:
+        if row.target == "snapshot-merge":
+            return MERGING
+        if row.target == "snapshot" and len(row.words) > 6:
+            return _why_kind(row.words[5]) or (FEATURES if len(row.words) > 7 else None)
+        stores = [store for it in self._by_path.values() for store in it[0].words[4:5] if it[0].target == "snapshot"]
+        if row.target not in tables.TARGETS and any(it is row for it in self._below(stores)):
+            return ON_ANOTHER % ("a device of " + quoting.shown(row.target))
+        return None
+
+    def _why_snapshot(self, row: Row) -> Optional[str]:
+        if len(self._by_path[names.MAPPER + row.device]) > 1:
+            return BESIDE
+        why = _why_chunk(int(row.words[6])) if row.target == "snapshot" else None
+        if why:
+            return why
+        if int(row.words[1]) > self._length(row.words[3]):
+            return LONGER
+        return ORIGIN_BETWEEN if row.target == "snapshot" else SHORTER
+
+    def _why_store(self, row: Row) -> Optional[str]:
+        for lower in self._below([row.words[4]]):
+            if lower.flags == "ro":
+                return READ_ONLY
+            if lower.target not in ("linear", "striped"):
+                return STORES.get(lower.target, ON_ANOTHER % "a snapshot")
+        return None
+
+    def _places(self) -> int:
+        found = (it[0].words for it in self._by_path.values() if it[0].target == "snapshot")
+        return sum(store_places.places(int(it[6]), self._length(it[4])) for it in found)
+
+    def _length(self, path: str) -> int:
+        rows = self._by_path.get(path)
+        return int(rows[-1].words[0]) + int(rows[-1].words[1]) if rows else self._sizes().get(path, 0)
+
+    def _below(self, paths: List[str]) -> Iterator[Row]:
+        """The lines of devices, and of those below them."""
+        seen = set(paths)
+        while paths:
+            for row in self._by_path.get(paths.pop(), ()):
+                yield row
+                more = {it for it in row.words[3:] if it.startswith(names.MAPPER)} - seen
+                seen |= more
+                paths += more
+
+
+def _of_table(text: str) -> Iterator[Row]:
+    for number, row in enumerate(text.split("\n"), 1):
+        device, _, line = row.partition(": ")
+        yield Row(number, device, "", line.split())
+
+
+def _of_concise(text: str) -> Iterator[Row]:
+    for number, row in enumerate(text.split(";"), 1):
+        device, *fields = row.split(",")
+        for line in fields[3:]:
+            yield Row(number, device, fields[2], line.split())
+
+
+def _why_kind(kind: str) -> Optional[str]:
+    if kind in tables.KINDS:
+        return None
+    if kind[:2].upper() == "PO":
+        return OVERFLOWS
+    first = kind[0].upper()
+    is_taken = kind == "p" or first == "N"
+    return "a kernel takes this kind for %s, and dmremap doesn't: write %s" % (first, first) if is_taken else ANOTHER_KIND
+
+
+def _why_chunk(chunk: int) -> Optional[str]:
+    if chunk == 0:
+        return NO_CHUNK
+    if not store_places.is_chunk(chunk):
+        return WRONG_CHUNK
+    return LONG_CHUNK if chunk > store_places.MOST_IN_CHUNK else None
+
+
+def _why_of_group(word: str, number: int, document: Document) -> str:
+    """The same of metadata. dmremap refuses a snapshot at the segment of its record."""
+    for group in map(Group, document.top.sections()[:1]):
+        for record in group.records:
+            if document.line_at(record.volume.segments[0].node.start) == number:
+                return _why_of_record(word, record, group.volumes.get(record.origin or b""))
+    return OTHER_COPY
+
+
+def _why_of_record(word: str, record: Record, origin: Optional[Volume]) -> str:
+    count = record.volume.segments[0].count
+    if record.is_merging:
+        return MERGING + COPY
+    if word in OF_STORE:
+        return OF_STORE[word] + COPY
+    if word == "snapshot" and origin and count is not None and count != origin.extents:
+        return LONGER if count > origin.extents else SHORTER + COPY
+    return word == "snapshot" and record.chunk is not None and _why_chunk(record.chunk) or ODD_RECORD
