@@ -56,6 +56,9 @@ def answer(call, *given):
         for it in SIGNALS:
             if signal.getsignal(it) != signal.SIG_IGN:
                 signal.signal(it, stop)
+        # Where a standard stream is closed, no file gets its number: the lock wouldn't go on to rt.
+        while os.open(os.devnull, os.O_RDWR) < 3:
+            pass
         return call(*given)
     except Stopped as it:
         return 128 + it.args[0]

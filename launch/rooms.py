@@ -11,7 +11,7 @@ import shutil
 import time
 
 from calls import take
-from sources import PARTS, TOP, state
+from sources import PARTS, TOP, loose, state
 
 # It is in the crate's `out`, where rt looks for no crates.
 SITE = os.path.join(TOP, "crates", "dmremap", "out", "site")
@@ -82,8 +82,8 @@ def copy(top, to, names, how):
             continue
         os.makedirs(other)
         for it in os.listdir(one):
-            if it in PARTS:
-                shutil.copytree(os.path.join(one, it), os.path.join(other, it), copy_function=how)
+            if it in PARTS and os.path.isdir(os.path.join(one, it)):
+                shutil.copytree(os.path.join(one, it), os.path.join(other, it), ignore=loose, copy_function=how)
             elif os.path.isfile(os.path.join(one, it)):
                 how(os.path.join(one, it), os.path.join(other, it))
     for name in ("HANDLES", "crates.txt"):

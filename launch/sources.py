@@ -5,6 +5,8 @@ import hashlib
 import os
 import re
 
+from calls import Failed
+
 TOP = os.path.dirname(os.path.dirname(os.path.realpath(__file__)))
 OUT = os.path.join(TOP, "out")
 PARTS = ("src", "specs", "proofs")
@@ -28,13 +30,18 @@ def in_order(below, name="dmremap", order=()):
 
 
 def names_in(top):
-    """Returns the names of all sources, and of the folders that they are in, from a folder on."""
+    """Returns the names of all sources, and of the folders that they are in, from a folder on. Links are followed."""
     found = ["HANDLES", "crates.txt"]
     for name in in_order(stands_on(top)):
         for part in PARTS:
-            for at, _, files in os.walk(os.path.join(top, "crates", name, part)):
-                found += [os.path.relpath(os.path.join(at, it), top) for it in (".", *files)]
+            for at, _, files in os.walk(os.path.join(top, "crates", name, part), followlinks=True):
+                found += [os.path.relpath(os.path.join(at, it), top) for it in sorted({".", *files} - {*loose(at, files)})]
     return found
+
+
+def loose(folder, names):
+    """Returns which of the names are links that lead nowhere: Emacs makes one beside each file that isn't saved."""
+    return [it for it in names if not os.path.exists(os.path.join(folder, it))]
 
 
 def made_of(top, *built):
@@ -74,3 +81,10 @@ def fits(built=BUILT, folder=OUT):
         return os.access(os.path.join(TOP, built[0]), os.X_OK) and kept == made_of(TOP, *built)
     except OSError:
         return False
+
+
+def look_at_made(before, built=BUILT, folder=OUT):
+    """Fails where a program that was just made doesn't fit, though the sources are as before: another would fit no more."""
+    if not fits(built, folder) and state() == before:
+        may_run = os.access(os.path.join(TOP, built[0]), os.X_OK)
+        raise Failed("%s was built, and %s" % (built[0], "then changed" if may_run else "there is no leave to run it"))

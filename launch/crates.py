@@ -1,0 +1,52 @@
+"""The work of rt on a crate, in the room of that."""
+
+import os
+import re
+import signal
+import subprocess
+import time
+
+import rooms
+from calls import Failed, write
+from sources import BUILT, TOP
+
+
+class Crate:
+    """A crate that is being built in its room, in a process group of its own."""
+
+    def __init__(self, name, jobs, lock):
+        self.name, self.since = name, time.strftime("%H:%M")
+        self.room = os.path.join(rooms.ROOMS, name)
+        self.said = os.path.join(self.room, "said")
+        is_program = name == "dmremap"
+        self.makes = BUILT if is_program else ["crates/%s/out/rlib" % name]
+        command = ["rt", "run" if is_program else "lib", "--jobs", str(jobs), *["--", "--help"] * is_program]
+        with open(self.said, "wb") as said:
+            self.ran = subprocess.Popen(command, cwd=rooms.room_of(name), stdin=subprocess.DEVNULL, stdout=said,
+                                        stderr=subprocess.STDOUT, start_new_session=True, pass_fds=[lock])
+
+    def lines(self):
+        """What rt said, of files in the room as of those that they are copies of."""
+        with open(self.said, encoding="utf-8", errors="replace") as it:
+            return it.read().replace(self.room, TOP).splitlines()
+
+    def progress(self):
+        checked = re.findall(r"^so far: (\d+ of \d+) functions", "\n".join(self.lines()), re.M)
+        return ", ".join(["%s since %s" % (self.name, self.since), *checked[-1:]])
+
+    def is_built(self):
+        """Whether rt has ended. Fails where it failed, was killed, or left nothing."""
+        status = self.ran.poll()
+        if status is None:
+            return False
+        lacking = [it for it in self.makes if not os.path.exists(os.path.join(self.room, it))]
+        if status == 0 and not lacking:
+            return True
+        write("".join(it + "\n" for it in self.lines()[-20:]))
+        why = ": rt was killed by signal %d" % -status if status < 0 else "" if status else ": rt left no " + lacking[0]
+        raise Failed("the build of %s failed%s" % (self.name, why))
+
+    def stop(self):
+        if self.ran.poll() is None:
+            os.killpg(self.ran.pid, signal.SIGTERM)
+            self.ran.wait()
