@@ -59,6 +59,7 @@ import saves
 import sector_files
 import snapshot_rows
 import snapshots
+import source_names
 import streams
 import tool_answers
 import tool_documents
@@ -70,6 +71,7 @@ import used
 import volumes
 import walks
 import words
+import worked
 from harness import Program, Tally
 
 TOP = os.path.dirname(os.path.dirname(os.path.dirname(os.path.abspath(__file__))))
@@ -96,9 +98,11 @@ def main():
         trying.check(tally, program, TOP)
         installs.check(tally, program, TOP)
         documents.check(tally, program, TOP)
+        worked.check(tally, program, TOP)
         manual.check(tally, program, TOP)
         completions.check(tally, program, TOP)
         reading_list.check(tally, TOP)
+        source_names.check(tally, TOP)
         recipes.check(tally, program, TOP)
         tool_requests.check(tally, program, TOP)
         tool_answers.check(tally, program, TOP)

@@ -60,7 +60,11 @@ ROWS = [
      "1 W sda 0 10\n1 drop 5\n1 W sda 10 10\n2 R sda 8 2\n2 zero 5\n2 R sda 10 2\n", ""),
     ("zeros and errors below another device", "z: 0 4 zero\nz: 4 4 error\na: 0 8 linear /dev/mapper/z 0\n",
      "sda 150\n", "R a 0 8\nW a 2 4\n", "1 zero 4\n1 error 4\n2 drop 2\n2 error 2\n", ""),
+    ("errors beside errors, of two lines", "a: 0 4 error\na: 4 4 error\nb: 0 8 linear /dev/mapper/a 0\n", "",
+     "R b 0 8\nW b 2 4\n", "1 error 8\n2 error 4\n", ""),
     # What lies below what.
+    ("equals signs in names", "a=b: 0 8 linear /dev/mapper/c= 0\nc=: 0 8 linear s=a 0\n", "s=a 8\n", "R a=b 0 8\n",
+     "1 R s=a 0 8\n", ""),
     ("a device that is named before it is described", "b: 0 8 linear /dev/mapper/a 2\na: 0 10 linear sda 5\n",
      "sda 150\n", "R b 0 8\nR a 0 10\nR b 7 2\n", "1 R sda 7 8\n2 R sda 5 10\n3 error 2\n", ""),
     ("a disk and a device of one name",

@@ -11,11 +11,10 @@ import tempfile
 import time
 
 from harness import Outcome, become_nobody, run
-from trees import ANEW, ANSWER, BUILDING, CRATES, HELD_RT, REQUESTS, RT, SLOW_RT, Tree, becomes, runs, told, without_times
+from trees import ANEW, ANSWER, BUILDING, CRATES, HELD_RT, REQUESTS, RT, SLOW_RT, WAITING, Tree, becomes, runs, told, without_times
 
 # How often the script tells what runs.
 OFTEN = ("MINUTE, AWAY, MOMENT = 60, 300, 0.02", "MINUTE, AWAY, MOMENT = 1, 1, 0.02")
-WAITING = "dmremap: another call builds the program; waiting for it\n"
 SOURCE = "crates/low/src/text"
 USAGE = "usage: ./build [--run WORD.. | --by COMMAND..]\n"
 
@@ -67,8 +66,19 @@ def check_faults(tally, tree):
             got = tree.run(["splitname", "a-b"], variables=variables, stderr=full)
         tally.same("./dmremap %s, with a full standard error" % name, got, 70)
     tree.remove()
+    # cp gives what it makes the mode of this one.
+    got = tree.run(["splitname", "a-b"], variables={"PROGRAM": tree.program.file("no leave", "")})
+    said = BUILDING + told() + "dmremap: crates/dmremap/out/dmremap was built, and there is no leave to run it\n"
+    tally.same("./dmremap where rt makes a program that there is no leave to run", got, 70, "", said)
+    tree.remove()
     got = tree.run(["splitname", "a-b"], before=lambda: os.close(2))
     tally.same("./dmremap that builds, with a closed standard error", got, 0, "a b\n")
+    tree.remove()
+    got = tree.run(tree.words(), before=lambda: os.close(0))
+    tally.same("./dmremap that builds, with a closed standard input", got, 4, "", BUILDING + told() + "dmremap: requests: read\n")
+    tree.remove()
+    got = tree.run(["splitname", "a-b"], before=lambda: os.close(1))
+    tally.same("./dmremap that builds, with a closed standard output", got, 5, "", BUILDING + told() + "dmremap: output: write\n")
     tree.remove()
     got = tree.run(["splitname", "a-b"], variables={"TMPDIR": "/no/such/folder"})
     tally.same("./dmremap without a TMPDIR", got, 0, "a b\n", BUILDING + told())
@@ -206,10 +216,12 @@ def check_turns(tally, tree):
     """A second call waits while another one builds, and also for what one left that was killed. Six calls build once."""
     tree.rt(HELD_RT)
     let = os.path.join(tree.room, "let")
-    for name, is_killed in ("works", False), ("was killed", True):
+    rows = [("works", False, None), ("was killed", True, None), ("was killed that had no standard input", True, 0),
+            ("was killed that had no standard output", True, 1), ("was killed that had no standard error", True, 2)]
+    for name, is_killed, closed in rows:
         tree.remove()
         with tempfile.TemporaryFile() as first_err, tempfile.TemporaryFile() as second_err:
-            first = tree.start(["splitname", "a-b"], first_err, LET=let)
+            first = tree.start(["splitname", "a-b"], first_err, closed=closed, LET=let)
             has_begun = becomes(lambda: tree.called() == ["low"])
             # As git does that pulls a change: the file has its name, and is another one.
             tree.write("crates.txt.new", open(tree.path("crates.txt"), encoding="utf-8").read())

@@ -1,5 +1,5 @@
-"""The documents: what they name and link to exists, the README is short, and the commands that the README
-and the tutorial show print what is shown there. The heads of the sources' files name files that exist, too."""
+"""The documents: what they name and link to exists, they are short, and the commands that the README and the tutorial
+show print what is shown there. The heads of the sources' files name files that exist, too."""
 
 import glob
 import os
@@ -12,6 +12,9 @@ PATH = re.compile(r"(?:crates|docs|examples|benches|tests|completions)/[\w./*-]*
 # A file of definitions of a crate, and words that a document says are in files of a name.
 SPECS = re.compile(r"\b(\w+)/specs/((?:[a-z]\w*/)*[A-Z]\w*)")
 WORDS = re.compile(r"`([A-Z]\w*)` (?:\(((?:`\w+`(?:, )?)+)\)|(`\w+`))")
+# Files of definitions as a section lists them for a crate, perhaps with words of theirs, and the name of such a file.
+LISTED = re.compile(r"\bin `(\w+)`: ((?:`[A-Z]\w*`(?: \([^)]*\))?(?:, )?)+)")
+FILE = re.compile(r"`([A-Z]\w*)`")
 # A link to a file of the repository, and perhaps a heading there, or to a heading of the document itself.
 LINK = re.compile(r"\]\((?!\w+:)([^)#\s]*)(?:#([^)\s]+))?\)")
 HEADING = re.compile(r"^#+ (.*)", re.M)
@@ -25,16 +28,21 @@ TABLE = re.compile(r"^\|(.*\| Code \|.*)\n\|[-|]+\n((?:\|.*\n)*)", re.M)
 NAME = re.compile(r"`(?:\w+/)*(\w+)`")
 ITEM = re.compile(r"^ *(?:pub(?:\(\w+\))? )?(?:const )?(?:fn|struct|enum|trait|const|static|type) (\w+)", re.M)
 
-README_BYTES = 10000
+# What these documents have at most, so that each is read at one sitting.
+BYTES = {"README.md": 7400, "docs/TUTORIAL.md": 16000, "docs/RECIPES.md": 24200, "docs/dmremap.1": 18700, "docs/dmremap-tools.1": 13200}
+# The picture of the README, the group that it is of, and the write that it shows.
+PICTURE, GROUP, WRITE = "docs/stack.svg", "examples/vg0-snapshot.backup", "W vg0-lv0 8000 8"
 # What a block of the tutorial begins with if its commands want more than the repository's files.
 MARK = "# needs "
+# Its way from images of disks to lost files, and how many commands that takes at most.
+WALK, COMMANDS = re.compile(r"\n## 10\. From images alone\n(.*?)\n## ", re.S), 12
 
 
 def check(tally, program, top):
     documents = [os.path.join(top, "README.md"), os.path.join(top, "benches", "RESULTS.md")]
     documents += sorted(glob.glob(os.path.join(top, "docs", "*.md")))
     code = code_of(top)
-    for document in documents + [os.path.join(top, "docs", "dmremap.1")]:
+    for document in documents + sorted(glob.glob(os.path.join(top, "docs", "*.1"))):
         name = os.path.relpath(document, top)
         text = text_of(document)
         if document.endswith(".1"):
@@ -49,8 +57,10 @@ def check(tally, program, top):
         tally.holds("links of %s" % name, not lost, "there is no %s" % ", ".join(lost))
     lost = lost_heads(top)
     tally.holds("definitions that comments name", not lost, "there is no %s" % ", ".join(lost))
-    size = os.path.getsize(os.path.join(top, "README.md"))
-    tally.holds("the size of README.md", size <= README_BYTES, "it has %d bytes" % size)
+    for name, most in BYTES.items():
+        size = os.path.getsize(os.path.join(top, name))
+        tally.holds("the size of %s" % name, size <= most, "it has %d bytes" % size)
+    check_picture(tally, program, top)
     for name in ("README.md", os.path.join("docs", "TUTORIAL.md")):
         text = text_of(os.path.join(top, name))
         transcripts.check(tally, program, top, name, transcripts.of_markdown(text))
@@ -59,6 +69,21 @@ def check(tally, program, top):
     unmarked = [it for it in others if not it.startswith(MARK)]
     tally.holds("commands of the tutorial that aren't run", not unmarked,
                 "no line %r before %s" % (MARK + "..", ", ".join(unmarked)))
+    walk = [command for command, _ in transcripts.of_markdown(WALK.search(tutorial)[1])]
+    tally.holds("the tutorial's way from images", 0 < len(walk) <= COMMANDS and not re.search(r"\bsed\b", " ".join(walk)),
+                "it has %d commands, or one of sed" % len(walk))
+
+
+def check_picture(tally, program, top):
+    """The numbers in the picture are where lines begin and end on the disk, its length, and where the write reads and writes."""
+    group, picture = os.path.join(top, GROUP), text_of(os.path.join(top, PICTURE))
+    lines = re.findall(r": 0 (\d+) linear \S+ (\d+)", program.run(["table", "lvm", group]).out.decode())
+    copied = re.findall(r" copy \S+ (\d+) \d+ \S+ (\d+)", program.run(["map", "lvm", group], given=WRITE + "\n").out.decode())
+    wanted = {0, int(re.search(r"dev_size = (\d+)", text_of(group))[1])} | {int(it) for pair in copied for it in pair}
+    wanted |= {it for length, start in lines for it in (int(start), int(start) + int(length))}
+    shown = {int(it) for it in re.findall(r">(\d+)</text>", picture)}
+    tally.holds("the numbers in " + PICTURE, shown == wanted, "they are %s, and not %s" % (sorted(shown), sorted(wanted)))
+    tally.holds("the write in " + PICTURE, copied and WRITE in picture, "it is another")
 
 
 def lost_paths(text, top):
@@ -70,10 +95,8 @@ def lost_paths(text, top):
 
 
 def listed(text):
-    """The files of definitions in a table that lists them for each crate, in whatever folder they are."""
-    rows = re.search(r"\| Crate \| Files named here \|\n.*\n((?:\|.*\n)*)", text)
-    rows = re.findall(r"\| `(\w+)` \| (.*) \|", rows[1]) if rows else []
-    return [(crate, name) for crate, names in rows for name in re.findall(r"`(\w+)`", names)]
+    """The files of definitions that a text lists for each crate, in whatever folder they are."""
+    return [(crate, name) for crate, files in LISTED.findall(text) for name in FILE.findall(re.sub(r"\([^)]*\)", "", files))]
 
 
 def lost_words(text, top):

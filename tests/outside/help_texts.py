@@ -1,4 +1,4 @@
-"""What the help states is what the program does, and what the manual and the README say: the exit statuses, each of which
+"""What the help states is what the program does, and what the manual says: the exit statuses, each of which
 is made to come; limits; the words of lines; the examples."""
 
 import os
@@ -16,7 +16,7 @@ CLASH, CLASH_DISKS = "a: 0 8 linear sda 0\nb: 0 8 linear sda 4\n", "sda 16\n"
 # What a text on a status has to say, wherever it stands.
 MEANT = [
     ("0", r"help (?:or the version )?was asked for"),
-    ("1", r"FILE.*DISKS.* a name or the requests of `?--before`? (?:are|were) refused"),
+    ("1", r"FILE.*DISKS.* a name or the requests of --before (?:are|were) refused"),
     ("2", r"[Tt]he words (?:of the command line )?(?:are|were) refused"),
     ("3", r"[Aa] request (?:is|was) bad"),
     ("4", r"[Tt]he requests (?:can't|could not) be read"),
@@ -62,7 +62,7 @@ def check(tally, program, top):
     commands = sorted(help_words.commands(program) - {"help"})
     tally.holds("the commands of help", len(commands) > 6, "they are %s" % commands)
     check_statuses(tally, program, commands)
-    check_meanings(tally, program, parts["EXIT STATUS"], text_of(os.path.join(top, "README.md")))
+    check_meanings(tally, program, parts["EXIT STATUS"])
     check_limits(tally, program, parts)
     check_lines(tally, program, parts)
     check_forms(tally, program, parts["SYNOPSIS"], commands)
@@ -130,12 +130,11 @@ def check_listed(tally, name, listed, found):
                         "the status is %s" % found.get(way))
 
 
-def check_meanings(tally, program, manual, readme):
-    """Help, manual and README say the same of each status."""
+def check_meanings(tally, program, manual):
+    """Help and manual say the same of each status."""
     entries = re.findall(r"^\.TP\n\.B (\d)\n((?:(?!\.TP|\.PP).*\n)*)", manual, re.M)
     entries = [(number, re.sub(r"\.\w+ |\n| ,", " ", text).replace("  ", " ")) for number, text in entries]
-    rows = re.findall(r"^\| (\d) \| (.*) \|$", readme, re.M)
-    for name, told in ("the help", statuses_of(help_of(program, None))), ("the manual", entries), ("the README", rows):
+    for name, told in ("the help", statuses_of(help_of(program, None))), ("the manual", entries):
         tally.holds("the statuses of " + name, [it for it, _ in told] == [it for it, _ in MEANT], "they are %s" % told)
         for (number, text), (_, meant) in zip(told, MEANT):
             tally.holds("%s on status %s" % (name, number), re.search(meant, text), "it says %r" % text)

@@ -102,7 +102,7 @@ def installed_in(tree):
     """What is installed, and the bytes that it has. Those of the tool aren't looked at."""
     places = {"bin/dmremap": "crates/dmremap/out/dmremap", TOOL: PACK, **dict([PLUGIN])}
     places.update((place % name, path % name) for name in ("dmremap", "dmremap-tools") for place, path in PLACES.items())
-    for pattern in ("README.md", "docs/*.md", "benches/RESULTS.md", "examples/*.*", "examples/samples/*.*"):
+    for pattern in ("README.md", "docs/*.md", "docs/*.svg", "benches/RESULTS.md", "examples/*.*", "examples/samples/*.*"):
         paths = [os.path.relpath(it, tree) for it in glob.glob(os.path.join(tree, pattern))]
         places.update(("%s/%s" % (DOCUMENTS, it), it) for it in paths)
     return {place: None if place == TOOL else bytes_of(os.path.join(tree, path)) for place, path in places.items()}
@@ -212,6 +212,7 @@ def check_release(tally, program, top, tree):
     packed = []
     # What another repository and another place and time would make of it.
     odd = dict(env, TZ="Asia/Tokyo", GIT_DIR="/no/such/repository", GIT_WORK_TREE=program.room, GIT_INDEX_FILE="/dev/null")
+    odd.update(TAR_OPTIONS="--exclude=README.md", GZIP="-1", DPKG_DEB_COMPRESSOR_LEVEL="1")
     for at, mask, variables in (tree, 0o022, env), (other, 0o077, odd):
         folder = os.path.join(program.room, "packed", str(mask))
         os.makedirs(folder)
@@ -248,11 +249,21 @@ def check_refused(tally, program, tree, release, env):
             got = run([release, program.room], env=dict(env, **variables))
             tally.same("./release of a file that isn't committed, %s, %s" % (value, variables), got, 1, "",
                        "release: there are files that aren't committed, such as examples/notes.txt\n")
+    ignored = program.file(os.path.join(tree, "examples", ".gitignore"), "*\n")
+    tally.same("./release of a file that a .gitignore hides which isn't committed", run([release, program.room], env=env), 1, "",
+               "release: there are files that aren't committed, such as examples/.gitignore\n")
+    os.remove(ignored)
     os.remove(more)
     readme = os.path.join(tree, "README.md")
     kept = bytes_of(readme)
     program.file(readme, "changed\n")
-    tally.same("./release of a change", run([release, program.room], env=env), 1, "", "release: there are changes that aren't committed\n")
+    for how in None, "assume-unchanged", "skip-worktree":
+        if how:
+            run([*GIT, "update-index", "--" + how, "README.md"], folder=tree, env=env)
+        tally.same("./release of a change, %s" % how, run([release, program.room], env=env), 1, "",
+                   "release: there are changes that aren't committed\n")
+        if how:
+            run([*GIT, "update-index", "--no-" + how, "README.md"], folder=tree, env=env)
     program.file(readme, kept)
     tools = {"awk", "bash", "cat", "cc", "cmp", "date", "dirname", "env", "find", "git", "head", "mktemp", "readlink", "realpath",
              "rm", "rt", "sed", "sha256sum", "sort", "stat", "tr", "xargs"}

@@ -5,6 +5,7 @@ import contextlib
 import os
 import re
 import shutil
+import time
 
 from harness import run
 from trees import ANSWER, BUILDING, ECHO, REQUESTS, TOOLS, VERSION, Tree, becomes, told
@@ -88,8 +89,9 @@ def check_places(tally, tree):
     for name, script, at in rows:
         tally.same("./dmremap " + name, tree.run(words, script, given=REQUESTS, folder=at), 0, ANSWER)
     tally.holds("./dmremap builds nothing that is there", not tree.called(), "rt was called: %s" % tree.called())
-    got = tree.run(["dmremap", *words], "bash", given=REQUESTS, folder=tree.top)
-    tally.same("./dmremap as a script of bash", got, 0, ANSWER)
+    for shell in ["sh"], ["bash"], ["bash", "--posix"]:
+        got = tree.run([*shell[1:], "dmremap", *words], shell[0], given=REQUESTS, folder=tree.top)
+        tally.same("./dmremap as a script of %s" % " ".join(shell), got, 0, ANSWER)
     got = tree.run(["map", "table", "the table", "the disks"], given=REQUESTS, folder=room)
     tally.same("./dmremap with paths from where it is called", got, 0, ANSWER)
     got = tree.run(words, given=REQUESTS + "R b 0 1\n")
@@ -177,7 +179,10 @@ def check_times(tally, tree):
             tally.same("./dmremap after %s, %s" % (name, is_seen), got, 0, ANSWER, BUILDING + told())
             tree.write(SOURCES[0], "and back\n")
             tree.run([], tree.build)
+    check_settled(tally, tree)
     check_linked(tally, tree, source)
+    check_loose(tally, tree)
+    check_late(tally, tree)
     for name, path, time in (("every source is newer", "crates", None), ("the program is older", tree.built, (1, 1))):
         for at, _, files in [*os.walk(tree.path(path)), (os.path.dirname(tree.path(path)), (), [os.path.basename(path)])]:
             for it in files:
@@ -192,23 +197,81 @@ def check_times(tally, tree):
     tally.same("./dmremap in a copy, after a change", got, 0, ANSWER, BUILDING + told())
 
 
+def check_settled(tally, tree):
+    """What stat says is kept where nothing has changed within the last two seconds, and not before, by a clock that is set."""
+    words, clock = tree.words(), os.path.join(tree.room, "clock")
+    tree.put()
+    changed = int(max(os.stat(it).st_ctime for it in (tree.built, tree.built + ".o")))
+    path = os.pathsep.join([clock, tree.environment()["PATH"]])
+    for after, is_kept in (0, False), (1, False), (3, True):
+        os.chmod(tree.program.file(os.path.join(clock, "date"), "#!/bin/sh\necho %d\n" % (changed + after)), 0o755)
+        got = tree.run(words, variables={"PATH": path}, given=REQUESTS)
+        is_right = got.out == ANSWER.encode() and os.path.exists(tree.path("out/seen")) == is_kept
+        tally.holds("what ./dmremap has seen %d seconds after a change" % after, is_right, "%s, %r" % (got.status, got.err))
+
+
 def check_linked(tally, tree, source):
-    """A source may be a link: what it leads to is looked at."""
-    words, aside, seen = tree.words(), os.path.join(tree.room, "aside"), tree.path("out/seen")
-    shutil.move(source, aside)
-    os.symlink(aside, source)
+    """A source may be a link, and so may a folder of sources: what it leads to is looked at."""
+    words, seen = tree.words(), tree.path("out/seen")
+    aside = os.path.join(tree.room, "aside")
+    folder = tree.path("crates/low/proofs/more")
+    tree.write(os.path.join(folder, "text"), "more\n")
+    for linked, changed in (source, aside), (folder, os.path.join(aside, "text")):
+        shutil.move(linked, aside)
+        os.symlink(aside, linked)
+        tree.run([], tree.build)
+        with contextlib.suppress(FileNotFoundError):
+            os.remove(seen)
+        is_kept = lambda: tree.run(words, given=REQUESTS).out and os.path.exists(seen)
+        tally.holds("what ./dmremap has seen of a link is kept", becomes(is_kept), "it isn't")
+        with open(changed, "a", encoding="utf-8") as it:
+            it.write("more\n")
+        got = tree.run(words, given=REQUESTS)
+        tally.same("./dmremap after a change of what a link leads to", got, 0, ANSWER, BUILDING + told())
+        os.remove(linked)
+        shutil.move(aside, linked)
+    shutil.rmtree(folder)
     tree.run([], tree.build)
-    with contextlib.suppress(FileNotFoundError):
-        os.remove(seen)
-    is_kept = lambda: tree.run(words, given=REQUESTS).out and os.path.exists(seen)
-    tally.holds("what ./dmremap has seen of a link is kept", becomes(is_kept), "it isn't")
-    with open(aside, "a", encoding="utf-8") as it:
-        it.write("more\n")
-    got = tree.run(words, given=REQUESTS)
-    tally.same("./dmremap after a change of what a link leads to", got, 0, ANSWER, BUILDING + told())
-    os.remove(source)
-    shutil.move(aside, source)
-    tree.run([], tree.build)
+
+
+def check_loose(tally, tree):
+    """A link that leads nowhere is no source, until it leads somewhere."""
+    words = tree.words()
+    link, later = tree.path("crates/low/src/.#text"), os.path.join(tree.room, "later")
+    for leads_to in "somebody@a-machine.1:2", later:
+        os.symlink(leads_to, link)
+        name = "a link to " + os.path.basename(leads_to)
+        tally.same("./dmremap beside " + name, tree.run(words, given=REQUESTS), 0, ANSWER)
+        tree.remove()
+        tally.same("./dmremap where it builds beside " + name, tree.run(words, given=REQUESTS), 0, ANSWER, BUILDING + told())
+        if leads_to == later:
+            settle(tree)
+            tally.same("./dmremap after that, beside " + name, tree.run(words, given=REQUESTS), 0, ANSWER)
+            tree.program.file("later", "more\n")
+            got = tree.run(words, given=REQUESTS)
+            tally.same("./dmremap once there is what it leads to", got, 0, ANSWER, BUILDING + told())
+        os.remove(link)
+        tree.run([], tree.build)
+
+
+def check_late(tally, tree):
+    """A crate gets a folder of sources that it didn't have when the program was built."""
+    for part in "specs", "proofs":
+        folder, words = tree.path("crates/low/" + part), tree.words()
+        shutil.rmtree(folder)
+        tree.run([], tree.build)
+        settle(tree)
+        is_kept = tree.run(words, given=REQUESTS).out == ANSWER.encode() and os.path.exists(tree.path("out/seen"))
+        tally.holds("what ./dmremap has seen of a crate without " + part, is_kept, "it isn't kept")
+        tree.write(os.path.join(folder, "text"), "%s of low\n" % part)
+        got = tree.run(words, given=REQUESTS)
+        tally.same("./dmremap once a crate has %s, too" % part, got, 0, ANSWER, BUILDING + told())
+
+
+def settle(tree):
+    """Waits until a change is so long ago that what stat says could be kept."""
+    last = max(os.stat(it).st_ctime for it in (tree.built, tree.built + ".o", tree.path("crates/low/src")))
+    time.sleep(max(0, last + 3.1 - time.time()))
 
 
 def check_kept(tally, tree):
@@ -239,6 +302,18 @@ def check_lacking(tally, tree):
     tree.remove()
     got = tree.run(["--version"], variables={"PATH": path_without(tree, "python3")})
     tally.same("./dmremap without python3", got, 70, "", "dmremap: ./build makes the program, and there is no python3 on the path\n")
+    broken = path_without(tree, "python3", "rt")
+    os.chmod(tree.program.file(os.path.join(broken, "python3"), "#!/no/such/interpreter\n"), 0o755)
+    got = tree.run(["--version"], variables={"PATH": broken})
+    is_told = got.status == 70 and got.out == b"" and got.err.endswith(b"dmremap: python3 can't be run\n")
+    tally.holds("./dmremap with a python3 that can't be run", is_told, "%s, %r" % (got.status, got.err))
+    for name in "build", "try":
+        for few in path_without(tree, "python3"), broken:
+            got = tree.run([], tree.path(name), variables={"PATH": few})
+            said = "dmremap: ./%s takes Python, and there is no python3 on the path that runs\n" % name
+            tally.same("./%s without a python3 that runs" % name, got, 70, "", said)
+    got = tree.run(["--help"], tree.build, variables={"PYTHONHOME": "/no/such/folder"})
+    tally.same("./build where Python is sent elsewhere", got, 2, "", "usage: ./build [--run WORD.. | --by COMMAND..]\n")
     got = tree.run(["--version"], variables={"PATH": path_without(tree)})
     tally.same("./dmremap without rt", got, 70, "", "dmremap: the program is built by the Rattle toolchain"
                " (%s), and there is no rt on the path\n" % VERSION)
@@ -250,6 +325,7 @@ def check_lacking(tally, tree):
                "dmremap: warning: rt version prints another, and the program is proved with %s\n" % VERSION + BUILDING
                + "rt: this is low\ndmremap: the build of low failed\n")
     tree.put("#!/no/such/interpreter\n")
-    got = tree.run(["--version"])
-    is_told = got.status == 70 and got.out == b"" and got.err.endswith(b"dmremap: the program can't be run\n")
-    tally.holds("./dmremap whose program can't be run", is_told, "%s, %r" % (got.status, got.err))
+    for shell in ["sh"], ["bash"], ["bash", "--posix"]:
+        got = tree.run([*shell[1:], tree.script, "--version"], shell[0])
+        is_told = got.status == 70 and got.out == b"" and got.err.endswith(b"dmremap: %s can't be run\n" % os.fsencode(tree.built))
+        tally.holds("./dmremap by %s, whose program can't be run" % " ".join(shell), is_told, "%s, %r" % (got.status, got.err))

@@ -105,15 +105,20 @@ PICTURES = [
          "c\n+- 0 8 linear /dev/mapper/a 0\n|    a\n|    +- 0 8 striped 2 4 /dev/mapper/b 0 /dev/mapper/b 4\n"
          "|    |    b\n|    |    +- 0 8 linear d 0\n"),
     good("tree", [], ["a,,,ro,0 8 linear d 0\n"], "a\n+- 0 8 linear d 0\n"),
-    lost("tree", [], ["a: 0 8 linear /dev/mapper/b 0\nb: 0 8 linear /dev/mapper/a 0\n"], "1: devices stand on themselves: a"),
-    lost("tree", [], ["t: 0 8 zero\na: 0 8 linear /dev/mapper/a 0\n"], "1: devices stand on themselves: a", "t\n+- 0 8 zero\n"),
-    lost("tree", [], [CHAIN], "c0: devices stand on themselves, or on too many others", "c0\n" + "".join(
-        "%s+- 0 8 linear /dev/mapper/c%d 0\n%s|    c%d\n" % ("|    " * it, it + 1, "|    " * it, it + 1) for it in range(32))),
+    lost("tree", [], ["a: 0 8 linear /dev/mapper/b 0\nb: 0 8 linear /dev/mapper/a 0\n"], "1: devices stand on themselves, or on too many others: a"),
+    lost("tree", [], ["t: 0 8 zero\na: 0 8 linear /dev/mapper/a 0\n"], "1: devices stand on themselves, or on too many others: a"),
+    lost("tree", [], [CHAIN], "1: devices stand on themselves, or on too many others: c0"),
+    lost("tree", [], ["\n".join(CHAIN.split("\n")[::-1][1:]) + "\n"], "1: devices stand on themselves, or on too many others: c8"),
+    bad("dot", [], ["a: 0 8 linear /dev/mapper/b 0\nb: 0 8 linear /dev/mapper/a 0\n"], "1: devices stand on themselves, or on too many others: a"),
+    bad("spans", [], ["d 8\n", "a: 0 8 linear d 0\nb: 0 8 linear /dev/mapper/b 0\n"], "2: devices stand on themselves, or on too many others: b"),
+    good("tree", [], ["".join(CHAIN.splitlines(True)[9:])], "".join(
+        "%sc%d\n%s+- 0 8 %s\n" % ("|    " * it, it + 9, "|    " * it, "linear /dev/mapper/c%d 0" % (it + 10) if it < 31 else "zero")
+        for it in range(32))),
     good("dot", [], ["s: 0 8 snapshot a\"b P P 8\nz: 0 8 zero\nt: 0 8 striped 2 4 d 0 d 4\n"],
          'digraph stack {\n  "disk a\\"b" [shape=box]\n  "s" -> "disk a\\"b" [label="origin 0+8"]\n  "disk P" [shape=box]\n'
          '  "s" -> "disk P" [label="store 0+8"]\n  "s"\n  "z"\n  "disk d" [shape=box]\n  "t" -> "disk d" [label="striped 0+8"]\n  "t"\n}\n'),
     lost("tree", [], ["a 0 8 zero\n"], "1:1: not table text: a 0 8 zero"),
-    bad("dot", [], ["a 0 8 zero\n"], "1:1: not table text: a 0 8 zero", "digraph stack {\n"),
+    bad("dot", [], ["a 0 8 zero\n"], "1:1: not table text: a 0 8 zero"),
 ]
 
 EXTENTS = [
@@ -143,7 +148,7 @@ READ_BACK = [
     no_file([PLACES, "1 wrote 1 18 1\n"], "2:1: not a piece of an answer: 1 wrote 1 18 1"),
     no_file([PLACES[10:], READ], "1:1: not PLACES of filefrag or debugfs"),
     no_file(["refused\n", READ], "1:1: not PLACES of filefrag or debugfs"),
-    no_file(["", READ], "1:0: not PLACES of filefrag or debugfs"),
+    no_file(["", READ], "1: not PLACES of filefrag or debugfs"),
     no_file(["size 9223372036854775808\n", ""], "1:1: no file is as long: 9223372036854775808"),
     no_file(["size 9\n18014398509481983 1\n", "1 R a 0 1\n"], "1:2: no file is as long: 18014398509481983 1"),
     no_file([PLACES, READ], "a: No such file or directory"),

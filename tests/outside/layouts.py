@@ -1,5 +1,6 @@
 """The commands about layouts: rows, random stacks whose sectors are looked up one by one, and when stores are full."""
 
+import importlib
 import os
 import random
 import re
@@ -9,7 +10,6 @@ import layout_rows
 import owner_rows
 import physical_volumes
 import tool_calls
-from harness import run
 from origins import SHARING, claims, disks_of, small_stack, tidiness
 from snapshots import concise
 
@@ -70,17 +70,26 @@ def check_full(tally, program, top):
         statuses = [statuses_after(program, table, disks, requests[:it]) for it in range(len(requests) + 1)]
         wanted = "".join(line_of(name, [it[name] for it in statuses]) for name in ("s0", "s1"))
         tally.same("when the stores of %r are full" % table, full("".join(requests), table, disks), 0, wanted)
+        odd = ["\ufeff" + it.replace("\n", "\r\n") for it in ("".join(requests) or "R o 0 1\n", table, disks)]
+        tally.same("the same with carriage returns", full(*odd), 0, wanted if requests else full("R o 0 1\n", table, disks).out)
     table, disks = "s: 0 8 snapshot base cow P 8\n", "base 8\ncow 24\n"
     ended = "dmremap-tools store-full: %s: it ends with status 3\n" % program.path
     got = full("W s 0 1\nW s 0\n", table, disks)
     tally.same("a store and a bad request", got, 1, "", "dmremap: request 2: form\n" + ended)
     got = full("W s 0 1\nW s 0 1", table, disks)
     tally.same("a store and half a request", got, 1, "", "dmremap: request 2: unended\n" + ended)
+    for place, name in enumerate(("requests", "table", "disks")):
+        given = ["W s 0 1\n", table, disks]
+        given[place] = "BZh"
+        path = os.path.join(program.room, "full", name)
+        tally.same("stores by a compressed %s" % name, full(*given), 1, "", "dmremap-tools store-full: %s: it is compressed (bzip2)\n" % path)
     got = full("W a 0 1\n", "a: 0 8 zero\n", "")
     tally.same("no store", got, 1, "", "dmremap-tools store-full: %s: the command knows no snapshot\n" % program.file("full/requests", ""))
-    got = tool_calls.call(top, ["store-full", "/dev/null", "table", "none", "--program", os.path.join(program.room, "none")])
+    got = tool_calls.call(top, ["store-full", "/dev/null", "table", "none", "none", "--program", os.path.join(program.room, "none")])
     tally.same("stores by no program", got, 1, "", "dmremap-tools store-full: /dev/null: not a file of requests\n")
-    got = tool_calls.call(top, ["store-full", program.file("full/requests", ""), "table", "none", "--program", "no/where"])
+    got = tool_calls.call(top, ["store-full", program.file("full/requests", ""), "lvm", "none", "none"])
+    tally.same("stores with words too many", got, 2, "", "usage: REQUESTS FORMAT FILE [DISKS]\ndmremap-tools store-full: give DISKS, or leave it out with lvm\n")
+    got = tool_calls.call(top, ["store-full", program.file("full/requests", ""), "table", program.file("full/table", table), program.file("full/disks", disks), "--program", "no/where"])
     tally.same("stores by no program", got, 1, "", "dmremap-tools store-full: no/where: No such file or directory\n")
 
 
@@ -135,9 +144,14 @@ def check_stack(tally, program, top, dice):
     tally.holds("the owners in " + concise(stack), found == wanted, difference(found, wanted))
     # The same for the whole of each disk at once.
     given = "".join("%s 0 %d\n" % it for it in stack.disks.items())
-    lines = tool("owner", source, given=given).out.decode().splitlines()
-    found = sorted(set(line for it in lines for line in each_sector(it)))
-    tally.holds("the owners of all in " + concise(stack), found == wanted, difference(found, wanted))
+    uses = importlib.import_module("dmremap_tools.layouts.uses")
+    for most in (uses.MOST_CHUNKS, 0, 1):
+        # However many chunks are told as one run.
+        plain, uses.MOST_CHUNKS = uses.MOST_CHUNKS, most
+        lines = tool("owner", source, given=given).out.decode().splitlines()
+        uses.MOST_CHUNKS = plain
+        found = sorted(set(line for it in lines for line in each_sector(it)))
+        tally.holds("the owners of all in " + concise(stack), found == wanted, difference(found, wanted))
     for name in stack.tables:
         asked = tool("whole", name, tables).out
         answers = program.run(["map", "concise", source, disks], given=asked).out
@@ -182,9 +196,14 @@ def each_sector(line):
     first, *steps = line.split(" = ")
     disk, sector, count = first.split(" ")
     for further in range(int(count)):
-        moved = [re.sub(r"^(\S+) (\d+)", lambda it: "%s %d" % (it[1], int(it[2]) + further), step)
+        moved = [re.sub(r"^(\S+) (\d+)(.*?)(?:, (\d+) of every (\d+))?$", lambda it: "%s %d%s" % (it[1], int(it[2]) + apart(further, it[4], it[5]), it[3]), step)
                  if not step.startswith("in the store") else step for step in steps]
         yield " = ".join(["%s %d" % (disk, int(sector) + further)] + moved)
+
+
+def apart(further, chunk, every):
+    """How much further on it is on a device whose chunks lie apart."""
+    return further // int(chunk) * int(every) + further % int(chunk) if chunk else further
 
 
 def extents(units):

@@ -184,6 +184,8 @@ ONLY = [
     machine(ALL.replace("cow: 0 64 linear 8:1 16", "cow: 0 64 thin 8:1 16"), LOWER_OUT[:LOWER_OUT.index("cow")] + SNAP_OUT.replace("mapper/cow", "dm-1"),
             "left out: cow (thin), the disk /dev/dm-1\n", SDA1 + "/dev/dm-1 64\n", only=["snap"]),
     ("machine", WORDS + ["--only", "x"], [NUMBERS, FRESH, SIZES, ALL], "refused\n", "--only: no device x", 1, "refused\n"),
+    ("machine", WORDS + ["--store", "x=cow.img"], [NUMBERS, FRESH, SIZES, ALL], "refused\n", "--store: no snapshot x", 1, "refused\n"),
+    ("machine", WORDS + ["--store", "base=cow.img"], [NUMBERS, FRESH, SIZES, ALL], "refused\n", "--store: no snapshot base", 1, "refused\n"),
 ]
 
 # Texts with a byte order mark and carriage returns, and such as are no texts.

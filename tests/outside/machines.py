@@ -76,7 +76,7 @@ def check_missing(tally, program, top):
         tally.same("machine of " + name, got, 1, "refused\n", "%s machine: %s: %s\n" % (TOOL, name, why))
         tally.holds("what machine leaves of DISKS", written == b"refused\n", "it is %r" % written)
     got, _ = called(program, top, ["machine", "--disks", "no/where", "1", "2", "3", "4"], [])
-    tally.same("DISKS that can't be written", got, 1, "refused\n", TOOL + " machine: no/where: No such file or directory\n")
+    tally.same("DISKS that can't be written", got, 5, "refused\n", TOOL + " machine: no/where: No such file or directory\n")
 
 
 def check_images(tally, program, top):
@@ -100,12 +100,22 @@ def check_images(tally, program, top):
     tally.holds("DISKS without lsblk", read(os.path.join(folder, "disks")) == b"8:1 2048\n", "it is another")
     got = tool_calls.call(top, ["machine", "--disks", "disks", "ls", "status", "table"], folder=folder)
     tally.same("a machine without lengths", got, 2, "refused\n", TOOL + " machine: give LSBLK or --paths PATHS\n")
+    program.file("machines/sda.img", physical_volumes.gpt((64, 1999)).ljust(2048 * 512, b"\0"))
+    for number, output, said in (
+            ("8:1", "refused\n", TOOL + " machine: sda.img: the image of a whole disk (GPT), and 8:1 is a partition: give that, cut out with dd\n"),
+            ("8:16", None, "")):
+        program.file("machines/paths", number + " sda.img\n")
+        program.file("machines/table", machine_rows.ALL.replace("8:1 ", number + " "))
+        got = tool_calls.call(top, ["machine", "--disks", "disks", "--paths", "paths", "ls", "status", "table"], folder=folder)
+        wanted = machine_rows.ALL.replace("253:0", "/dev/mapper/base").replace("253:1", "/dev/mapper/cow").replace("8:1 ", number + " ")
+        tally.same("a machine with the image of a disk for " + number, got, 0 if output is None else 1, wanted if output is None else output, said)
 
 
 def check_bound_images(tally, program, top):
     """Which physical volume an image is, by the id in its label."""
     first, second, other = (physical_volumes.volume(identity=it.ljust(32, b"x")) for it in (b"first", b"second", b"other"))
-    images = {"a": first, "b": physical_volumes.md_member(second, 16), "c": other, "d": bytes(4096)}
+    images = {"a": first, "b": physical_volumes.md_member(second, 16), "c": other, "d": bytes(4096),
+              "e": physical_volumes.gpt((64, 127)).ljust(64 * 512, b"\0") + first}
     for name, image in images.items():
         program.file("machines/" + name, image)
     identity = "%s-xxxx-xxxx-xxxx-xxxx-xxxx-xxxxxx"
@@ -119,6 +129,7 @@ def check_bound_images(tally, program, top):
         ("a", "/dev/sdb a\n", missing, 0),
         ("ac", "/dev/sdb a\nrefused\n", "c: its id is " + identity % "otherx" + ", which the text has not", 1),
         ("aa", "/dev/sdb a\nrefused\n", "a: its id is " + identity % "firstx" + ", as that of a", 1),
+        ("e", "refused\n", "e: it is the image of a whole disk: `partitions --group` finds the physical volumes on it", 1),
         ("d", "refused\n", "d: there is no label in the first four sectors: it is no physical volume", 1),
     ]:
         got = tool_calls.call(top, ["disks", "text", *("--image=" + it for it in names)], folder=folder)
@@ -146,6 +157,18 @@ def check_containers(tally, program, top):
         ("a text of a fixed size", containers.DUMP_2 % "4096 [bytes]", [], line % (8, 32768)),
     ]:
         tally.same("a container of " + name, device("container", content, *words), 0, output)
+    # The partition of a whole disk, of which the image need not have more than the header.
+    whole = physical_volumes.gpt((64, 127), (128, 4223)).ljust(128 * 512, b"\0") + containers.version_2()
+    two = physical_volumes.gpt((64, 127), (128, 4223)).ljust(64 * 512, b"\0") + containers.version_1(8).ljust(64 * 512, b"\0") + containers.version_2()
+    for name, content, words, output in [
+        ("a partition", whole, [], line % (3840, 384)),
+        ("a partition that is named", two, ["--partition", "1"], line % (56, 72)),
+        # The disk goes on behind the partition, or ends before that does.
+        ("a partition of a disk of a given length", whole, ["--length", "8192"], line % (3840, 384)),
+        ("a partition of a disk that ends early", whole, ["--length", "2048"], line % (1664, 384)),
+        ("a partition whose first header is damaged", containers.flipped(whole, 128 * 512), ["--partition", "2"], line % (3840, 384)),
+    ]:
+        tally.same("a container in " + name, device("container", content, *words), 0, output)
     damaged = "its header of LUKS is damaged"
     for name, content, words, message in [
         ("nothing", bytes(4096), [], "no header of LUKS, and no text of luksDump"),
@@ -157,10 +180,19 @@ def check_containers(tally, program, top):
         ("a container that is encrypted anew", containers.version_2(segments=2), [], "it has 2 segments, as while it is being encrypted anew: crypt, crypt"),
         ("no segments", containers.version_2(json=b"{}"), [], "its header of LUKS doesn't say where the data is"),
         ("an odd offset", containers.version_2(size="511"), [], "its header of LUKS doesn't say where the data is"),
+        ("a disk without one", whole[:128 * 512], [], "the image of a whole disk (GPT), of which no partition has a header of LUKS: give --partition N"),
+        ("a disk with two", two, [], "the image of a whole disk (GPT), of which the partitions 1, 2 have one: give --partition N"),
+        ("a partition that isn't there", two, ["--partition", "3"], "there is no partition 3: there are 1, 2"),
+        ("a partition after the disk", whole, ["--length", "128"], "partition 2 begins at sector 128, and the disk ends at sector 128"),
+        ("a partition of no disk", second, ["--partition", "1"], "there is no partition table: leave --partition out"),
+        ("an image that is compressed", b"\x1f\x8b\x08\0", [], "it is compressed (gzip)"),
+        ("an image of another form", b"KDMV" + second[4:], [], "it is an image of VMDK: convert it with qemu-img convert -O raw"),
         ("a text of something else", b"LUKS header information\n", [], "no text of luksDump that says where the data is"),
     ]:
         got = device("container", content, *words)
         tally.same("a container of " + name, got, 1, "refused\n", "%s luks: %s: %s\n" % (TOOL, os.path.join(program.room, "machines", "container"), message))
+    got = device("container", containers.DUMP_1, "--partition", "1")
+    tally.same("a partition of a text", got, 2, "refused\n", TOOL + " luks: --partition is of an image, and luksDump tells of one container\n")
     check_real_containers(tally, device)
     got = device("container", second, "--name", "a b")
     tally.same("a container with such a name", got, 1, "refused\n", TOOL + " luks: NAME: no name of a device: 'a b'\n")

@@ -1,5 +1,5 @@
 """The manual page: it shows without a warning, has the program's commands, formats, statuses and messages,
-and its examples print what is shown. The page on formats has the words of a refused load, too."""
+and its examples print what is shown. The page on formats has a rule for each word of a message, too."""
 
 import glob
 import os
@@ -13,14 +13,13 @@ from harness import run
 SECTIONS = ["NAME", "SYNOPSIS", "DESCRIPTION", "COMMANDS", "FORMATS", "OUTPUT", "EXIT STATUS", "DIAGNOSTICS",
             "EXAMPLES", "LIMITS", "SEE ALSO"]
 # The words that a part of the diagnostics explains, as the sources have them.
-LOAD = "FILE and DISKS"
 WORDS = [
-    (LOAD, r'LoadKind::\w+ => "(\w+)"'),
+    ("FILE and DISKS", r'LoadKind::\w+ => "(\w+)"'),
     ("requests", r'RequestWord::\w+ => b"(\w+)"'),
     ("names", r'"dmremap: name: (\w+)\\n"'),
 ]
-# The table of FORMATS that says for each word what to do.
-ADVICE = r"\| Word \| What was expected \| What to do \|\n.*\n((?:\|.*\n)*)"
+# The words of a row of FORMATS' tables of checks, after what says their order.
+RULED = re.compile(r"^\|[^|`]*\| ((?:`\w+`(?:, )?)+) \|", re.M)
 # The word of a refused request that only a replay has.
 NOT_TOP = "not top"
 # The word of a load that has a message of its own.
@@ -60,15 +59,14 @@ def check_words(tally, diagnostics, formats, crates):
     paths = glob.glob(os.path.join(crates, "*", "src", "**", "*.rt"), recursive=True)
     sources = "".join(text_of(it) for it in sorted(paths) if "tests" not in os.path.relpath(it, crates))
     entries = {title: entries_of(part) for title, part in parts_of(r"^\.SS Messages about (.*)\n", diagnostics)}
-    advised = re.search(ADVICE, formats)[1]
+    ruled = set(re.findall(r"`(\w+)`", " ".join(RULED.findall(formats))))
     wanted = [("requests", NOT_TOP)]
     for title, pattern in WORDS:
         words = set(re.findall(pattern, sources)) - {MEMORY}
         tally.holds("words about %s in the sources" % title, len(words) > 4, "they are %s" % words)
         wanted += [(title, word) for word in sorted(words)]
-        if title == LOAD:
-            lost = words - set(re.findall(r"`(\w+)`", "".join(re.findall(r"^\|[^|]*", advised, re.M))))
-            tally.holds("what FORMATS says to do", not lost, "nothing on %s" % ", ".join(sorted(lost)))
+        lost = sorted(words - ruled)
+        tally.holds("FORMATS on %s" % title, not lost, "it has no rule for %s" % ", ".join(lost))
     for title, word in wanted:
         tally.holds("the manual on %s, %s" % (title, word), word in entries.get(title, []), "it has no entry")
     messages = set(WHOLE.findall(sources))

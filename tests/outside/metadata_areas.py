@@ -133,7 +133,7 @@ def text_in(head):
         "base.disk_image", "metadata.chosen_part", "metadata.valid_text", "base.refusal"))
     try:
         with unsaid():
-            image = chosen_part.chosen_part(disk_image.Image(io.BytesIO(head), "head"), None)
+            image, = chosen_part.chosen_parts(disk_image.Image(io.BytesIO(head), "head"), None)
             return valid_text.valid_text(image, valid_text.areas_of(image))
     except refusal.Refusal:
         return None
@@ -300,6 +300,11 @@ def check_disks(command):
         command.refuses(name, disk, message)
     for name, disk, number, text in PARTITIONS:
         command.takes(name, disk, text, "", ("--partition", str(number), "head"))
+    for name, disk, told in WHOLE:
+        command.takes(name, disk, TEXT, "the image of a whole disk (%s read\n" % told)
+    for words in ("--list",), ("--seqno", "7"), ("--at", "4608"), ("--area", "head"):
+        command.refuses("one of two volumes", TWO_VOLUMES, "it has several physical volumes: take one with --partition N", (*words, "head"),
+                        told="head: the image of a whole disk (GPT), whose partitions 1, 2 are physical volumes: these are read\n")
     for name, disk, number, message in NO_PARTITIONS:
         command.refuses(name, disk, message, ("--partition", str(number), "head"))
 
@@ -323,14 +328,6 @@ LACKS = "the image of a whole disk (%s), which ends before its partitions do (%s
         "as HEAD; for %d it is dd if=DISK of=head.img bs=512 skip=%d count=2048"
 
 DISKS = [
-    ("a disk with an MBR", MBR_DISK, "the image of a whole disk (MBR), whose partition 2 is a physical volume: take --partition 2, or cut it out"),
-    ("a disk with logical partitions", LOGICAL_DISK,
-     "the image of a whole disk (MBR), whose partition 6 is a physical volume: take --partition 6, or cut it out"),
-    ("a disk with a GPT", GPT_DISK, "the image of a whole disk (GPT), whose partition 3 is a physical volume: take --partition 3, or cut it out"),
-    ("a disk with sectors of 4096 bytes", LARGE_SECTORS,
-     "the image of a whole disk (GPT), whose partition 1 is a physical volume: take --partition 1, or cut it out"),
-    ("a disk with two physical volumes", disk_of(gpt((64, 127), (128, 255)), (64, ONE_AREA), (128, ONE_AREA)),
-     "the image of a whole disk (GPT), whose partitions 1, 2 are physical volumes: take --partition N for one, or cut it out"),
     ("a disk without a physical volume", disk_of(mbr((0x83, 64, 8)), (72, b"")),
      "the image of a whole disk (MBR), none of whose partitions (1) has a sound label: take --partition N for one, or cut it out"),
     ("the beginning of a disk", MBR_DISK[:100 * SECTOR], LACKS % ("MBR", "1 from sector 64 on, 2 from sector 128 on", 2, 128)),
@@ -342,6 +339,17 @@ DISKS = [
     ("a GPT whose header is gone", with_bytes(GPT_DISK, SECTOR, bytes(SECTOR)), DAMAGED_GPT + LABELLED % (128, 128)),
     ("a partition table beside a label", BOTH, "there are both a partition table (MBR) and the label of a physical volume, which lvm2 "
      "doesn't take then: --partition N takes a partition, and --partition 0 the disk itself"),
+]
+
+IS_ONE, ARE_SEVERAL = "%s), whose partition %d is a physical volume: that is", "%s), whose partitions %s are physical volumes: these are"
+TWO_VOLUMES = disk_of(gpt((64, 127), (128, 255)), (64, ONE_AREA), (128, ONE_AREA))
+WHOLE = [
+    ("a disk with an MBR", MBR_DISK, IS_ONE % ("MBR", 2)),
+    ("a disk with logical partitions", LOGICAL_DISK, IS_ONE % ("MBR", 6)),
+    ("a disk with a GPT", GPT_DISK, IS_ONE % ("GPT", 3)),
+    ("a disk with sectors of 4096 bytes", LARGE_SECTORS, IS_ONE % ("GPT", 1)),
+    ("a disk with two physical volumes", TWO_VOLUMES, ARE_SEVERAL % ("GPT", "1, 2")),
+    ("the beginning of a disk with a physical volume", disk_of(gpt((64, 127), (128, 255)), (64, ONE_AREA))[:128 * SECTOR], IS_ONE % ("GPT", 1)),
 ]
 
 PARTITIONS = [
@@ -394,6 +402,8 @@ PLACES = [
     ("a member of an array, version 1.1", md_member(ONE_AREA, 16), [], ARRAY % 16),
     ("a member of an array, version 1.2", md_member(ONE_AREA, 2048, 4096), [], ARRAY % 2048),
     ("a member of an array in a partition", disk_of(mbr((0xFD, 128, 256)), (128, md_member(ONE_AREA, 16))), ["--partition", "1"], ARRAY % 16),
+    ("a member of an array on a whole disk", disk_of(mbr((0xFD, 128, 256)), (128, md_member(ONE_AREA, 16))), [],
+     "head: the image of a whole disk (%s read\n" % (IS_ONE % ("MBR", 1)) + ARRAY % 16),
 ]
 NO_PLACES = [
     ("a label in the middle of an image", FAR, [], "there is no label in the first four sectors" + NOT_FOUND + LABELLED % (10240, 10240)),
@@ -405,8 +415,6 @@ NO_PLACES = [
     ("a GPT whose copies are both gone", bytes(34 * SECTOR) + WITH_BACKUP[34 * SECTOR:-SECTOR], ["--partition", "3"],
      "there is no partition table: leave --partition out"),
     ("a member of an array without a volume", md_member(bytes(8192), 16), [], "there is no label in the first four sectors" + NOT_FOUND + FROM_FIRST),
-    ("a partition of an array", disk_of(mbr((0xFD, 128, 256)), (128, md_member(ONE_AREA, 16))), [],
-     "the image of a whole disk (MBR), whose partition 1 is a physical volume: take --partition 1, or cut it out"),
 ]
 
 
@@ -419,9 +427,15 @@ def check_heads(command):
         command.program.file(name, volume((FIRST, area(text))))
     command.tally.same("two heads that agree", command.answer(["a", "b"]), 0, TEXT[:-1])
     said = "a: vg0 seqno 7, volumes: none\n"
-    differ = SAID + "a: the texts differ: look at what each has, and take the HEAD that is right alone\n"
-    command.tally.same("two heads that differ", command.answer(["a", "c"]), 1, "", said + "c: vg0 seqno 6, volumes: home, root\n" + differ)
-    command.tally.same("heads with an escape", command.answer(["a", "d"]), 1, "", said + "d: vg0 seqno 6, volumes: e\\x1b, root\n" + differ)
+    differ = SAID + "%s: the texts differ: look at what each has, and take the volume that is right alone\n"
+    command.tally.same("two heads that differ", command.answer(["a", "c"]), 1, "", said + "c: vg0 seqno 6, volumes: home, root\n" + differ % "a")
+    command.tally.same("heads with an escape", command.answer(["a", "d"]), 1, "", said + "d: vg0 seqno 6, volumes: e\\x1b, root\n" + differ % "a")
+    # A whole disk among them, and one with volumes of two groups.
+    command.program.file("disk", MBR_DISK)
+    command.tally.same("a disk and a volume", command.answer(["disk", "b"]), 0, TEXT[:-1], "disk: the image of a whole disk (%s read\n" % (IS_ONE % ("MBR", 2)))
+    command.program.file("disk", disk_of(gpt((64, 127), (128, 255)), (64, ONE_AREA), (128, volume((FIRST, area(apart))))))
+    command.tally.same("volumes that differ", command.answer(["disk"]), 1, "", "disk: the image of a whole disk (%s read\n" % (ARE_SEVERAL % ("GPT", "1, 2"))
+                       + "disk from sector 64 on: vg0 seqno 7, volumes: none\ndisk from sector 128 on: vg0 seqno 6, volumes: home, root\n" + differ % "disk")
 
 
 def check_files(tally, program, command):

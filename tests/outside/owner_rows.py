@@ -38,7 +38,7 @@ OWNERS = [
     no_owner(LINEAR, "\n", "2:1: neither DISK SECTOR nor DISK SECTOR COUNT: "),
     no_owner("0 8 linear d 0\n", "d 1\n", "1:1: not table text: 0 8 linear d 0"),
     no_owner("a: 0 8 linear /dev/mapper/b 0\nb: 0 8 linear /dev/mapper/a 0\n", "/dev/mapper/a 1\n",
-             "/dev/mapper/a: devices stand on themselves, or on too many others"),
+             "1: devices stand on themselves, or on too many others: a"),
 ]
 
 MAP = """\
@@ -113,14 +113,24 @@ DISK_TRACES = [
     bad("owner", ["--trace", "1"], [DISKS, LINEAR, "hello\n"], "3:1: no request in the trace"),
     bad("owner", ["--trace", "1"], [DISKS, LINEAR, "CPU:3 [LOST 12 EVENTS]\n"], "3:1: events were lost: CPU:3 [LOST 12 EVENTS]"),
 ]
-# Many chunks of a striped line are one run, if nothing lies on them, but for the parts of chunks at both ends.
+# Many chunks of a striped line are one run, as far as each line above has them whole, but for the parts of chunks at both ends.
 STRIPES = "a: 0 2048 striped 2 4 d 0 d 2000\n"
 LONG = [
     owned(STRIPES, "d 0 1024\n", "d 0 1024 = a 0, 4 of every 8\n"),
     owned(STRIPES, "d 2001 1000\n", "d 2001 3 = a 5\nd 2004 996 = a 12, 4 of every 8\nd 3000 1 = a 2004\n"),
     owned(STRIPES + "b: 0 8 linear /dev/mapper/a 2016\n", "d 2000 1000\n", "d 2000 1000 = a 4, 4 of every 8\n"),
-    owned(STRIPES + "b: 0 8 linear /dev/mapper/a 8\n", "d 0 1024\n", "".join(
-        "d %d 4 = a %d%s\n" % (4 * it, 8 * it, " = b 0" if it == 1 else "") for it in range(256))),
+    owned(STRIPES + "b: 0 8 linear /dev/mapper/a 8\n", "d 0 1024\n", "d 0 4 = a 0\nd 4 4 = a 8 = b 0\nd 8 1016 = a 16, 4 of every 8\n"),
+    owned(STRIPES + "b: 0 100 linear /dev/mapper/a 10\n", "d 0 1024\n",
+          "d 0 4 = a 0\nd 4 2 = a 8\nd 6 2 = a 10 = b 0\nd 8 48 = a 16, 4 of every 8 = b 6, 4 of every 8\nd 56 968 = a 112, 4 of every 8\n"),
+    owned(STRIPES + "b: 0 100 linear /dev/mapper/a 6\n", "d 0 1024\n",
+          "d 0 4 = a 0\nd 4 48 = a 8, 4 of every 8 = b 2, 4 of every 8\nd 52 2 = a 104 = b 98\nd 54 2 = a 106\nd 56 968 = a 112, 4 of every 8\n"),
+    owned(STRIPES + "o: 0 2048 snapshot-origin /dev/mapper/a\ns: 0 2048 snapshot /dev/mapper/a c P 8\nl: 0 2000 linear /dev/mapper/o 48\n", "d 0 1024\n",
+          "d 0 24 = a 0, 4 of every 8 = o 0, 4 of every 8\nd 24 1000 = a 48, 4 of every 8 = o 48, 4 of every 8 = l 0, 4 of every 8\n"
+          "d 0 1024 = a 0, 4 of every 8 = s 0 until it is copied, 4 of every 8\n"),
+    owned(STRIPES + "s: 0 99 snapshot b /dev/mapper/a P 8\n", "d 0 1024\n", "d 0 1024 = a 0, 4 of every 8 = in the store of s\n"),
+    # A line of several columns above has them one by one.
+    owned(STRIPES + "b: 0 2048 striped 2 4 /dev/mapper/a 0 e 0\n", "d 0 516\n", "".join(
+        "d %d 4 = a %d%s\n" % (4 * it, 8 * it, " = b %d" % (16 * it) if it < 128 else "") for it in range(128)) + "d 512 4 = a 1024\n"),
     owned("p: 0 1100 linear d 50\na: 0 2048 striped 2 4 /dev/mapper/p 2 e 0\n", "d 0 900\n",
           "d 0 50\nd 50 2 = p 0\nd 52 848 = p 2 = a 0, 4 of every 8\n"),
 ]

@@ -1,7 +1,7 @@
 """What `partitions` makes of tables that end at partitions: its words, its inputs, what it prints, what it says on standard
 error, its status, and DISKS, or None where that isn't written."""
 
-from physical_volumes import gpt, mbr, volume
+from physical_volumes import gpt, mbr, md_member, volume
 
 LSBLK = "8:0 10485760 sda \n8:1 8388608 sda1 sda\n253:0 4096 dm-0 sda1\n253:7 8192 dm-7 \n"
 WITH_LSBLK = ["--lsblk", "1", "--disks", "disks"]
@@ -9,6 +9,7 @@ SDA1 = "sda1: 0 16384 linear /dev/sda 2048\n"
 ON = "a: 0 8 linear /dev/sda1 4\n"
 ON_SDA1 = "a: 0 8 linear /dev/mapper/sda1 4\n"
 DIFFER = "lsblk and sfdisk differ in its length"
+NO_LENGTH = ": --lsblk or its image says it, and --missing puts a device in its place"
 NO_LINE = "no line names one of these partitions; --lsblk says what numbers are, --image what is an image"
 
 
@@ -135,7 +136,9 @@ ROWS += [
     pictured(bytes(1 << 15), ON.replace("sda1", "sda"), "a: 0 8 linear 1 4\n", "1 64\n"),
     not_pictured(bytes(8192), "2: " + NO_LINE),
     not_pictured(b"", "1: it is empty"),
-    ("partitions", ["--disks", "disks"], [PART, ON], "refused\n", "--lsblk: no length of /dev/sda", 1, "refused\n"),
+    not_pictured(b"QFI\xfb" + bytes(8188), "1: it is an image of qcow2: convert it with qemu-img convert -O raw"),
+    not_pictured(b"\x1f\x8b" + bytes(8190), "1: it is compressed (gzip)"),
+    ("partitions", ["--disks", "disks"], [PART, ON], "refused\n", "--disks: no length of /dev/sda" + NO_LENGTH, 1, "refused\n"),
 ]
 # Images that are bound to the physical volumes of a group by their ids; the images are the files 1 and 2.
 IDS = [it.ljust(32, b"x") for it in (b"first", b"second")]
@@ -156,13 +159,16 @@ def bound(images, group, tables, output, message="", disks=None, words=()):
 ROWS += [
     bound([PARTED, SECOND], GROUP, BOUND, "1p1: 0 8 linear 1 64\n1p2: 0 128 linear 1 128\na: 0 8 linear /dev/mapper/1p2 4\na: 8 8 linear 2 4\n",
           disks="1 256\n2 128\n"),
-    bound([FIRST], GROUP, BOUND, "", "--lsblk: no length of pv1"),
+    bound([FIRST], GROUP, BOUND, "", "--disks: no length of pv1" + NO_LENGTH),
     bound([FIRST], GROUP, BOUND, "missing0: 0 12 error\na: 0 8 linear 1 4\na: 8 8 linear /dev/mapper/missing0 4\n",
           "missing: pv1, which reads as error: missing0\n", "1 128\n", ["--missing", "error"]),
     bound([FIRST], GROUP, "s: 0 8 snapshot /dev/sdb1 pv1 P 8\n", "", "3: a snapshot needs the disk pv1: it can't be missing", words=["--missing", "zero"]),
     bound([SECOND, FIRST], GROUP, BOUND, "a: 0 8 linear 2 4\na: 8 8 linear 1 4\n", disks="2 128\n1 128\n"),
     bound([FIRST, FIRST], GROUP, BOUND, "", "2: 1 is the same physical volume, /dev/sdb1"),
     bound([volume(identity=b"y" * 32)], GROUP, BOUND, "", "1: no physical volume of the group is in it: none of its labels has such an id"),
+    bound([gpt((64, 71), (128, 255)).ljust(128 * 512, b"\0") + md_member(FIRST, 16, 4096, 1)], GROUP, BOUND, "",
+          "1: no physical volume of the group is in it: none of its labels has such an id; 1p2 is a member of an md array: `md` makes its table, and "
+          "`under` puts that below those of the group"),
     bound([FIRST], "g {\n}\n", BOUND, "", "2: no physical volumes of a group"),
 ]
 # Tables that can't be read: each with its message.

@@ -95,7 +95,7 @@ def with_backup(disk, *entries, sector=SECTOR):
     return disk + table + gpt_header(table, last, 1, end).ljust(sector, b"\0")
 
 
-def md_member(data, start, place=0):
+def md_member(data, start, place=0, level=0):
     """A member of an md array of version 1.1 or 1.2, by the place of its superblock, whose data begins in this sector."""
-    superblock = b"\xfc\x4e\x2b\xa9\x01\0\0\0".ljust(128, b"\0") + struct.pack("<Q", start)
+    superblock = (b"\xfc\x4e\x2b\xa9\x01\0\0\0".ljust(72, b"\0") + struct.pack("<l", level)).ljust(128, b"\0") + struct.pack("<Q", start)
     return (bytes(place) + superblock).ljust(start * SECTOR, b"\0") + data

@@ -1,14 +1,28 @@
-"""The reading list: docs/READING.md has what `tests/reading` makes of the sources."""
+"""What a reader has to read: docs/READING.md counts what `tests/reading` finds, whose lists lack nothing, and
+docs/PROMISES.md names the same contracts, with clauses and files that are there."""
 
 import os
+import re
 import sys
 
-from documents import text_of
 from harness import run
+
+# A line of a list: a number of a line, what kind of item there is if it is no definition, and its name.
+ENTRY = re.compile(r"^ +\d+  (?:(?:type|trait|constant) )?([^ :,\n]+)", re.M)
 
 
 def check(tally, top):
-    made = run([sys.executable, "-B", os.path.join(top, "tests", "reading")])
-    if tally.holds("the reading list", made.status == 0, made.err.decode().strip()):
-        is_there = made.out.decode() == text_of(os.path.join(top, "docs", "READING.md"))
-        tally.holds("docs/READING.md", is_there, "it is another list than `python3 tests/reading --write` makes")
+    def printed(*words):
+        made = run([sys.executable, "-B", os.path.join(top, "tests", "reading"), *words])
+        tally.holds("reading %s" % " ".join(words), made.status == 0, (made.out + made.err).decode().strip())
+        return made.out.decode()
+
+    printed("--check")
+    names = set(ENTRY.findall(printed("map")))
+    fewer = set(ENTRY.findall(printed("map", "--format", "table")))
+    book = printed("map", "--book")
+    tally.holds("what table text alone needs", fewer < names and "DescribesTable" in fewer and "DescribesGroup" not in fewer,
+                "it has %d of %d names" % (len(fewer), len(names)))
+    lost = [it for it in names if it not in book]
+    tally.holds("the book", not lost, "it lacks %s" % ", ".join(lost[:9]))
+    tally.holds("the contracts of the book", "pub fn map_whole" in book.rpartition("The contracts:")[2], "it doesn't end with them")

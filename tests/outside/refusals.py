@@ -66,8 +66,6 @@ PLACES = {
     ("lvm_volume/checks/segment_check", "check_snapshots", "roles_of"): OURS,
     ("lvm_volume/tables/device_names", "name_of", "built_name"):
         "a name is built of these parts, as is required, and then it fails only for a growth",
-    ("lvm_volume/tables/disks", "copy_of", "DiskName::new"):
-        "a name is one by its type, and then it fails only for a growth",
     ("lvm_volume/names", "build_name", "joined"): OURS,
     ("lvm_volume/group/group_fields", "physicals_of", "sections_of"): OURS,
     ("lvm_volume/group/group_fields", "read_fields", "sections_of"): OURS,

@@ -26,6 +26,9 @@ ROWS = [
     ("o: 0 8 zero\ns: 0 8 snapshot /dev/mapper/o cow P 8\n", "cow 32\n", "W s 2 3\nR s 0 8\n",
      "1 wrote 1 2 3\n2 zero 2\n2 wrote 1 2 3\n2 zero 3\n", "", 0),
     ("a: 0 4 error\n", "", "R a 0 4\nW a 2 3\n", "1 error 4\n2 error 3\n", "", 0),
+    # A write that is dropped leaves zeros, and beside them what it wrote.
+    ("z: 0 4 zero\nz: 4 4 linear s 0\n", "s 8\n", "W z 2 4\nR z 0 8\n",
+     "1 zero 2\n1 wrote 1 4 2\n2 zero 4\n2 wrote 1 4 2\n2 old s 2 2\n", "", 0),
     ("s: 0 20 snapshot base cow P 8\n", "base 20\ncow 64\n", "", "", "", 0),
     ("s: 0 16 snapshot base c1 P 4\nt: 0 16 snapshot base c2 P 8\n", "base 16\nc1 64\nc2 64\n",
      "W s 0 2\nW t 1 2\nR s 0 8\nR t 0 8\nW s 1 8\nR s 0 16\nR t 0 16\n",

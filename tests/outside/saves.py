@@ -6,6 +6,7 @@ import errno
 import os
 import random
 
+import physical_volumes
 import tool_calls
 
 SECTOR = 512
@@ -16,6 +17,7 @@ def check(tally, program, top):
     check_volumes(tally, program, top)
     check_file(tally, program, top)
     check_gaps(tally, program, top)
+    check_whole_disks(tally, program, top)
     check_refusals(tally, program, top)
     check_mutations(tally, program, top)
 
@@ -53,6 +55,9 @@ def check_read_back(tally, program, top):
     holds("no/where", put_together("no/where", places, pieces), 5, None, "dmremap-tools read-back: no/where: No such file or directory\n")
     found = program.file("back/paths", "/dev/sda elsewhere here\n")
     holds("elsewhere", put_together("elsewhere", "size 900\n0 2\n", "1 R /dev/sda 2 2\n", "--paths", found), 0, (sectors[2] + sectors[3])[:900])
+    found = program.file("back/paths", "/dev/sda elsewhere here\n/dev/sdb other\n")
+    holds("another", put_together("another", "size 900\n0 2\n", "1 R /dev/sda 2 2\n", "--paths", found), 0, (sectors[2] + sectors[3])[:900],
+          "%s: nothing is read of /dev/sdb\n" % found)
     holds("lost", put_together("lost", "size 1024\n0 2\n", "1 error 1\n1 R it's 1 1\n"), 4, bytes(512) + sectors[1],
           "1 sectors of the file from 0 on can't be read\n")
     holds("gaps", put_together("gaps", "size 3072\n0 3\n3 3\n", "1 R it's 1 1\n1 error 2\n2 error 1\n2 zero 1\n2 error 1\n"), 4,
@@ -163,6 +168,33 @@ def check_gaps(tally, program, top):
     tally.holds("its last map", read(disks.target("map")).decode() == MAP % (SECTOR * 48, "+") + text, read(disks.target("map")))
 
 
+WHOLE = "dmremap-tools save: %s: the image of a whole disk (%s), and p has %d sectors: give the partition that it is, cut out with dd\n"
+
+
+def check_whole_disks(tally, program, top):
+    """Images with partition tables: of a disk that is as long as DISKS says, or that ends too early, and of one that is given for
+    a partition."""
+    gpt, mbr = physical_volumes.gpt((40, 95), last=128), physical_volumes.mbr((0x8E, 40, 56))
+    end = physical_volumes.with_backup(bytes(96 * SECTOR), (40, 95))
+    damaged = physical_volumes.gpt((40, 95), damage=SECTOR + 60)
+    for name, image, size, kind in (
+            ("a disk", gpt.ljust(129 * SECTOR, b"x"), 129, None), ("a partition", gpt.ljust(129 * SECTOR, b"x"), 56, "GPT"),
+            ("the head of a disk", gpt, 129, None), ("a partition, by the head of its disk", gpt, 56, "GPT"),
+            ("a disk with an MBR", mbr.ljust(96 * SECTOR, b"x"), 96, None), ("a partition below an MBR", mbr.ljust(96 * SECTOR, b"x"), 56, "MBR"),
+            ("a partition, by a backup", end, 56, "GPT"), ("a partition below a damaged table", damaged.ljust(129 * SECTOR, b"x"), 56, "GPT"),
+            ("the head of a disk with a damaged table", damaged[:8 * SECTOR], 56, None),
+            ("what has no table", bytes(129 * SECTOR), 56, None)):
+        path, target = program.file("save/disk", image), os.path.join(program.room, "save", "of disk")
+        words = [program.file("save/table", "v: 0 8 linear p 0\n"), program.file("save/disks", "p %d\n" % size)]
+        listed = program.file("save/paths", "p %s\n" % path)
+        got = tool_calls.call(top, ["save", "--program", program.path, "--paths", listed, "v", target, "table", *words])
+        told = path + ": the first copy of the partition table (GPT) is damaged: its backup at the end is read\n" if image is end else ""
+        tally.same("saving from " + name, got, 1 if kind else 0, "", told + WHOLE % (path, kind, size) if kind else "")
+        if not kind and tally.holds("a file from " + name, os.path.exists(target), "it isn't there"):
+            tally.holds("what is saved from " + name, read(target) == image[:8 * SECTOR], "it is another")
+            os.unlink(target)
+
+
 def check_file(tally, program, top):
     """A file of the volume, by what filefrag printed of it: its extents, its hole, and its length."""
     disks = Disks(program)
@@ -193,8 +225,25 @@ def check_refusals(tally, program, top):
         ("new", ["--map", program.file("save/m2", "0x0 ?\n0x0 0x200 +\n")], 1, "%s: a map of another file than one of 24576 bytes" % disks.target("m2")),
         ("new", ["--map", program.file("save/m3", "0x0 ?\n0x0 0x6000 ?\n")], 5, "%s: No such file or directory" % disks.target("new")),
         ("there", ["--map", disks.target("m3")], 1, "%s: it isn't the file that was begun: it has 0 bytes and not 24576" % disks.target("there")),
+        ("new", ["--map", disks.target("")], 5, "%s: Is a directory" % disks.target("")),
+        ("new", ["--map", disks.target("link")], 5, "%s: No such file or directory" % disks.target("link")),
         ("new", ["--map", "/proc/none"], 5, "/proc/none: No such file or directory"),
     ]
+    packed = program.file("save/packed", b"\xfd7zXZ\0")
+    program.file("save/path", "a %s\n" % packed)
+    got = tool_calls.call(top, ["save", "--program", program.path, "--paths", disks.target("path"), "v", disks.target("new"), *disks.source])
+    tally.holds("an image that is compressed", got.status == 4 and b"missing: a: it is compressed (xz)\n" in got.err, "status %s, %r" % (got.status, got.err))
+    os.unlink(disks.target("new"))
+    listed = program.file("save/path", "a x\n/dev/b y\n")
+    got = tool_calls.call(top, ["save", "--program", program.path, "--paths", listed, "v", disks.target("new"), *disks.source])
+    tally.same("a path of no disk", got, 1, "", said % "%s: no disk is called /dev/b" % listed)
+    odd = [program.file("save/" + it, b"\xef\xbb\xbf" + read(path).replace(b"\n", b"\r\n")) for it, path in zip(("t", "d"), disks.source[1:])]
+    got = tool_calls.call(top, ["save", *disks.words, "v", disks.target("new"), "table", *odd])
+    tally.same("saving by texts with carriage returns", got, 4, "", LOST % (8, 32))
+    tally.holds("what it has", read(disks.target("new")) == disks.volume(), "it is another")
+    os.unlink(disks.target("new"))
+    got = tool_calls.call(top, ["save", *disks.words, "v", disks.target("new"), *disks.source[:2]])
+    tally.same("saving without DISKS", got, 2, "", "usage: VOLUME TARGET FORMAT FILE [DISKS]\n" + said % "give DISKS, or leave it out with lvm")
     for name, words, status, message in rows:
         tally.same("saving as %s with %s" % (name, words), disks.save(top, name, *words), status, "", said % message)
         tally.holds("what is left of " + name, name == "there" or not os.path.exists(disks.target(name)), "it is there")

@@ -24,6 +24,7 @@ def check(tally, program, top):
     check_made_files(tally, program, top)
     check_whole(tally, program, top)
     check_lost(tally, program, top)
+    check_lost_inodes(tally, program, top)
     check_xfs(tally, program, top)
 
 
@@ -83,7 +84,9 @@ def check_refusals(tally, program, top):
     tally.holds("files of no file system", (got.status, got.out) == (1, b"") and got.err.startswith(begins), got.err)
     pipe = os.path.join(program.room, "files", "pipe")
     os.mkfifo(pipe)
-    for image, why in ((os.path.join(program.room, "nowhere"), "No such file or directory"), (pipe, "neither a file nor a disk")):
+    packed = program.file("files/packed", b"BZh91AY")
+    for image, why in ((os.path.join(program.room, "nowhere"), "No such file or directory"), (pipe, "neither a file nor a disk"),
+                       (packed, "it is compressed (bzip2)")):
         tally.same("files of " + image, files(program, top, "home 0\n", "home", image), 1, "", "dmremap-tools files: %s: %s\n" % (image, why))
 
 
@@ -193,6 +196,24 @@ def check_lost(tally, program, top):
         got = files(program, top, owners, "v", damaged, *words)
         is_so = (got.status, got.out) == (0, output.encode()) and (got.err == b"" if not message else got.err.startswith(message.encode()))
         tally.holds("files where %s is lost" % name, is_so, "%r and not %r; %r" % (got.out, output, got.err))
+
+
+def check_lost_inodes(tally, program, top):
+    """Where many inodes are lost, each of their names is found, though debugfs doesn't know any more how many there are."""
+    names = {"/%s%d" % (kind, it) for kind in ("f", "linked") for it in range(6)}
+    for it in range(6):
+        os.link(program.file("inodes/f%d" % it), os.path.join(program.room, "inodes", "linked%d" % it))
+    image = made(tally, program, "inodes", {})
+    if not image:
+        return
+    table = int(re.search(r"inode table at (\d+)", asked_of(image, "stats"))[1])
+    inodes = sorted(int(re.search(r"Inode (\d+) is part", asked_of(image, "imap " + it))[1]) for it in names)
+    # Two inodes of 256 bytes lie in a sector.
+    first, last = (2 * table + (it - 1) // 2 for it in (inodes[0], inodes[-1]))
+    write_at(image, 512 * first, bytes(512 * (last + 1 - first)))
+    got = files(program, top, "v %d %d\n" % (first, last + 1 - first), "v", image)
+    named = {it.split("inode table: ")[-1] for it in got.out.decode().splitlines()}
+    tally.holds("the names of lost inodes", (got.status, got.err) == (0, b"") and names <= named, "%r, %r" % (got.out, got.err))
 
 
 def read(path):

@@ -30,6 +30,19 @@ ROWS = [
     # A store that is used up.
     ("s,,,,0 64 snapshot base cow P 1", "base 64\ncow 34\n", "W s 0 32\nR s 0 33\n",
      AREA + "2 R cow 2 32\n2 R base 32 1\n"),
+    # A snapshot that is lost when its origin is written is served no longer, and its origin is written all the same.
+    ("s,,,,0 16 snapshot base cow P 8;o,,,,0 16 snapshot-origin base", "base 16\ncow 24\n",
+     "W o 0 1\nW o 8 1\nW o 0 16\nR s 0 16\n",
+     "1 copy base 0 8 cow 16\n1 W base 0 1\n2 W base 8 1\n3 W base 0 16\n4 error 16\n"),
+    # A chunk that goes on in the origin, and not in the store, and the other way round.
+    ("c,,,,0 20 linear cow 0,20 12 linear cow 40;s,,,,0 8 snapshot base /dev/mapper/c P 8", "base 8\ncow 64\n",
+     "W s 3 1\nR s 0 8\n",
+     "1 copy base 0 4 cow 16\n1 copy base 4 4 cow 40\n1 W cow 19 1\n2 R cow 16 4\n2 R cow 40 4\n"),
+    ("a,,,,0 4 linear base 0,4 4 linear base 12;s,,,,0 8 snapshot /dev/mapper/a cow P 8", "base 16\ncow 64\n", "W s 3 1\n",
+     "1 copy base 0 4 cow 16\n1 copy base 12 4 cow 20\n1 W cow 19 1\n"),
+    # The last sector of a chunk alone can't be read.
+    ("a,,,,0 7 linear base 0,7 1 error;s,,,,0 8 snapshot /dev/mapper/a cow P 8", "base 16\ncow 64\n", "W s 0 1\nR s 0 8\n",
+     "1 error 1\n2 error 8\n"),
 ]
 
 # FILE as concise text, DISKS, and the message.

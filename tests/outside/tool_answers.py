@@ -25,6 +25,7 @@ ANSWERED = [
          "fio version 2 iolog\n/a add\n/a open\n/a read 1024 1536\n/b add\n/b open\n/b read 0 512\n/a read 1125899906842624 512\n"
          "/a close\n/b close\n"),
     bad("to-fio", [], ["1 R 8:1 2 3\n"], "1:1: no path of a disk: 8:1", "fio version 2 iolog\n"),
+    bad("to-fio", [], ["1 R /a 2 3\n2 R b 0 1\n3 R /a 0 1\n"], "1:2: no path of a disk: b", "fio version 2 iolog\n/a add\n/a open\n/a read 1024 1536\n"),
     good("json", [], [ANSWERS], "".join(it + "\n" for it in (
         '{"request":1,"what":"R","disk":"sda","start":0,"len":3}',
         '{"request":2,"what":"copy","disk":"sda","start":8,"len":8,"to":"sdb","to_start":16}',

@@ -131,7 +131,7 @@ DEBUGFS = [
     ex(LEAF.replace("2198", "2198 Strange"), "2: not a line of ex: 0/ 0   1/  1     0 -  2197  2070 -  4267   2198 Strange"),
     ex("/a: does not uses extent block maps\n", "2: not a line of ex: /a: does not uses extent block maps"),
     ex(LEAF, "2: blocks of 100 bytes, which are no whole sectors", block=100),
-    bad("debugfs", V, [SUPER % 4096, ""], "2:0: no list of extents: only files with extents have one"),
+    bad("debugfs", V, [SUPER % 4096, ""], "2: no list of extents: only files with extents have one"),
     bad("debugfs", V, ["Fragment size:  4096\n", TREE + LEAF], "1:1: no line 'Block size' of dumpe2fs"),
     bad("debugfs", V, [SUPER % 4096, TREE + LEAF + TREE + LEAF], "2:3: more than one file", "R v 16560 17584\n"),
     bad("debugfs", V + ["--places", "places", "--size", ""], [SUPER % 4096, TREE + LEAF], "--size: not a whole number below 2^64: ''"),
@@ -194,6 +194,11 @@ TRACE = [
     traced(QUEUED % "  R 8 + 16", "R vg0-lv0 8 16\n", tables="vg0-lv0,,,rw,0 8 zero\n"),
     no_trace("12.5: block_bio_queue: 253,1 R 8 [x]\n", "3:1: not a form of the event: 12.5: block_bio_queue: 253,1 R 8 [x]"),
     no_trace("hello\n", "3:1: no request in the trace"),
+    no_trace("", "3: no request in the trace"),
+    # A line that is refused among others.
+    no_trace(QUEUED % "  R 8 + 16" + QUEUED % "  W 8 + 0" + QUEUED % "  R 8 + 8", "3:2: no sectors: " + (QUEUED % "  W 8 + 0")[:-1], "R vg0-lv0 8 16\n"),
+    no_trace("a-1 [002] 12.5: block_bio_queue: 253,1 R 8 + 16\na-1 [002] 12.5: block_bio_queue: 253,1 X 8 + 16\n",
+             "3:2: neither a read nor a write: a-1 [002] 12.5: block_bio_queue: 253,1 X 8 + 16", "R vg0-lv--1 8 16\n"),
     no_trace("hello\n", "1: not what `dmsetup ls` prints of devices", names="No devices found\n"),
     traced(QUEUED % "  R 8 + 16", "", "left out: 1 requests to a\\x20b (253,0), which the tables have not\n", names="a\\x20b\t(253:0)\n"),
 ]
@@ -222,6 +227,7 @@ LOGS = [
            ["--ls", "1"], ["a\t(253:5)\nz\t(253:6)\n"]),
     no_log(FIO + "/dev/dm-5 read 0 512\n", "2:4: which device is /dev/dm-5? Give --ls LS"),
     logged("fio version 3 iolog\n", ""),
+    no_log(FIO + "/dev/mapper/a read 0 512\n/dev/mapper/a read 0 0\n/dev/mapper/a read 0 512\n", "2:5: no bytes: /dev/mapper/a read 0 0", "R a 0 1\n"),
     no_log("fio version 1 iolog\n", "2:1: not the first line of a log: fio version 1 iolog"),
     no_log(FIO + "1 /dev/mapper/a read 0 512\n", "2:4: not a line of a log: 1 /dev/mapper/a read 0 512"),
     no_log(FIO.replace("2", "3"), "2:2: not a line of a log: /dev/mapper/a add"),
@@ -233,7 +239,7 @@ LOGS = [
     no_log("/dev/mapper/a read 0 512\n", "2:1: not the first line of a log: /dev/mapper/a read 0 512"),
     bad("fio", [], [FIO], "1:1: not table text: fio version 2 iolog"),
     bad("fio", [], ["", FIO], "1: no device in it"),
-    bad("fio", [], ["a: 0 8 zero\n", ""], "2:0: the log is empty"),
+    bad("fio", [], ["a: 0 8 zero\n", ""], "2: the log is empty"),
     # Names of devices as paths.
     good("bytes", [], ["R /dev/mapper/a 0 1\nW /dev/b-c/d-e 511 2\n"], "R a 0 1\nW b--c-d--e 0 2\n"),
     good("bytes", ["--ls", "1"], ["x\t(253:0)\ny\t(253:12)\n", "R /dev/dm-12 0 1\nR /dev/dm-0 0 1\n"], "R y 0 1\nR x 0 1\n"),

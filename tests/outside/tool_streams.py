@@ -11,7 +11,6 @@ import shutil
 import signal
 import subprocess
 import sys
-import tempfile
 
 from harness import Outcome, run
 from tool_calls import TOOL, call, samples
@@ -93,7 +92,7 @@ UNPRINTED = {"read-back", "save", "used"}
 NO_INPUTS = ("beside", "image", "./dmremap")
 # What a command needs that may not be there.
 NEEDED = {"files": "debugfs"}
-CUTS, MUTATIONS, MEMORY = 8, 500, 1 << 30
+CUTS, MUTATIONS, MEMORY, MANY = 8, 500, 1 << 30, 3000
 FULL, GONE, INTERRUPTED = 5, 141, 130
 ANSWERED, REFUSED, INCOMPLETE = 0, 1, 4
 # What is put into a text in place of something else.
@@ -112,8 +111,10 @@ def check(tally, program, top):
         check_cuts(tally, top, folder, command)
     check_terminal(tally, top, folder)
     check_live(tally, top, folder)
+    check_many(tally, top, folder)
     check_interrupt(tally, top, folder)
     check_unsaid(tally, top, folder)
+    check_rooms(tally, top, folder)
     check_words(tally, top)
     check_mutations(tally, top, folder, tried, MUTATIONS)
 
@@ -275,6 +276,38 @@ def check_live(tally, top, folder):
         tally.holds("how %s ends" % words[0], ran.wait() == 0, "status %s" % ran.returncode)
 
 
+def check_many(tally, top, folder):
+    """Lines of the usual form, which are read many at once, give what they give where other lines between them, which change
+    nothing, have each of them read by itself."""
+    dice = random.Random(7)
+    queued = [queued_line(dice) for _ in range(MANY)]
+    events = ["  kworker/u8:2-377 [002] .....  %d.5: block_bio_queue: 253,%d %s %d + %d [fio]\n"
+              % (it, dice.choice((0, 0, 1, 9)), dice.choice(("R", "WS", "D")), dice.randrange(1 << 40), dice.choice((0, 8, 256))) for it in range(MANY)]
+    logged = ["/dev/mapper/%s %s %d %d\n" % (dice.choice(("vg0-lv0", "vg0-lv0", "other")), dice.choice(("read", "write")), dice.randrange(1 << 40),
+                                              dice.choice((512, 1000, 1 << 20))) for _ in range(MANY)]
+    answers = ["%d %s /dev/sd%s %d %d\n" % (1 + it // 2, dice.choice("RW"), dice.choice("abc"), dice.randrange(1 << 40), dice.choice((1, 8, 256)))
+               for it in range(MANY)]
+    with open(os.path.join(folder, "moments"), "w") as it:
+        it.writelines("%d.25\n" % number for number in range(MANY))
+    traced = [(["trace", "--times", "beside", "ls.txt", "vg0.table"], lines, "hello\n") for lines in (queued, events)]
+    made = [(words, answers, "s: 0 8 snapshot 16/64 16\n") for words in (["totals"], ["histogram"], ["splits"], ["to-fio"], ["json"], ["times", "moments", "-"])]
+    for words, lines, other in [*traced, (["fio", "vg0.table"], ["fio version 2 iolog\n"] + logged, "/dev/mapper/vg0-lv0 sync\n"), *made]:
+        many = call(top, words, given="".join(lines), folder=folder)
+        beside = bytes_of(os.path.join(folder, "beside")) if "beside" in words else b""
+        single = call(top, words, given=other.join(lines), folder=folder)
+        tally.same("%s of many lines, and of each by itself" % words[0], single, 0, many.out, many.err)
+        tally.holds("%s of many lines" % words[0], many.out, "nothing is printed")
+        if "beside" in words:
+            tally.holds("the times of many lines", beside and bytes_of(os.path.join(folder, "beside")) == beside, "they differ")
+
+
+def queued_line(dice):
+    """A line of blkparse."""
+    return "253,%d  3 %8d %5d.000118400  4101 %2s %3s %d + %d [%s]\n" % (
+        dice.choice((0, 0, 1, 9)), dice.randrange(10 ** 6), dice.randrange(10 ** 5), dice.choice("QQQGDC"), dice.choice(("R", "WS", "FWS", "D")),
+        dice.randrange(1 << 40), dice.choice((8, 256)), dice.choice(("fio", "kworker/u8:2")))
+
+
 def check_interrupt(tally, top, folder):
     """An interrupt ends a command in silence, and spoils what it had begun to write."""
     words = ["trace", "--times", "beside", "ls.txt", "vg0.table"]
@@ -299,6 +332,17 @@ def check_unsaid(tally, top, folder):
         tally.holds("what it leaves beside", found == b"refused\n", "it is %r" % found)
     got = run(tool(top) + ["cut"], folder=folder, stdin=subprocess.DEVNULL, before=lambda: os.close(0))
     tally.same("no input", got, REFUSED, "refused\n", TOOL + " cut: standard input: Bad file descriptor\n")
+
+
+def check_rooms(tally, top, folder):
+    """No room for what is kept in files meanwhile."""
+    none = lambda: resource.setrlimit(resource.RLIMIT_FSIZE, (0, 0))
+    stack = ["table", "snap.table", "snap.disks"]
+    for command, words in (("store-full", ["writes", *stack]), ("used", ["--fresh", "snap", "map", *stack]), ("save", ["snap", "saved", *stack])):
+        got = run(tool(top) + [command, "--program", "./dmremap", *words], folder=folder, before=none)
+        said = "%s %s: a temporary file: " % (TOOL, command)
+        is_so = got.status == FULL and got.err.startswith(said.encode()) and got.err.count(b"\n") == 1
+        tally.holds("%s without room" % command, is_so, "status %s, %r" % (got.status, got.err))
 
 
 def check_words(tally, top):

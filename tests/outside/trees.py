@@ -20,12 +20,13 @@ LINES = "# a comment: low\nlow: memchr\ndmremap: clap low middle\nbeside: low\nm
 SCRIPTS = ["dmremap", "build", "try", "launch"]
 BUILDING = "dmremap: building the proved program; the first time this takes 25 minutes on four processors\n"
 ANEW = "dmremap: building the proved program; the sources were changed meanwhile\n"
+WAITING = "dmremap: another call builds the program; waiting for it\n"
 # How long crates took and since when they run, which no two runs have in common.
 TOOK = [(re.compile(rb"after \d+ min \d+ s"), b"after 0 min 0 s"), (re.compile(rb"since \d\d:\d\d"), b"since 00:00")]
 VERSION = "a kit 1 logic 2"
 README = "Proved with the one for which `rt version` prints `%s`.\n" % VERSION
 # What the scripts call, for a path where there is no rt.
-TOOLS = ["awk", "bash", "cat", "cmp", "cp", "date", "find", "readlink", "sed", "sha256sum", "sort", "stat", "tr", "xargs"]
+TOOLS = ["awk", "cat", "cmp", "cp", "date", "find", "readlink", "sed", "sha256sum", "sort", "stat", "tr", "xargs"]
 
 # Notes where it runs and with which words, and what is on its input, which is to be nothing. A crate whose sources it
 # has built, it leaves as it is. In the place of the object file it puts the text of all sources that it sees. Where it
@@ -136,11 +137,16 @@ class Tree:
         got.err = without_times(got.err)
         return got
 
-    def start(self, words, err, script=None, env=None, **variables):
-        """Starts a call whose standard error goes to a file, or to what has that number."""
-        # Who calls these tests may have told all below to pass signals over.
+    def start(self, words, err, script=None, env=None, closed=None, **variables):
+        """Starts a call whose standard error goes to a file, or to what has that number; another stream may be closed."""
+        def before():
+            # Who calls these tests may have told all below to pass signals over.
+            restore_signals()
+            if closed is not None:
+                os.close(closed)
+
         return subprocess.Popen([script or self.script, *words], env=env or self.environment(**variables),
-                                stdin=subprocess.DEVNULL, stdout=subprocess.PIPE, stderr=err, preexec_fn=restore_signals)
+                                stdin=subprocess.DEVNULL, stdout=subprocess.PIPE, stderr=err, preexec_fn=before)
 
     def called(self):
         """How rt was called, but for the number of jobs."""

@@ -8,7 +8,9 @@ import struct
 import subprocess
 
 import tool_streams
+import walks
 from harness import run
+from physical_volumes import gpt, volume
 from tool_calls import TOOL, call
 
 MAGIC, CHUNK, SECTOR = 0x70416E53, 8, 512
@@ -27,6 +29,7 @@ def check(tally, program, top):
     case = Case(tally, program, top)
     check_states(case)
     check_stores_refused(case)
+    check_unloaded(case)
     check_places(case)
     check_changes(case)
     check_limits(case)
@@ -100,12 +103,16 @@ def check_stores_refused(case):
             ("no header", store(PAIRS, magic=7), "it begins with 0x00000007 and not 'SnAp', which a kernel refuses"),
             ("another version", store(PAIRS, version=2), "it is of version 2, and a kernel refuses all but 1"),
             ("another chunk", store(PAIRS, said=16), "its chunks have 16 sectors, and 8 in the table: a kernel goes by the store, so write 16 there"),
+            ("a chunk that dmremap doesn't take", store(PAIRS, said=4096), "its chunks have 4096 sectors, and 8 in the table: a kernel goes by the store, and dmremap takes none of more than 1024"),
+            ("a chunk that nobody takes", store(PAIRS, said=12), "its chunks have 12 sectors, and 8 in the table: a kernel goes by the store, and refuses it"),
             ("a place left out", store([(3, 2), (0, 5)]), "number 1 of its list lies at chunk 5 and not 3: a kernel goes by the list, and dmremap knows no other place"),
             ("a place twice", store([(3, 2), (0, 2)]), "number 1 of its list lies at chunk 2 and not 3: a kernel goes by the list, and dmremap knows no other place"),
             ("a chunk past the end", store([(3, 2), (9, 3)]), "it has chunk 9, and the last of the snapshot is 7: a kernel loads it, but it belongs to another snapshot"),
             ("a chunk twice", store([(3, 2), (3, 3)]), "it has a chunk twice: a kernel loads it, but none writes such a list")):
         case.put("image", content)
         case.refused(name, where + why)
+    case.put("image", b"BZh" + store(PAIRS))
+    case.refused("a compressed image", "image: it is compressed (bzip2)")
     case.put("image", store(PAIRS)[:20])
     case.refused("a short image", "image: it ends before sector 1, where a store has its list")
     case.put("image", store(PAIRS)[:8000])
@@ -121,15 +128,103 @@ def check_stores_refused(case):
     case.refused("a store on a disk that isn't here", "cow: No such file or directory", [])
     case.refused("another snapshot", "x: FILE has no such snapshot", STORE + ["--store", "x=image"])
     case.refused("a fresh one that isn't there", "o: FILE has no such snapshot", STORE + ["--fresh", "o"])
-    case.put("po.table", TABLE.replace(" P ", " PO "))
-    case.refused("kind PO", "po.table: a kernel lets reads of kind PO go on when the store is full, and dmremap has no such kind; write P, whose stores are the "
-                 "same: snapshot base cow PO 8", source=("table", "po.table", "disks"))
-    case.put("merge.table", TABLE.replace("0 64 snapshot ", "0 64 snapshot-merge "))
-    case.refused("a merge", "merge.table: a kernel writes this snapshot back to its origin as it goes, which dmremap can't follow: snapshot-merge base cow P 8",
-                 source=("table", "merge.table", "disks"))
     case.put("n.table", "n: 0 64 snapshot base cow N 8\n")
     case.refused("kind N", "the store of n: it isn't persistent, so no disk says what is in it; --fresh n takes it as fresh", [], ("table", "n.table", "disks"))
     case.same("kind N as fresh", FRESH, "", ["--fresh", "n"], ("table", "n.table", "disks"), "R n 0 64\n")
+    case.put("k.table", TABLE.replace(" P ", " K "))
+    case.same("kind K, which is laid out as P", ANSWER, TOLD, source=("table", "k.table", "disks"))
+
+
+# Tables that dmremap refuses: the last line but those of what lies below, the place and what a kernel does.
+LOST = "put a disk in the place of what is lost: in FILE write `linear lost 0` for `error`, and in DISKS `lost` with that line's length"
+ON = "a kernel keeps a store on %s, and dmremap doesn't: put a disk of its length in its place, and give what it holds by --store: %s"
+UNREADABLE = "a kernel refuses a store whose list fails to be read, and takes one of which other chunks are lost: %s: %s"
+SHORTER = "a kernel takes it, though it is shorter than its origin, and dmremap doesn't"
+UNLOADED = [
+    ("kind PO", "s: 0 64 snapshot base cow PO 8", 1, "a kernel lets reads of kind PO go on when the store is full, and dmremap has no such kind; write P, "
+     "whose stores are the same: 0 64 snapshot base cow PO 8"),
+    ("kind p", "s: 0 64 snapshot base cow p 8", 1, "a kernel takes this kind for P, and dmremap doesn't: write P: 0 64 snapshot base cow p 8"),
+    ("kind n", "s: 0 64 snapshot base cow n 8", 1, "a kernel takes this kind for N, and dmremap doesn't: write N: 0 64 snapshot base cow n 8"),
+    ("kind NO", "s: 0 64 snapshot base cow NO 8", 1, "a kernel takes this kind for N, and dmremap doesn't: write N: 0 64 snapshot base cow NO 8"),
+    ("another kind", "s: 0 64 snapshot base cow Persistent 8", 1, "a kernel refuses this kind of store: 0 64 snapshot base cow Persistent 8"),
+    ("features", "s: 0 64 snapshot base cow P 8 1 discard_zeroes_cow", 1, "a kernel takes features of a snapshot, which change discards alone, and dmremap "
+     "takes none: let the line end after the chunk: 0 64 snapshot base cow P 8 1 discard_zeroes_cow"),
+    ("a merge", "s: 0 64 snapshot-merge base cow P 8", 1, "a kernel writes this snapshot back to its origin as it goes, which dmremap can't follow: "
+     "0 64 snapshot-merge base cow P 8"),
+    ("a chunk of 0", "s: 0 64 snapshot base cow P 0", 1, "a kernel takes a chunk of 0 for 32 sectors: write 32: 0 64 snapshot base cow P 0"),
+    ("a chunk of 3", "s: 0 64 snapshot base cow P 3", 1, "a kernel refuses this chunk: 0 64 snapshot base cow P 3"),
+    ("a chunk of 2048", "s: 0 64 snapshot base cow P 2048", 1, "a kernel takes this chunk, and dmremap none of more than 1024 sectors: 0 64 snapshot base cow P 2048"),
+    ("a chunk of 4096", "s: 0 64 snapshot base cow P 4096", 1, "a kernel takes this chunk, and dmremap none of more than 1024 sectors: 0 64 snapshot base cow P 4096"),
+    ("a chunk of 2 GiB", "s: 0 64 snapshot base cow P 4194304", 1, "a kernel refuses this chunk: 0 64 snapshot base cow P 4194304"),
+    ("a short one", "s: 0 32 snapshot base cow P 8", 1, SHORTER + ": put a linear device of its length on the origin, and name that as the origin: 0 32 snapshot base cow P 8"),
+    ("a short one of a device", "b: 0 60 linear base 0\ns: 0 32 snapshot /dev/mapper/b cow P 8", 2,
+     SHORTER + ": put a linear device of its length on the origin, and name that as the origin: 0 32 snapshot /dev/mapper/b cow P 8"),
+    ("a long one", "s: 0 65 snapshot base cow P 8", 1, "a kernel refuses it, as it is longer than its origin: 0 65 snapshot base cow P 8"),
+    ("a short origin", "o: 0 32 snapshot-origin base", 1, SHORTER + ": 0 32 snapshot-origin base"),
+    ("a long origin", "o: 0 65 snapshot-origin base", 1, "a kernel refuses it, as it is longer than its origin: 0 65 snapshot-origin base"),
+    ("other lines", "s: 0 64 snapshot base cow P 8\ns: 64 8 zero", 1, "a kernel takes it beside other lines, and dmremap doesn't: give it a device of its own, "
+     "and write a linear line to that here: 0 64 snapshot base cow P 8"),
+    ("a store of zeros", "z: 0 64 zero\ns: 0 64 snapshot base /dev/mapper/z P 8", 2, "a kernel takes a store of zeros, which keeps nothing, so that it is fresh each "
+     "time: put a disk in its place, and give --fresh: 0 64 snapshot base /dev/mapper/z P 8"),
+    ("a store that fails", "z: 0 64 error\ns: 0 64 snapshot base /dev/mapper/z P 8", 2, UNREADABLE % (LOST, "0 64 snapshot base /dev/mapper/z P 8")),
+    ("a store that fails further down", "y: 0 8 linear cow 0\ny: 8 8 error\nz: 0 16 striped 1 8 /dev/mapper/y 0\ns: 0 64 snapshot base /dev/mapper/z P 8", 4,
+     UNREADABLE % (LOST, "0 64 snapshot base /dev/mapper/z P 8")),
+    ("a store on a snapshot", "t: 0 64 snapshot base cow P 8\ns: 0 64 snapshot base /dev/mapper/t P 8", 2, ON % ("a snapshot", "0 64 snapshot base /dev/mapper/t P 8")),
+    ("a store on an origin", "t: 0 160 snapshot-origin cow\ns: 0 64 snapshot base /dev/mapper/t P 8", 2, "a kernel keeps a store on an origin, and first copies what "
+     "it writes there to the snapshots of that: name what the origin is of, which reads the same: 0 64 snapshot base /dev/mapper/t P 8"),
+    ("a store on another target", "c: 0 160 crypt aes - 0 cow 0\ns: 0 64 snapshot base /dev/mapper/c P 8", 1, ON % ("a device of crypt", "0 160 crypt aes - 0 cow 0")),
+    ("a store above another target", "c: 0 160 raid raid1 1 8\nl: 0 160 linear /dev/mapper/c 0\ns: 0 64 snapshot base /dev/mapper/l P 8", 1,
+     ON % ("a device of raid", "0 160 raid raid1 1 8")),
+    ("too many places", "s: 0 64 snapshot base large P 1", 1, "a kernel takes stores of any length, and dmremap counts 4194304 places for chunks in all: put a linear "
+     "device on the store, as long as what `dmsetup status` says is in use of it, and name that as the store: 0 64 snapshot base large P 1"),
+]
+# Edits of a group, line by line, and the same.
+COPY = "; dmremap-tools lvm2-text makes a copy without it"
+RECORDS = [
+    ("a merge", [(45, "cow_store", "merging_store")], 39, "a kernel writes this snapshot back to its origin as it goes, which dmremap can't follow" + COPY),
+    ("a chunk of 4096", [(43, "8", "4096")], 39, "a kernel takes this chunk, and dmremap none of more than 1024 sectors"),
+    ("a short one", [(41, "25", "24")], 39, SHORTER + COPY),
+    ("a long one", [(41, "25", "26")], 39, "a kernel refuses it, as it is longer than its origin"),
+    ("a store of zeros", [(31, "striped", "zero")], 39, "a kernel takes a store of zeros, which keeps nothing, and refuses one whose list fails to be read" + COPY),
+    ("a store that fails", [(31, "striped", "error")], 39, "a kernel takes a store of zeros, which keeps nothing, and refuses one whose list fails to be read" + COPY),
+    ("too many places", [(8, "1050624", "999999999"), (10, "128", "9000"), (30, "2", "8000")], 39,
+     "a kernel takes stores of any length, and dmremap counts 4194304 places for chunks in all" + COPY),
+    ("a store on another type", [(31, "striped", "raid1")], 31, "dmremap can't follow what stands there" + COPY),
+    ("a negative number", [(4, "8192", "8192 read_ahead = -1")], 4, "dmremap can't follow what stands there" + COPY),
+    ("a store that is the origin", [(45, "snap", "lv0")], 39, "lvm2 writes no such record of a snapshot"),
+    ("no chunk", [(43, "chunk_size = 8", "")], 39, "lvm2 writes no such record of a snapshot"),
+]
+
+
+def check_unloaded(case):
+    """Snapshots and stores that dmremap loads no stack with."""
+    case.put("large.disks", DISKS + "large 4325379\n")
+    for name, table, line, why in UNLOADED:
+        case.put("unloaded", table + "\n")
+        case.refused(name, "unloaded:%d: %s" % (line, why), source=("table", "unloaded", "large.disks"))
+    case.put("unloaded", "c,,,ro,0 160 linear cow 0;s,,,rw,0 64 snapshot base /dev/mapper/c P 8\n")
+    case.refused("a store that is read-only", "unloaded:2: a kernel takes a store that is read-only, and writes to it all the same, with a warning in its log: write rw: "
+                 "0 64 snapshot base /dev/mapper/c P 8", source=("concise", "unloaded", "disks"))
+    case.put("unloaded", "s: 0 64 snapshot base base P 8\n")
+    case.refused("a store that is the origin", "the store of s: it is the origin, too, which a kernel refuses", source=("table", "unloaded", "disks"))
+    case.put("unloaded", "s: 0 64 snapshot base cow P 8\nt: 0 64 snapshot base cow P 8\n")
+    case.refused("a store of two", "the store of s: it is that of t, too, which a kernel refuses", source=("table", "unloaded", "disks"))
+    with open(os.path.join(case.top, "examples", "vg0-snapshot.backup"), encoding="ascii") as it:
+        lines = it.read().split("\n")
+    for name, edits, line, why in RECORDS:
+        changed = list(lines)
+        for number, old, new in edits:
+            changed[number - 1] = changed[number - 1].replace(old, new)
+        case.put("unloaded", "\n".join(changed))
+        case.refused("a group with " + name, "unloaded:%d: %s" % (line, why), ["--fresh", "vg0-snap"], ("lvm", "unloaded"))
+    # The ways out that these name.
+    case.put("loaded.disks", DISKS + "longer 80\nlarge 4325379\n")
+    for name, table, origin, kept in (("a short one", "b: 0 64 linear longer 0\ns: 0 64 snapshot /dev/mapper/b cow P 8\n", "longer", "cow"),
+                                      ("other lines", "s: 0 64 snapshot base cow P 8\nu: 0 64 linear /dev/mapper/s 0\nu: 64 8 zero\n", "base", "cow"),
+                                      ("what is lost of a store", "z: 0 32 linear cow 0\nz: 32 64 linear lost 0\ns: 0 64 snapshot base /dev/mapper/z P 8\n", "base", "cow"),
+                                      ("too many places", "z: 0 160 linear large 0\ns: 0 64 snapshot base /dev/mapper/z P 8\n", "base", "large")):
+        case.put("loaded", table)
+        case.same("the way out of " + name, ANSWER.replace("base", origin).replace("cow", kept), TOLD, source=("table", "loaded", "loaded.disks"))
 
 
 def check_places(case):
@@ -154,6 +249,25 @@ def check_places(case):
     case.put("group.paths", "/dev/sda1 sda1.img\n")
     case.same("a group", "1 R /dev/sda1 10048 8\n1 R /dev/sda1 206864 8\n", "vg0-snap: used, with 2 of its chunks in the store\n",
               ["--paths", "group.paths"], ("lvm", "group"), "R vg0-snap 8000 16\n")
+    # The same on a partition of a whole disk, whose label has the id of the physical volume.
+    with open(os.path.join(case.folder, "group"), encoding="ascii") as it:
+        case.put("group.ids", it.read().replace("    pv0 {\n", '    pv0 {\n      id = "%s"\n' % walks.dashed(walks.IDS[0])))
+    case.put("whole.img", gpt((64, 1050687)).ljust(64 * SECTOR, b"\0") + volume(identity=walks.IDS[0].encode()))
+    with open(os.path.join(case.folder, "whole.img"), "r+b") as it:
+        it.seek((64 + 206848) * SECTOR)
+        it.write(store([(1001, 2), (7, 3)], chunks=2048))
+    case.put("group.paths", "/dev/sda1 whole.img\n")
+    case.same("a group on a partition", "1 R /dev/sda1 10048 8\n1 R /dev/sda1 206864 8\n",
+              "whole.img: the image of a whole disk (GPT), whose partition 1 is a physical volume: that is read\nvg0-snap: used, with 2 of its chunks in the store\n",
+              ["--paths", "group.paths"], ("lvm", "group.ids"), "R vg0-snap 8000 16\n")
+    case.refused("a group without ids on a partition", "whole.img: the image of a whole disk (GPT), and /dev/sda1 has 1050624 sectors: give the "
+                 "partition that it is, cut out with dd", ["--paths", "group.paths"], ("lvm", "group"), "R vg0-snap 8000 16\n")
+    case.put("paths", "cows image\n")
+    case.refused("a path of no disk", "paths: no disk is called cows", ["--paths", "paths"])
+    case.put("cow.img", gpt((64, 223)).ljust(64 * SECTOR, b"\0") + content)
+    case.put("paths", "cow cow.img\n")
+    case.refused("a whole disk for a partition", "cow.img: the image of a whole disk (GPT), and cow has 160 sectors: give the partition "
+                 "that it is, cut out with dd", ["--paths", "paths"])
     case.put("hole.img", store(PAIRS)[:8 * SECTOR])
     case.put("hole", "c: 0 8 linear z 0\nc: 8 152 linear z 8\ns: 0 64 snapshot base /dev/mapper/c P 8\n")
     case.put("hole.disks", "base 64\nz 160\n")
@@ -172,8 +286,7 @@ def check_changes(case):
     case.same("an origin that fails elsewhere", "1 R cow 24 8\n1 R base 8 16\n1 R cow 16 8\n1 R base 32 8\n1 error 24\n", TOLD, source=source)
     case.put("image", store(PAIRS + [(6, 4)]))
     case.refused("an origin that fails", "the store of s: it has what was written from sector 48 on, and the origin fails to be read there, so dmremap would take the snapshot "
-                 "for invalid. Put a disk in the place of what is lost: in FILE write `linear lost 0` for `error`, and in DISKS `lost` with that line's length",
-                 source=source, told="s: used, with 3 of its chunks in the store\n")
+                 "for invalid: " + LOST, source=source, told="s: used, with 3 of its chunks in the store\n")
     case.put("mended", "z: 0 40 linear base 0\nz: 40 24 linear lost 0\ns: 0 64 snapshot /dev/mapper/z cow P 8\n")
     case.same("the way out", "1 R lost 0 8\n2 R cow 32 8\n", "s: used, with 3 of its chunks in the store\n", source=("table", "mended", "disks"),
               given="R s 40 8\nR s 48 8\n")
@@ -187,8 +300,7 @@ def check_changes(case):
               "t: used, with 1 of its chunks in the store\n" + TOLD, both, ("table", "two", "two.disks"), "R t 0 64\n")
     case.put("image", store(PAIRS, valid=0))
     case.refused("an origin that isn't valid", "the store of t: it has what was written from sector 8 on, and the origin fails to be read there, so dmremap would take the "
-                 "snapshot for invalid. Put a disk in the place of what is lost: in FILE write `linear lost 0` for `error`, and in DISKS `lost` with "
-                 "that line's length", both, ("table", "two", "two.disks"),
+                 "snapshot for invalid: " + LOST, both, ("table", "two", "two.disks"),
                  told="t: used, with 1 of its chunks in the store\ns: invalid, with 0 of its chunks in the store\n")
     case.put("image", store(PAIRS))
 
@@ -244,7 +356,8 @@ def check_kept(case):
     with open(os.path.join(case.folder, "kept", "here", "BEFORE"), encoding="ascii") as it:
         before = it.read()
     case.tally.holds("writes of neighbours", before == "W s 16 17\nW s 56 1\nW s 0 1\n", "it is %r" % before)
-    case.refused("a folder that can't be made", "table/x: Not a directory", STORE + ["--keep", "table/x"])
+    got = case.call([*STORE, "--keep", "table/x", "map", "table", "table", "disks"], READ)
+    case.tally.same("used: a folder that can't be made", got, 5, "", TOOL + " used: table/x: Not a directory\n")
 
 
 def check_streams(case):

@@ -7,7 +7,9 @@ import random
 import shutil
 
 import used
+import walks
 from harness import run
+from physical_volumes import gpt
 from tool_calls import TOOL, call
 
 SECTOR, CHUNK = 512, 16
@@ -34,6 +36,7 @@ def check(tally, program, top):
         tally.same("a server out of " + os.path.basename(it), got, 0, "%d\n" % SIZE)
         case.plugin = plain
     check_group(case)
+    check_labelled(case)
     check_holes(case)
     check_refusals(case)
 
@@ -53,7 +56,7 @@ def check_path(tally, program, top):
     tally.holds("nbd-plugin of a tool alone", is_there, "it prints %r, %r" % (got.out, got.err))
     env["XDG_CACHE_HOME"] = program.path
     got = run([packed, "nbd-plugin"], env=env)
-    tally.holds("nbd-plugin without a folder to write to", got.status == 1 and b"nbd_volume" in got.err and got.err.count(b"\n") == 1, got.err)
+    tally.holds("nbd-plugin without a folder to write to", got.status == 5 and b"nbd_volume" in got.err and got.err.count(b"\n") == 1, got.err)
     installed = os.path.join(room, "share", "dmremap", "nbd_volume.py")
     os.makedirs(os.path.dirname(installed))
     shutil.copy(os.path.join(top, "tools", "nbd_volume.py"), installed)
@@ -150,6 +153,26 @@ def check_group(case):
     case.copies("a snapshot with another store", image + ["device=vg0-snap", "store=vg0-snap=store"], content)
 
 
+def check_labelled(case):
+    """Images of the disks of a group, of which one has its physical volume on a partition: their labels say what they are."""
+    home = case.content[:120 * SECTOR]
+    for name, content in zip(walks.NAMES, walks.images(home)):
+        case.put(name, content)
+    case.put("vg", call(case.top, ["metadata", *walks.NAMES], folder=case.folder).out)
+    words = ["format=lvm", "source=vg", "device=vg-home"]
+    case.copies("disks that are known by their labels", words + ["image=" + it for it in walks.NAMES], home)
+    case.copies("disks that are named", words + ["image=%s=%s" % it for it in zip(walks.HINTS, walks.NAMES)], home)
+    told = "%s: the image of a whole disk (GPT), whose partition 1 is a physical volume: that is read\n" % os.path.join(case.folder, "a.img")
+    said = told + "%s nbd-plugin: %%s\n" % TOOL
+    for name, images, why in (
+            ("another disk", ["/dev/sda1=a.img", "/dev/sda=c.img"], "c.img: it isn't /dev/sda, whose id is %s: its own is %s" % tuple(map(walks.dashed, walks.IDS[1:]))),
+            ("a disk twice", ["a.img", "c.img", "copy.img"], "copy.img: no physical volume of the group is in it that isn't elsewhere: none of its labels has such an id"),
+            ("no physical volume", ["a.img", "fs"], "fs: no physical volume of the group is in it that isn't elsewhere: none of its labels has such an id")):
+        case.put("copy.img", case.bytes("c.img"))
+        got = case.serve(words + ["image=" + it for it in images], "true")
+        case.tally.same("a server with " + name, got, 1, "", said % os.path.join(case.folder, why))
+
+
 def check_holes(case):
     """Zeros, sectors that fail, a disk without an image, and an image that ends early: each other sector is read."""
     content = case.content[:64 * SECTOR]
@@ -174,6 +197,7 @@ def check_holes(case):
 def check_refusals(case):
     """What the server says before it serves."""
     plain = [*STRIPED[:3], "device=v", STRIPED[4]]
+    case.put("whole.img", gpt((64, 99)).ljust(64 * SECTOR, b"\0") + case.content)
     for name, words, why in (
             ("no device", plain[:3] + plain[4:], "device: it isn't given: device=.."),
             ("another device", [it.replace("=v", "=w") for it in plain], "w: source has no such device"),
@@ -184,6 +208,10 @@ def check_refusals(case):
             ("no images", plain[:4], "image: no disk to read from: image=NAME=PATH, or paths=PATHS"),
             ("half an image", plain + ["image=c"], "image: not image=NAME=PATH, or twice: c"),
             ("an image that isn't there", plain + ["image=c=nothing"], os.path.join(case.folder, "nothing") + ": No such file or directory"),
+            ("an image of no disk", plain[:4] + ["image=w=c.img"], "image: no disk is called w"),
+            ("a whole disk for a partition", plain[:4] + ["image=c=whole.img"],
+             "%s: the image of a whole disk (GPT), and c has %d sectors: give the partition that it is, cut out with dd"
+             % (os.path.join(case.folder, "whole.img"), SIZE // SECTOR // 2)),
             ("a source that isn't there", [it.replace("striped", "nothing") for it in plain], os.path.join(case.folder, "nothing") + ": No such file or directory"),
             ("a store that is none", ["format=lvm", "source=group", "device=vg0-snap", "image=/dev/sda1=sda1.img", "store=vg0-snap=root/file"],
              "the store of vg0-snap: it begins with 0x2265b1f5 and not 'SnAp', which a kernel refuses")):

@@ -1,15 +1,15 @@
 """From images of disks alone to metadata, tables, a file's bytes and a lost file's name: over the samples of the tutorial, and
 over a file system that is made here."""
 
+import importlib
 import os
 import random
 import shutil
 
-
-
+import containers
 import tool_calls
 from harness import run
-from physical_volumes import FIRST, SECTOR, TIME, area, gpt, volume, with_backup
+from physical_volumes import FIRST, SECTOR, TIME, area, gpt, md_member, volume, with_backup
 
 # Sectors of an extent, those before the first, and the bytes of a metadata area, which ends there.
 EXTENT, BEFORE, AREA = 8, 24, 8192
@@ -85,11 +85,14 @@ def laid_out(count):
     return [(ends, [(0, 0), (1, 0)]), (middle, [(2, 0)]), (ends, [(0, ends // 2), (1, ends // 2)])]
 
 
+def dashed(letters):
+    """An id as a text has it."""
+    return "-".join(letters[begin:end] for begin, end in ((0, 6), (6, 10), (10, 14), (14, 18), (18, 22), (22, 26), (26, 32)))
+
+
 def metadata(segments, sizes):
     """What lvm2 writes into a metadata area of this group."""
-    letters = [it.encode() for it in IDS]
-    dashed = ["-".join(it[begin:end].decode() for begin, end in ((0, 6), (6, 10), (10, 14), (14, 18), (18, 22), (22, 26), (26, 32))) for it in letters]
-    physicals = "".join(PHYSICAL % (place, dashed[place], HINTS[place], size, BEFORE, (size - BEFORE) // EXTENT) for place, size in enumerate(sizes))
+    physicals = "".join(PHYSICAL % (place, dashed(IDS[place]), HINTS[place], size, BEFORE, (size - BEFORE) // EXTENT) for place, size in enumerate(sizes))
     text, at = "", 0
     for number, (count, columns) in enumerate(segments, 1):
         stripes = ",\n".join('"pv%d", %d' % it for it in columns)
@@ -145,12 +148,45 @@ def check(tally, program, top):
     for name, content in [*made.items(), ("c.map", rescue.encode())]:
         found = read(os.path.join(folder, name))
         tally.holds("the sample " + name, found == content, "it is not what this module makes")
+    check_encrypted(tally, program, top, home)
     missing = [it for it in ("mke2fs", "debugfs") if not shutil.which(it, path=os.environ["PATH"] + ":/sbin:/usr/sbin")]
     if missing:
         tally.skip("a walk from images to files", "there is no " + missing[0])
         return
     for seed in range(2):
         check_walk(tally, program, top, random.Random(seed))
+
+
+def check_encrypted(tally, program, top, home):
+    """A group of which a physical volume lies in a container of LUKS, on a partition: its sectors are followed to the whole disk,
+    and are there what they are in the opened container, encrypted."""
+    payload, secret = 256, 0x5A
+    disk, b, c = images(home)
+    opened = disk[PARTITION * SECTOR:-(TABLE + 1) * SECTOR]
+    count = payload + len(opened) // SECTOR
+    container = containers.version_2().ljust(payload * SECTOR, b"\0") + bytes(it ^ secret for it in opened)
+    whole = gpt((PARTITION, PARTITION + count - 1)).ljust(PARTITION * SECTOR, b"\0") + container
+    folder = os.path.dirname(program.file("luks/whole.img", whole))
+    for name, content in (("opened.img", opened), ("b.img", b), ("c.img", c), ("paths", "".join("%s %s\n" % (it, it) for it in ("whole.img", "b.img", "c.img")))):
+        program.file("luks/" + name, content)
+
+    def tool(*words, to=None):
+        got = tool_calls.call(top, words, folder=folder)
+        tally.holds("the step %s to a container" % words[0], got.status == 0, "status %s, %r" % (got.status, got.err))
+        program.file("luks/" + to, got.out)
+
+    tool("metadata", "opened.img", "b.img", "c.img", to="vg.backup")
+    program.file("luks/vg.table", program.run(["table", "lvm", os.path.join(folder, "vg.backup")]).out)
+    tool("partitions", "--group", "vg.backup", *("--image=%s.img" % it for it in ("opened", "b", "c")), "vg.table", to="tables")
+    tool("luks", "--name", "home", "whole.img", "whole.img", to="luks.table")
+    tool("under", "--disk", "opened.img", "home", "tables", "luks.table", to="stack")
+    tool("disks", "--paths", "paths", to="disks")
+    got = program.run(["map", "table", "stack", "disks"], given="R vg-home 0 %d\n" % (len(home) // SECTOR), folder=folder)
+    found = b""
+    for _, _, name, start, length in map(bytes.split, got.out.splitlines()):
+        part = read(os.path.join(folder, name.decode()))[int(start) * SECTOR:(int(start) + int(length)) * SECTOR]
+        found += bytes(it ^ secret for it in part) if name == b"whole.img" else part
+    tally.holds("a volume through a container", (got.status, found) == (0, home), "status %s, %r" % (got.status, got.err))
 
 
 def read(path):
@@ -191,22 +227,64 @@ def check_walk(tally, program, top, dice):
             program.file("walk/" + to, got.out)
         return got.out.decode()
 
-    tool("metadata", "b.img", "c.img", to="vg.backup")
+    tool("metadata", *NAMES, to="vg.backup")
     tally.holds("the text of the partition", tool("metadata", "--partition", "1", "a.img").encode() == read(os.path.join(folder, "vg.backup")), "it is another")
     program.file("walk/vg.table", program.run(["table", "lvm", os.path.join(folder, "vg.backup")]).out)
     tool("partitions", "--group", "vg.backup", "--image", "a.img", "--image", "b.img", "--image", "c.img", "--disks", "disks", "vg.table", to="tables")
+    # What the metadata says of the disks holds for their images, as their labels tell.
+    program.file("walk/images", "".join("%s %s\n" % (it, it) for it in NAMES))
+    tool("spans", "--paths", "images", "disks", "tables", "vg.backup", to="spans")
+    tool("clashes", "spans")
+    spans = read(os.path.join(folder, "spans")).decode().splitlines()
+    taken = ["%s 0 %d vg - label+metadata" % (it, BEFORE) for it in ("/dev/mapper/a.img1", "b.img", "c.img")]
+    tally.holds("what is taken of images", set(taken) < set(spans) and not any("of-LVM" in it for it in spans), "%s" % spans)
     tool("save", "vg-home", "saved", "table", "tables", "disks")
     wanted = bytearray(content)
     for sector in gone:
         at = (sector - BEFORE + linear) * SECTOR
         wanted[at:at + 2 * SECTOR] = bytes(2 * SECTOR)
     tally.holds("a volume that was saved", read(os.path.join(folder, "saved")) == bytes(wanted), "it is another")
+    # By the ids in the labels, a whole disk will do for its partition, and another's will not.
+    program.file("walk/paths", "".join("%s %s\n" % it for it in zip(HINTS, NAMES)))
+    tool("save", "--paths", "paths", "vg-home", "again", "lvm", "vg.backup")
+    tally.holds("a volume out of its group", read(os.path.join(folder, "again")) == bytes(wanted), "it is another")
+    # Nor will a member of an array, unless it has all of it.
+    for level, status, told in ((1, 0, "member: a member of an md array, whose data begins at sector 16: that is read as the physical volume\n"),
+                                (5, 1, "dmremap-tools save: member: a member of an md array that isn't raid1, so that no member has all of a physical volume: "
+                                       "`md` makes a table of the array, and `under` puts it below those of the group\n")):
+        program.file("walk/member", md_member(b, 16, 4096, level))
+        program.file("walk/members", "".join("%s %s\n" % it for it in zip(HINTS[1:], ("member", "c.img"))) + "%s %s\n" % (HINTS[0], "a.part"))
+        program.file("walk/a.part", a[PARTITION * SECTOR:])
+        got = tool_calls.call(top, ["save", "--program", program.path, "--paths", "members", "vg-home", "of%d" % level, "lvm", "vg.backup"], folder=folder)
+        tally.same("a volume of a member of raid%d" % level, got, status, "", told)
+    tally.holds("what it has", read(os.path.join(folder, "of1")) == bytes(wanted), "it is another")
+    # A label that can't be read says nothing, nor does an image without anything.
+    program.file("walk/empty", "")
+    program.file("walk/lacking", "".join("%s %s\n" % it for it in zip(HINTS, ("a.img", "empty", "c.img"))))
+    got = tool_calls.call(top, ["save", "--program", program.path, "--paths", "lacking", "vg-home", "gaps", "lvm", "vg.backup"], folder=folder)
+    is_told = b"nothing says which disk it is: empty: it is empty\n" in got.err and b" can't be read\n" in got.err
+    tally.holds("a volume of a disk without an image", got.status == 4 and is_told, "%s, %r" % (got.status, got.err))
+    disk_image = importlib.import_module("dmremap_tools.base.disk_image")
+    plain = disk_image.Image.read
+    disk_image.Image.read = lambda image, at, count: unreadable(image) if image.path == "b.img" else plain(image, at, count)
+    got = tool_calls.call(top, ["save", "--program", program.path, "--paths", "paths", "vg-home", "third", "lvm", "vg.backup"], folder=folder)
+    disk_image.Image.read = plain
+    is_told = b"nothing says which disk it is: b.img: byte 0 and those after it can't be read: Input/output error\n" in got.err
+    tally.holds("a volume of a disk without a label", got.status == 0 and is_told and read(os.path.join(folder, "third")) == bytes(wanted), "%r" % got.err)
+    program.file("walk/exchanged", "".join("%s %s\n" % it for it in zip(HINTS, NAMES[1:])))
+    got = tool_calls.call(top, ["save", "--program", program.path, "--paths", "exchanged", "vg-home", "other", "lvm", "vg.backup"], folder=folder)
+    tally.same("a volume out of other images", got, 1, "", "dmremap-tools save: b.img: it isn't /dev/sda1, whose id is %s: its own is %s\n" % (dashed(IDS[0]), dashed(IDS[1])))
     tool("owner", "--disk", "c.img", "tables", "c.map", to="owners")
     named = set(tool("files", "vg-home", "owners", "saved").split())
     lacking = {"/" + name for name, data in files.items() if dumped(folder, name) != data}
     tally.holds("the files that are lost", lacking and lacking <= named, "%s are not named" % sorted(lacking - named))
     kept = {"/" + name for name in files} - named
     tally.holds("the files that are whole", kept and not kept & lacking, "of %s some are not" % sorted(kept))
+
+
+def unreadable(image):
+    """What a read of an image with a bad first sector raises."""
+    raise importlib.import_module("dmremap_tools.base.disk_image").Unreadable(image.path, "byte 0 and those after it can't be read: Input/output error")
 
 
 def dumped(folder, name):

@@ -3,7 +3,7 @@
 import os
 import re
 
-from definitions import ELSEWHERE, Item, Scope
+from definitions import ELSEWHERE, FORMATS, Item, Scope
 from terms import ANTT, CLOSERS, OPENERS, Terms, tokens_of
 
 CODE = re.compile(r'(?P<skip>//[^\n]*)|r#"[\s\S]*?"#|b?"(?:\\[\s\S]|[^"\\])*"|b?\'(?:\\.[^\']*|[^\\\'\n])\'|\'\w+|\w+|->|=>|::|\S')
@@ -158,6 +158,11 @@ class CodeFile(Scope):
                 self.later.append((self.resolve_term, (after, place, name)))
                 after = self.pairs[after]
             after += 1
+        if place.item.kind == "impl" and place.implements != "Model":
+            place.item.parts.append(self.lines_of(at, after - 1))
+        elif name == "Value":
+            # The value that contracts see is read with the type.
+            self.items[place.of].parts.append(self.lines_of(at, after - 1))
         return after
 
     def read_type(self, at):
@@ -167,9 +172,10 @@ class CodeFile(Scope):
         place = Place(self, item, self.whole)
         head = self.read_generics(at + 2, place)
         after = next(it for it in range(head, len(self.words)) if self.words[it] in ("{", "(", ";"))
+        end = self.pairs.get(after, after)
+        item.parts = [self.lines_of(at, end)]
         if self.words[after] == ";":
             return after
-        end = self.pairs[after]
         members = [self.words[it + 1] for it in range(after, end) if self.words[it] == "ghost" and self.words[it + 2] == ":"]
         item.members = members
         if kind == "trait":
@@ -206,6 +212,7 @@ class CodeFile(Scope):
             after = self.pairs.get(after, after) + 1
         if place.item.kind == "file":
             item = self.new_item("type" if kind == "type" else "constant", name, at)
+            item.parts = [self.lines_of(at, after)]
             self.items[name] = item
             place = Place(self, item, self.whole)
         if place.item.kind != "impl":
@@ -222,8 +229,15 @@ class CodeFile(Scope):
         place.of = next(it for it in words[split + 1:] if WORD.match(it) and it not in ("mut", "dyn"))
         place.bounds["Self"] = words[:1] if split >= 0 else []
         if place.implements == "Model":
-            self.items[place.of].members = []
-            self.hidden[self.items[place.of]] = place.item
+            item = self.items[place.of]
+            item.members = []
+            # Its fields are left out: what is read is its head, and the value that contracts see.
+            item.parts = [self.lines_of(item.at, item.at)]
+            self.hidden[item] = place.item
+        elif place.implements:
+            place.item.name, place.item.line = "%s for %s" % (place.implements, place.of), self.line_at(at)
+            place.item.parts = [self.lines_of(at, after)]
+            self.later.append((self.resolve_types, (head, after, place)))
         self.sources.code_items.append(place.item)
         self.read_items(after + 1, self.pairs[after], place)
         return self.pairs[after]
@@ -249,18 +263,26 @@ class CodeFile(Scope):
         name, item = self.words[at + 1], outer.item
         if not outer.trait:
             item = self.new_item("function", "%s::%s" % (outer.of, name) if outer.of else name, at)
+            item.is_promised = self.words[at - 1] == "pub"
             self.sources.code_items.append(item)
         place = Place(self, item, outer)
         begin = after = self.read_generics(at + 2, place)
         while self.words[after] not in ("{", ";") and self.words[after] not in CLAUSES:
             after = self.pairs.get(after, after) + 1
         self.read_signature(begin, after, place)
+        if item.kind == "function":
+            # What a trait asks for stands there; an implementation may promise more.
+            item.is_promised |= bool(outer.implements) and self.words[after] in CLAUSES
         while self.words[after] in CLAUSES:
             brace = self.words.index("{", after)
             if self.words[after] == "ghost":
                 place.values.add(self.words[after + 1])
+            elif self.words[after] == "ensures" and brace > after + 1:
+                item.clauses.append(self.words[brace - 1])
             self.later.append((self.resolve_term, (brace, place, None)))
             after = self.pairs[brace] + 1
+        if item.kind == "function":
+            item.parts = [self.lines_of(at, after - 1)]
         if self.words[after] == ";":
             return after
         self.read_body(after, place)
@@ -286,17 +308,27 @@ class CodeFile(Scope):
                 self.later.append((self.resolve_attribute, (at + 1, self.pairs[at + 1])))
 
     def new_item(self, kind, name, at):
-        line = self.text.count("\n", 0, self.tokens[at].start)
+        line = self.line_at(at)
         item = Item(kind, self.crate, self.file, name, line, self.doc(line))
-        item.is_public = self.words[at - 1] == "pub" or self.words[at - 2:at] == ["pub", "const"]
+        item.at = at
         return item
+
+    def line_at(self, at):
+        return self.text.count("\n", 0, self.tokens[at].start)
+
+    def lines_of(self, first, last):
+        """The lines from one token to another, with what is said above."""
+        return self.above(self.line_at(first)) + 1, self.line_at(last) + 1
+
+    def above(self, line):
+        """Where what is said above a line begins, attributes included."""
+        while line > 0 and re.match(r"\s*(///|#\[|\)\])", self.lines[line - 1]):
+            line -= 1
+        return line
 
     def doc(self, line):
         """The first sentence of what is said above a line."""
-        found = []
-        while line > 0 and re.match(r"\s*(///|#\[|\)\])", self.lines[line - 1]):
-            line -= 1
-            found.insert(0, self.lines[line].strip())
+        found = [it.strip() for it in self.lines[self.above(line):line]]
         text = " ".join(it[len("///"):].strip() for it in found if it.startswith("///"))
         return re.split(r"(?<=\.)\s+(?=[A-Z`#|])|\s\s", text)[0].strip().rstrip(".")
 
@@ -313,7 +345,7 @@ class CodeFile(Scope):
             if WORD.match(path[0]) and self.words[at + 1] != ":" and not is_parameter:
                 found = place.code_meaning(path)
                 if found and found.kind != "function":
-                    self.hidden.get(place.item, place.item).uses.add(found)
+                    self.hidden.get(place.item, place.item).names(found, FORMATS)
             at += 1
 
     def resolve_attribute(self, begin, end):
@@ -321,7 +353,7 @@ class CodeFile(Scope):
         for it in re.findall(r"crate::((?:proofs|specs)(?:::[^,:()\s]+)+)", self.text[self.tokens[begin].start:self.tokens[end].start]):
             found = self.sources.at(("Rattle", self.crate) + tuple(it.split("::")))
             if isinstance(found, Item):
-                self.sources.handed.uses.add(found)
+                self.sources.handed.names(found, FORMATS)
 
     def resolve_term(self, brace, place, member):
         """A term of a clause, in braces. The value that contracts see of a type is named by the type itself."""

@@ -8,6 +8,11 @@ from terms import ANTT, CLOSERS, OPENERS, Terms, tokens_of
 # Constructors that no import brings, or that the library has under a name in lower case.
 CONSTRUCTORS = {"true", "false", "zero", "suc", "tt", "refl", "pos", "negsuc", "inl", "inr", "yes", "no", "[]", "∷"}
 
+# The formats of texts, as the command line names them; the types that tell them apart, and their variants.
+FORMATS = frozenset(["table", "concise", "lvm"])
+FORMAT_TYPES = ("Format", "TableForm")
+FORMATS_OF = {"Lvm": {"lvm"}, "Tables": {"table", "concise"}, "Table": {"table"}, "Concise": {"concise"}}
+
 # What a name means that is none of the repository's, where nothing tells its path.
 ELSEWHERE = "elsewhere"
 
@@ -15,13 +20,18 @@ ELSEWHERE = "elsewhere"
 class Item:
     """A definition, a law or a lemma, or a type, a trait, a constant or a function of the code.
 
-    It has what it names (`uses`, and `library` for names of the toolchain's own), the ghost members of
-    a type or a trait, and what is said of it above it.
+    It has what it names (`uses`, each with the formats for whose texts it names that, and `library` for
+    names of the toolchain's own), the ghost members of a type or a trait, the names of the clauses of a
+    function, what is said of it above it, and the lines where it stands (`parts`, first and last of each).
     """
 
     def __init__(self, kind, crate, file, name, line=0, about=""):
         self.kind, self.crate, self.file, self.name, self.line, self.about = kind, crate, file, name, line, about
-        self.uses, self.library, self.members, self.is_public = set(), set(), [], True
+        self.uses, self.library, self.members, self.clauses, self.parts = {}, set(), [], [], []
+
+    def names(self, other, formats):
+        """Notes that it names another item, where a text is of one of these formats."""
+        self.uses[other] = self.uses.get(other, frozenset()) | formats
 
 
 class Scope:
@@ -100,10 +110,13 @@ class DefinitionFile(Scope):
                     item = self.new_item(tokens, words)
                 if item:
                     self.statements[item].append(tokens)
+                    item.parts = [(item.parts[0][0], self.line_at(tokens[-1].start) + 1)]
 
     def new_item(self, tokens, words):
-        line = self.text.count("\n", 0, tokens[0].start)
-        item = Item(self.kind(words), self.crate, self.file, declared(words), line, self.comment(line))
+        line = self.line_at(tokens[0].start)
+        comment = self.comment(line)
+        item = Item(self.kind(words), self.crate, self.file, declared(words), line, " ".join(comment))
+        item.parts = [(line - len(comment) + 1, line + 1)]
         self.items[item.name] = item
         self.statements[item] = []
         if item.kind == "data":
@@ -119,19 +132,34 @@ class DefinitionFile(Scope):
         return "law" if self.path[2] == "specs" else "lemma"
 
     def comment(self, line):
-        """The comment right above a line."""
+        """The lines of the comment right above a line."""
         end = line
         while line > 0 and re.match(r"-- (?!----)", self.lines[line - 1]):
             line -= 1
-        return " ".join(it[len("-- "):].strip() for it in self.lines[line:end])
+        return [it[len("-- "):].strip() for it in self.lines[line:end]]
+
+    def line_at(self, start):
+        return self.text.count("\n", 0, start)
 
     def resolve(self):
         """Finds what the names in each item mean."""
         for item, statements in self.statements.items():
-            def refer(chain, start, item=item):
-                self.sources.note(self, item, chain, start, self.meaning(chain))
             for it in statements:
+                formats = self.formats_of(it)
+
+                def refer(chain, start, item=item, formats=formats):
+                    self.sources.note(self, item, chain, start, self.meaning(chain), formats)
                 self.resolve_statement(it, refer, frozenset())
+
+    def formats_of(self, tokens):
+        """The formats for which a statement says something: those that its patterns name, if it is a clause."""
+        formats = FORMATS
+        if not declared([it.text for it in tokens]):
+            for it in tokens[:next((at for at, it in enumerate(tokens) if it.text == "="), 0)]:
+                meaning = self.meaning([it.text]) if it.text in FORMATS_OF else None
+                if isinstance(meaning, Item) and meaning.name in FORMAT_TYPES:
+                    formats = formats & FORMATS_OF[it.text]
+        return formats
 
     def resolve_statement(self, tokens, refer, bound):
         words = [it.text for it in tokens]

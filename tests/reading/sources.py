@@ -5,7 +5,7 @@ import os
 import re
 
 from contracts import CodeFile
-from definitions import ELSEWHERE, DefinitionFile, Item
+from definitions import ELSEWHERE, FORMATS, DefinitionFile, Item
 
 # Names that the language brings without an import, and those that code has in scope without a `use`.
 BUILT_IN = set("""⊥ absurd ¬ Unit tt Prim IsProp IsSet Dec yes no ∥ ∥₁ ∣ ∣₁ squash₁ Id J Path refl rw simp search grw cc
@@ -23,7 +23,7 @@ class Sources:
         self.top, self.unknown, self.code_items = top, [], []
         # What attributes hand to the tactics.
         self.handed = Item("attributes", "", "", "")
-        self.definitions, self.code = {}, {}
+        self.definitions, self.code, self.texts = {}, {}, {}
         with open(os.path.join(top, "crates.txt"), encoding="utf-8") as it:
             self.crates = re.findall(r"^(\w+)[^:#\n]*:", it.read(), re.MULTILINE)
         for crate in self.crates:
@@ -45,14 +45,21 @@ class Sources:
             modules = os.path.relpath(it, above)[:-len(ending)].split(os.sep)
             yield os.path.relpath(it, self.top).replace(os.sep, "/"), tuple(modules[:-1] if modules[-1] == "mod" else modules)
 
-    def note(self, file, item, chain, start, meaning):
+    def note(self, file, item, chain, start, meaning, formats=FORMATS):
         """Notes what a name that stands in an item means: an item, or the path of a name of the library."""
         if isinstance(meaning, Item):
-            item.uses.add(meaning)
+            item.names(meaning, formats)
         elif meaning:
             item.library.add(meaning)
         elif chain[0] not in BUILT_IN and item.kind != "body":
             self.unknown.append("%s:%d: %s" % (file.file, file.text.count("\n", 0, start) + 1, ".".join(chain)))
+
+    def lines(self, item):
+        """The lines of the file in which an item stands."""
+        if item.file not in self.texts:
+            with open(os.path.join(self.top, item.file), encoding="utf-8") as it:
+                self.texts[item.file] = it.read().split("\n")
+        return self.texts[item.file]
 
     def is_ours(self, path):
         return path[0] == "Rattle" and len(path) > 2 and path[1] in self.crates

@@ -1,0 +1,56 @@
+"""The documents for those who change something: names of code in them are those of sources, each is short, and the
+picture of the crates has the arrows that crates.txt has."""
+
+import glob
+import os
+import re
+
+from documents import text_of
+
+# What these documents have at most, so that each is read at one sitting.
+BYTES = {"ARCHITECTURE.md": 17000, "DECISIONS.md": 17000, "DEVELOPING.md": 10300, "PROMISES.md": 18700, "READING.md": 3500}
+# And all pages together.
+ALL_BYTES = 215000
+SOURCES = ("crates/*/*/**/*.rt", "crates/*/*/**/*.antt", "crates/*/must-fail/*", "crates.txt", "HANDLES", "launch/*",
+           "benches/*", "tools/**/*.py", "tests/*/*.py", "[a-z]*")
+# A name in marks of code: of one word, or with the type before.
+NAME = re.compile(r"`([\w:]+)`")
+
+
+def check(tally, top):
+    words = words_of_sources(top)
+    for name, most in BYTES.items():
+        path = os.path.join(top, "docs", name)
+        lost = sorted({word for it in NAME.findall(text_of(path)) for word in it.split("::")} - words)
+        tally.holds("names that docs/%s has of the sources" % name, not lost, "there is no %s" % ", ".join(lost))
+        size = os.path.getsize(path)
+        tally.holds("the size of docs/%s" % name, size <= most, "it has %d bytes" % size)
+    pages = [os.path.join(top, "README.md"), *glob.glob(os.path.join(top, "docs", "*.md")), *glob.glob(os.path.join(top, "docs", "*.1"))]
+    size = sum(map(os.path.getsize, pages))
+    tally.holds("the size of all pages", size <= ALL_BYTES, "they have %d bytes" % size)
+    drawn, wanted = closed(arrows_in(top)), arrows_of(top)
+    tally.holds("the arrows in docs/crates.svg", drawn == wanted, "they differ in %s" % sorted(drawn ^ wanted))
+
+
+def arrows_in(top):
+    """The arrows of the picture: pairs of crates, of which the first stands on the second."""
+    return {tuple(it.split("-")) for it in re.findall(r'<path id="([\w-]+)"', text_of(os.path.join(top, "docs", "crates.svg")))}
+
+
+def arrows_of(top):
+    """The same as crates.txt has them, those over other crates included."""
+    stands_on = dict(re.findall(r"^(\w+): (.*)", text_of(os.path.join(top, "crates.txt")), re.M))
+    return closed({(it, other) for it, others in stands_on.items() for other in others.split() if other in stands_on})
+
+
+def closed(pairs):
+    """Pairs, and those that two or more in a row make."""
+    more = pairs | {(first, last) for first, second in pairs for other, last in pairs if second == other}
+    return pairs if more == pairs else closed(more)
+
+
+def words_of_sources(top):
+    """All words of the sources, and of the names of their files."""
+    files = [it for pattern in SOURCES for it in glob.glob(os.path.join(top, pattern), recursive=True)]
+    files = [it for it in files if os.path.isfile(it) and "/out/" not in it]
+    return {word for it in files for text in (os.path.relpath(it, top), text_of(it)) for word in re.findall(r"\w+", text)}

@@ -1,0 +1,121 @@
+"""The promises, and what a reader of one has to read, in an order to read it in."""
+
+from definitions import ELSEWHERE
+
+DEFINITIONS = ("definition", "record", "data")
+PRELUDE = "Rattle.std.specs.Prelude."
+
+# Each promise: what it is called here, the functions whose contracts make it, and what it says. A type stands for
+# its functions and for the traits that it implements.
+PROMISES = [
+    ("map", ["map_whole"], "what `map` reads, writes and tells"),
+    ("before", ["map_after", "play_earlier"], "the same after earlier requests"),
+    ("other", ["other_whole"], "the same of the other commands"),
+    ("words", ["read_words"], "the command line"),
+    ("streams", ["Counted", "Gathered", "PartFile"], "real files and streams"),
+    ("texts", ["read_part", "parse_table", "parse_concise", "parse_disks", "parse_request", "front_request",
+               "CheckedName::new", "DeviceNameRule", "DiskNameRule"], "texts that are read"),
+    ("written", ["write_all", "close", "close_and_tell", "write_table", "write_concise", "write_runs"],
+     "texts that are written"),
+    ("lvm", ["lvm_text::parse", "one_answer", "end_line", "Section", "text_fault", "VolumeGroup", "parse_metadata"], "LVM2 metadata"),
+    ("names", ["build_name", "split_name", "undouble", "spaced_parts", "NameFault::message"], "names of LVM2 volumes"),
+    ("stack", ["Stack::load", "Stack::depth", "Stack::snapshots", "Stack::into_parts", "Looker::look", "places_are_apart"],
+     "stacks, and the line of a sector"),
+    ("check", ["Stack::tidy", "Stack::is_top", "Stack::tops", "check_report"], "whether claims meet"),
+    ("mapper", ["Mapper", "levels_are_enough"], "units and state of a request"),
+    ("taken", ["PlainTaken", "RunTaken", "TrieTaken"], "chunks that a snapshot took"),
+    ("run", ["Lines::next", "handle_requests", "InTurn", "Join", "run"], "lines, pieces, and a run"),
+    ("replay", ["Replay"], "answers of a replay"),
+    ("alone", ["tops_are_alone", "play_goes_on", "requests_are_alone"], "each top device alone"),
+    ("power_cut", ["answer_after_cut", "Fault::tell"], "the program `power_cut`"),
+]
+
+
+def contracts(sources, promise):
+    """The functions and implementations whose contracts make a promise."""
+    return [it for name in next(names for called, names, _ in PROMISES if called == promise) for it in named(sources, name)]
+
+
+def named(sources, name):
+    """The function of a name, perhaps behind that of its crate; or all that a type promises."""
+    crate, _, rest = name.partition("::")
+    found = [it for it in sources.code_items if it.name == name or (it.name == rest and it.crate == crate)]
+    found = [it for it in found if it.is_promised] if found[1:] else found
+    if found[1:]:
+        raise SystemExit("there are %d functions %s" % (len(found), name))
+    return found or of_type(sources, name)
+
+
+def of_type(sources, name):
+    """The functions of a type that others may call, and its implementations of traits with what these declare."""
+    found = [it for it in sources.code_items if it.name.endswith(" for " + name)]
+    found += [it for it in sources.code_items if it.name.startswith(name + "::") and it.is_promised]
+    if not found:
+        raise SystemExit("there is no function or type %s" % name)
+    return sorted(found, key=lambda it: (it.file, it.line))
+
+
+def reach(items, follows=lambda item, formats: True):
+    """These items and all that they name, and so on, as far as names are followed."""
+    found, left = set(), list(items)
+    while left:
+        item = left.pop()
+        if item not in found:
+            found.add(item)
+            left.extend(it for it, formats in item.uses.items() if follows(it, formats))
+    return found
+
+
+def needed(sources, promise, read_as=None):
+    """What a promise's contracts reach, without themselves and without the laws by which an implementation keeps those
+    of its trait; where a format is given, without what only other texts need."""
+    functions = contracts(sources, promise)
+    found = reach(functions, lambda it, formats: it.kind != "law" and (read_as is None or read_as in formats))
+    return found - set(functions)
+
+
+def counts(items):
+    """How many definitions there are among items; how many types, traits and constants; and the lines of both."""
+    definitions = sum(it.kind in DEFINITIONS for it in items)
+    return definitions, len(items) - definitions, sum(lines_in(it) for it in items)
+
+
+def lines_in(item):
+    return sum(last - first + 1 for first, last in item.parts)
+
+
+def library_words(items):
+    """How many names of the toolchain's prelude items have, and the others of its library."""
+    names = {name for it in items for name in it.library if name != ELSEWHERE}
+    return sum(it.startswith(PRELUDE) for it in names), sorted({it.rsplit(".", 1)[1] for it in names if not it.startswith(PRELUDE)})
+
+
+def in_order(sources, items):
+    """Items by their files, each after what it names."""
+    below = {it: reach([it]) for it in items}
+    # Types that name each other have no order among themselves.
+    before = {it: {other for other in it.uses if other in below and it not in below[other]} for it in items}
+    files = {}
+    for it in sorted(items, key=lambda it: (sources.crates.index(it.crate), it.file, it.line)):
+        files.setdefault(it.file, []).append(it)
+    found, read = [], set()
+    while files:
+        # A file that can be read to its end comes before one that can't.
+        rows = [(file, readable(left, before, read)) for file, left in files.items()]
+        file, row = next((it for it in rows if len(it[1]) == len(files[it[0]])), None) or next(it for it in rows if it[1])
+        found.append((file, row))
+        read.update(row)
+        files[file] = [it for it in files[file] if it not in read]
+        files = {file: left for file, left in files.items() if left}
+    return found
+
+
+def readable(items, before, read):
+    """What of the items can be read one after the other, with nothing else in between."""
+    row, read = [], set(read)
+    while True:
+        item = next((it for it in items if it not in read and before[it] <= read), None)
+        if item is None:
+            return row
+        row.append(item)
+        read.add(item)
