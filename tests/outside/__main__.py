@@ -1,9 +1,10 @@
 """Drives the built program as a shell does, and looks at what only the outside sees.
 
-    python3 tests/outside [PROGRAM]
+    python3 tests/outside [PROGRAM [MODULE..]]
 
-PROGRAM is the program that `rt ci` and ./dmremap leave, if no other is given. A line tells each
-case that failed; the last line is `N passed, M failed`, and the status is 0 where none failed.
+PROGRAM is the program that `rt ci` and ./dmremap leave, if no other is given, and each MODULE one of those beside this
+file; all of them run where none is named. A line tells each case that failed; the last line is `N passed, M failed`,
+and the status is 0 where none failed.
 
 What the answers to requests are is proved. Here are the worked rows: texts, and the exact bytes,
 message and status that must come of them. And here is what a proof can't speak of: real files and
@@ -11,6 +12,7 @@ streams, exit statuses as a shell gets them, the command line, large inputs, and
 A new case is a row of a table in one of the modules beside this file.
 """
 
+import inspect
 import os
 import shutil
 import sys
@@ -78,9 +80,22 @@ TOP = os.path.dirname(os.path.dirname(os.path.dirname(os.path.abspath(__file__))
 BUILT = os.path.join(TOP, "crates", "dmremap", "out", "dmremap")
 
 
+# The modules, in the order in which they run.
+PARTS = (
+    words, before, files, loads, backups, groups, records, printing, reports, request_lines, field_lengths, answers,
+    ranges, snapshot_rows, snapshots, origins, kinds, replays, streams, limits, hostile, growths, help_texts,
+    launcher, building, trying, installs, documents, worked, manual, completions, reading_list, source_names, recipes,
+    tool_requests, tool_answers, tool_documents, tool_streams, layouts, layers, used, volumes, pictures, trace_parts,
+    sector_files, saves, machines, metadata_areas, lvm2_texts, walks, lookers, refusals, halts, power_cuts,
+)
+
+
 def main():
     built = os.path.abspath(sys.argv[1]) if len(sys.argv) > 1 else BUILT
+    wanted = sys.argv[2:] or [it.__name__ for it in PARTS]
     tally = Tally()
+    for name in set(wanted) - {it.__name__ for it in PARTS}:
+        tally.fail("the modules", "there is none named " + name)
     if not os.access(built, os.X_OK):
         tally.fail("the program", "there is none at " + os.path.relpath(built))
         return tally.close()
@@ -88,42 +103,11 @@ def main():
         # As root the cases of unreadable files run as nobody, who has to come to the program.
         os.chmod(room, 0o755)
         program = Program(shutil.copy(built, os.path.join(room, "dmremap")), room)
-        for part in (words, before, files, loads, backups, groups, records, printing, reports, request_lines, field_lengths,
-                     answers, ranges, snapshot_rows, snapshots, origins, kinds, replays, streams, limits, hostile,
-                     growths):
-            part.check(tally, program)
-        help_texts.check(tally, program, TOP)
-        launcher.check(tally, program, TOP, built == BUILT)
-        building.check(tally, program, TOP)
-        trying.check(tally, program, TOP)
-        installs.check(tally, program, TOP)
-        documents.check(tally, program, TOP)
-        worked.check(tally, program, TOP)
-        manual.check(tally, program, TOP)
-        completions.check(tally, program, TOP)
-        reading_list.check(tally, TOP)
-        source_names.check(tally, TOP)
-        recipes.check(tally, program, TOP)
-        tool_requests.check(tally, program, TOP)
-        tool_answers.check(tally, program, TOP)
-        tool_documents.check(tally, program, TOP)
-        tool_streams.check(tally, program, TOP)
-        layouts.check(tally, program, TOP)
-        layers.check(tally, program, TOP)
-        used.check(tally, program, TOP)
-        volumes.check(tally, program, TOP)
-        pictures.check(tally, program, TOP)
-        trace_parts.check(tally, program, TOP)
-        sector_files.check(tally, program, TOP)
-        saves.check(tally, program, TOP)
-        machines.check(tally, program, TOP)
-        metadata_areas.check(tally, program, TOP)
-        lvm2_texts.check(tally, program, TOP)
-        walks.check(tally, program, TOP)
-        lookers.check(tally, TOP)
-        refusals.check(tally, TOP)
-        halts.check(tally, program, TOP)
-        power_cuts.check(tally, room, TOP)
+        known = {"tally": tally, "program": program, "top": TOP, "room": room, "is_own": built == BUILT}
+        for part in PARTS:
+            if part.__name__ in wanted:
+                # each takes those of these that it names
+                part.check(*[known[it] for it in inspect.signature(part.check).parameters])
     return tally.close()
 
 
