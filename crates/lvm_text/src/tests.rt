@@ -75,7 +75,7 @@ const TEN: &str = "a = 1 b = 2 c = 3 d = 4 e = 5 f = 6 g = 7 h = 8 i = 9 j { h =
 const MANY_LETTERS: &str = "1 = 2 0 { } a-b.c+d_e = [1, \"x\"]# end";
 
 /// A text, a path of keys in it, and what it has there, or why the text is refused.
-static HELD: [(&str, &str, &str); 71] = [
+static HELD: [(&str, &str, &str); 70] = [
     ("", "", "1:"),
     ("a = 1 b { c = \"x\" }", "", "1: b 1"),
     ("a = 1 b { c = \"x\" }", "a", "1: 1"),
@@ -180,7 +180,6 @@ static HELD: [(&str, &str, &str); 71] = [
     ("{ # x", "", "Syntax(1)"),
     ("a = 1 # x", "", "1:"),
     // White bytes before, between and after tokens.
-    ("", "", "1:"),
     (" \n\t\n ", "", "1:"),
     (" \t\n\n a\t = \n\t 1 \n\n", "a", "3: 1"),
     ("\t\n#x\n \n?", "", "Token(4)"),
