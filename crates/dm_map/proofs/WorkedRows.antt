@@ -10,15 +10,15 @@ use Rattle.dm_table.specs.declared.tables.table.Line.{Line}
 use Rattle.dm_table.specs.declared.tables.table.StoreKind.TheVariants.{Persistent}
 use Rattle.dm_table.specs.declared.tables.table.Target.{Target}
 use Rattle.dm_table.specs.declared.tables.table.Target.TheVariants as targets
-use Rattle.dm_stack.specs.declared.found_line.FoundSnapshot.{FoundSnapshot}
-use Rattle.dm_stack.specs.Below.{Lies, IsError}
+use Rattle.dm_stack.specs.declared.lines.found_line.FoundSnapshot.{FoundSnapshot}
+use Rattle.dm_stack.specs.lines.Below.{Lies, IsError}
 use Rattle.dm_stack.specs.Description.{Description}
-use Rattle.dm_stack.specs.declared.graph.TheConstants.{MOST_DEPTH}
+use Rattle.dm_stack.specs.declared.checks.graph.TheConstants.{MOST_DEPTH}
 use Rattle.dm_stack.specs.declared.id.Lower.TheVariants.{Device, Disk}
 use Rattle.dm_map.specs.walk.Path.{PathStep, path, read_stretches}
 use Rattle.dm_map.specs.walk.Reads.{read_unit}
 use Rattle.dm_map.specs.walk.Mapping.{write_step, request_step}
-use Rattle.dm_stack.specs.StoreLayout.{place}
+use Rattle.dm_stack.specs.lines.StoreLayout.{place}
 use Rattle.dm_map.specs.state.Snapshots.{read_over}
 use Rattle.dm_map.specs.state.State.{Taken, State, start_state}
 use Rattle.dm_map.specs.walk.Steps.{keep}

@@ -5,9 +5,9 @@ use Rattle.dm_table.specs.declared.requests.request.Op.TheVariants.{Read, Write}
 use Rattle.dm_table.specs.declared.tables.table.StoreKind.{StoreKind}
 use Rattle.dm_table.specs.declared.tables.table.StoreKind.TheVariants.{Persistent, Transient, Keeping}
 use Rattle.dm_table.specs.declared.tables.table.Target.TheVariants as targets
-use Rattle.dm_stack.specs.declared.found_line.FoundSnapshot.{FoundSnapshot}
+use Rattle.dm_stack.specs.declared.lines.found_line.FoundSnapshot.{FoundSnapshot}
 use Rattle.dm_stack.specs.Description.{Description}
-use Rattle.dm_stack.specs.Over.{all_over, snapshots_over}
+use Rattle.dm_stack.specs.lines.Over.{all_over, snapshots_over}
 use Rattle.dm_stack.specs.declared.id.Lower.{Lower}
 use Rattle.dm_stack.specs.declared.id.Lower.TheVariants.{Device, Disk}
 use Rattle.dm_map.specs.walk.Homes.{home_to}

@@ -6,8 +6,8 @@
 
 ghost use Rattle.std.specs.Prelude.{◌≡◌, ◌+◌, ◌*◌, ◌<◌, ◌≤◌, false, true, length, nat_lt, IfOk, IfSome, OnOk};
 ghost use Rattle.dm_table.specs.declared.requests.request.Op.TheVariants.{Read};
-ghost use Rattle.dm_stack.specs.Snapshots.{snapshots, IsSnapshot};
-ghost use Rattle.dm_stack.specs.Depth.{stack_depth};
+ghost use Rattle.dm_stack.specs.checks.Snapshots.{snapshots, IsSnapshot};
+ghost use Rattle.dm_stack.specs.checks.Depth.{stack_depth};
 ghost use Rattle.dm_map.specs.walk.Mapping.{request_step, step_for};
 ghost use Rattle.dm_map.specs.state.Counts.{grown_by, most_comparisons, no_counts, AreAdded};
 ghost use Rattle.dm_map.specs.state.Fitting.{IsWithinPlaces};

@@ -1,9 +1,9 @@
 -- What a read of a top device answers, where no claims meet: what the device would hold alone, or an error.
 use Rattle.std.proofs.Common.{◌≡◌, ◌⊎◌, inl, inr, ℕ, zero, suc, ◌+◌, Bool, true, false, cond, List, [], ◌∷◌, Option, None, nat_lt, replicate, refl, sym, ap, subst}
 use Rattle.dm_table.specs.declared.requests.request.Op.TheVariants as ops
-use Rattle.dm_stack.specs.declared.graph.TheConstants.{MOST_DEPTH}
+use Rattle.dm_stack.specs.declared.checks.graph.TheConstants.{MOST_DEPTH}
 use Rattle.dm_stack.specs.declared.id.Lower.TheVariants.{Device}
-use Rattle.dm_stack.specs.Claims.{IsTidy, IsTop}
+use Rattle.dm_stack.specs.claims.Claims.{IsTidy, IsTop}
 use Rattle.dm_stack.specs.Description.{Description, device_len}
 use Rattle.dm_map.specs.own.Contents.{Stays, content, value_read}
 use Rattle.dm_map.specs.own.Rows.{Rows}

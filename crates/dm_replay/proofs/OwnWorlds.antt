@@ -1,7 +1,7 @@
 -- Worlds in which each top device has what it would have alone, or errors: they stay so where no claims meet.
 use Rattle.std.proofs.Common.{ℕ, ◌≤◌, List, [], ◌∷◌, Option, Some, None}
 use Rattle.dm_table.specs.declared.requests.request.Op.{Op}
-use Rattle.dm_stack.specs.Claims.{IsTidy, IsTop}
+use Rattle.dm_stack.specs.claims.Claims.{IsTidy, IsTop}
 use Rattle.dm_stack.specs.Description.{Description}
 use Rattle.dm_map.specs.own.Contents.{played, sector_past}
 use Rattle.dm_map.specs.walk.Mapping.{request_step}

@@ -3,8 +3,8 @@ use Rattle.std.specs.Prelude.{◌≡◌, ℕ, ◌<◌, ◌≤◌, Bool, true, fa
 use Rattle.std.specs.List.{AllByRecursion}
 use Rattle.dm_table.specs.declared.requests.request.Request.{Request}
 use Rattle.dm_table.specs.declared.requests.request.TheConstants.{MOST_SECTORS}
-use Rattle.dm_stack.specs.declared.clash.Clash.{Clash}
-use Rattle.dm_stack.specs.Claims.{AreTops, IsClash, IsTidy, IsTop, claims}
+use Rattle.dm_stack.specs.declared.claims.clash.Clash.{Clash}
+use Rattle.dm_stack.specs.claims.Claims.{AreTops, IsClash, IsTidy, IsTop, claims}
 use Rattle.dm_stack.specs.Description.{Description, device_id, is_same}
 use Rattle.dm_map.specs.Mapper.{MapperView}
 use Rattle.dm_map.specs.state.State.{start_state}

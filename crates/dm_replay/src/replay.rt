@@ -6,7 +6,7 @@
 ghost use Rattle.std.specs.Prelude.{◌≡◌, ◌∷◌, ◌+◌, ◌++◌, ◌-◌, ◌<◌, ◌≤◌, [], IfErr, IfOk, IfSome, List, None, OnOk, Option, Some, false, if◌then◌else◌, length, nat_lt, position};
 ghost use Rattle.std.specs.List.{AllByRecursion};
 ghost use Rattle.dm_table.specs.declared.requests.request.Op.TheVariants.{Read};
-ghost use Rattle.dm_stack.specs.Claims.{AreTops, IsTidy, IsTop};
+ghost use Rattle.dm_stack.specs.claims.Claims.{AreTops, IsTidy, IsTop};
 ghost use Rattle.dm_stack.specs.Description.{device_id, device_len, is_same};
 ghost use Rattle.dm_replay.specs.declared.value_run.ValueRun.{ValueRun};
 ghost use Rattle.dm_replay.specs.Histories.{asked_answers, world_after};

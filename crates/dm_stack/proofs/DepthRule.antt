@@ -12,12 +12,12 @@ use Rattle.dm_table.specs.declared.tables.table.DevRef.TheVariants as refs
 use Rattle.dm_table.specs.declared.tables.table.DeviceSpec.{DeviceSpec}
 use Rattle.dm_table.specs.declared.tables.table.Line.{Line}
 use Rattle.dm_stack.specs.Description.{Description, device_links, line_links, links, lower_of, ref_link}
-use Rattle.dm_stack.specs.Graph.{greatest, links_of}
-use Rattle.dm_stack.specs.Depth.{IsDeeperByOne, lower_depth}
-use Rattle.dm_stack.specs.Soundness.{IsSound, depth_of, faults_by_id}
+use Rattle.dm_stack.specs.checks.Graph.{greatest, links_of}
+use Rattle.dm_stack.specs.checks.Depth.{IsDeeperByOne, lower_depth}
+use Rattle.dm_stack.specs.checks.Soundness.{IsSound, depth_of, faults_by_id}
 use Rattle.dm_table.specs.tables.Span.{Span, spans}
-use Rattle.dm_stack.proofs.DepthLemmas.{depth_to-deeper}
-use Rattle.dm_stack.proofs.Passes.{cond_none, passes_all}
+use Rattle.dm_stack.proofs.checks.DepthLemmas.{depth_to-deeper}
+use Rattle.dm_stack.proofs.checks.Passes.{cond_none, passes_all}
 use Rattle.dm_stack.proofs.SoundLines.{lines_there, there}
 
 -- Depths within the limit

@@ -7,7 +7,7 @@ use Rattle.dm_table.specs.declared.tables.disk.Disk.{Disk}
 use Rattle.dm_stack.specs.declared.id.Lower.{Lower}
 use Rattle.dm_stack.specs.declared.id.Lower.TheVariants as lowers
 use Rattle.dm_stack.specs.Description.{Description, device_len, disk_len, lower_len, len_or_none}
-use Rattle.dm_stack.specs.Soundness.{IsSound}
+use Rattle.dm_stack.specs.checks.Soundness.{IsSound}
 use Rattle.dm_stack.proofs.SoundLines.{device_small, disk_small}
 
 -- a device that has a sector is one of the stack

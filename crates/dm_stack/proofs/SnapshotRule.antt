@@ -8,16 +8,16 @@ use Rattle.std.proofs.lemmas.Option.{slice_get_past}
 use Rattle.dm_table.specs.declared.tables.table.Line.{Line}
 use Rattle.dm_table.specs.declared.tables.table.Target.{Target}
 use Rattle.dm_table.specs.declared.tables.table.Target.TheVariants as targets
-use Rattle.dm_stack.specs.declared.found_line.FoundLine.{FoundLine}
-use Rattle.dm_stack.specs.declared.found_line.FoundSnapshot.{FoundSnapshot}
-use Rattle.dm_stack.specs.declared.found_line.FoundTarget.TheVariants as found
-use Rattle.dm_stack.specs.Below.{found_at, found_line, found_target, holds, line_of}
+use Rattle.dm_stack.specs.declared.lines.found_line.FoundLine.{FoundLine}
+use Rattle.dm_stack.specs.declared.lines.found_line.FoundSnapshot.{FoundSnapshot}
+use Rattle.dm_stack.specs.declared.lines.found_line.FoundTarget.TheVariants as found
+use Rattle.dm_stack.specs.lines.Below.{found_at, found_line, found_target, holds, line_of}
 use Rattle.dm_stack.specs.Description.{Description, device_len, end_of, lines_at, lower_len, lower_of}
-use Rattle.dm_stack.specs.Snapshots.{AreSnapshots, IsSnapshot, has_snapshot, is_snapshot, snapshots}
-use Rattle.dm_stack.specs.Over.{found_snapshot}
-use Rattle.dm_stack.specs.Soundness.{IsSound, is_bad_chunk, is_bad_snapshot}
-use Rattle.dm_stack.proofs.LayoutLemmas.{AreInRow}
-use Rattle.dm_stack.proofs.Members.{in_range, kept}
+use Rattle.dm_stack.specs.checks.Snapshots.{AreSnapshots, IsSnapshot, has_snapshot, is_snapshot, snapshots}
+use Rattle.dm_stack.specs.lines.Over.{found_snapshot}
+use Rattle.dm_stack.specs.checks.Soundness.{IsSound, is_bad_chunk, is_bad_snapshot}
+use Rattle.dm_stack.proofs.checks.LayoutLemmas.{AreInRow}
+use Rattle.dm_stack.proofs.lines.Members.{in_range, kept}
 use Rattle.dm_stack.proofs.SoundLines.{device_some, device_sound, holds_from, lines_there, there}
 
 -- Numbers that pass a test, among those from 0 on

@@ -16,17 +16,17 @@ use Rattle.dm_table.specs.declared.tables.table.Use.TheVariants.{Own}
 use Rattle.dm_table.specs.declared.tables.table.DeviceSpec.{DeviceSpec}
 use Rattle.dm_table.specs.declared.tables.disk.Disk.{Disk}
 use Rattle.dm_table.specs.declared.load.load_fault.LoadKind.TheVariants.{Limit, Empty, Stripe, Range, Snapshot, Store}
-use Rattle.dm_stack.specs.declared.found_line.FoundLine.{FoundLine}
+use Rattle.dm_stack.specs.declared.lines.found_line.FoundLine.{FoundLine}
 use Rattle.dm_stack.specs.Description.{Description, lines_at, lines_or_none, end_of, device_len, lower_len, lower_of}
-use Rattle.dm_stack.specs.Below.{holds, line_of, found_line, found_columns, found_target, found_at, LiesIn, AreStripes, IsOriginSound, IsSnapshotSound, IsTargetSound}
-use Rattle.dm_stack.specs.declared.limits.TheConstants.{MOST_LENGTH}
-use Rattle.dm_stack.specs.Over.{found_snapshot, snapshots_over}
-use Rattle.dm_stack.specs.Soundness.{all_lines, is_large, without_lines, empty_in, misplaced_in, is_bad_chunk, is_bad_snapshot, is_bad_stripe, has_bad_store, has_bad_stripes, is_past, passes_end, bad_snapshots_in, HaveSmallEnds, IsSound}
+use Rattle.dm_stack.specs.lines.Below.{holds, line_of, found_line, found_columns, found_target, found_at, LiesIn, AreStripes, IsOriginSound, IsSnapshotSound, IsTargetSound}
+use Rattle.dm_stack.specs.declared.checks.limits.TheConstants.{MOST_LENGTH}
+use Rattle.dm_stack.specs.lines.Over.{found_snapshot, snapshots_over}
+use Rattle.dm_stack.specs.checks.Soundness.{all_lines, is_large, without_lines, empty_in, misplaced_in, is_bad_chunk, is_bad_snapshot, is_bad_stripe, has_bad_store, has_bad_stripes, is_past, passes_end, bad_snapshots_in, HaveSmallEnds, IsSound}
 use Rattle.dm_table.specs.tables.Span.{column_span, target_spans}
-use Rattle.dm_stack.proofs.HandedOn.{line_within, lines_within}
-use Rattle.dm_stack.proofs.LayoutLemmas.{AreInRow, in_row}
-use Rattle.dm_stack.proofs.ChunkLemmas.{chunk_within}
-use Rattle.dm_stack.proofs.Passes.{append_none, all_parts, faults_by_none, passes_all}
+use Rattle.dm_stack.proofs.checks.HandedOn.{line_within, lines_within}
+use Rattle.dm_stack.proofs.checks.LayoutLemmas.{AreInRow, in_row}
+use Rattle.dm_stack.proofs.checks.ChunkLemmas.{chunk_within}
+use Rattle.dm_stack.proofs.checks.Passes.{append_none, all_parts, faults_by_none, passes_all}
 
 -- A search in a list, and in what its elements become
 

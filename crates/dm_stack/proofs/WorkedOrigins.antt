@@ -9,18 +9,18 @@ use Rattle.dm_table.specs.declared.tables.table.StoreKind.TheVariants.{Persisten
 use Rattle.dm_table.specs.declared.tables.table.Target.{Target}
 use Rattle.dm_table.specs.declared.tables.table.Target.TheVariants as targets
 use Rattle.dm_table.specs.declared.tables.table.Use.TheVariants.{Own, Reading, Serving}
-use Rattle.dm_stack.specs.declared.claim.Claim.{Claim}
-use Rattle.dm_stack.specs.declared.found_line.FoundOver.{FoundOver}
-use Rattle.dm_stack.specs.declared.found_line.FoundTarget.TheVariants as found
-use Rattle.dm_stack.specs.declared.graph.TheConstants.{MOST_DEPTH}
+use Rattle.dm_stack.specs.declared.claims.claim.Claim.{Claim}
+use Rattle.dm_stack.specs.declared.lines.found_line.FoundOver.{FoundOver}
+use Rattle.dm_stack.specs.declared.lines.found_line.FoundTarget.TheVariants as found
+use Rattle.dm_stack.specs.declared.checks.graph.TheConstants.{MOST_DEPTH}
 use Rattle.dm_stack.specs.declared.id.Lower.TheVariants.{Device, Disk}
-use Rattle.dm_stack.specs.Below.{IsError, Lies, below, found_at}
-use Rattle.dm_stack.specs.Claims.{claims}
+use Rattle.dm_stack.specs.lines.Below.{IsError, Lies, below, found_at}
+use Rattle.dm_stack.specs.claims.Claims.{claims}
 use Rattle.dm_stack.specs.Description.{Description}
-use Rattle.dm_stack.specs.Over.{all_over, snapshots_over}
-use Rattle.dm_stack.specs.Soundness.{is_bad_snapshot}
-use Rattle.dm_stack.specs.Store.{is_store_to}
-use Rattle.dm_stack.specs.Sweep.{clash_with}
+use Rattle.dm_stack.specs.lines.Over.{all_over, snapshots_over}
+use Rattle.dm_stack.specs.checks.Soundness.{is_bad_snapshot}
+use Rattle.dm_stack.specs.checks.Store.{is_store_to}
+use Rattle.dm_stack.specs.claims.Sweep.{clash_with}
 
 abbrev at : Place
 at = record { part = parts.Source; number = 1 }

@@ -1,12 +1,12 @@
 -- What a check says of a stack.
 use Rattle.std.specs.Prelude.{◌≡◌, ℕ, List, [], ◌∷◌, ◌++◌, Option, Some, None, codes, decimal, length}
-use Rattle.dm_stack.specs.declared.clash.Clash.{Clash}
+use Rattle.dm_stack.specs.declared.claims.clash.Clash.{Clash}
 use Rattle.dm_stack.specs.declared.id.Lower.{Lower}
 use Rattle.dm_stack.specs.declared.id.Lower.TheVariants.{Device, Disk}
 use Rattle.dm_table.specs.words.Bytes.{newline, space}
-use Rattle.dm_stack.specs.Claims.{IsFirstClash, claims}
+use Rattle.dm_stack.specs.claims.Claims.{IsFirstClash, claims}
 use Rattle.dm_stack.specs.Description.{Description, disk_name_at, name_at}
-use Rattle.dm_stack.specs.Depth.{stack_depth}
+use Rattle.dm_stack.specs.checks.Depth.{stack_depth}
 
 -- a lower device or disk, as a line names it
 abbrev pub lower_text : Description → Lower → List ℕ

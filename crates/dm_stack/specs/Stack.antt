@@ -1,15 +1,15 @@
 -- What a stack keeps beside its description.
 use Rattle.std.specs.Prelude.{◌≡◌, ℕ, ◌^◌, ◌≤◌, List, map}
 use Rattle.dm_table.specs.declared.tables.table.DeviceSpec.{DeviceSpec}
-use Rattle.dm_stack.specs.declared.found_table.FoundDevice.{FoundDevice}
+use Rattle.dm_stack.specs.declared.lines.found_table.FoundDevice.{FoundDevice}
 use Rattle.dm_stack.specs.Description.{Description, end_of}
-use Rattle.dm_stack.specs.Below.{found_line}
-use Rattle.dm_stack.specs.FrontNames.{ArePlaces}
-use Rattle.dm_stack.specs.declared.front_names.Place.{Place}
-use Rattle.dm_stack.specs.Soundness.{IsSound}
-use Rattle.dm_stack.specs.DiskText.{disk_text}
-use Rattle.dm_stack.specs.Snapshots.{snapshots}
-use Rattle.dm_stack.specs.Depth.{stack_depth}
+use Rattle.dm_stack.specs.lines.Below.{found_line}
+use Rattle.dm_stack.specs.names.FrontNames.{ArePlaces}
+use Rattle.dm_stack.specs.declared.names.front_names.Place.{Place}
+use Rattle.dm_stack.specs.checks.Soundness.{IsSound}
+use Rattle.dm_stack.specs.names.DiskText.{disk_text}
+use Rattle.dm_stack.specs.checks.Snapshots.{snapshots}
+use Rattle.dm_stack.specs.checks.Depth.{stack_depth}
 
 -- a device with ids for names
 abbrev pub found_device : Description → DeviceSpec → FoundDevice

@@ -5,18 +5,18 @@
 //! Whoever has the line of an origin has its snapshots too (`FoundOrigin::over`), without a search.
 
 ghost use Rattle.std.specs.Prelude.{◌≡◌, ◌+◌, ◌-◌, ◌*◌, ◌<◌, ◌≤◌, length};
-ghost use Rattle.dm_stack.specs.Below.{IsLineOf};
+ghost use Rattle.dm_stack.specs.lines.Below.{IsLineOf};
 ghost use Rattle.dm_stack.specs.Description.{device_len, disk_len, is_ro_at, lines_at};
 ghost use Rattle.dm_stack.specs.Looker.{next_count};
-ghost use Rattle.dm_stack.specs.Snapshots.{snapshots, AreSnapshots};
-ghost use Rattle.dm_stack.specs.Depth.{stack_depth};
+ghost use Rattle.dm_stack.specs.checks.Snapshots.{snapshots, AreSnapshots};
+ghost use Rattle.dm_stack.specs.checks.Depth.{stack_depth};
 ghost use Rattle.dm_stack.specs.Stack.{IsLength};
-ghost use Rattle.dm_stack.specs.Soundness.{IsSound};
-ghost use Rattle.dm_stack.specs.LineSearch.{binary_digits};
+ghost use Rattle.dm_stack.specs.checks.Soundness.{IsSound};
+ghost use Rattle.dm_stack.specs.lines.LineSearch.{binary_digits};
 
-use crate::found_line::Found;
 use crate::id::{DeviceId, DiskId};
-use crate::line_search::LastLine;
+use crate::lines::found_line::Found;
+use crate::lines::line_search::LastLine;
 use crate::stack::Stack;
 use std::marker::Model;
 
@@ -31,7 +31,7 @@ pub struct Looker<'s> {
 }
 
 impl<'s> Model for Looker<'s> {
-    ghost use Rattle.dm_stack.specs.LineSearch.{IsLast};
+    ghost use Rattle.dm_stack.specs.lines.LineSearch.{IsLast};
     ghost use Rattle.dm_stack.specs.Looker.{Looking};
 
     ghost Value = { Looking };

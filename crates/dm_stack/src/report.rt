@@ -1,7 +1,7 @@
 //! What a check says of a stack, as text.
 
 ghost use Rattle.std.specs.Prelude.{◌≡◌, ◌++◌, IfOk, List, ℕ, string_bytes};
-ghost use Rattle.dm_stack.specs.Claims.{IsLower};
+ghost use Rattle.dm_stack.specs.claims.Claims.{IsLower};
 ghost use Rattle.dm_stack.specs.Description.{Description};
 ghost use Rattle.dm_stack.specs.Report.{IsReport, SaysTidiness, lower_text};
 

@@ -1,13 +1,2 @@
-pub mod Batches
-pub mod EarlierPlayed
-pub mod FewestLemmas
-pub mod FitsLemmas
-pub mod Fronts
-pub mod Held
-pub mod JoinLemmas
-pub mod LastDigit
-pub mod LineParts
-pub mod PieceLemmas
-pub mod RequestMapped
-pub mod Runs
-pub mod HandledRequests
+-- what crates above cite: they see no folder of a module that is private
+pub use Rattle.dm_stream.proofs.pieces.FewestLemmas

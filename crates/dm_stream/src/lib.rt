@@ -5,37 +5,17 @@
 //! the mapper's crate; here they become text.
 #![tactic(auto)]
 
-mod batch;
-mod closing;
-mod disk_range;
-mod earlier;
-mod ending;
-mod exchange;
-mod front;
-mod handler;
-mod held_piece;
-mod join;
-mod letter;
-mod line_buffer;
-mod line_ends;
-mod lines;
-mod map_run;
-mod message;
-mod number_prefix;
-mod piece_text;
-mod plain_word;
-mod range_text;
-mod request_mapper;
+mod pieces;
 mod requests;
-mod status_lines;
+mod runs;
 
-pub use closing::close_and_tell;
-pub use earlier::{EarlierFault, play_earlier};
-pub use ending::{Ending, RequestWord};
-pub use exchange::{Exchange, InTurn};
-pub use handler::{Handler, ReadsFrom};
-pub use join::Join;
-pub use lines::{Lines, MOST_LINE_BYTES, Next};
-pub use map_run::run;
-pub use message::{Message, earlier_message, message_of, refused_request, tell};
-pub use requests::{MOST_REQUESTS, handle_requests};
+pub use pieces::join::Join;
+pub use requests::exchange::{Exchange, InTurn};
+pub use requests::handler::{Handler, ReadsFrom};
+pub use requests::handling::{MOST_REQUESTS, handle_requests};
+pub use requests::lines::{Lines, MOST_LINE_BYTES, Next};
+pub use runs::closing::close_and_tell;
+pub use runs::earlier::{EarlierFault, play_earlier};
+pub use runs::ending::{Ending, RequestWord};
+pub use runs::map_run::run;
+pub use runs::message::{Message, earlier_message, message_of, refused_request, tell};

@@ -5,10 +5,10 @@ use Rattle.dm_table.specs.declared.load.load_fault.LoadKind.TheVariants as kinds
 use Rattle.dm_table.specs.io.DeviceIo.{InputPast, OutputPast, since, written_since}
 use Rattle.dm_table.specs.io.Progress.{HasWritten, IsClosedAfter, IsFinished, IsReadOn, Wrote}
 use Rattle.dm_table.specs.laws.Progress.{finished_as, grows-same, written_none}
-use Rattle.dm_stream.specs.declared.ending.Ending.{Ending}
-use Rattle.dm_stream.specs.declared.ending.Ending.TheVariants as endings
-use Rattle.dm_stream.specs.declared.ending.RequestWord.TheVariants as words
-use Rattle.dm_stream.specs.Requests.{HasMet}
+use Rattle.dm_stream.specs.declared.runs.ending.Ending.{Ending}
+use Rattle.dm_stream.specs.declared.runs.ending.Ending.TheVariants as endings
+use Rattle.dm_stream.specs.declared.runs.ending.RequestWord.TheVariants as words
+use Rattle.dm_stream.specs.requests.Requests.{HasMet}
 use Rattle.lvm_volume.specs.declared.fault.NameFault.{NameFault}
 use Rattle.lvm_volume.specs.declared.fault.NameFault.TheVariants as names
 use Rattle.dmremap.specs.declared.exit.Exit.{Exit}

@@ -7,14 +7,14 @@ use Rattle.dm_table.specs.io.Progress.{FailedOutput}
 use Rattle.dm_table.specs.laws.Progress.{finished_as}
 use Rattle.dm_stack.specs.Description.{Description}
 use Rattle.dm_map.specs.state.State.{State, start_state}
-use Rattle.dm_stream.specs.declared.ending.Ending.{Ending}
-use Rattle.dm_stream.specs.declared.ending.Ending.TheVariants as endings
-use Rattle.dm_stream.specs.Messages.{ending_message}
-use Rattle.dm_stream.specs.Earlier.{refused_ending}
-use Rattle.dm_stream.specs.Outcome.{Outcome, requests_outcome, run_outcome}
-use Rattle.dm_stream.specs.declared.earlier.EarlierFault.{EarlierFault}
-use Rattle.dm_stream.specs.declared.earlier.EarlierFault.TheVariants as earlier
-use Rattle.dm_stream.specs.Run.{HasRun}
+use Rattle.dm_stream.specs.declared.runs.ending.Ending.{Ending}
+use Rattle.dm_stream.specs.declared.runs.ending.Ending.TheVariants as endings
+use Rattle.dm_stream.specs.runs.Messages.{ending_message}
+use Rattle.dm_stream.specs.runs.Earlier.{refused_ending}
+use Rattle.dm_stream.specs.runs.Outcome.{Outcome, requests_outcome, run_outcome}
+use Rattle.dm_stream.specs.declared.runs.earlier.EarlierFault.{EarlierFault}
+use Rattle.dm_stream.specs.declared.runs.earlier.EarlierFault.TheVariants as earlier
+use Rattle.dm_stream.specs.runs.Run.{HasRun}
 use Rattle.dmremap.specs.declared.exit.Exit.{Exit}
 use Rattle.dmremap.specs.declared.exit.Exit.TheVariants as exits
 use Rattle.dmremap.specs.declared.exit.Refusal.TheVariants as refusals

@@ -4,13 +4,13 @@ use Rattle.std.specs.List.{AllByRecursion}
 use Rattle.dm_table.specs.declared.load.load_fault.LoadFault.{LoadFault}
 use Rattle.dm_table.specs.declared.load.load_fault.LoadKind.TheVariants.{Memory}
 use Rattle.dm_table.specs.io.DeviceIo.{Delivery}
-use Rattle.dm_stack.specs.declared.clash.Clash.{Clash}
-use Rattle.dm_stack.specs.Claims.{IsClash, IsTidy, claims}
+use Rattle.dm_stack.specs.declared.claims.clash.Clash.{Clash}
+use Rattle.dm_stack.specs.claims.Claims.{IsClash, IsTidy, claims}
 use Rattle.dm_stack.specs.Description.{Description}
 use Rattle.dm_stack.proofs.TopLemmas.{one_clash, one_report}
-use Rattle.dm_stream.specs.declared.ending.Ending.{Ending}
-use Rattle.dm_stream.specs.declared.ending.Ending.TheVariants as endings
-use Rattle.dm_stream.specs.Requests.{NumberedRequest, Requests, requests_of}
+use Rattle.dm_stream.specs.declared.runs.ending.Ending.{Ending}
+use Rattle.dm_stream.specs.declared.runs.ending.Ending.TheVariants as endings
+use Rattle.dm_stream.specs.requests.Requests.{NumberedRequest, Requests, requests_of}
 use Rattle.dm_replay.specs.Histories.{Asked}
 use Rattle.dm_replay.specs.Replay.{HasTop}
 use Rattle.dm_replay.specs.RunText.{runs_text}

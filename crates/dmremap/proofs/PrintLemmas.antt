@@ -3,7 +3,7 @@ use Rattle.std.proofs.Common.{◌≡◌, ℕ, List, Result, Ok, Err, refl, sym, 
 use Rattle.dm_table.specs.io.DeviceIo.{Delivery, InputPast, OutputPast, written_since}
 use Rattle.dm_table.specs.io.Progress.{HasWritten, Wrote}
 use Rattle.dm_stack.specs.Description.{Description}
-use Rattle.dm_stream.specs.declared.ending.Ending.TheVariants as endings
+use Rattle.dm_stream.specs.declared.runs.ending.Ending.TheVariants as endings
 use Rattle.lvm_volume.specs.Names.{NameParts, built}
 use Rattle.dmremap.specs.declared.exit.Exit.{Exit}
 use Rattle.dmremap.specs.declared.exit.Exit.TheVariants as exits

@@ -5,11 +5,11 @@ use Rattle.dm_table.specs.io.DeviceIo.{Delivery, InputPast, since}
 use Rattle.dm_table.specs.io.Progress.{IsReadOn, MetNothing}
 use Rattle.dm_table.specs.io.WriteAll.{IsCutShort}
 use Rattle.dm_table.specs.laws.Progress.{since-same}
-use Rattle.dm_stack.specs.Claims.{IsTidy, IsTop}
+use Rattle.dm_stack.specs.claims.Claims.{IsTidy, IsTop}
 use Rattle.dm_stack.specs.Description.{Description}
-use Rattle.dm_stream.specs.declared.ending.Ending.TheVariants as endings
-use Rattle.dm_stream.specs.Outcome.{device_of}
-use Rattle.dm_stream.specs.Requests.{IsAmong, NumberedRequest, Requests, requests_of}
+use Rattle.dm_stream.specs.declared.runs.ending.Ending.TheVariants as endings
+use Rattle.dm_stream.specs.runs.Outcome.{device_of}
+use Rattle.dm_stream.specs.requests.Requests.{IsAmong, NumberedRequest, Requests, requests_of}
 use Rattle.dm_replay.specs.declared.replay_fault.ReplayFault.{ReplayFault}
 use Rattle.dm_replay.specs.declared.value_run.ValueRun.{ValueRun}
 use Rattle.dm_replay.specs.Histories.{Asked, asked_answers, world_after}

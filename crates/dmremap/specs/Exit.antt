@@ -3,10 +3,10 @@ use Rattle.std.specs.Prelude.{◌≢◌, ℕ, Bool, true, false, List, Result, O
 use Rattle.dm_table.specs.declared.load.load_fault.LoadKind.{LoadKind}
 use Rattle.dm_table.specs.declared.load.load_fault.LoadKind.TheVariants as kinds
 use Rattle.dm_table.specs.load.LoadMessage.{load_message, memory_message}
-use Rattle.dm_stream.specs.declared.ending.Ending.{Ending}
-use Rattle.dm_stream.specs.declared.ending.Ending.TheVariants as endings
-use Rattle.dm_stream.specs.Messages.{earlier_message, ending_message, refused_request}
-use Rattle.dm_stream.specs.Run.{write_faults}
+use Rattle.dm_stream.specs.declared.runs.ending.Ending.{Ending}
+use Rattle.dm_stream.specs.declared.runs.ending.Ending.TheVariants as endings
+use Rattle.dm_stream.specs.runs.Messages.{earlier_message, ending_message, refused_request}
+use Rattle.dm_stream.specs.runs.Run.{write_faults}
 use Rattle.lvm_volume.specs.declared.fault.NameFault.{NameFault}
 use Rattle.lvm_volume.specs.declared.fault.NameFault.TheVariants as names
 use Rattle.lvm_volume.specs.NameMessage.{name_message, split_message}

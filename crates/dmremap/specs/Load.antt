@@ -9,7 +9,7 @@ use Rattle.dm_table.specs.load.PartInput.{PartRead, TextOf, Refuses, Unread, par
 use Rattle.dm_table.specs.tables.TableText.{DescribesTable, table_checks}
 use Rattle.dm_table.specs.tables.DiskList.{DescribesDisks, disk_checks}
 use Rattle.dm_stack.specs.Description.{Description}
-use Rattle.dm_stack.specs.Soundness.{IsSound, IsRefusedBy}
+use Rattle.dm_stack.specs.checks.Soundness.{IsSound, IsRefusedBy}
 use Rattle.dm_table.specs.declared.tables.table.DeviceSpec.{DeviceSpec}
 use Rattle.dm_table.specs.tables.ConciseText.{DescribesConcise, concise_checks}
 use Rattle.dmremap.specs.declared.job.Format.{Format}

@@ -2,10 +2,10 @@
 use Rattle.std.specs.Prelude.{◌≡◌, ◌≢◌, Bool, true, false, ℕ, List, []}
 use Rattle.dm_table.specs.declared.load.load_fault.LoadKind.TheVariants.{Memory}
 use Rattle.dm_table.specs.io.DeviceIo.{Delivery}
-use Rattle.dm_stack.specs.declared.clash.Clash.{Clash}
-use Rattle.dm_stack.specs.Claims.{IsClash, IsTidy, claims}
+use Rattle.dm_stack.specs.declared.claims.clash.Clash.{Clash}
+use Rattle.dm_stack.specs.claims.Claims.{IsClash, IsTidy, claims}
 use Rattle.dm_stack.specs.Description.{Description}
-use Rattle.dm_stream.specs.Requests.{requests_of}
+use Rattle.dm_stream.specs.requests.Requests.{requests_of}
 use Rattle.dmremap.specs.declared.exit.Exit.{Exit}
 use Rattle.dmremap.specs.declared.exit.Exit.TheVariants.{Refused}
 use Rattle.dmremap.specs.declared.exit.Refusal.TheVariants as refusals

@@ -6,7 +6,7 @@ use Rattle.dm_table.specs.io.DeviceIo.{Delivery}
 use Rattle.dm_table.specs.io.WriteAll.{IsCutShort}
 use Rattle.dm_table.specs.words.Bytes.{newline}
 use Rattle.dm_stack.specs.Report.{IsReport}
-use Rattle.dm_stream.specs.declared.ending.Ending.TheVariants as endings
+use Rattle.dm_stream.specs.declared.runs.ending.Ending.TheVariants as endings
 use Rattle.lvm_volume.specs.declared.fault.NameFault.{NameFault}
 use Rattle.lvm_volume.specs.Names.{Builds, IsSpaced, NameParts, built}
 use Rattle.dmremap.specs.declared.exit.Exit.{Exit}

@@ -2,9 +2,9 @@
 use Rattle.std.specs.Prelude.{◌≡◌, ◌≢◌, ◌⊎◌, ◌+◌, ℕ, ◌<◌, ◌≤◌, true, false, List}
 use Rattle.dm_table.specs.io.DeviceIo.{InputPast, OutputPast, written_since}
 use Rattle.dm_table.specs.io.Progress.{FailedWhere, HasWritten, IsFinished, IsFlushed, IsReadOn, MetNothing}
-use Rattle.dm_stream.specs.declared.ending.Ending.TheVariants.{WriteFault}
-use Rattle.dm_stream.specs.Requests.{HasMet}
-use Rattle.dm_stream.specs.Messages.{HasTold, write_message}
+use Rattle.dm_stream.specs.declared.runs.ending.Ending.TheVariants.{WriteFault}
+use Rattle.dm_stream.specs.requests.Requests.{HasMet}
+use Rattle.dm_stream.specs.runs.Messages.{HasTold, write_message}
 use Rattle.dmremap.specs.declared.exit.Exit.{Exit}
 use Rattle.dmremap.specs.declared.exit.Exit.TheVariants as exits
 use Rattle.dmremap.specs.declared.status.TheConstants.{STATUS_BAD_REQUEST, STATUS_DONE, STATUS_MEMORY, STATUS_READ_FAULT, STATUS_REFUSED, STATUS_WRITE_FAULT}

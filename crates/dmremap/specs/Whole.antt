@@ -3,15 +3,15 @@
 use Rattle.std.specs.Prelude.{◌≡◌, ◌⊎◌, ℕ, Bool, List, [], Option, None, Some}
 use Rattle.dm_table.specs.io.DeviceIo.{Delivery, InputPast, OutputPast, delivery, written_since}
 use Rattle.dm_table.specs.io.Progress.{FailedOutput}
-use Rattle.dm_stream.specs.declared.earlier.EarlierFault.{EarlierFault}
-use Rattle.dm_stream.specs.declared.earlier.EarlierFault.TheVariants as earlier
-use Rattle.dm_stream.specs.declared.ending.Ending.{Ending}
-use Rattle.dm_stream.specs.declared.ending.Ending.TheVariants as endings
+use Rattle.dm_stream.specs.declared.runs.earlier.EarlierFault.{EarlierFault}
+use Rattle.dm_stream.specs.declared.runs.earlier.EarlierFault.TheVariants as earlier
+use Rattle.dm_stream.specs.declared.runs.ending.Ending.{Ending}
+use Rattle.dm_stream.specs.declared.runs.ending.Ending.TheVariants as endings
 use Rattle.dm_map.specs.state.State.{State, start_state}
 use Rattle.dm_stack.specs.Description.{Description}
-use Rattle.dm_stream.specs.Messages.{IsTold}
-use Rattle.dm_stream.specs.Outcome.{Outcome, requests_outcome, run_outcome}
-use Rattle.dm_stream.specs.Requests.{HasMet}
+use Rattle.dm_stream.specs.runs.Messages.{IsTold}
+use Rattle.dm_stream.specs.runs.Outcome.{Outcome, requests_outcome, run_outcome}
+use Rattle.dm_stream.specs.requests.Requests.{HasMet}
 use Rattle.dmremap.specs.declared.exit.Exit.{Exit}
 use Rattle.dmremap.specs.declared.exit.Exit.TheVariants.{Ended, Refused}
 use Rattle.dmremap.specs.declared.exit.Refusal.TheVariants as refusals

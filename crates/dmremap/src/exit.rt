@@ -8,7 +8,7 @@ ghost use Rattle.std.specs.Prelude.{◌≡◌, ◌≢◌, OnErr, OnOk};
 ghost use Rattle.dmremap.specs.declared.exit.Exit.{Exit};
 ghost use Rattle.dmremap.specs.declared.exit.Exit.TheVariants.{Ended, Refused};
 ghost use Rattle.dmremap.specs.declared.exit.Refusal.TheVariants.{Load};
-ghost use Rattle.dm_stream.specs.declared.ending.Ending.TheVariants.{WriteFault};
+ghost use Rattle.dm_stream.specs.declared.runs.ending.Ending.TheVariants.{WriteFault};
 ghost use Rattle.dmremap.specs.Exit.{exit_after, exit_message, exit_status, is_refused, load_status, name_status, refusal_status};
 ghost use Rattle.dmremap.specs.Streams.{Exits, IsClosedAs};
 

@@ -7,7 +7,7 @@ ghost use Rattle.std.specs.Prelude.{◌≡◌, ◌≢◌, Bool, Option, Some};
 ghost use Rattle.dm_table.specs.io.DeviceIo.{Delivery, delivery};
 ghost use Rattle.dm_table.specs.load.LoadMessage.{memory_message};
 ghost use Rattle.dm_table.specs.io.Progress.{IsReadOn};
-ghost use Rattle.dm_stream.specs.Messages.{IsTold};
+ghost use Rattle.dm_stream.specs.runs.Messages.{IsTold};
 ghost use Rattle.dmremap.specs.declared.job.Format.{Format};
 ghost use Rattle.dmremap.specs.declared.status.TheConstants.{STATUS_MEMORY, STATUS_WRITE_FAULT};
 ghost use Rattle.dmremap.specs.Inputs.{IsReadOnIf, delivery_if};

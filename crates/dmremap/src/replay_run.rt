@@ -6,7 +6,7 @@ ghost use Rattle.std.specs.Prelude.{◌≡◌, false};
 ghost use Rattle.dm_table.specs.io.DeviceIo.{delivery, written_since};
 ghost use Rattle.dm_table.specs.io.Progress.{HasWritten, HasWrittenTo, IsReadOn};
 ghost use Rattle.dm_table.specs.laws.Progress.{written_to_none, written_to_more};
-ghost use Rattle.dm_stream.specs.Requests.{requests_of};
+ghost use Rattle.dm_stream.specs.requests.Requests.{requests_of};
 ghost use Rattle.dm_replay.specs.Replay.{new_replay};
 ghost use Rattle.dmremap.specs.Exit.{failed_writes};
 ghost use Rattle.dmremap.specs.OtherWhole.{ReplaysStack};

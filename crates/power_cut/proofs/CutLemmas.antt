@@ -1,10 +1,10 @@
 -- What was asked of a replay up to the cut, and what there is to write then.
 use Rattle.std.proofs.Common.{◌≡◌, ℕ, ◌+◌, ◌-◌, ◌<◌, List, [], ◌∷◌, ◌++◌, Some, get_or, length, map, take, refl, sym, ap, subst, ◌∙◌, arith}
 use Rattle.std.proofs.lemmas.List.{drop_at, length_push, map_more, take_at}
-use Rattle.dm_stack.specs.Claims.{IsTidy}
+use Rattle.dm_stack.specs.claims.Claims.{IsTidy}
 use Rattle.dm_stack.specs.Description.{Description}
-use Rattle.dm_stream.specs.declared.ending.Ending.TheVariants.{Done}
-use Rattle.dm_stream.specs.Requests.{NumberedRequest, Requests}
+use Rattle.dm_stream.specs.declared.runs.ending.Ending.TheVariants.{Done}
+use Rattle.dm_stream.specs.requests.Requests.{NumberedRequest, Requests}
 use Rattle.dm_replay.specs.Histories.{Asked}
 use Rattle.dm_replay.specs.Replay.{Replaying, new_replay}
 use Rattle.power_cut.specs.declared.read_back.ReadBack.{ReadBack}

@@ -4,8 +4,8 @@ use Rattle.std.proofs.lemmas.List.{take-append-drop}
 use Rattle.std.proofs.Math.Seq.{drop-cons}
 use Rattle.dm_table.specs.io.DeviceIo.{OutputPast}
 use Rattle.dm_stack.specs.Description.{Description}
-use Rattle.dm_stream.specs.declared.ending.Ending.TheVariants.{WriteFault}
-use Rattle.dm_stream.specs.Requests.{NumberedRequest, Requests}
+use Rattle.dm_stream.specs.declared.runs.ending.Ending.TheVariants.{WriteFault}
+use Rattle.dm_stream.specs.requests.Requests.{NumberedRequest, Requests}
 use Rattle.dm_replay.specs.declared.replay_fault.ReplayFault.{ReplayFault}
 use Rattle.dm_replay.specs.declared.replay_fault.ReplayFault.TheVariants.{NotTop}
 use Rattle.dm_replay.specs.Replay.{IsNotHalted, Replaying}

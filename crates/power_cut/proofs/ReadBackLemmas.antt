@@ -4,7 +4,7 @@ use Rattle.std.specs.List.{AllByRecursion}
 use Rattle.std.proofs.lemmas.List.{append-nil, map_push}
 use Rattle.std.proofs.lemmas.List.Elements.{filter_more}
 use Rattle.dm_stack.specs.Description.{Description}
-use Rattle.dm_stream.specs.Requests.{NumberedRequest}
+use Rattle.dm_stream.specs.requests.Requests.{NumberedRequest}
 use Rattle.dm_replay.specs.Histories.{Asked}
 use Rattle.dm_replay.specs.Replay.{Replaying}
 use Rattle.power_cut.specs.declared.read_back.ReadBack.{ReadBack}

@@ -2,10 +2,10 @@
 use Rattle.std.specs.Prelude.{◌≡◌, ℕ, ◌-◌, List, ◌++◌, Result, Ok, Err, Some, drop, length, map, take}
 use Rattle.dm_table.specs.io.DeviceIo.{OutputPast}
 use Rattle.dm_table.specs.io.Progress.{IsClosedAfter}
-use Rattle.dm_stack.specs.Claims.{IsTidy}
+use Rattle.dm_stack.specs.claims.Claims.{IsTidy}
 use Rattle.dm_stack.specs.Description.{Description}
-use Rattle.dm_stream.specs.declared.ending.Ending.TheVariants.{Done, WriteFault}
-use Rattle.dm_stream.specs.Requests.{NumberedRequest, Requests}
+use Rattle.dm_stream.specs.declared.runs.ending.Ending.TheVariants.{Done, WriteFault}
+use Rattle.dm_stream.specs.requests.Requests.{NumberedRequest, Requests}
 use Rattle.dm_replay.specs.Histories.{Asked}
 use Rattle.power_cut.specs.declared.fault.Fault.{Fault}
 use Rattle.power_cut.specs.declared.fault.Fault.TheVariants.{Ended}

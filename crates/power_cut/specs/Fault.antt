@@ -3,13 +3,13 @@ use Rattle.std.specs.Prelude.{◌≡◌, ℕ, List, ◌∷◌, ◌++◌, Some, c
 use Rattle.dm_table.specs.declared.load.load_fault.LoadKind.{LoadKind}
 use Rattle.dm_table.specs.declared.load.load_fault.LoadKind.TheVariants as kinds
 use Rattle.dm_table.specs.load.LoadMessage.{load_message, memory_message}
-use Rattle.dm_stack.specs.declared.clash.Clash.{Clash}
-use Rattle.dm_stack.specs.Claims.{IsClash, IsTidy, claims}
+use Rattle.dm_stack.specs.declared.claims.clash.Clash.{Clash}
+use Rattle.dm_stack.specs.claims.Claims.{IsClash, IsTidy, claims}
 use Rattle.dm_stack.specs.Description.{Description}
-use Rattle.dm_stream.specs.declared.ending.Ending.{Ending}
-use Rattle.dm_stream.specs.declared.ending.Ending.TheVariants as endings
-use Rattle.dm_stream.specs.Messages.{ending_message, refused_request}
-use Rattle.dm_stream.specs.Requests.{NumberedRequest, Requests}
+use Rattle.dm_stream.specs.declared.runs.ending.Ending.{Ending}
+use Rattle.dm_stream.specs.declared.runs.ending.Ending.TheVariants as endings
+use Rattle.dm_stream.specs.runs.Messages.{ending_message, refused_request}
+use Rattle.dm_stream.specs.requests.Requests.{NumberedRequest, Requests}
 use Rattle.dm_replay.specs.declared.replay_fault.ReplayFault.{ReplayFault}
 use Rattle.dm_replay.specs.declared.replay_fault.ReplayFault.TheVariants.{NotTop}
 use Rattle.power_cut.specs.declared.fault.Fault.{Fault}

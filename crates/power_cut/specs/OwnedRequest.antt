@@ -4,7 +4,7 @@ use Rattle.std.specs.List.{All}
 use Rattle.dm_table.specs.declared.requests.request.Op.{Op}
 use Rattle.dm_table.specs.declared.requests.request.Op.TheVariants.{Read, Write}
 use Rattle.dm_stack.specs.Description.{Description, device_id}
-use Rattle.dm_stream.specs.Requests.{NumberedRequest}
+use Rattle.dm_stream.specs.requests.Requests.{NumberedRequest}
 use Rattle.dm_replay.specs.Histories.{Asked}
 use Rattle.dm_replay.specs.Replay.{HasTop}
 

@@ -4,7 +4,7 @@ use Rattle.std.specs.List.{AllByRecursion, flat_map}
 use Rattle.dm_table.specs.requests.RequestLine.{request_text}
 use Rattle.dm_table.specs.words.Bytes.{newline}
 use Rattle.dm_stack.specs.Description.{Description}
-use Rattle.dm_stream.specs.Requests.{NumberedRequest}
+use Rattle.dm_stream.specs.requests.Requests.{NumberedRequest}
 use Rattle.dm_replay.specs.Histories.{Asked, asked_answers, world_after}
 use Rattle.dm_replay.specs.OfDisks.{IsRunOf}
 use Rattle.dm_replay.specs.Runs.{AreMaximal, flat}

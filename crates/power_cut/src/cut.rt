@@ -3,8 +3,8 @@
 ghost use Rattle.std.specs.Prelude.{◌≡◌, ◌++◌, ◌∷◌, [], IfErr, IfOk, OnOk};
 ghost use Rattle.dm_table.specs.io.DeviceIo.{delivery};
 ghost use Rattle.dm_table.specs.io.Progress.{IsReadOn};
-ghost use Rattle.dm_stack.specs.Claims.{IsTidy};
-ghost use Rattle.dm_stream.specs.Requests.{Requests, requests_of};
+ghost use Rattle.dm_stack.specs.claims.Claims.{IsTidy};
+ghost use Rattle.dm_stream.specs.requests.Requests.{Requests, requests_of};
 ghost use Rattle.dm_replay.specs.Replay.{new_replay};
 ghost use Rattle.power_cut.specs.Cut.{HasEnded, asked_until};
 ghost use Rattle.power_cut.specs.Fault.{AreRefused, IsUnplayed, StopsAt};

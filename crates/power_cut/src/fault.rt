@@ -1,7 +1,7 @@
 //! Why the program stopped: its exit status, and its message.
 
 ghost use Rattle.std.specs.Prelude.{◌≡◌};
-ghost use Rattle.dm_stream.specs.Messages.{HasTold};
+ghost use Rattle.dm_stream.specs.runs.Messages.{HasTold};
 ghost use Rattle.power_cut.specs.declared.fault.Fault.TheVariants.{Memory};
 ghost use Rattle.power_cut.specs.Fault.{fault_message, fault_status, load_status, unplayed};
 

@@ -1,7 +1,7 @@
 //! Requests that outlive the lines that they are read from.
 
 ghost use Rattle.std.specs.Prelude.{◌≡◌, IfOk};
-ghost use Rattle.dm_stream.specs.Requests.{numbered};
+ghost use Rattle.dm_stream.specs.requests.Requests.{numbered};
 ghost use Rattle.power_cut.specs.OwnedRequest.{is_write, read_of};
 
 use dm_table::{Op, Request};
@@ -21,7 +21,7 @@ pub(crate) struct OwnedRequest {
 impl Model for OwnedRequest {
     ghost use Rattle.std.specs.Prelude.{◌≤◌, string_bytes};
     ghost use Rattle.dm_table.specs.declared.requests.request.TheConstants.{MOST_SECTORS};
-    ghost use Rattle.dm_stream.specs.Requests.{NumberedRequest};
+    ghost use Rattle.dm_stream.specs.requests.Requests.{NumberedRequest};
 
     ghost Value = { NumberedRequest };
 

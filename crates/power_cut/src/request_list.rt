@@ -5,10 +5,10 @@ ghost use Rattle.std.proofs.Common.{ap, append_assoc, sym, ◌∙◌};
 ghost use Rattle.std.proofs.lemmas.List.{append-nil};
 ghost use Rattle.dm_table.specs.io.DeviceIo.{delivery};
 ghost use Rattle.dm_table.specs.io.Progress.{IsReadOn};
-ghost use Rattle.dm_stack.specs.Claims.{IsTidy};
+ghost use Rattle.dm_stack.specs.claims.Claims.{IsTidy};
 ghost use Rattle.dm_stack.specs.Description.{Description};
-ghost use Rattle.dm_stream.specs.declared.ending.Ending.TheVariants.{Done};
-ghost use Rattle.dm_stream.specs.Requests.{requests_of};
+ghost use Rattle.dm_stream.specs.declared.runs.ending.Ending.TheVariants.{Done};
+ghost use Rattle.dm_stream.specs.requests.Requests.{requests_of};
 ghost use Rattle.power_cut.specs.Fault.{AreRefused};
 
 use crate::fault::Fault;

@@ -3,11 +3,11 @@ use Rattle.std.proofs.Common.{◌≡◌, ◌⊎◌, inl, inr, ℕ, zero, suc, �
 use Rattle.std.specs.Prelude.{is_some}
 use Rattle.std.proofs.lemmas.Bool.{and_parts, cases_eq, cases_lt, le-leb, leb-true, not-false, not-true, or_parts}
 use Rattle.std.proofs.lemmas.List.{length-set}
-use Rattle.dm_stack.specs.declared.found_line.FoundSnapshot.{FoundSnapshot}
-use Rattle.dm_stack.specs.declared.graph.TheConstants.{MOST_DEPTH}
+use Rattle.dm_stack.specs.declared.lines.found_line.FoundSnapshot.{FoundSnapshot}
+use Rattle.dm_stack.specs.declared.checks.graph.TheConstants.{MOST_DEPTH}
 use Rattle.dm_stack.specs.declared.id.Lower.{Lower}
 use Rattle.dm_stack.specs.declared.id.Lower.TheVariants.{Device, Disk}
-use Rattle.dm_stack.specs.Below.{Below, Lies, IsZero, IsError}
+use Rattle.dm_stack.specs.lines.Below.{Below, Lies, IsZero, IsError}
 use Rattle.dm_stack.specs.Description.{Description}
 use Rattle.dm_map.specs.state.Fitting.{IsFitting}
 use Rattle.dm_map.specs.walk.Reads.{by_below, read_below, read_unit}

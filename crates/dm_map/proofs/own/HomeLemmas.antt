@@ -1,14 +1,14 @@
 -- Homes of a store's sectors: a way leads there, and no other way does.
 use Rattle.std.proofs.Common.{◌≡◌, ℕ, zero, suc, ◌/◌, ◌<◌, true, Some, refl, sym, ap, subst, ◌∙◌}
-use Rattle.dm_stack.specs.declared.found_line.FoundSnapshot.{FoundSnapshot}
-use Rattle.dm_stack.specs.declared.graph.TheConstants.{MOST_DEPTH}
+use Rattle.dm_stack.specs.declared.lines.found_line.FoundSnapshot.{FoundSnapshot}
+use Rattle.dm_stack.specs.declared.checks.graph.TheConstants.{MOST_DEPTH}
 use Rattle.dm_stack.specs.declared.id.Lower.{Lower}
 use Rattle.dm_stack.specs.declared.id.Lower.TheVariants.{Device, Disk}
-use Rattle.dm_stack.specs.Below.{Below, IsError, below}
-use Rattle.dm_stack.specs.Claims.{IsTidy}
+use Rattle.dm_stack.specs.lines.Below.{Below, IsError, below}
+use Rattle.dm_stack.specs.claims.Claims.{IsTidy}
 use Rattle.dm_stack.specs.Description.{Description, lower_len}
-use Rattle.dm_stack.specs.Soundness.{IsSound}
-use Rattle.dm_stack.specs.Store.{is_store_to}
+use Rattle.dm_stack.specs.checks.Soundness.{IsSound}
+use Rattle.dm_stack.specs.checks.Store.{is_store_to}
 use Rattle.dm_map.specs.state.Fitting.{IsFitting}
 use Rattle.dm_map.specs.walk.Homes.{Home, home, home_to, nowhere}
 use Rattle.dm_map.specs.walk.Reads.{by_below}

@@ -1,15 +1,15 @@
 -- A snapshot that is lost: what any sector has stays, or is an error.
 use Rattle.std.proofs.Common.{◌≡◌, ◌⊎◌, inl, inr, ℕ, ◌-◌, ◌<◌, false, Option, Some, None, length, refl, sym, ap, ◌∙◌}
 use Rattle.std.proofs.lemmas.Bool.{cases_eq}
-use Rattle.dm_stack.specs.declared.found_line.FoundLine.{FoundLine}
-use Rattle.dm_stack.specs.declared.found_line.FoundTarget.{FoundTarget}
-use Rattle.dm_stack.specs.declared.found_line.FoundTarget.TheVariants as founds
+use Rattle.dm_stack.specs.declared.lines.found_line.FoundLine.{FoundLine}
+use Rattle.dm_stack.specs.declared.lines.found_line.FoundTarget.{FoundTarget}
+use Rattle.dm_stack.specs.declared.lines.found_line.FoundTarget.TheVariants as founds
 use Rattle.dm_stack.specs.declared.id.Lower.{Lower}
 use Rattle.dm_stack.specs.declared.id.Lower.TheVariants.{Device, Disk}
-use Rattle.dm_stack.specs.Below.{Below, Lies, IsZero, IsError, below_line, below_target, found_at}
+use Rattle.dm_stack.specs.lines.Below.{Below, Lies, IsZero, IsError, below_line, below_target, found_at}
 use Rattle.dm_stack.specs.Description.{Description}
-use Rattle.dm_stack.specs.Depth.{lower_depth}
-use Rattle.dm_stack.specs.Soundness.{IsSound}
+use Rattle.dm_stack.specs.checks.Depth.{lower_depth}
+use Rattle.dm_stack.specs.checks.Soundness.{IsSound}
 use Rattle.dm_map.specs.own.Contents.{Values, Stays, content, value_read}
 use Rattle.dm_map.specs.walk.Reads.{by_below, read_below}
 use Rattle.dm_map.specs.state.Snapshots.{read_over}

@@ -5,11 +5,11 @@ use Rattle.std.proofs.lemmas.Bool.{cases_eq}
 use Rattle.std.proofs.lemmas.List.{append-nil, length-append, take-append-drop, take-append-le}
 use Rattle.dm_table.specs.declared.requests.request.Op.{Op}
 use Rattle.dm_table.specs.declared.requests.request.Op.TheVariants as ops
-use Rattle.dm_stack.specs.declared.graph.TheConstants.{MOST_DEPTH}
+use Rattle.dm_stack.specs.declared.checks.graph.TheConstants.{MOST_DEPTH}
 use Rattle.dm_stack.specs.declared.id.Lower.TheVariants.{Device}
-use Rattle.dm_stack.specs.Claims.{IsTidy, IsTop}
+use Rattle.dm_stack.specs.claims.Claims.{IsTidy, IsTop}
 use Rattle.dm_stack.specs.Description.{Description, device_len}
-use Rattle.dm_stack.specs.Soundness.{IsSound}
+use Rattle.dm_stack.specs.checks.Soundness.{IsSound}
 use Rattle.dm_map.specs.own.Contents.{Values, answers, played, played_unit, sector_after, sector_past, stored, value_read}
 use Rattle.dm_map.specs.walk.Homes.{Home}
 use Rattle.dm_map.specs.walk.Mapping.{request_step, sector_step}

@@ -3,9 +3,9 @@ use Rattle.std.proofs.Common.{◌≡◌, ℕ, zero, suc, ◌<◌, List, length, 
 use Rattle.std.specs.List.{AllByRecursion}
 use Rattle.std.proofs.lemmas.List.{length-replicate}
 use Rattle.dm_stack.specs.declared.id.Lower.TheVariants.{Device}
-use Rattle.dm_stack.specs.Claims.{IsTidy, IsTop}
+use Rattle.dm_stack.specs.claims.Claims.{IsTidy, IsTop}
 use Rattle.dm_stack.specs.Description.{Description}
-use Rattle.dm_stack.specs.Soundness.{IsSound}
+use Rattle.dm_stack.specs.checks.Soundness.{IsSound}
 use Rattle.dm_map.specs.own.Contents.{content, played}
 use Rattle.dm_map.specs.state.Fitting.{IsFitting}
 use Rattle.dm_map.specs.own.Tops.{IsOwnWrite, write}

@@ -1,17 +1,17 @@
 -- A chunk that is taken changes nothing of what a root has.
 use Rattle.std.proofs.Common.{◌≡◌, ◌⊎◌, inl, inr, ℕ, ◌+◌, ◌-◌, ◌*◌, ◌/◌, ◌%◌, ◌<◌, ◌≤◌, true, List, [], ◌∷◌, Option, Some, None, length, refl, sym, ap, subst, ◌∙◌, arith}
 use Rattle.std.proofs.lemmas.Bool.{cases_eq}
-use Rattle.dm_stack.specs.declared.found_line.FoundLine.{FoundLine}
-use Rattle.dm_stack.specs.declared.found_line.FoundSnapshot.{FoundSnapshot}
-use Rattle.dm_stack.specs.declared.graph.TheConstants.{MOST_DEPTH}
+use Rattle.dm_stack.specs.declared.lines.found_line.FoundLine.{FoundLine}
+use Rattle.dm_stack.specs.declared.lines.found_line.FoundSnapshot.{FoundSnapshot}
+use Rattle.dm_stack.specs.declared.checks.graph.TheConstants.{MOST_DEPTH}
 use Rattle.dm_stack.specs.declared.id.Lower.{Lower}
 use Rattle.dm_stack.specs.declared.id.Lower.TheVariants.{Device, Disk}
-use Rattle.dm_stack.specs.Below.{Below, Lies, IsZero, IsError, below, found_at}
-use Rattle.dm_stack.specs.Claims.{IsTidy}
+use Rattle.dm_stack.specs.lines.Below.{Below, Lies, IsZero, IsError, below, found_at}
+use Rattle.dm_stack.specs.claims.Claims.{IsTidy}
 use Rattle.dm_stack.specs.Description.{Description, lower_len}
-use Rattle.dm_stack.specs.Depth.{lower_depth}
-use Rattle.dm_stack.specs.StoreLayout.{place}
-use Rattle.dm_stack.specs.Soundness.{IsSound}
+use Rattle.dm_stack.specs.checks.Depth.{lower_depth}
+use Rattle.dm_stack.specs.lines.StoreLayout.{place}
+use Rattle.dm_stack.specs.checks.Soundness.{IsSound}
 use Rattle.dm_map.specs.own.Contents.{Values, content, played, value_read}
 use Rattle.dm_map.specs.state.Fitting.{IsFitting}
 use Rattle.dm_map.specs.walk.Homes.{Home}

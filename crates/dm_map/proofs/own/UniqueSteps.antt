@@ -6,19 +6,19 @@ use Rattle.dm_table.specs.declared.tables.table.Line.{Line}
 use Rattle.dm_table.specs.declared.tables.table.Use.{Use}
 use Rattle.dm_table.specs.declared.tables.table.Use.TheVariants.{Own, Reading, Serving}
 use Rattle.dm_table.specs.tables.Span.{Span, spans}
-use Rattle.dm_stack.specs.declared.found_line.FoundLine.{FoundLine}
-use Rattle.dm_stack.specs.declared.found_line.FoundOrigin.{FoundOrigin}
-use Rattle.dm_stack.specs.declared.found_line.FoundOver.{FoundOver}
-use Rattle.dm_stack.specs.declared.found_line.FoundSnapshot.{FoundSnapshot}
-use Rattle.dm_stack.specs.declared.found_line.FoundTarget.{FoundTarget}
-use Rattle.dm_stack.specs.declared.found_line.FoundTarget.TheVariants as founds
+use Rattle.dm_stack.specs.declared.lines.found_line.FoundLine.{FoundLine}
+use Rattle.dm_stack.specs.declared.lines.found_line.FoundOrigin.{FoundOrigin}
+use Rattle.dm_stack.specs.declared.lines.found_line.FoundOver.{FoundOver}
+use Rattle.dm_stack.specs.declared.lines.found_line.FoundSnapshot.{FoundSnapshot}
+use Rattle.dm_stack.specs.declared.lines.found_line.FoundTarget.{FoundTarget}
+use Rattle.dm_stack.specs.declared.lines.found_line.FoundTarget.TheVariants as founds
 use Rattle.dm_stack.specs.declared.id.Lower.{Lower}
 use Rattle.dm_stack.specs.declared.id.Lower.TheVariants.{Device}
-use Rattle.dm_stack.specs.Below.{Lies, below_line, found_at, found_line, found_target, has_state}
-use Rattle.dm_stack.specs.Claims.{IsTidy, IsTop}
+use Rattle.dm_stack.specs.lines.Below.{Lies, below_line, found_at, found_line, found_target, has_state}
+use Rattle.dm_stack.specs.claims.Claims.{IsTidy, IsTop}
 use Rattle.dm_stack.specs.Description.{Description, device_len, lower_len}
-use Rattle.dm_stack.specs.Over.{snapshots_over}
-use Rattle.dm_stack.specs.Soundness.{IsSound}
+use Rattle.dm_stack.specs.lines.Over.{snapshots_over}
+use Rattle.dm_stack.specs.checks.Soundness.{IsSound}
 use Rattle.dm_stack.proofs.Apart.{IsVia, IsNamed, one_via, top_named}
 use Rattle.dm_stack.proofs.LegLemmas.{plain_inside}
 use Rattle.dm_map.specs.state.Fitting.{IsFitting}

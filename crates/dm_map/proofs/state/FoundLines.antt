@@ -4,14 +4,14 @@ use Rattle.std.specs.Prelude.{option_map, nat_le, nat_lt}
 use Rattle.std.proofs.lemmas.Bool.{and_parts, cases_lt, ltb-true}
 use Rattle.std.proofs.lemmas.Option.{slice_get_past}
 use Rattle.dm_table.specs.declared.tables.table.Line.{Line}
-use Rattle.dm_stack.specs.declared.found_line.FoundLine.{FoundLine}
-use Rattle.dm_stack.specs.declared.found_line.FoundOrigin.{FoundOrigin}
-use Rattle.dm_stack.specs.declared.found_line.FoundSnapshot.{FoundSnapshot}
-use Rattle.dm_stack.specs.declared.found_line.FoundTarget.{FoundTarget}
-use Rattle.dm_stack.specs.declared.found_line.FoundTarget.TheVariants as founds
-use Rattle.dm_stack.specs.Below.{found_at, found_line, holds, line_of, IsOriginSound, IsSnapshotSound, IsTargetSound}
+use Rattle.dm_stack.specs.declared.lines.found_line.FoundLine.{FoundLine}
+use Rattle.dm_stack.specs.declared.lines.found_line.FoundOrigin.{FoundOrigin}
+use Rattle.dm_stack.specs.declared.lines.found_line.FoundSnapshot.{FoundSnapshot}
+use Rattle.dm_stack.specs.declared.lines.found_line.FoundTarget.{FoundTarget}
+use Rattle.dm_stack.specs.declared.lines.found_line.FoundTarget.TheVariants as founds
+use Rattle.dm_stack.specs.lines.Below.{found_at, found_line, holds, line_of, IsOriginSound, IsSnapshotSound, IsTargetSound}
 use Rattle.dm_stack.specs.Description.{Description, device_len, end_of, lines_or_none}
-use Rattle.dm_stack.specs.Soundness.{IsSound}
+use Rattle.dm_stack.specs.checks.Soundness.{IsSound}
 use Rattle.dm_stack.proofs.LayoutLemmas.{AreInRow}
 use Rattle.dm_stack.proofs.SameLine.{same_found}
 use Rattle.dm_stack.proofs.SoundLines.{HoldsSoundly, device_sound, lines_there, sector_found, there}

@@ -14,16 +14,16 @@ use Rattle.dm_table.specs.declared.tables.table.Line.{Line}
 use Rattle.dm_table.specs.declared.tables.table.Target.{Target}
 use Rattle.dm_table.specs.declared.tables.table.Target.TheVariants as targets
 use Rattle.dm_table.specs.declared.tables.table.Use.TheVariants.{Reading}
-use Rattle.dm_stack.specs.declared.found_line.FoundLine.{FoundLine}
-use Rattle.dm_stack.specs.declared.found_line.FoundSnapshot.{FoundSnapshot}
-use Rattle.dm_stack.specs.declared.found_line.FoundTarget.{FoundTarget}
-use Rattle.dm_stack.specs.declared.found_line.FoundTarget.TheVariants as founds
-use Rattle.dm_stack.specs.Below.{found_at, found_line, found_target, holds, line_of}
+use Rattle.dm_stack.specs.declared.lines.found_line.FoundLine.{FoundLine}
+use Rattle.dm_stack.specs.declared.lines.found_line.FoundSnapshot.{FoundSnapshot}
+use Rattle.dm_stack.specs.declared.lines.found_line.FoundTarget.{FoundTarget}
+use Rattle.dm_stack.specs.declared.lines.found_line.FoundTarget.TheVariants as founds
+use Rattle.dm_stack.specs.lines.Below.{found_at, found_line, found_target, holds, line_of}
 use Rattle.dm_stack.specs.Description.{Description, device_id, disk_id, is_same, lines_at, lines_or_none, lower_len, lower_of}
-use Rattle.dm_stack.specs.Snapshots.{has_snapshot, is_snapshot, snapshots}
-use Rattle.dm_stack.specs.StoreLayout.{place}
-use Rattle.dm_stack.specs.Over.{found_snapshot}
-use Rattle.dm_stack.specs.Soundness.{IsSound, all_lines, is_unknown, is_unknown_ref}
+use Rattle.dm_stack.specs.checks.Snapshots.{has_snapshot, is_snapshot, snapshots}
+use Rattle.dm_stack.specs.lines.StoreLayout.{place}
+use Rattle.dm_stack.specs.lines.Over.{found_snapshot}
+use Rattle.dm_stack.specs.checks.Soundness.{IsSound, all_lines, is_unknown, is_unknown_ref}
 use Rattle.dm_table.specs.tables.Span.{target_spans, whole_span}
 use Rattle.dm_stack.proofs.Passes.{faults_by_none, passes_all}
 use Rattle.dm_stack.proofs.SoundLines.{device_some, disk_some, found, of_device, there}

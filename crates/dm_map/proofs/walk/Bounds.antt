@@ -5,15 +5,15 @@ use Rattle.std.proofs.lemmas.Bool.{ne_eqb}
 use Rattle.std.proofs.Math.Nat.{mul-le-mul_right}
 use Rattle.dm_table.specs.declared.requests.request.Op.{Op}
 use Rattle.dm_table.specs.declared.requests.request.Op.TheVariants.{Read}
-use Rattle.dm_stack.specs.declared.found_line.FoundLine.{FoundLine}
-use Rattle.dm_stack.specs.declared.found_line.FoundTarget.{FoundTarget}
-use Rattle.dm_stack.specs.declared.graph.TheConstants.{MOST_DEPTH}
+use Rattle.dm_stack.specs.declared.lines.found_line.FoundLine.{FoundLine}
+use Rattle.dm_stack.specs.declared.lines.found_line.FoundTarget.{FoundTarget}
+use Rattle.dm_stack.specs.declared.checks.graph.TheConstants.{MOST_DEPTH}
 use Rattle.dm_stack.specs.declared.id.Lower.{Lower}
 use Rattle.dm_stack.specs.declared.id.Lower.TheVariants.{Device}
-use Rattle.dm_stack.specs.Below.{Below, Lies, below_target, chunk_at, found_at, is_same_chunk, IsLineOf}
+use Rattle.dm_stack.specs.lines.Below.{Below, Lies, below_target, chunk_at, found_at, is_same_chunk, IsLineOf}
 use Rattle.dm_stack.specs.Description.{Description, device_len}
-use Rattle.dm_stack.specs.Depth.{stack_depth}
-use Rattle.dm_stack.specs.Soundness.{IsSound, depth_of}
+use Rattle.dm_stack.specs.checks.Depth.{stack_depth}
+use Rattle.dm_stack.specs.checks.Soundness.{IsSound, depth_of}
 use Rattle.dm_map.specs.pieces.Sink.{SinkView}
 use Rattle.dm_map.specs.pieces.Units.{BlockUnit}
 use Rattle.dm_map.specs.walk.Bound.{IsMapped, found_mapping, range_mapping, target_mapping, target_path}

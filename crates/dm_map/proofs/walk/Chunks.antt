@@ -4,13 +4,13 @@ use Rattle.std.specs.Prelude.{min}
 use Rattle.std.proofs.lemmas.List.{length-set}
 use Rattle.std.proofs.lemmas.Nat.{div-add-mod', mod-mul-add}
 use Rattle.dm_table.specs.declared.requests.request.Op.TheVariants as ops
-use Rattle.dm_stack.specs.declared.found_line.FoundSnapshot.{FoundSnapshot}
-use Rattle.dm_stack.specs.declared.found_line.FoundLine.{FoundLine}
-use Rattle.dm_stack.specs.declared.found_line.FoundTarget.{FoundTarget}
-use Rattle.dm_stack.specs.declared.found_line.FoundTarget.TheVariants.{Snapshot}
-use Rattle.dm_stack.specs.Below.{Below, Lies, found_at, IsLine, IsSnapshotSound, IsTargetSound}
+use Rattle.dm_stack.specs.declared.lines.found_line.FoundSnapshot.{FoundSnapshot}
+use Rattle.dm_stack.specs.declared.lines.found_line.FoundLine.{FoundLine}
+use Rattle.dm_stack.specs.declared.lines.found_line.FoundTarget.{FoundTarget}
+use Rattle.dm_stack.specs.declared.lines.found_line.FoundTarget.TheVariants.{Snapshot}
+use Rattle.dm_stack.specs.lines.Below.{Below, Lies, found_at, IsLine, IsSnapshotSound, IsTargetSound}
 use Rattle.dm_stack.specs.Description.{Description, device_len, lower_len}
-use Rattle.dm_stack.specs.StoreLayout.{place}
+use Rattle.dm_stack.specs.lines.StoreLayout.{place}
 use Rattle.dm_map.specs.declared.walk.chunk.ReadAt.{ReadAt}
 use Rattle.dm_map.specs.declared.walk.homes.HomeStretch.{HomeStretch}
 use Rattle.dm_map.specs.walk.Homes.{home}

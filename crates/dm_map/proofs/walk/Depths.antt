@@ -4,15 +4,15 @@ use Rattle.std.specs.Prelude.{option_map, slice_get}
 use Rattle.std.specs.List.{AllByRecursion, range_with_len}
 use Rattle.std.proofs.lemmas.Option.{get_or_from_slice_get, slice_get-map}
 use Rattle.dm_table.specs.declared.tables.table.Line.{Line}
-use Rattle.dm_stack.specs.declared.found_line.FoundLine.{FoundLine}
-use Rattle.dm_stack.specs.declared.found_line.FoundSnapshot.{FoundSnapshot}
+use Rattle.dm_stack.specs.declared.lines.found_line.FoundLine.{FoundLine}
+use Rattle.dm_stack.specs.declared.lines.found_line.FoundSnapshot.{FoundSnapshot}
 use Rattle.dm_stack.specs.declared.id.Lower.{Lower}
 use Rattle.dm_stack.specs.declared.id.Lower.TheVariants.{Device, Disk}
-use Rattle.dm_stack.specs.Below.{Below, Lies, below_target, found_at, found_line, holds, line_of}
+use Rattle.dm_stack.specs.lines.Below.{Below, Lies, below_target, found_at, found_line, holds, line_of}
 use Rattle.dm_stack.specs.Description.{Description, device_links, line_links, lines_at, links}
-use Rattle.dm_stack.specs.Graph.{depth_to, greatest, links_of}
-use Rattle.dm_stack.specs.Depth.{lower_depth, stack_depth}
-use Rattle.dm_stack.specs.Soundness.{IsSound, depth_of}
+use Rattle.dm_stack.specs.checks.Graph.{depth_to, greatest, links_of}
+use Rattle.dm_stack.specs.checks.Depth.{lower_depth, stack_depth}
+use Rattle.dm_stack.specs.checks.Soundness.{IsSound, depth_of}
 use Rattle.dm_stack.proofs.DepthLemmas.{depth_to-deeper}
 use Rattle.dm_stack.proofs.DepthRule.{shallow_device}
 use Rattle.dm_stack.proofs.SoundLines.{found, lines_there, there}

@@ -2,13 +2,13 @@
 use Rattle.std.proofs.Common.{◌≡◌, ℕ, ◌+◌, ◌-◌, ◌≤◌, false, List, Some, refl, sym, ap, subst, ◌∙◌, arith}
 use Rattle.std.specs.Prelude.{Option, Result, Ok, Err}
 use Rattle.dm_table.specs.declared.requests.request.Op.{Op}
-use Rattle.dm_stack.specs.declared.found_line.FoundLine.{FoundLine}
-use Rattle.dm_stack.specs.declared.graph.TheConstants.{MOST_DEPTH}
+use Rattle.dm_stack.specs.declared.lines.found_line.FoundLine.{FoundLine}
+use Rattle.dm_stack.specs.declared.checks.graph.TheConstants.{MOST_DEPTH}
 use Rattle.dm_stack.specs.declared.id.Lower.{Lower}
 use Rattle.dm_stack.specs.declared.id.Lower.TheVariants.{Device, Disk}
-use Rattle.dm_stack.specs.declared.leg.Beneath.TheVariants.{Lies}
+use Rattle.dm_stack.specs.declared.lines.leg.Beneath.TheVariants.{Lies}
 use Rattle.dm_stack.specs.Description.{Description}
-use Rattle.dm_stack.specs.Below.{IsLineOf}
+use Rattle.dm_stack.specs.lines.Below.{IsLineOf}
 use Rattle.dm_stack.proofs.InStack.{disk_there}
 use Rattle.dm_map.specs.declared.walk.home.Home.{Home}
 use Rattle.dm_map.specs.pieces.Sink.{SinkView}

@@ -1,12 +1,12 @@
 -- The legs of a line.
 use Rattle.std.proofs.Common.{◌≡◌, ℕ, ◌+◌, ◌≤◌, subst, sym, arith}
-use Rattle.dm_stack.specs.declared.found_line.FoundLine.{FoundLine}
-use Rattle.dm_stack.specs.declared.found_line.FoundTarget.{FoundTarget}
-use Rattle.dm_stack.specs.declared.leg.Leg.{Leg}
-use Rattle.dm_stack.specs.Below.{IsLine, IsTargetSound}
+use Rattle.dm_stack.specs.declared.lines.found_line.FoundLine.{FoundLine}
+use Rattle.dm_stack.specs.declared.lines.found_line.FoundTarget.{FoundTarget}
+use Rattle.dm_stack.specs.declared.lines.leg.Leg.{Leg}
+use Rattle.dm_stack.specs.lines.Below.{IsLine, IsTargetSound}
 use Rattle.dm_stack.specs.Description.{Description}
-use Rattle.dm_stack.specs.Leg.{AreInside, HasSectors, IsLeg}
-use Rattle.dm_stack.specs.Soundness.{IsSound}
+use Rattle.dm_stack.specs.lines.Leg.{AreInside, HasSectors, IsLeg}
+use Rattle.dm_stack.specs.checks.Soundness.{IsSound}
 use Rattle.dm_stack.proofs.LegLemmas.{leg_lies_inside}
 use Rattle.dm_map.specs.walk.Range.{IsLegOf}
 

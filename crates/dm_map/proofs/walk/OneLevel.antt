@@ -4,15 +4,15 @@ use Rattle.std.specs.Prelude.{option_map}
 use Rattle.std.specs.List.{AllByRecursion}
 use Rattle.std.proofs.lemmas.Bool.{cases_lt}
 use Rattle.std.proofs.lemmas.Option.{slice_get_past}
-use Rattle.dm_stack.specs.declared.graph.TheConstants.{MOST_DEPTH}
+use Rattle.dm_stack.specs.declared.checks.graph.TheConstants.{MOST_DEPTH}
 use Rattle.dm_stack.specs.declared.id.Lower.{Lower}
 use Rattle.dm_stack.specs.declared.id.Lower.TheVariants.{Device, Disk}
-use Rattle.dm_stack.specs.declared.found_line.FoundLine.{FoundLine}
-use Rattle.dm_stack.specs.Below.{Below, Lies, IsError, below, below_line, found_at, found_line, line_of}
+use Rattle.dm_stack.specs.declared.lines.found_line.FoundLine.{FoundLine}
+use Rattle.dm_stack.specs.lines.Below.{Below, Lies, IsError, below, below_line, found_at, found_line, line_of}
 use Rattle.dm_stack.specs.Description.{Description, is_ro_at, links, lines_or_none}
-use Rattle.dm_stack.specs.Graph.{links_of}
-use Rattle.dm_stack.specs.Depth.{lower_depth}
-use Rattle.dm_stack.specs.Soundness.{IsSound, depth_of}
+use Rattle.dm_stack.specs.checks.Graph.{links_of}
+use Rattle.dm_stack.specs.checks.Depth.{lower_depth}
+use Rattle.dm_stack.specs.checks.Soundness.{IsSound, depth_of}
 use Rattle.dm_map.specs.walk.Mapping.{write_line, write_step}
 use Rattle.dm_map.specs.walk.Reads.{by_below, read_below, read_unit}
 use Rattle.dm_map.specs.walk.SnapshotWrites.{read}

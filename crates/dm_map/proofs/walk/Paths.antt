@@ -3,7 +3,7 @@ use Rattle.std.proofs.Common.{◌≡◌, ℕ, zero, suc, ◌+◌, ◌-◌, ◌*�
 use Rattle.std.specs.Prelude.{◌==◌}
 use Rattle.std.proofs.lemmas.Bool.{eq-eqb}
 use Rattle.std.proofs.Math.Nat.{mul-le-mul, mul-le-mul_left}
-use Rattle.dm_stack.specs.Below.{is_same_chunk}
+use Rattle.dm_stack.specs.lines.Below.{is_same_chunk}
 use Rattle.dm_map.specs.walk.Path.{PathStep, changes, is_same_path, is_same_step, stretches}
 
 -- Steps

@@ -6,11 +6,11 @@ use Rattle.std.specs.Result.{IsErr}
 use Rattle.std.proofs.lemmas.Bool.{cases_lt}
 use Rattle.std.proofs.lemmas.List.{append-nil, take-append-drop, take_more}
 use Rattle.std.proofs.lemmas.List.Elements.{All-get_or}
-use Rattle.dm_stack.specs.Below.{IsSnapshotSound}
+use Rattle.dm_stack.specs.lines.Below.{IsSnapshotSound}
 use Rattle.dm_stack.specs.Description.{Description, device_len}
-use Rattle.dm_stack.specs.Soundness.{IsSound}
-use Rattle.dm_stack.specs.declared.found_line.FoundSnapshot.{FoundSnapshot}
-use Rattle.dm_stack.specs.declared.found_line.FoundOver.{FoundOver}
+use Rattle.dm_stack.specs.checks.Soundness.{IsSound}
+use Rattle.dm_stack.specs.declared.lines.found_line.FoundSnapshot.{FoundSnapshot}
+use Rattle.dm_stack.specs.declared.lines.found_line.FoundOver.{FoundOver}
 use Rattle.dm_map.specs.walk.Serving.{AreSettled, IsOver, serve, served_step}
 use Rattle.dm_map.specs.walk.SnapshotWrites.{is_settled, take_chunk}
 use Rattle.dm_map.specs.state.State.{State, Taken, taken_at}

@@ -9,13 +9,13 @@ use Rattle.dm_table.specs.declared.tables.table.Target.{Target}
 use Rattle.dm_table.specs.declared.tables.table.Target.TheVariants as targets
 use Rattle.dm_table.specs.declared.tables.table.Use.TheVariants.{Own}
 use Rattle.dm_table.specs.tables.Span.{Span, column_span, target_spans}
-use Rattle.dm_stack.specs.declared.found_columns.FoundColumn.{FoundColumn}
-use Rattle.dm_stack.specs.declared.found_line.FoundSnapshot.{FoundSnapshot}
-use Rattle.dm_stack.specs.declared.found_line.FoundTarget.{FoundTarget}
-use Rattle.dm_stack.specs.declared.found_line.FoundTarget.TheVariants as founds
+use Rattle.dm_stack.specs.declared.lines.found_columns.FoundColumn.{FoundColumn}
+use Rattle.dm_stack.specs.declared.lines.found_line.FoundSnapshot.{FoundSnapshot}
+use Rattle.dm_stack.specs.declared.lines.found_line.FoundTarget.{FoundTarget}
+use Rattle.dm_stack.specs.declared.lines.found_line.FoundTarget.TheVariants as founds
 use Rattle.dm_stack.specs.declared.id.Lower.{Lower}
-use Rattle.dm_stack.specs.Below.{Below, Lies, AreStripes, IsTargetSound, below_column, below_plain, below_target, column_of, found_columns, found_target, has_state, in_column}
-use Rattle.dm_stack.specs.Claims.{span_end}
+use Rattle.dm_stack.specs.lines.Below.{Below, Lies, AreStripes, IsTargetSound, below_column, below_plain, below_target, column_of, found_columns, found_target, has_state, in_column}
+use Rattle.dm_stack.specs.claims.Claims.{span_end}
 use Rattle.dm_stack.specs.Description.{Description, lower_len, lower_of}
 use Rattle.dm_stack.proofs.StripeLemmas.{in_column_room}
 use Rattle.dm_map.proofs.state.Numbers.{stripe_back}

@@ -6,17 +6,17 @@ use Rattle.std.proofs.lemmas.Bool.{and_parts}
 use Rattle.dm_table.specs.declared.tables.table.Line.{Line}
 use Rattle.dm_table.specs.declared.tables.table.Target.{Target}
 use Rattle.dm_table.specs.declared.tables.table.Target.TheVariants as targets
-use Rattle.dm_stack.specs.declared.found_line.FoundLine.{FoundLine}
-use Rattle.dm_stack.specs.declared.found_columns.FoundColumn.{FoundColumn}
-use Rattle.dm_stack.specs.declared.found_line.FoundSnapshot.{FoundSnapshot}
-use Rattle.dm_stack.specs.declared.graph.TheConstants.{MOST_DEPTH}
+use Rattle.dm_stack.specs.declared.lines.found_line.FoundLine.{FoundLine}
+use Rattle.dm_stack.specs.declared.lines.found_columns.FoundColumn.{FoundColumn}
+use Rattle.dm_stack.specs.declared.lines.found_line.FoundSnapshot.{FoundSnapshot}
+use Rattle.dm_stack.specs.declared.checks.graph.TheConstants.{MOST_DEPTH}
 use Rattle.dm_stack.specs.declared.id.Lower.{Lower}
 use Rattle.dm_stack.specs.declared.id.Lower.TheVariants.{Device, Disk}
-use Rattle.dm_stack.specs.Below.{Below, Lies, IsError, below, below_line, below_plain, below_target, below_column, column_of, in_column, found_at, found_columns, found_line, found_target, has_state, holds, line_of, IsTargetSound}
+use Rattle.dm_stack.specs.lines.Below.{Below, Lies, IsError, below, below_line, below_plain, below_target, below_column, column_of, in_column, found_at, found_columns, found_line, found_target, has_state, holds, line_of, IsTargetSound}
 use Rattle.dm_stack.specs.Description.{Description, device_len, is_ro_at, lines_at, lower_len, lower_of}
-use Rattle.dm_stack.specs.Soundness.{IsSound}
+use Rattle.dm_stack.specs.checks.Soundness.{IsSound}
 use Rattle.dm_table.specs.tables.Span.{Span, spans, target_spans}
-use Rattle.dm_stack.specs.Store.{is_plain, is_store_to, IsStore}
+use Rattle.dm_stack.specs.checks.Store.{is_plain, is_store_to, IsStore}
 use Rattle.dm_stack.proofs.SoundLines.{HoldsSoundly, found, sector_found, there}
 use Rattle.dm_map.specs.declared.walk.stretch.Ground.{Ground}
 use Rattle.dm_map.specs.declared.walk.stretch.Ground.TheVariants as grounds

@@ -1,7 +1,7 @@
 -- What each device would have if it were alone on a disk of its own: a row that only its own writes change.
 use Rattle.std.specs.Prelude.{ℕ, List, [], ◌∷◌, Option, Some}
 use Rattle.dm_stack.specs.declared.id.Lower.TheVariants.{Device}
-use Rattle.dm_stack.specs.Claims.{IsTop}
+use Rattle.dm_stack.specs.claims.Claims.{IsTop}
 use Rattle.dm_stack.specs.Description.{Description}
 use Rattle.dm_map.specs.own.Contents.{Values, Stays, content, sector_after, stored}
 use Rattle.dm_map.specs.state.Fitting.{IsFitting}

@@ -1,10 +1,10 @@
 -- A write of a sector of a top device, as all top devices see it.
 use Rattle.std.specs.Prelude.{◌≡◌, ℕ, true, false, List, [], ◌∷◌, ◌++◌}
 use Rattle.std.specs.List.{AllByRecursion}
-use Rattle.dm_stack.specs.declared.graph.TheConstants.{MOST_DEPTH}
+use Rattle.dm_stack.specs.declared.checks.graph.TheConstants.{MOST_DEPTH}
 use Rattle.dm_stack.specs.declared.id.Lower.{Lower}
 use Rattle.dm_stack.specs.declared.id.Lower.TheVariants.{Device}
-use Rattle.dm_stack.specs.Claims.{IsTop}
+use Rattle.dm_stack.specs.claims.Claims.{IsTop}
 use Rattle.dm_stack.specs.Description.{Description}
 use Rattle.dm_map.specs.own.Contents.{Values, Stays, answers, content, played}
 use Rattle.dm_map.specs.state.Fitting.{IsFitting}

@@ -2,7 +2,7 @@
 use Rattle.std.specs.Prelude.{ℕ, ◌≡◌, List, [], ◌∷◌}
 use Rattle.dm_stack.specs.declared.id.Lower.{Lower}
 use Rattle.dm_stack.specs.declared.id.Lower.TheVariants.{Device}
-use Rattle.dm_stack.specs.Below.{Lies}
+use Rattle.dm_stack.specs.lines.Below.{Lies}
 use Rattle.dm_stack.specs.Description.{Description}
 use Rattle.dm_map.specs.walk.Reads.{read_below}
 use Rattle.dm_map.specs.state.State.{State}

@@ -1,8 +1,8 @@
 -- States that a stack can be in.
 use Rattle.std.specs.Prelude.{ℕ, ◌≡◌, ◌<◌, ◌≤◌, true, Some, length}
-use Rattle.dm_stack.specs.declared.found_line.FoundSnapshot.{FoundSnapshot}
+use Rattle.dm_stack.specs.declared.lines.found_line.FoundSnapshot.{FoundSnapshot}
 use Rattle.dm_stack.specs.Description.{Description, lower_len}
-use Rattle.dm_stack.specs.StoreLayout.{place_count}
+use Rattle.dm_stack.specs.lines.StoreLayout.{place_count}
 use Rattle.dm_map.specs.state.Snapshots.{has_place}
 use Rattle.dm_map.specs.state.State.{State, taken_at}
 use Rattle.dm_map.specs.state.Tables.{snapshot_at}

@@ -1,12 +1,12 @@
 -- Tables of taken chunks, one for each device of a stack, as a state.
 use Rattle.std.specs.Prelude.{ℕ, ◌≡◌, Bool, false, List, Option, Some, None, length, map, nat_lt, slice_get}
-use Rattle.dm_stack.specs.declared.found_line.FoundLine.{FoundLine}
-use Rattle.dm_stack.specs.declared.found_line.FoundOrigin.{FoundOrigin}
-use Rattle.dm_stack.specs.declared.found_line.FoundSnapshot.{FoundSnapshot}
-use Rattle.dm_stack.specs.declared.found_line.FoundTarget.{FoundTarget}
-use Rattle.dm_stack.specs.declared.found_line.FoundTarget.TheVariants as found
+use Rattle.dm_stack.specs.declared.lines.found_line.FoundLine.{FoundLine}
+use Rattle.dm_stack.specs.declared.lines.found_line.FoundOrigin.{FoundOrigin}
+use Rattle.dm_stack.specs.declared.lines.found_line.FoundSnapshot.{FoundSnapshot}
+use Rattle.dm_stack.specs.declared.lines.found_line.FoundTarget.{FoundTarget}
+use Rattle.dm_stack.specs.declared.lines.found_line.FoundTarget.TheVariants as found
 use Rattle.dm_stack.specs.Description.{Description}
-use Rattle.dm_stack.specs.Below.{found_at}
+use Rattle.dm_stack.specs.lines.Below.{found_at}
 use Rattle.dm_map.specs.state.Snapshots.{has_place}
 use Rattle.dm_map.specs.state.State.{State}
 

@@ -1,8 +1,8 @@
 -- Sectors of one chunk of a snapshot, where they are read, and where they lie once it is taken.
 use Rattle.std.specs.Prelude.{ℕ, ◌≡◌, ◌+◌, ◌%◌, ◌<◌, ◌≤◌, true, Some}
-use Rattle.dm_stack.specs.declared.found_line.FoundSnapshot.{FoundSnapshot}
+use Rattle.dm_stack.specs.declared.lines.found_line.FoundSnapshot.{FoundSnapshot}
 use Rattle.dm_stack.specs.Description.{Description, device_len, lower_len}
-use Rattle.dm_stack.specs.Below.{Lies, IsSnapshotSound}
+use Rattle.dm_stack.specs.lines.Below.{Lies, IsSnapshotSound}
 use Rattle.dm_map.specs.declared.walk.chunk.ReadAt.{ReadAt}
 use Rattle.dm_map.specs.declared.walk.homes.HomeStretch.{HomeStretch}
 use Rattle.dm_map.specs.state.Snapshots.{has_place, number_in, read_over, store_sector}

@@ -1,12 +1,12 @@
 -- The path of a sector that is read, and the stretches of a read: its sectors in runs of one path.
 use Rattle.std.specs.Prelude.{ℕ, zero, suc, ◌+◌, ◌-◌, ◌==◌, ◌&&◌, Bool, List, [], ◌∷◌, Option, Some, None, nat_lt, if◌then◌else◌}
 use Rattle.std.specs.Cmp.Lexicographic.{pointwise}
-use Rattle.dm_stack.specs.declared.graph.TheConstants.{MOST_DEPTH}
+use Rattle.dm_stack.specs.declared.checks.graph.TheConstants.{MOST_DEPTH}
 use Rattle.dm_stack.specs.declared.id.Lower.{Lower}
 use Rattle.dm_stack.specs.declared.id.Lower.TheVariants.{Device, Disk}
-use Rattle.dm_stack.specs.declared.found_line.FoundLine.{FoundLine}
+use Rattle.dm_stack.specs.declared.lines.found_line.FoundLine.{FoundLine}
 use Rattle.dm_stack.specs.Description.{Description, device_len}
-use Rattle.dm_stack.specs.Below.{below_target, chunk_at, found_at, is_same_chunk}
+use Rattle.dm_stack.specs.lines.Below.{below_target, chunk_at, found_at, is_same_chunk}
 use Rattle.dm_map.specs.walk.Reads.{by_below}
 use Rattle.dm_map.specs.state.Snapshots.{read_over}
 use Rattle.dm_map.specs.state.State.{State, taken_at}

@@ -3,7 +3,7 @@ use Rattle.std.specs.Prelude.{ℕ, zero, suc}
 use Rattle.dm_stack.specs.declared.id.Lower.{Lower}
 use Rattle.dm_stack.specs.declared.id.Lower.TheVariants.{Device, Disk}
 use Rattle.dm_stack.specs.Description.{Description}
-use Rattle.dm_stack.specs.Below.{Below, Lies, IsZero, IsError, below}
+use Rattle.dm_stack.specs.lines.Below.{Below, Lies, IsZero, IsError, below}
 use Rattle.dm_map.specs.state.Snapshots.{read_over}
 use Rattle.dm_map.specs.state.State.{State, taken_at}
 use Rattle.dm_map.specs.pieces.Units.{BlockUnit, ReadOf, Zeros, Fails}

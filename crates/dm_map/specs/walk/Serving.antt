@@ -2,7 +2,7 @@
 use Rattle.std.specs.Prelude.{◌≡◌, ℕ, ◌/◌, ◌≤◌, true, List, [], ◌∷◌, Some}
 use Rattle.std.specs.List.{AllByRecursion}
 use Rattle.dm_stack.specs.Description.{Description, device_len}
-use Rattle.dm_stack.specs.declared.found_line.FoundOver.{FoundOver}
+use Rattle.dm_stack.specs.declared.lines.found_line.FoundOver.{FoundOver}
 use Rattle.dm_map.specs.walk.SnapshotWrites.{is_settled, take_chunk}
 use Rattle.dm_map.specs.state.State.{State, taken_at}
 use Rattle.dm_map.specs.walk.Steps.{Step, keep, and_then}

@@ -2,7 +2,7 @@
 
 ghost use Rattle.std.specs.Prelude.{ℕ, ◌≤◌};
 ghost use Rattle.dm_table.specs.declared.requests.request.Op.{Op};
-ghost use Rattle.dm_stack.specs.Claims.{IsTidy, IsTop};
+ghost use Rattle.dm_stack.specs.claims.Claims.{IsTidy, IsTop};
 ghost use Rattle.dm_map.specs.own.Contents.{Values, played, sector_past};
 ghost use Rattle.dm_map.specs.walk.Mapping.{request_step};
 ghost use Rattle.dm_map.specs.own.Rows.{AreOwn, Rows, first_rows, rows_played};

@@ -7,7 +7,7 @@
 
 ghost use Rattle.std.specs.Prelude.{ℕ};
 ghost use Rattle.dm_stack.specs.declared.id.Lower.TheVariants.{Device};
-ghost use Rattle.dm_stack.specs.Claims.{IsTidy, IsTop};
+ghost use Rattle.dm_stack.specs.claims.Claims.{IsTidy, IsTop};
 ghost use Rattle.dm_map.specs.state.Fitting.{IsFitting};
 ghost use Rattle.dm_map.specs.own.Tops.{IsOwnWrite, write};
 ghost use Rattle.dm_map.specs.state.State.{State, start_state};

@@ -9,7 +9,7 @@ ghost use Rattle.std.specs.Prelude.{◌≡◌, ◌<◌, ◌≤◌, ◌+◌, ◌+
 ghost use Rattle.std.specs.List.{IsDistinct, concat};
 ghost use Rattle.std.proofs.Props.{props};
 ghost use Rattle.std.proofs.lemmas.Map.Keys.{IsDistinct-prop};
-ghost use Rattle.dm_stack.specs.LineSearch.{binary_digits};
+ghost use Rattle.dm_stack.specs.lines.LineSearch.{binary_digits};
 ghost use Rattle.dm_map.specs.state.Blocks.{contents};
 ghost use Rattle.dm_map.specs.state.Runs.{AreRuns, AreSorted, begins, chunks_in, last_after, run_count};
 ghost use Rattle.dm_map.specs.state.Snapshots.{number_in};

@@ -3,7 +3,7 @@
 //! All memory for taken chunks is reserved here, before the first request.
 
 ghost use Rattle.std.specs.Prelude.{◌≡◌, ℕ, ◌+◌, ◌<◌, ◌≤◌, Some, length, nat_lt, replicate, slice_get, IfOk};
-ghost use Rattle.dm_stack.specs.Snapshots.{snapshots};
+ghost use Rattle.dm_stack.specs.checks.Snapshots.{snapshots};
 ghost use Rattle.dm_map.specs.state.State.{none_taken, start_state};
 ghost use Rattle.dm_map.specs.state.Tables.{AreTables, has_room, state_of};
 

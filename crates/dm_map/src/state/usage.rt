@@ -1,9 +1,9 @@
 //! Usage: how much of a snapshot's store is used.
 
 ghost use Rattle.std.specs.Prelude.{◌≡◌, ◌+◌, ◌<◌, ◌≤◌, ◌^◌, IfSome};
-ghost use Rattle.dm_stack.specs.Snapshots.{IsSnapshot};
-ghost use Rattle.dm_stack.specs.StoreLayout.{allocated, metadata};
-ghost use Rattle.dm_stack.specs.declared.limits.TheConstants.{MOST_SNAPSHOT_CHUNK};
+ghost use Rattle.dm_stack.specs.checks.Snapshots.{IsSnapshot};
+ghost use Rattle.dm_stack.specs.lines.StoreLayout.{allocated, metadata};
+ghost use Rattle.dm_stack.specs.declared.checks.limits.TheConstants.{MOST_SNAPSHOT_CHUNK};
 ghost use Rattle.dm_map.specs.state.Counts.{AreAdded};
 ghost use Rattle.dm_map.specs.state.State.{taken_at};
 ghost use Rattle.dm_map.specs.state.Tables.{snapshot_at};

@@ -5,10 +5,10 @@
 //! table of a device that is no snapshot has no place and stays empty.
 
 ghost use Rattle.std.specs.Prelude.{◌≡◌, ℕ, ◌+◌, ◌<◌, ◌≤◌, true, not, None, Some, IfSome, length};
-ghost use Rattle.dm_stack.specs.Below.{IsLineOf};
+ghost use Rattle.dm_stack.specs.lines.Below.{IsLineOf};
 ghost use Rattle.dm_stack.specs.Description.{device_len, is_ro_at, lower_len};
-ghost use Rattle.dm_stack.specs.Soundness.{IsSound};
-ghost use Rattle.dm_stack.specs.declared.limits.TheConstants.{MOST_LENGTH};
+ghost use Rattle.dm_stack.specs.checks.Soundness.{IsSound};
+ghost use Rattle.dm_stack.specs.declared.checks.limits.TheConstants.{MOST_LENGTH};
 ghost use Rattle.dm_map.specs.state.Counts.{counts_of, AreAdded};
 ghost use Rattle.dm_map.specs.state.Fitting.{IsWithinPlaces};
 ghost use Rattle.dm_map.specs.state.State.{lost, put, with_chunk, taken_at};

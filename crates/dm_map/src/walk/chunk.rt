@@ -2,8 +2,8 @@
 
 ghost use Rattle.std.specs.Prelude.{◌≡◌, ◌+◌, ◌-◌, ◌*◌, ◌%◌, ◌<◌, ◌≤◌};
 ghost use Rattle.std.specs.Prelude.{false, length, min, IfNone, IfSome};
-ghost use Rattle.dm_stack.specs.StoreLayout.{place};
-ghost use Rattle.dm_stack.specs.declared.limits.TheConstants.{MOST_LENGTH, MOST_SNAPSHOT_CHUNK};
+ghost use Rattle.dm_stack.specs.lines.StoreLayout.{place};
+ghost use Rattle.dm_stack.specs.declared.checks.limits.TheConstants.{MOST_LENGTH, MOST_SNAPSHOT_CHUNK};
 ghost use Rattle.dm_map.specs.state.Snapshots.{store_sector};
 ghost use Rattle.dm_map.specs.state.State.{taken_at};
 ghost use Rattle.dm_map.specs.walk.Chunk.{AreInChunk, AreReadAt};

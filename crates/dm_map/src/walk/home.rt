@@ -3,9 +3,9 @@
 //! Where they lie is returned to the caller of the mapper, which then knows that nothing else comes of the request.
 
 ghost use Rattle.std.specs.Prelude.{◌≡◌, ◌+◌, ◌-◌, ◌≤◌, IfSome};
-ghost use Rattle.dm_stack.specs.Below.{IsLineOf};
+ghost use Rattle.dm_stack.specs.lines.Below.{IsLineOf};
 ghost use Rattle.dm_stack.specs.declared.id.Lower.TheVariants.{Disk};
-ghost use Rattle.dm_stack.specs.declared.leg.Beneath.TheVariants.{Lies};
+ghost use Rattle.dm_stack.specs.declared.lines.leg.Beneath.TheVariants.{Lies};
 ghost use Rattle.dm_map.specs.walk.Home.{handed};
 ghost use Rattle.dm_map.specs.walk.Range.{IsLegOf};
 

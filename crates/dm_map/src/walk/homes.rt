@@ -4,7 +4,7 @@
 
 ghost use Rattle.std.specs.Prelude.{◌≡◌, ◌+◌, ◌≤◌};
 ghost use Rattle.dm_stack.specs.Description.{lower_len};
-ghost use Rattle.dm_stack.specs.Store.{IsStore};
+ghost use Rattle.dm_stack.specs.checks.Store.{IsStore};
 ghost use Rattle.dm_map.specs.state.Counts.{AreAdded};
 ghost use Rattle.dm_map.specs.state.Walker.{stack_state};
 ghost use Rattle.dm_map.specs.walk.Homes.{IsFirstHomes};

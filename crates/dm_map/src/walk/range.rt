@@ -10,12 +10,12 @@
 
 ghost use Rattle.std.specs.Prelude.{◌≡◌, ◌+◌, ◌<◌, ◌≤◌, true, length};
 ghost use Rattle.dm_table.specs.declared.requests.request.Op.TheVariants.{Write};
-ghost use Rattle.dm_stack.specs.Below.{is_striped, IsLine};
+ghost use Rattle.dm_stack.specs.lines.Below.{is_striped, IsLine};
 ghost use Rattle.dm_stack.specs.Description.{Description};
-ghost use Rattle.dm_stack.specs.declared.found_line.FoundTarget.TheVariants.{Snapshot};
+ghost use Rattle.dm_stack.specs.declared.lines.found_line.FoundTarget.TheVariants.{Snapshot};
 ghost use Rattle.dm_stack.specs.declared.id.Lower.TheVariants.{Device};
-ghost use Rattle.dm_stack.specs.declared.graph.TheConstants.{MOST_DEPTH};
-ghost use Rattle.dm_stack.specs.declared.limits.TheConstants.{MOST_LENGTH};
+ghost use Rattle.dm_stack.specs.declared.checks.graph.TheConstants.{MOST_DEPTH};
+ghost use Rattle.dm_stack.specs.declared.checks.limits.TheConstants.{MOST_LENGTH};
 ghost use Rattle.dm_map.specs.walk.Bound.{found_mapping, origin_mapping, range_mapping, target_mapping};
 ghost use Rattle.dm_map.specs.walk.Bound.{IsMapped};
 ghost use Rattle.dm_map.specs.pieces.Units.{diskless_len, piece_len, units_in, units_of};

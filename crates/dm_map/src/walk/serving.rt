@@ -6,7 +6,7 @@
 
 ghost use Rattle.std.specs.Prelude.{◌≡◌, ℕ, ◌+◌, ◌/◌, ◌<◌, ◌≤◌, OnOk, false, true};
 ghost use Rattle.std.specs.List.{All};
-ghost use Rattle.dm_stack.specs.declared.limits.TheConstants.{MOST_LENGTH};
+ghost use Rattle.dm_stack.specs.declared.checks.limits.TheConstants.{MOST_LENGTH};
 ghost use Rattle.dm_map.specs.walk.Serving.{serve, AreSettled, IsOver};
 ghost use Rattle.dm_map.specs.walk.SnapshotWrites.{is_settled};
 ghost use Rattle.dm_map.specs.state.State.{taken_at};

@@ -6,7 +6,7 @@
 
 ghost use Rattle.std.specs.Prelude.{◌+◌, ◌≤◌};
 ghost use Rattle.dm_table.specs.declared.requests.request.Op.TheVariants.{Read};
-ghost use Rattle.dm_stack.specs.Below.{IsLine};
+ghost use Rattle.dm_stack.specs.lines.Below.{IsLine};
 ghost use Rattle.dm_stack.specs.Description.{lower_len};
 ghost use Rattle.dm_stack.specs.declared.id.Lower.TheVariants.{Device};
 ghost use Rattle.dm_map.specs.walk.Stretch.{IsFirst};

@@ -5,7 +5,7 @@
 
 ghost use Rattle.std.specs.Prelude.{◌≡◌, ◌+◌, ◌/◌, ◌<◌, ◌≤◌, ◌&&◌, true, None, Some, length, not};
 ghost use Rattle.dm_stack.specs.Description.{lower_len};
-ghost use Rattle.dm_stack.specs.Store.{IsStore};
+ghost use Rattle.dm_stack.specs.checks.Store.{IsStore};
 ghost use Rattle.dm_map.specs.state.Snapshots.{has_place, number_in};
 ghost use Rattle.dm_map.specs.state.State.{taken_at};
 ghost use Rattle.dm_map.specs.state.Tables.{snapshot_at};

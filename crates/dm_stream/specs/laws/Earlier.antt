@@ -2,9 +2,9 @@
 use Rattle.std.proofs.Common.{ℕ, List, [], ◌++◌, refl, ap, ◌∙◌, append_assoc}
 use Rattle.dm_stack.specs.Description.{Description}
 use Rattle.dm_map.specs.state.State.{State}
-use Rattle.dm_stream.specs.Earlier.{HasMoved, HasStoppedAt}
-use Rattle.dm_stream.specs.Outcome.{outcome_from}
-use Rattle.dm_stream.specs.Requests.{NumberedRequest}
+use Rattle.dm_stream.specs.runs.Earlier.{HasMoved, HasStoppedAt}
+use Rattle.dm_stream.specs.runs.Outcome.{outcome_from}
+use Rattle.dm_stream.specs.requests.Requests.{NumberedRequest}
 
 pub moved_none : (stack : Description) (state : State) → HasMoved stack state state []
 moved_none stack state = record { told = λ rest e. record { state = refl; ending = refl } }

@@ -6,11 +6,11 @@ use Rattle.dm_table.specs.io.DeviceIo.{since}
 use Rattle.dm_table.specs.laws.Progress.{since_more}
 use Rattle.dm_stack.specs.Description.{Description}
 use Rattle.dm_map.specs.pieces.Units.{BlockUnit}
-use Rattle.dm_stream.specs.Pending.{Pending, held_units}
-use Rattle.dm_stream.specs.Join.{HasUnits, HasTaken, HasLeft}
-use Rattle.dm_stream.specs.Pieces.{UnitRun, fewest, joins, onto}
+use Rattle.dm_stream.specs.pieces.Pending.{Pending, held_units}
+use Rattle.dm_stream.specs.pieces.Join.{HasUnits, HasTaken, HasLeft}
+use Rattle.dm_stream.specs.pieces.Pieces.{UnitRun, fewest, joins, onto}
 use Rattle.dm_table.specs.words.Fields.{all_but_last}
-use Rattle.dm_stream.specs.PieceText.{piece_text, pieces_text}
+use Rattle.dm_stream.specs.pieces.PieceText.{piece_text, pieces_text}
 use Rattle.dm_table.specs.laws.Progress.{since-same}
 use Rattle.dm_table.specs.io.WriteAll.{IsBeginning}
 

@@ -5,14 +5,14 @@ use Rattle.dm_table.specs.laws.Progress.{since_more}
 use Rattle.dm_stack.specs.Description.{Description}
 use Rattle.dm_map.specs.Mapper.{MapperView}
 use Rattle.dm_map.specs.state.State.{State}
-use Rattle.dm_stream.specs.Mapped.{HasAnswered, HasStopped}
-use Rattle.dm_stream.specs.Outcome.{Outcome, after_text, outcome_from}
+use Rattle.dm_stream.specs.runs.Mapped.{HasAnswered, HasStopped}
+use Rattle.dm_stream.specs.runs.Outcome.{Outcome, after_text, outcome_from}
 use Rattle.dm_table.specs.laws.Progress.{since-same}
-use Rattle.dm_stream.specs.Requests.{NumberedRequest}
-use Rattle.dm_stream.specs.declared.ending.Ending as ending
-use Rattle.dm_stream.specs.declared.ending.NotMapped.{NotMapped}
-use Rattle.dm_stream.specs.declared.ending.NotMapped.TheVariants as causes
-use Rattle.dm_stream.specs.declared.ending.RequestWord as word
+use Rattle.dm_stream.specs.requests.Requests.{NumberedRequest}
+use Rattle.dm_stream.specs.declared.runs.ending.Ending as ending
+use Rattle.dm_stream.specs.declared.runs.ending.NotMapped.{NotMapped}
+use Rattle.dm_stream.specs.declared.runs.ending.NotMapped.TheVariants as causes
+use Rattle.dm_stream.specs.declared.runs.ending.RequestWord as word
 
 pub answered_none : (stack : Description) (state : State) (w : List ℕ) → HasAnswered stack state state [] w w
 answered_none stack state w = record {

@@ -5,9 +5,9 @@ use Rattle.dm_table.specs.io.DeviceIo.{since}
 use Rattle.dm_table.specs.laws.Progress.{since_more}
 use Rattle.dm_stack.specs.Description.{Description}
 use Rattle.dm_table.specs.laws.Progress.{since-same}
-use Rattle.dm_stream.specs.Requests.{NumberedRequest}
+use Rattle.dm_stream.specs.requests.Requests.{NumberedRequest}
 use Rattle.dm_replay.specs.Histories.{Asked}
-use Rattle.dm_stream.specs.declared.ending.Ending.TheVariants as endings
+use Rattle.dm_stream.specs.declared.runs.ending.Ending.TheVariants as endings
 use Rattle.dmremap.specs.declared.exit.Exit.{Exit}
 use Rattle.dmremap.specs.declared.exit.Exit.TheVariants as exits
 use Rattle.dmremap.specs.ReplayOutcome.{AreAnswered, HasPlayed, HasStopped, IsCutReplay, StopsAt, asked_of}

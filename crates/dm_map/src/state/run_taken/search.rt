@@ -5,7 +5,7 @@
 
 ghost use Rattle.std.specs.Prelude.{◌≡◌, ◌<◌, ◌≤◌, ◌-◌, None, length, not};
 ghost use Rattle.std.specs.List.{concat};
-ghost use Rattle.dm_stack.specs.LineSearch.{binary_digits};
+ghost use Rattle.dm_stack.specs.lines.LineSearch.{binary_digits};
 ghost use Rattle.dm_map.specs.state.Blocks.{contents};
 ghost use Rattle.dm_map.specs.state.Runs.{AreRuns, AreSorted, begins, chunks_in, last_after, ranked};
 

@@ -3,7 +3,7 @@ use Rattle.std.specs.Prelude.{string_bytes}
 use Rattle.std.proofs.lemmas.Result.{IfOk-weaker}
 use Rattle.dm_stack.specs.Report.{IsReport}
 use Rattle.dm_stack.proofs.ReportLemmas.{report_lines}
-use Rattle.dm_stack.proofs.TopLemmas.{one_report}
+use Rattle.dm_stack.proofs.claims.TopLemmas.{one_report}
 use Rattle.dm_stack.proofs.report.check_report.Goals as goal
 
 pub returns-clause-text : goal.returns-clause-text

@@ -2,9 +2,9 @@ use Rattle.std.proofs.Common.{Some, ap, inl, inr, refl, sym, ◌≡◌, ◌∙�
 use Rattle.dm_table.specs.io.DeviceIo.{delivery}
 use Rattle.dm_table.specs.laws.Progress.{since-same}
 use Rattle.dm_map.specs.state.State.{start_state}
-use Rattle.dm_stream.specs.Messages.{ending_message}
-use Rattle.dm_stream.specs.declared.ending.Ending.TheVariants as endings
-use Rattle.dm_stream.specs.Earlier.{refused_ending}
+use Rattle.dm_stream.specs.runs.Messages.{ending_message}
+use Rattle.dm_stream.specs.declared.runs.ending.Ending.TheVariants as endings
+use Rattle.dm_stream.specs.runs.Earlier.{refused_ending}
 use Rattle.dmremap.specs.declared.exit.Exit.TheVariants as exits
 use Rattle.dmremap.specs.declared.exit.Refusal.TheVariants as refusals
 use Rattle.dmremap.specs.Exit.{exit_message, exit_status}

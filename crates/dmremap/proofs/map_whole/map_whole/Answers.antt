@@ -2,7 +2,7 @@ use Rattle.std.proofs.Common.{None, ap, refl, sym, ◌≡◌, ◌∙◌}
 use Rattle.dm_table.specs.io.DeviceIo.{delivery}
 use Rattle.dm_map.specs.state.State.{start_state}
 use Rattle.dm_map.proofs.LevelLemmas.{homes_free, reads_free, writes_free}
-use Rattle.dm_stream.specs.Messages.{ending_message}
+use Rattle.dm_stream.specs.runs.Messages.{ending_message}
 use Rattle.dm_table.specs.laws.Progress.{since-same}
 use Rattle.dm_stream.proofs.FewestLemmas.{fewest_is}
 use Rattle.dmremap.specs.declared.exit.Exit.TheVariants as exits

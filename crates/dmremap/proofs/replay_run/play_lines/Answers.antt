@@ -1,6 +1,6 @@
 use Rattle.std.proofs.Common.{subst}
 use Rattle.dm_table.specs.io.DeviceIo.{delivery, written_since}
-use Rattle.dm_stream.specs.Requests.{requests_of}
+use Rattle.dm_stream.specs.requests.Requests.{requests_of}
 use Rattle.dm_replay.specs.Replay.{Replaying}
 use Rattle.dmremap.specs.ReplayOutcome.{HasStopped}
 use Rattle.dmremap.proofs.ReplayLemmas.{part_played, stopped_met}

@@ -3,7 +3,7 @@ use Rattle.std.proofs.lemmas.List.{take_all}
 use Rattle.std.proofs.lemmas.List.Elements.{All-more, All-push, All-same}
 use Rattle.std.proofs.lemmas.Result.{err_from_is_err_and}
 use Rattle.dm_stack.specs.Description.{Description}
-use Rattle.dm_stream.specs.Requests.{NumberedRequest, numbered}
+use Rattle.dm_stream.specs.requests.Requests.{NumberedRequest, numbered}
 use Rattle.dm_replay.specs.Histories.{Asked}
 use Rattle.power_cut.specs.Fault.{IsUnplayed, unplayed}
 use Rattle.power_cut.specs.OwnedRequest.{AreOfTops, IsOfTop, asked_of, cut_of}

@@ -1,7 +1,7 @@
 use Rattle.std.proofs.Common.{◌≡◌, ℕ, ◌<◌, List, get_or, length, replicate, refl, sym, ap, subst, ◌∙◌, arith}
 use Rattle.std.proofs.lemmas.List.{length-set}
 use Rattle.dm_stack.specs.Description.{Description}
-use Rattle.dm_stack.specs.Snapshots.{snapshots}
+use Rattle.dm_stack.specs.checks.Snapshots.{snapshots}
 use Rattle.std.specs.Prelude.{nat_lt}
 use Rattle.dm_map.specs.state.State.{none_taken}
 use Rattle.dm_map.specs.state.Tables.{has_room}

@@ -1,7 +1,7 @@
 use Rattle.std.proofs.Common.{◌≡◌, ℕ, ◌+◌, ◌≤◌, Some, false, drop, length, nat_eq}
 use Rattle.std.specs.List.{list_any}
 use Rattle.std.specs.Prelude.{nat_lt, slice_get}
-use Rattle.dm_stack.specs.Snapshots.{snapshots}
+use Rattle.dm_stack.specs.checks.Snapshots.{snapshots}
 use Rattle.dm_map.specs.state.State.{start_state}
 use Rattle.dm_map.specs.state.Tables.{has_room, state_of}
 use Rattle.dm_map.proofs.state.tables.empty_tables.Given as goal

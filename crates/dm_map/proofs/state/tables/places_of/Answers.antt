@@ -1,7 +1,7 @@
 use Rattle.std.proofs.Common.{◌≡◌, ◌↔◌, ℕ, ◌+◌, ◌*◌, ◌<◌, ◌≤◌, sym, ap, subst, ◌∙◌, arith}
 use Rattle.std.proofs.lemmas.Bool.{le-ltb}
 use Rattle.dm_stack.specs.Description.{Description, lower_len}
-use Rattle.dm_stack.specs.StoreLayout.{place}
+use Rattle.dm_stack.specs.lines.StoreLayout.{place}
 use Rattle.dm_stack.proofs.SameLine.{found_of}
 use Rattle.dm_stack.proofs.SoundLines.{device_some}
 use Rattle.dm_map.proofs.state.TableLemmas.{other_room, snapshot_room, store_some}

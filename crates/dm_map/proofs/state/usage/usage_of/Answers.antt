@@ -1,8 +1,8 @@
 use Rattle.std.proofs.Common.{◌≡◌, ℕ, ◌+◌, ◌*◌, ◌<◌, ◌≤◌, true, Some, sym, refl, subst, arith}
-use Rattle.dm_stack.specs.declared.found_line.FoundTarget.{FoundTarget}
-use Rattle.dm_stack.specs.Below.{IsSnapshotSound, IsTargetSound}
+use Rattle.dm_stack.specs.declared.lines.found_line.FoundTarget.{FoundTarget}
+use Rattle.dm_stack.specs.lines.Below.{IsSnapshotSound, IsTargetSound}
 use Rattle.dm_stack.specs.Description.{lower_len}
-use Rattle.dm_stack.specs.StoreLayout.{place}
+use Rattle.dm_stack.specs.lines.StoreLayout.{place}
 use Rattle.dm_stack.proofs.SameLine.{found_of}
 use Rattle.dm_stack.proofs.SoundLines.{device_some}
 use Rattle.dm_stack.proofs.StoreLayoutLemmas.{allocated_small}

@@ -1,5 +1,5 @@
 use Rattle.std.proofs.Common.{◌≡◌, ◌+◌, ◌*◌, arith}
-use Rattle.dm_stack.specs.StoreLayout.{place}
+use Rattle.dm_stack.specs.lines.StoreLayout.{place}
 use Rattle.dm_stack.proofs.StoreLayoutLemmas.{place_within}
 use Rattle.dm_map.proofs.walk.chunk.store_sector.Goals as goal
 

@@ -1,13 +1,13 @@
 use Rattle.std.proofs.Common.{rules, ◌≡◌, ℕ, ◌+◌, ◌-◌, ◌^◌, ◌≤◌, List, Some, refl, sym, ap, subst, ◌∙◌, arith}
 use Rattle.dm_table.specs.declared.requests.request.Op.{Op}
-use Rattle.dm_stack.specs.declared.found_line.FoundLine.{FoundLine}
-use Rattle.dm_stack.specs.declared.found_line.FoundTarget.{FoundTarget}
-use Rattle.dm_stack.specs.declared.found_line.FoundTarget.TheVariants.{Snapshot, Origin}
+use Rattle.dm_stack.specs.declared.lines.found_line.FoundLine.{FoundLine}
+use Rattle.dm_stack.specs.declared.lines.found_line.FoundTarget.{FoundTarget}
+use Rattle.dm_stack.specs.declared.lines.found_line.FoundTarget.TheVariants.{Snapshot, Origin}
 use Rattle.dm_stack.specs.declared.id.Lower.{Lower}
-use Rattle.dm_stack.specs.declared.leg.Beneath.{Beneath}
-use Rattle.dm_stack.specs.Leg.{AreInside, LegsView}
+use Rattle.dm_stack.specs.declared.lines.leg.Beneath.{Beneath}
+use Rattle.dm_stack.specs.lines.Leg.{AreInside, LegsView}
 use Rattle.dm_stack.specs.declared.id.Lower.TheVariants.{Device, Disk}
-use Rattle.dm_stack.specs.Below.{IsLineOf, IsOriginSound, IsSnapshotSound, IsTargetSound, found_at}
+use Rattle.dm_stack.specs.lines.Below.{IsLineOf, IsOriginSound, IsSnapshotSound, IsTargetSound, found_at}
 use Rattle.dm_stack.specs.Description.{Description, lower_len}
 use Rattle.dm_map.specs.walk.Bound.{IsMapped, origin_mapping, range_mapping, target_mapping}
 use Rattle.dm_map.specs.pieces.Units.{BlockUnit, units_in}

@@ -1,8 +1,8 @@
 use Rattle.std.proofs.Common.{◌≡◌, ◌+◌, ◌-◌, ◌*◌, ◌≤◌}
 use Rattle.dm_table.specs.declared.requests.request.Op.TheVariants.{Write}
-use Rattle.dm_stack.specs.declared.found_line.FoundTarget.TheVariants.{Snapshot}
+use Rattle.dm_stack.specs.declared.lines.found_line.FoundTarget.TheVariants.{Snapshot}
 use Rattle.dm_stack.specs.declared.id.Lower.TheVariants.{Device}
-use Rattle.dm_stack.specs.Below.{IsLineOf}
+use Rattle.dm_stack.specs.lines.Below.{IsLineOf}
 use Rattle.dm_map.specs.walk.Bound.{origin_mapping, range_mapping, target_mapping}
 use Rattle.dm_map.proofs.walk.WalkedOn.{IsMappedTo}
 use Rattle.dm_map.proofs.walk.range.+walk.Given as goal

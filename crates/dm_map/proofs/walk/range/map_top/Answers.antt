@@ -1,8 +1,8 @@
 use Rattle.std.proofs.Common.{◌≡◌, ◌≤◌, ℕ, false, Some, refl, sym, ap, subst, ◌∙◌, arith}
-use Rattle.dm_stack.specs.declared.graph.TheConstants.{MOST_DEPTH}
+use Rattle.dm_stack.specs.declared.checks.graph.TheConstants.{MOST_DEPTH}
 use Rattle.dm_stack.specs.declared.id.Lower.TheVariants.{Device, Disk}
 use Rattle.dm_stack.specs.Description.{Description}
-use Rattle.dm_stack.specs.Below.{IsLineOf}
+use Rattle.dm_stack.specs.lines.Below.{IsLineOf}
 use Rattle.dm_stack.proofs.InStack.{device_there}
 use Rattle.dm_map.specs.state.Walker.{StackState}
 use Rattle.dm_map.specs.walk.Bound.{range_mapping}

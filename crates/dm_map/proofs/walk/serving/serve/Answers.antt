@@ -1,9 +1,9 @@
 use Rattle.std.proofs.Common.{◌≡◌, ◌+◌, List, take, sym, ap, subst, ◌∙◌, arith}
 use Rattle.std.proofs.lemmas.List.{take_all}
 use Rattle.std.proofs.lemmas.List.Elements.{recursion_from_All}
-use Rattle.dm_stack.specs.Below.{IsSnapshotSound}
+use Rattle.dm_stack.specs.lines.Below.{IsSnapshotSound}
 use Rattle.dm_stack.specs.Description.{Description, device_len}
-use Rattle.dm_stack.specs.declared.found_line.FoundOver.{FoundOver}
+use Rattle.dm_stack.specs.declared.lines.found_line.FoundOver.{FoundOver}
 use Rattle.dm_map.specs.walk.Serving.{AreSettled, IsOver, serve}
 use Rattle.dm_map.specs.state.State.{State}
 use Rattle.dm_map.proofs.walk.Served.{over_at, over_sound, over_there, serve_settled, served_cut, served_on}

@@ -1,7 +1,7 @@
 use Rattle.std.proofs.Common.{◌≡◌, inl, inr, ℕ, ◌+◌, true, false, List, [], ◌∷◌, ◌++◌, take, sym, ap, subst, ◌∙◌, arith}
 use Rattle.std.proofs.lemmas.Bool.{cases_lt}
 use Rattle.std.proofs.lemmas.List.{take_all, take_more}
-use Rattle.dm_stack.specs.declared.found_line.FoundOver.{FoundOver}
+use Rattle.dm_stack.specs.declared.lines.found_line.FoundOver.{FoundOver}
 use Rattle.dm_map.specs.walk.Serving.{AreSettled}
 use Rattle.dm_map.proofs.walk.Served.{settled_more, settled_parts}
 use Rattle.dm_map.proofs.walk.serving.settled_part.Goals as goal

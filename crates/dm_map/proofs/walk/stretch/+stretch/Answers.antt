@@ -1,13 +1,13 @@
 use Rattle.std.proofs.Common.{rules, ◌≡◌, ℕ, ◌+◌, ◌-◌, ◌<◌, ◌≤◌, Some, sym, ap, subst, refl, ◌∙◌, arith}
 use Rattle.dm_table.specs.declared.requests.request.Op.TheVariants.{Read}
-use Rattle.dm_stack.specs.declared.found_line.FoundTarget.{FoundTarget}
+use Rattle.dm_stack.specs.declared.lines.found_line.FoundTarget.{FoundTarget}
 use Rattle.dm_stack.specs.declared.id.Lower.{Lower}
 use Rattle.dm_stack.specs.declared.id.Lower.TheVariants.{Device}
-use Rattle.dm_stack.specs.declared.leg.Beneath.{Beneath}
+use Rattle.dm_stack.specs.declared.lines.leg.Beneath.{Beneath}
 use Rattle.dm_stack.proofs.LegLemmas.{shorter}
-use Rattle.dm_stack.specs.Below.{IsOriginSound, IsTargetSound, found_at}
+use Rattle.dm_stack.specs.lines.Below.{IsOriginSound, IsTargetSound, found_at}
 use Rattle.dm_stack.specs.Description.{lower_len}
-use Rattle.dm_stack.specs.Leg.{AreInside}
+use Rattle.dm_stack.specs.lines.Leg.{AreInside}
 use Rattle.dm_map.specs.declared.walk.stretch.Ground.{Ground}
 use Rattle.dm_map.specs.declared.walk.stretch.Ground.TheVariants as grounds
 use Rattle.dm_map.specs.declared.walk.stretch.Stretch.{Stretch}

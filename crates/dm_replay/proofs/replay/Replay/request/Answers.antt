@@ -1,6 +1,6 @@
 use Rattle.std.proofs.Common.{◌≡◌, Some, sym, ◌∙◌, subst}
 use Rattle.std.specs.Prelude.{position}
-use Rattle.dm_stack.specs.Claims.{IsTop}
+use Rattle.dm_stack.specs.claims.Claims.{IsTop}
 use Rattle.dm_stack.specs.Description.{is_same}
 use Rattle.dm_replay.specs.Replay.{HasTop, Replaying}
 use Rattle.dm_replay.proofs.NamedLemmas.{answered_top, named_id, named_top, top_named, unanswered_result}

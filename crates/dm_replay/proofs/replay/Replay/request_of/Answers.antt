@@ -1,6 +1,6 @@
 use Rattle.std.proofs.Common.{◌<◌, false, length, refl, sym, ap, ◌∙◌, subst, arith}
 use Rattle.std.proofs.lemmas.List.{get_or_read}
-use Rattle.dm_stack.specs.Claims.{IsTop}
+use Rattle.dm_stack.specs.claims.Claims.{IsTop}
 use Rattle.dm_replay.specs.Replay.{Replaying, whole_request}
 use Rattle.dm_replay.proofs.NamedLemmas.{noted_top}
 use Rattle.dm_replay.proofs.OneRuns.{one_runs}

@@ -4,10 +4,10 @@ use Rattle.std.proofs.lemmas.List.{get_or-take, take-take}
 use Rattle.std.proofs.lemmas.List.Elements.{All-contains}
 use Rattle.dm_table.specs.words.Name.{is_device_name}
 use Rattle.dm_stack.specs.Description.{Description, is_same}
-use Rattle.dm_stack.specs.FrontNames.{IsPlaceOf}
-use Rattle.dm_stack.specs.declared.front_names.Place.{Place}
-use Rattle.dm_stack.specs.declared.name_key.TheConstants.{ROOM}
-use Rattle.dm_stack.proofs.KeyLemmas.{same_name, space_cut}
+use Rattle.dm_stack.specs.names.FrontNames.{IsPlaceOf}
+use Rattle.dm_stack.specs.declared.names.front_names.Place.{Place}
+use Rattle.dm_stack.specs.declared.names.name_key.TheConstants.{ROOM}
+use Rattle.dm_stack.proofs.names.KeyLemmas.{same_name, space_cut}
 use Rattle.dm_stack.proofs.stack.Stack.front.Goals as goal
 use Rattle.dm_stack.proofs.stack.Stack.front.Goals.{In_ok-device}
 

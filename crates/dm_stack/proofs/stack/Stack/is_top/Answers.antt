@@ -1,9 +1,9 @@
 use Rattle.std.proofs.Common.{Bool, not, sym, ap, subst, ◌∙◌}
 use Rattle.std.specs.Prelude.{◌↔◌, IsTrue}
-use Rattle.dm_stack.specs.Claims.{IsTop}
+use Rattle.dm_stack.specs.claims.Claims.{IsTop}
 use Rattle.dm_stack.specs.Description.{Description}
-use Rattle.dm_stack.specs.Naming.{is_named}
-use Rattle.dm_stack.proofs.TopLemmas.{top_is}
+use Rattle.dm_stack.specs.claims.Naming.{is_named}
+use Rattle.dm_stack.proofs.claims.TopLemmas.{top_is}
 use Rattle.dm_stack.proofs.stack.Stack.is_top.Goals as goal
 
 pub returns : goal.returns

@@ -1,6 +1,6 @@
 use Rattle.std.proofs.lemmas.Result.{err_from_is_err_and}
-use Rattle.dm_stack.proofs.LoadLemmas.{memory_if, refused_if}
-use Rattle.dm_stack.proofs.OneFault.{never_both, one_fault}
+use Rattle.dm_stack.proofs.checks.LoadLemmas.{memory_if, refused_if}
+use Rattle.dm_stack.proofs.checks.OneFault.{never_both, one_fault}
 use Rattle.dm_stack.proofs.stack.Stack.load.Goals as goal
 
 pub returns-in_err-checked-clause-fault : goal.returns-in_err-checked-clause-fault

@@ -3,7 +3,7 @@ use Rattle.std.specs.Prelude.{position, slice_get}
 use Rattle.std.proofs.lemmas.Option.{slice_get_read}
 use Rattle.dm_table.specs.declared.tables.table.DeviceSpec.{DeviceSpec}
 use Rattle.dm_stack.specs.Description.{Description, is_same}
-use Rattle.dm_stack.proofs.ApartLemmas.{apart_sound}
+use Rattle.dm_stack.proofs.names.ApartLemmas.{apart_sound}
 use Rattle.dm_stack.proofs.stack.Stack.long_front.Goals as goal
 
 pub returns-then-are_same-clause-device : goal.returns-then-are_same-clause-device

@@ -1,8 +1,8 @@
 use Rattle.std.proofs.Common.{List, ℕ, sym, ap, subst, ◌∙◌}
 use Rattle.dm_stack.specs.Description.{Description}
-use Rattle.dm_stack.specs.Snapshots.{AreSnapshots, snapshots}
-use Rattle.dm_stack.specs.Soundness.{IsSound}
-use Rattle.dm_stack.proofs.CrowdLemmas.{few_places}
+use Rattle.dm_stack.specs.checks.Snapshots.{AreSnapshots, snapshots}
+use Rattle.dm_stack.specs.checks.Soundness.{IsSound}
+use Rattle.dm_stack.proofs.checks.CrowdLemmas.{few_places}
 use Rattle.dm_stack.proofs.SnapshotRule.{are_snapshots}
 use Rattle.dm_stack.proofs.stack.Stack.snapshots.Goals as goal
 

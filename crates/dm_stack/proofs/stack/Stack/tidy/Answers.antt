@@ -1,9 +1,9 @@
 use Rattle.std.proofs.Common.{List, subst, sym}
 use Rattle.std.specs.Prelude.{IfOk}
-use Rattle.dm_stack.specs.declared.claim.Claim.{Claim}
-use Rattle.dm_stack.specs.Claims.{IsFirstClash}
-use Rattle.dm_stack.specs.Soundness.{IsSound}
-use Rattle.dm_stack.proofs.TopLemmas.{are_claims, claims_within, none_passes, one_clash, result_there, tidiness}
+use Rattle.dm_stack.specs.declared.claims.claim.Claim.{Claim}
+use Rattle.dm_stack.specs.claims.Claims.{IsFirstClash}
+use Rattle.dm_stack.specs.checks.Soundness.{IsSound}
+use Rattle.dm_stack.proofs.claims.TopLemmas.{are_claims, claims_within, none_passes, one_clash, result_there, tidiness}
 use Rattle.dm_stack.proofs.stack.Stack.tidy.Goals as goal
 
 pub claims-requires : goal.claims-requires

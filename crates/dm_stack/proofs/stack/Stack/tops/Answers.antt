@@ -1,7 +1,7 @@
 use Rattle.std.proofs.Common.{Bool, Vec, subst, sym}
 use Rattle.std.specs.Global.{Global}
-use Rattle.dm_stack.specs.Soundness.{IsSound}
-use Rattle.dm_stack.proofs.TopLemmas.{are_claims, none_passes, noted_tops}
+use Rattle.dm_stack.specs.checks.Soundness.{IsSound}
+use Rattle.dm_stack.proofs.claims.TopLemmas.{are_claims, none_passes, noted_tops}
 use Rattle.dm_stack.proofs.stack.Stack.tops.Goals as goal
 
 pub claims-requires : goal.claims-requires

@@ -1,6 +1,6 @@
 use Rattle.std.proofs.Common.{List, refl, subst, sym, ◌∙◌, ℕ}
-use Rattle.dm_stream.specs.Messages.{HasTold}
-use Rattle.dm_stream.specs.declared.ending.Ending.TheVariants as endings
+use Rattle.dm_stream.specs.runs.Messages.{HasTold}
+use Rattle.dm_stream.specs.declared.runs.ending.Ending.TheVariants as endings
 use Rattle.dmremap.specs.declared.exit.Exit.TheVariants as exits
 use Rattle.dmremap.proofs.ExitLemmas.{closed_failed, closed_well}
 use Rattle.dmremap.proofs.exit.Exit.finish.Goals as goal

@@ -1,7 +1,7 @@
 use Rattle.std.proofs.Common.{◌≡◌, ◌∙◌, refl, ap, subst, rules, Err}
-use Rattle.dm_stack.specs.Claims.{IsTop}
+use Rattle.dm_stack.specs.claims.Claims.{IsTop}
 use Rattle.dm_table.specs.laws.Progress.{written_to_none}
-use Rattle.dm_stream.specs.Requests.{numbered}
+use Rattle.dm_stream.specs.requests.Requests.{numbered}
 use Rattle.dm_table.specs.io.DeviceIo.{written_since}
 use Rattle.dm_table.specs.io.WriteAll.{IsCutShort}
 use Rattle.dm_replay.specs.declared.replay_fault.ReplayFault.TheVariants as faults

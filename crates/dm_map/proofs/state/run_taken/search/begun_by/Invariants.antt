@@ -1,7 +1,7 @@
 -- the runs before a rank begin at the chunk or before it, those from another rank on after it; each comparison halves what lies between
 use Rattle.std.proofs.Common.{◌+◌, ◌-◌, ◌*◌, ◌^◌, ◌<◌, ◌≤◌, length}
 use Rattle.std.specs.List.{concat}
-use Rattle.dm_stack.specs.LineSearch.{binary_digits}
+use Rattle.dm_stack.specs.lines.LineSearch.{binary_digits}
 use Rattle.dm_map.specs.state.Blocks.{contents}
 use Rattle.dm_map.specs.state.Runs.{ranked}
 use Rattle.dm_map.proofs.state.run_taken.search.begun_by.Given as goal

@@ -1,0 +1,33 @@
+-- Checks that test each device by its id.
+use Rattle.std.proofs.Common.{◌≡◌, ℕ, suc, ◌+◌, ◌<◌, Bool, List, [], ◌∷◌, None, arith, refl, ap, ◌∙◌, get_or, length}
+use Rattle.std.specs.Prelude.{nat_lt}
+use Rattle.std.proofs.lemmas.List.{length-map}
+use Rattle.dm_table.specs.declared.load.load_fault.LoadKind.{LoadKind}
+use Rattle.dm_table.specs.declared.load.load_fault.LoadKind.TheVariants.{Deep}
+use Rattle.dm_table.specs.declared.tables.table.DeviceSpec.{DeviceSpec}
+use Rattle.dm_table.specs.load.LoadFault.{first_or}
+use Rattle.dm_stack.specs.Description.{Description, device_links, links}
+use Rattle.dm_stack.specs.checks.Graph.{depths_to}
+use Rattle.dm_stack.specs.checks.Soundness.{deep, depth_of, faults_by_id}
+use Rattle.dm_stack.proofs.checks.RoundLemmas.{depths_to-at, depths_to-length}
+
+-- tests that agree on the ids of these devices
+same_tests : (kind : LoadKind) (p q : ℕ → Bool) (i : ℕ) (devices : List DeviceSpec) → ((id : ℕ) → id < i + length devices → p id ≡ q id) → faults_by_id kind p i devices ≡ faults_by_id kind q i devices
+same_tests kind p q i [] same = refl
+same_tests kind p q i (device ∷ devices) same =
+    let here : p i ≡ q i = same i (omega arith) in
+    let later : faults_by_id kind p (suc i) devices ≡ faults_by_id kind q (suc i) devices = same_tests kind p q (suc i) devices (λ id below. same id (omega arith)) in
+    rw (here, later)
+
+-- depths that were counted, and those that the check asks for
+pub told_depths : (stack : Description) (depths : List ℕ) → depths ≡ depths_to (links stack) 33 → faults_by_id Deep (λ id. nat_lt 32 (get_or depths id 0)) 0 stack.devices ≡ deep stack
+told_depths stack depths e =
+    same_tests Deep (λ id. nat_lt 32 (get_or depths id 0)) (λ id. nat_lt 32 (depth_of stack id)) 0 stack.devices
+    (λ id below. ap (λ (all : List ℕ). nat_lt 32 (get_or all id 0)) e ∙ ap (nat_lt 32) (depths_to-at (links stack) 33 id (omega (arith, length-map stack.devices (device_links stack)))))
+
+pub depth_each : (stack : Description) (depths : List ℕ) → depths ≡ depths_to (links stack) 33 → length depths ≡ length stack.devices
+depth_each stack depths e = rw e (depths_to-length (links stack) 33 ∙ length-map stack.devices (device_links stack))
+
+pub told_deep : (stack : Description) (depths : List ℕ) (devices : List DeviceSpec) → depths ≡ depths_to (links stack) 33 → devices ≡ stack.devices → first_or (faults_by_id Deep (λ id. nat_lt 32 (get_or depths id 0)) 0 devices) None ≡ first_or (deep stack) None
+told_deep stack depths devices e same =
+    rw (same, told_depths stack depths e)

@@ -1,0 +1,132 @@
+-- What the checks hand on: ends within the limit, and faults that don't mean that memory ran out.
+use Rattle.std.proofs.Common.{◌≡◌, ◌≢◌, ℕ, suc, ◌+◌, ◌^◌, ◌≤◌, Bool, true, false, cond, List, [], ◌∷◌, ◌++◌, Option, Some, None, ◌∙◌, ap, drop, length, map}
+use Rattle.std.specs.Prelude.{◌==◌, filter, nat_lt, ◌||◌}
+use Rattle.std.specs.List.{All, AllByRecursion, flat_map, list_any}
+use Rattle.std.proofs.lemmas.Bool.{or_parts, ltb-false}
+use Rattle.std.proofs.lemmas.List.Elements.{All-from_recursion}
+use Rattle.dm_table.specs.declared.load.place.Place.{Place}
+use Rattle.dm_table.specs.declared.tables.table.Line.{Line}
+use Rattle.dm_table.specs.declared.tables.table.DeviceSpec.{DeviceSpec}
+use Rattle.dm_table.specs.declared.load.load_fault.LoadKind.{LoadKind}
+use Rattle.dm_table.specs.declared.load.load_fault.LoadKind.TheVariants.{Limit, Twice, Empty, Gap, Overlap, Unknown, Deep, Stripe, Range, Snapshot, Store, Memory}
+use Rattle.dm_table.specs.declared.load.load_fault.LoadFault.{LoadFault}
+use Rattle.dm_table.specs.load.LoadFault.{fault, faults_by, first_or, first_fault}
+use Rattle.dm_stack.specs.Description.{Description, end_of}
+use Rattle.dm_stack.specs.checks.Soundness.{Early, HaveSmallEnds, IsRefusedBy, Late, OnCycle, WithBefore, all_lines, checks_after, checks_before, crowded, deep, depth_of, empty, empty_in, faults_by_id, has_bad_store, has_bad_stripes, is_crowded, is_far, is_large, is_misplaced, is_repeated, is_unknown, misplaced, misplaced_in, misplaced_kind, passes_end, past, range, snapshot, bad_snapshots_in, is_bad_snapshot, store, stripe, too_large, too_many, twice, twice_in, unknown, with_before, without_lines}
+use Rattle.dm_table.specs.tables.Span.{spans}
+use Rattle.dm_stack.proofs.checks.Passes.{all_parts, append_none, faults_by_none}
+
+-- Ends within the limit
+
+pub line_within : (line : Line) → is_large line ≡ false → line.start + line.len ≤ 2 ^ 50
+line_within line large =
+    let a = or_parts (nat_lt (2 ^ 50) line.start) (nat_lt (2 ^ 50) line.len || (nat_lt (2 ^ 50) (line.start + line.len) || list_any is_far (spans line))) large in
+    let b = or_parts (nat_lt (2 ^ 50) line.len) (nat_lt (2 ^ 50) (line.start + line.len) || list_any is_far (spans line)) a.1 in
+    let c = or_parts (nat_lt (2 ^ 50) (line.start + line.len)) (list_any is_far (spans line)) b.1 in
+    ltb-false _ _ c.0
+
+pub lines_within : (lines : List Line) → AllByRecursion (λ line. is_large line ≡ false) lines → AllByRecursion (λ line. line.start + line.len ≤ 2 ^ 50) lines
+lines_within [] small = tt
+lines_within (line ∷ lines) small = (line_within line small.0, lines_within lines small.1)
+
+devices_within : (devices : List DeviceSpec) → AllByRecursion (λ line. is_large line ≡ false) (all_lines devices) → AllByRecursion (λ device. HaveSmallEnds device.lines) devices
+devices_within [] small = tt
+devices_within (device ∷ devices) small =
+    let parts = all_parts (λ line. is_large line ≡ false) device.lines (all_lines devices) small in
+    (All-from_recursion (λ line. line.start + line.len ≤ 2 ^ 50) device.lines (lines_within device.lines parts.0), devices_within devices parts.1)
+
+pub ends_within : (stack : Description) → too_large stack ≡ [] → All (λ device. HaveSmallEnds device.lines) stack.devices
+ends_within stack e =
+    let none = append_none _ _ e in
+    All-from_recursion (λ device. HaveSmallEnds device.lines) stack.devices (devices_within stack.devices (faults_by_none Limit (λ line. line.at) is_large (all_lines stack.devices) none.0))
+
+-- Faults that don't mean that memory ran out
+
+abbrev pub IsNotMemory : LoadFault → Type 0
+IsNotMemory fault = fault.kind ≢ Memory
+
+pub first_not_memory : (check : List LoadFault) (later : Option LoadFault) (at : LoadFault) → AllByRecursion IsNotMemory check → (later ≡ Some at → IsNotMemory at) → first_or check later ≡ Some at → IsNotMemory at
+first_not_memory [] later at found more e = more e
+first_not_memory (fault ∷ faults) later at found more e = let same : fault.kind ≡ at.kind = cc in λ memory. found.0 (same ∙ memory)
+
+pub all_append : {X : Type 0} (P : X → Type 0) (xs ys : List X) → AllByRecursion P xs → AllByRecursion P ys → AllByRecursion P (xs ++ ys)
+all_append P [] ys h k = k
+all_append P (x ∷ xs) ys h k = (h.0, all_append P xs ys h.1 k)
+
+pub all_each : {X Y : Type 0} (P : Y → Type 0) (f : X → List Y) (xs : List X) → ((x : X) → AllByRecursion P (f x)) → AllByRecursion P (flat_map f xs)
+all_each P f [] each = tt
+all_each P f (x ∷ xs) each = all_append P (f x) (flat_map f xs) (each x) (all_each P f xs each)
+
+cond_not_memory : (at : LoadFault) (later : List LoadFault) (b : Bool) → IsNotMemory at → AllByRecursion IsNotMemory later → AllByRecursion IsNotMemory (cond b (at ∷ later) later)
+cond_not_memory at later true here more = (here, more)
+cond_not_memory at later false here more = more
+
+by_not_memory : {X : Type 0} (kind : LoadKind) (place : X → Place) (bad : X → Bool) (xs : List X) → kind ≢ Memory → AllByRecursion IsNotMemory (faults_by kind place bad xs)
+by_not_memory kind place bad [] other = tt
+by_not_memory kind place bad (x ∷ xs) other = cond_not_memory (fault kind (place x)) (faults_by kind place bad xs) (bad x) other (by_not_memory kind place bad xs other)
+
+without_not_memory : (device : DeviceSpec) (lines : List Line) → AllByRecursion IsNotMemory (without_lines device lines)
+without_not_memory device [] = (λ e. cc, tt)
+without_not_memory device (line ∷ lines) = tt
+
+kind_not_memory : (at : Place) (b : Bool) → IsNotMemory (fault (cond b Gap Overlap) at)
+kind_not_memory at true = λ e. cc
+kind_not_memory at false = λ e. cc
+
+each_not_memory : (lines : List (WithBefore Line)) → AllByRecursion IsNotMemory (map (λ line. fault (misplaced_kind line) line.it.at) lines)
+each_not_memory [] = tt
+each_not_memory (line ∷ lines) = (kind_not_memory line.it.at (nat_lt (end_of line.before) line.it.start), each_not_memory lines)
+
+many_not_memory : (stack : Description) → AllByRecursion IsNotMemory (too_many stack)
+many_not_memory stack =
+    all_append IsNotMemory (past 1024 (λ device. device.at) stack.devices ++ past 1024 (λ disk. disk.at) stack.disks) (past 65536 (λ line. line.at) (all_lines stack.devices))
+    (all_append IsNotMemory (past 1024 (λ device. device.at) stack.devices) (past 1024 (λ disk. disk.at) stack.disks)
+    (by_not_memory Limit (λ device. device.at) (λ device. true) (drop 1024 stack.devices) (λ e. cc)) (by_not_memory Limit (λ disk. disk.at) (λ disk. true) (drop 1024 stack.disks) (λ e. cc)))
+    (by_not_memory Limit (λ line. line.at) (λ line. true) (drop 65536 (all_lines stack.devices)) (λ e. cc))
+
+large_not_memory : (stack : Description) → AllByRecursion IsNotMemory (too_large stack)
+large_not_memory stack =
+    all_append IsNotMemory (faults_by Limit (λ line. line.at) is_large (all_lines stack.devices)) (faults_by Limit (λ disk. disk.at) (λ disk. nat_lt (2 ^ 50) disk.len) stack.disks)
+    (by_not_memory Limit (λ line. line.at) is_large (all_lines stack.devices) (λ e. cc)) (by_not_memory Limit (λ disk. disk.at) (λ disk. nat_lt (2 ^ 50) disk.len) stack.disks (λ e. cc))
+
+both_not_memory : (stack : Description) → AllByRecursion IsNotMemory (twice stack)
+both_not_memory stack =
+    all_append IsNotMemory (twice_in (λ device. device.name) (λ device. device.at) stack.devices) (twice_in (λ disk. disk.name) (λ disk. disk.at) stack.disks)
+    (by_not_memory Twice (λ device. device.it.at) (is_repeated (λ device. device.name)) (with_before stack.devices) (λ e. cc))
+    (by_not_memory Twice (λ disk. disk.it.at) (is_repeated (λ disk. disk.name)) (with_before stack.disks) (λ e. cc))
+
+empty_not_memory : (device : DeviceSpec) → AllByRecursion IsNotMemory (empty_in device)
+empty_not_memory device =
+    all_append IsNotMemory (without_lines device device.lines) (faults_by Empty (λ line. line.at) (λ line. line.len == 0) device.lines) (without_not_memory device device.lines)
+    (by_not_memory Empty (λ line. line.at) (λ line. line.len == 0) device.lines (λ e. cc))
+
+at_not_memory : (kind : LoadKind) (bad : ℕ → Bool) (id : ℕ) (devices : List DeviceSpec) → kind ≢ Memory → AllByRecursion IsNotMemory (faults_by_id kind bad id devices)
+at_not_memory kind bad id [] other = tt
+at_not_memory kind bad id (device ∷ devices) other = cond_not_memory (fault kind device.at) (faults_by_id kind bad (suc id) devices) (bad id) other (at_not_memory kind bad (suc id) devices other)
+
+-- a fault of the checks before the one for cycles, and of those after it
+before_not_memory : (stack : Description) (at : LoadFault) → first_fault (checks_before stack) ≡ Some at → IsNotMemory at
+before_not_memory stack at e =
+    first_not_memory (too_many stack) _ at (many_not_memory stack)
+    (first_not_memory (too_large stack) _ at (large_not_memory stack)
+    (first_not_memory (twice stack) _ at (both_not_memory stack)
+    (first_not_memory (empty stack) _ at
+    (all_append IsNotMemory (flat_map empty_in stack.devices) (faults_by Empty (λ disk. disk.at) (λ disk. disk.len == 0) stack.disks) (all_each IsNotMemory empty_in stack.devices empty_not_memory)
+    (by_not_memory Empty (λ disk. disk.at) (λ disk. disk.len == 0) stack.disks (λ e. cc)))
+    (first_not_memory (misplaced stack) _ at (all_each IsNotMemory (λ device. misplaced_in device.lines) stack.devices (λ device. each_not_memory (filter is_misplaced (with_before device.lines))))
+    (first_not_memory (unknown stack) None at (by_not_memory Unknown (λ line. line.at) (is_unknown stack) (all_lines stack.devices) (λ e. cc)) (λ none. absurd cc)))))) e
+
+after_not_memory : (stack : Description) (at : LoadFault) → first_fault (checks_after stack) ≡ Some at → IsNotMemory at
+after_not_memory stack at e =
+    first_not_memory (deep stack) _ at (at_not_memory Deep (λ id. nat_lt 32 (depth_of stack id)) 0 stack.devices (λ e. cc))
+    (first_not_memory (stripe stack) _ at (by_not_memory Stripe (λ line. line.at) (λ line. has_bad_stripes line line.target) (all_lines stack.devices) (λ e. cc))
+    (first_not_memory (range stack) _ at (by_not_memory Range (λ line. line.at) (passes_end stack) (all_lines stack.devices) (λ e. cc))
+    (first_not_memory (snapshot stack) _ at
+    (all_each IsNotMemory (λ device. bad_snapshots_in stack device.lines) stack.devices (λ device. by_not_memory Snapshot (λ line. line.at) (λ line. is_bad_snapshot stack (length device.lines) line.len line.target) device.lines (λ e. cc)))
+    (first_not_memory (store stack) _ at (by_not_memory Store (λ line. line.at) (λ line. has_bad_store stack line.target) (all_lines stack.devices) (λ e. cc))
+    (first_not_memory (crowded stack) None at (by_not_memory Limit (λ line. line.it.at) (is_crowded stack) (with_before (all_lines stack.devices)) (λ e. cc)) (λ none. absurd cc)))))) e
+
+pub refused_not_memory : (stack : Description) (at : LoadFault) → IsRefusedBy stack at → IsNotMemory at
+refused_not_memory stack at (Early before) = before_not_memory stack at before
+refused_not_memory stack at (OnCycle before ring) = λ memory. let kind = ap (λ (f : LoadFault). f.kind) ring.is in absurd cc
+refused_not_memory stack at (Late before acyclic after) = after_not_memory stack at after

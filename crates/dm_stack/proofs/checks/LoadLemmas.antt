@@ -1,0 +1,154 @@
+-- Checks in a row, what is named among devices that are there, and the first ring.
+use Rattle.std.proofs.Common.{◌≡◌, ◌≢◌, ◌⊎◌, ℕ, zero, suc, ◌+◌, ◌<◌, Bool, true, false, cond, inl, inr, not, List, [], ◌∷◌, Option, Some, None, Result, Ok, Vec, Global, arith, refl, sym, ap, subst, ◌∙◌, drop, get_or, length, map, take}
+use Rattle.std.specs.Prelude.{IfOk, IfSome, IfNone, find, is_none}
+use Rattle.std.specs.List.{AllByRecursion, flat_map, list_any, position_or_len}
+use Rattle.std.proofs.lemmas.Bool.{or_parts}
+use Rattle.std.proofs.lemmas.List.{drop_more, length-map, length-take-le, take-append-drop}
+use Rattle.std.proofs.lemmas.List.Elements.{All-from_recursion}
+use Rattle.dm_table.specs.declared.tables.table.DevRef.{DevRef}
+use Rattle.dm_table.specs.declared.tables.table.DevRef.TheVariants as refs
+use Rattle.dm_table.specs.declared.tables.table.DeviceSpec.{DeviceSpec}
+use Rattle.dm_table.specs.declared.tables.table.Line.{Line}
+use Rattle.dm_table.specs.declared.load.load_fault.LoadKind.{LoadKind}
+use Rattle.dm_table.specs.declared.load.load_fault.LoadKind.TheVariants.{Cycle, Memory, Unknown}
+use Rattle.dm_table.specs.declared.load.load_fault.LoadFault.{LoadFault}
+use Rattle.dm_table.specs.declared.load.place.Part.TheVariants.{Source}
+use Rattle.dm_table.specs.load.LoadFault.{IsMemoryFault, fault, first_or, first_fault}
+use Rattle.dm_stack.specs.Description.{Description, device_links, is_same, line_links, links, ref_link}
+use Rattle.dm_stack.specs.checks.Graph.{IsClosed, IsFirstRing, Reaches, depths_to, greatest, links_in, links_of}
+use Rattle.dm_stack.specs.checks.Depth.{stack_depth}
+use Rattle.dm_stack.specs.checks.Soundness.{Early, HasNoCycle, IsFirstCycle, IsRefusedBy, IsSound, Late, all_lines, checks_after, checks_before, is_unknown, is_unknown_ref, unknown}
+use Rattle.dm_table.specs.tables.Span.{Span, spans}
+use Rattle.dm_stack.proofs.checks.HandedOn.{all_append, refused_not_memory}
+use Rattle.dm_table.proofs.FaultLemmas.{first_or-found, first_or-none, first_or-passed}
+use Rattle.dm_stack.proofs.checks.Passes.{all_parts, faults_by_none}
+
+-- Checks in a row
+
+abbrev pub FindNothing : List (List LoadFault) → Type 0
+FindNothing checks = AllByRecursion (λ faults. first_or faults None ≡ None) checks
+
+nothing_found : (checks : List (List LoadFault)) → FindNothing checks → first_fault checks ≡ None
+nothing_found [] none = refl
+nothing_found (faults ∷ checks) none = first_or-passed faults _ none.0 ∙ nothing_found checks none.1
+
+-- the check of an index finds the first fault where those before it find nothing
+first_at : (checks : List (List LoadFault)) (index : ℕ) (at : LoadFault) → FindNothing (take index checks) → first_or (get_or checks index []) None ≡ Some at → first_fault checks ≡ Some at
+first_at [] index at none e = absurd cc
+first_at (faults ∷ checks) zero at none e = first_or-found faults _ at e
+first_at (faults ∷ checks) (suc index) at none e = first_or-passed faults _ none.0 ∙ first_at checks index at none.1 e
+
+-- a fault of the check of an index among those before the one for cycles, and among those after it
+pub refused_early : (stack : Description) (index : ℕ) (at : LoadFault) → FindNothing (take index (checks_before stack)) → first_or (get_or (checks_before stack) index []) None ≡ Some at → IsRefusedBy stack at
+refused_early stack index at none e = Early (first_at (checks_before stack) index at none e)
+
+pub refused_late : (stack : Description) (index : ℕ) (at : LoadFault) → first_fault (checks_before stack) ≡ None → HasNoCycle stack → FindNothing (take index (checks_after stack)) → first_or (get_or (checks_after stack) index []) None ≡ Some at → IsRefusedBy stack at
+refused_late stack index at before acyclic none e = Late before acyclic (first_at (checks_after stack) index at none e)
+
+pub early_passed : (stack : Description) → FindNothing (checks_before stack) → first_fault (checks_before stack) ≡ None
+early_passed stack none = nothing_found (checks_before stack) none
+
+pub are_sound : (stack : Description) → first_fault (checks_before stack) ≡ None → HasNoCycle stack → FindNothing (checks_after stack) → IsSound stack
+are_sound stack before acyclic none = record { before = before; acyclic = acyclic; after = nothing_found (checks_after stack) none }
+
+is_memory : (kind : LoadKind) → (kind ≡ Memory) ⊎ (kind ≢ Memory)
+is_memory Memory = inl refl
+is_memory _ = inr (λ e. cc)
+
+by_kind : {P Q : Type 0} (kind : LoadKind) → (kind ≢ Memory → P) → (kind ≡ Memory → Q) → (kind ≡ Memory) ⊎ (kind ≢ Memory) → P ⊎ Q
+by_kind kind found memory (inl is) = inr (memory is)
+by_kind kind found memory (inr other) = inl (found other)
+
+-- a fault means that memory ran out, or it does not
+pub found_or_memory : {P Q : Type 0} (kind : LoadKind) → (kind ≢ Memory → P) → (kind ≡ Memory → Q) → P ⊎ Q
+found_or_memory kind found memory = by_kind kind found memory (is_memory kind)
+
+-- why a load is refused, by whether memory ran out
+pub refused_if : (stack : Description) (at : LoadFault) → IsRefusedBy stack at ⊎ IsMemoryFault Source at → at.kind ≢ Memory → IsRefusedBy stack at
+refused_if stack at (inl refused) other = refused
+refused_if stack at (inr memory) other = absurd (other (ap (λ (f : LoadFault). f.kind) memory))
+
+pub memory_if : (stack : Description) (at : LoadFault) → IsRefusedBy stack at ⊎ IsMemoryFault Source at → at.kind ≡ Memory → IsMemoryFault Source at
+memory_if stack at (inl refused) is = absurd (refused_not_memory stack at refused is)
+memory_if stack at (inr memory) is = memory
+
+-- what was made is as it was promised
+pub made_ok : {T E : Type 0} (made : Result T E) (value : T) (P : T → Type 0) → made ≡ Ok value → IfOk made P → P value
+made_ok {T} {E} made value P is holds = subst (λ (r : Result T E). IfOk r P) is holds
+
+-- What is named is there
+
+place_step : {X : Type 0} (x : X) (found : Option X) (place end : ℕ) (b : Bool) → is_none (cond b (Some x) found) ≡ false → (is_none found ≡ false → place < end) → cond (not b) (1 + place) 0 < suc end
+place_step x found place end true e more = omega arith
+place_step x found place end false e more = omega (arith, more e)
+
+place_before : {X : Type 0} (test : X → Bool) (xs : List X) → is_none (find test xs) ≡ false → position_or_len test xs < length xs
+place_before test [] e = absurd cc
+place_before test (x ∷ xs) e = place_step x (find test xs) (position_or_len test xs) (length xs) (test x) e (place_before test xs)
+
+-- ids of devices of a stack
+abbrev pub AreThere : Description → List ℕ → Type 0
+AreThere stack ids = AllByRecursion (λ id. id < length stack.devices) ids
+
+ref_there : (stack : Description) (to : DevRef) → is_unknown_ref stack to ≡ false → AreThere stack (ref_link stack to)
+ref_there stack (refs.Device name) e = (place_before (λ device. is_same device.name name) stack.devices e, tt)
+ref_there stack (refs.Disk name) e = tt
+
+spans_there : (stack : Description) (named : List Span) → list_any (λ span. is_unknown_ref stack span.to) named ≡ false → AreThere stack (flat_map (λ span. ref_link stack span.to) named)
+spans_there stack [] e = tt
+spans_there stack (span ∷ named) e =
+    let parts = or_parts (is_unknown_ref stack span.to) (list_any (λ s. is_unknown_ref stack s.to) named) e in
+    all_append (λ id. id < length stack.devices) (ref_link stack span.to) (flat_map (λ s. ref_link stack s.to) named) (ref_there stack span.to parts.0) (spans_there stack named parts.1)
+
+lines_there : (stack : Description) (lines : List Line) → AllByRecursion (λ line. is_unknown stack line ≡ false) lines → AreThere stack (flat_map (line_links stack) lines)
+lines_there stack [] known = tt
+lines_there stack (line ∷ lines) known =
+    all_append (λ id. id < length stack.devices) (line_links stack line) (flat_map (line_links stack) lines) (spans_there stack (spans line) known.0) (lines_there stack lines known.1)
+
+devices_there : (stack : Description) (devices : List DeviceSpec) → AllByRecursion (λ line. is_unknown stack line ≡ false) (all_lines devices) → AllByRecursion (AreThere stack) (map (device_links stack) devices)
+devices_there stack [] known = tt
+devices_there stack (device ∷ devices) known =
+    let parts = all_parts (λ line. is_unknown stack line ≡ false) device.lines (all_lines devices) known in
+    (lines_there stack device.lines parts.0, devices_there stack devices parts.1)
+
+at_or : {X : Type 0} (P : X → Type 0) (xs : List X) (i : ℕ) (other : X) → AllByRecursion P xs → P other → P (get_or xs i other)
+at_or P [] i other each last = last
+at_or P (x ∷ xs) zero other each last = each.0
+at_or P (x ∷ xs) (suc i) other each last = at_or P xs i other each.1 last
+
+pub closed_links : (stack : Description) → first_or (unknown stack) None ≡ None → IsClosed (links stack)
+closed_links stack e =
+    let known = faults_by_none Unknown (λ line. line.at) (is_unknown stack) (all_lines stack.devices) (first_or-none (unknown stack) None e).0 in
+    let there = devices_there stack stack.devices known in
+    λ d named is.
+    let inside : AreThere stack (links_of (links stack) d) = at_or (AreThere stack) (links stack) d [] there tt in
+    let below : get_or (links_of (links stack) d) is.0 named < length stack.devices = All-from_recursion (λ id. id < length stack.devices) (links_of (links stack) d) inside is.0 named is.1 in
+    let same : get_or (links_of (links stack) d) is.0 named ≡ named = is.2 in
+    omega (arith, below, same, length-map stack.devices (device_links stack))
+
+-- The first that reaches itself
+
+pub first_ring : (named : List (Vec ℕ Global)) (found : Option ℕ) → IfSome found (λ d. (d < length named) × Reaches (links_in named) d d) → IfSome found (λ d. (e : ℕ) → e < d → Reaches (links_in named) e e → ⊥) → IfNone found ((d : ℕ) → d < length named → Reaches (links_in named) d d → ⊥) → IsFirstRing (links_in named) found
+first_ring named (Some d) found first none = (omega (arith, found.0, length-map named (λ ids. ids.items)), found.1, first)
+first_ring named None found first none = λ d below. none d (omega (arith, length-map named (λ ids. ids.items)))
+
+pub ring_fault : (stack : Description) (d : ℕ) (device other : DeviceSpec) → IsFirstRing (links stack) (Some d) → device ≡ get_or stack.devices d other → IsFirstCycle stack (fault Cycle device.at)
+ring_fault stack d device other ring is =
+    let within : d < length stack.devices = omega (arith, ring.0, length-map stack.devices (device_links stack)) in
+    let here : length (take d stack.devices) ≡ d = length-take-le d stack.devices (omega arith) in
+    record {
+      before = take d stack.devices;
+      device = device;
+      after = drop (d + 1) stack.devices;
+      split = rw (← (drop_more stack.devices d other within ∙ ap (λ (y : DeviceSpec). y ∷ drop (d + 1) stack.devices) (sym is))) (sym (take-append-drop d stack.devices));
+      none_before = λ earlier below. ring.2 earlier (omega (arith, here));
+      cycle = rw here ring.1;
+      is = refl;
+    }
+
+pub no_ring : (stack : Description) → IsFirstRing (links stack) None → HasNoCycle stack
+no_ring stack none = λ device below. none device (omega (arith, length-map stack.devices (device_links stack)))
+
+pub deepest_is : (stack : Description) (depths : List ℕ) → depths ≡ depths_to (links stack) 33 → greatest depths ≡ stack_depth stack
+deepest_is stack depths e =
+    rw (← length-map stack.devices (device_links stack)) (ap greatest e)

@@ -1,0 +1,71 @@
+-- What it says that a check finds nothing.
+use Rattle.std.proofs.Common.{◌≡◌, Bool, true, false, cond, List, [], ◌∷◌, ◌++◌, map, refl}
+use Rattle.std.specs.Prelude.{filter}
+use Rattle.std.specs.List.{AllByRecursion}
+use Rattle.dm_table.specs.declared.load.place.Place.{Place}
+use Rattle.dm_table.specs.declared.load.load_fault.LoadKind.{LoadKind}
+use Rattle.dm_table.specs.load.LoadFault.{faults_by}
+use Rattle.dm_table.proofs.FaultLemmas.{first_fault-none}
+use Rattle.dm_stack.specs.Description.{Description}
+use Rattle.dm_stack.specs.checks.Soundness.{too_many, too_large, empty, misplaced, unknown, deep, stripe, range, snapshot, store, checks_before, checks_after, IsSound}
+
+pub append_none : {X : Type 0} (xs ys : List X) → xs ++ ys ≡ [] → (xs ≡ []) × (ys ≡ [])
+append_none [] ys e = (refl, e)
+append_none (x ∷ xs) ys e = absurd cc
+
+-- what holds of all elements of lists in a row holds of those of each
+pub all_parts : {X : Type 0} (P : X → Type 0) (xs ys : List X) → AllByRecursion P (xs ++ ys) → AllByRecursion P xs × AllByRecursion P ys
+all_parts P [] ys h = (tt, h)
+all_parts P (x ∷ xs) ys h = let parts = all_parts P xs ys h.1 in ((h.0, parts.0), parts.1)
+
+pub cond_none : {X : Type 0} (x : X) (later : List X) (b : Bool) → cond b (x ∷ later) later ≡ [] → (b ≡ false) × (later ≡ [])
+cond_none x later true e = absurd cc
+cond_none x later false e = (refl, e)
+
+-- a check of each element passes them all
+pub faults_by_none : {X : Type 0} (kind : LoadKind) (place : X → Place) (bad : X → Bool) (xs : List X) → faults_by kind place bad xs ≡ [] → AllByRecursion (λ x. bad x ≡ false) xs
+faults_by_none kind place bad [] e = tt
+faults_by_none kind place bad (x ∷ xs) e =
+    let parts = cond_none (record { kind = kind; at = place x }) (faults_by kind place bad xs) (bad x) e in
+    (parts.0, faults_by_none kind place bad xs parts.1)
+
+pub map_none : {X Y : Type 0} (f : X → Y) (xs : List X) → map f xs ≡ [] → xs ≡ []
+map_none f [] e = refl
+map_none f (x ∷ xs) e = absurd cc
+
+-- where no element passes a test, each fails it
+pub filter_none : {X : Type 0} (bad : X → Bool) (xs : List X) → filter bad xs ≡ [] → AllByRecursion (λ x. bad x ≡ false) xs
+filter_none bad [] e = tt
+filter_none bad (x ∷ xs) e =
+    let parts = cond_none x (filter bad xs) (bad x) e in
+    (parts.0, filter_none bad xs parts.1)
+
+-- the checks of a sound stack find nothing
+pub record Passes (stack : Description) : Type 0 where
+  pub few : too_many stack ≡ []
+  pub small : too_large stack ≡ []
+  pub filled : empty stack ≡ []
+  pub placed : misplaced stack ≡ []
+  pub known : unknown stack ≡ []
+  pub shallow : deep stack ≡ []
+  pub divided : stripe stack ≡ []
+  pub inside : range stack ≡ []
+  pub fitting : snapshot stack ≡ []
+  pub stored : store stack ≡ []
+
+pub passes_all : (stack : Description) → IsSound stack → Passes stack
+passes_all stack sound =
+    let early = first_fault-none (checks_before stack) sound.before in
+    let late = first_fault-none (checks_after stack) sound.after in
+    record {
+      few = early.0;
+      small = early.1.0;
+      filled = early.1.1.1.0;
+      placed = early.1.1.1.1.0;
+      known = early.1.1.1.1.1.0;
+      shallow = late.0;
+      divided = late.1.0;
+      inside = late.1.1.0;
+      fitting = late.1.1.1.0;
+      stored = late.1.1.1.1.0;
+    }

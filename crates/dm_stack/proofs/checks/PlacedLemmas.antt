@@ -1,0 +1,44 @@
+-- A walk over a list by what a test says of its next element.
+use Rattle.std.proofs.Common.{◌≡◌, ℕ, ◌+◌, ◌<◌, Bool, true, false, List, ◌∷◌, Some, None, sym, ap, ◌∙◌, drop, get_or, length}
+use Rattle.std.proofs.lemmas.List.{drop_more}
+use Rattle.dm_table.specs.declared.load.load_fault.LoadFault.{LoadFault}
+use Rattle.dm_table.specs.declared.load.load_fault.LoadKind.{LoadKind}
+use Rattle.dm_table.specs.declared.load.place.Place.{Place}
+use Rattle.dm_table.specs.declared.tables.table.DeviceSpec.{DeviceSpec}
+use Rattle.dm_table.specs.declared.tables.table.Line.{Line}
+use Rattle.dm_table.specs.load.LoadFault.{fault, faults_by, first_or}
+use Rattle.dm_table.proofs.FaultLemmas.{first_or-passed, first_or-found}
+use Rattle.dm_stack.specs.checks.Soundness.{all_lines}
+use Rattle.dm_stack.proofs.checks.FirstFaults.{by_append, first_append}
+
+pub next_of : {X : Type 0} (xs : List X) (i : ℕ) (x : X) → i < length xs → x ≡ get_or xs i x → drop i xs ≡ x ∷ drop (i + 1) xs
+next_of {X} xs i x within is = rw is (drop_more xs i x within)
+
+pub bad_here : {X : Type 0} (kind : LoadKind) (place : X → Place) (test : X → Bool) (xs : List X) (i : ℕ) (x : X) → i < length xs → x ≡ get_or xs i x → true ≡ test x → first_or (faults_by kind place test (drop i xs)) None ≡ Some (fault kind (place x))
+bad_here kind place test xs i x within is bad =
+    let at = next_of xs i x within is in
+    let here = sym bad in
+    rw (at, here)
+
+pub good_here : {X : Type 0} (kind : LoadKind) (place : X → Place) (test : X → Bool) (xs : List X) (i : ℕ) (x : X) → i < length xs → x ≡ get_or xs i x → false ≡ test x → faults_by kind place test (drop (i + 1) xs) ≡ faults_by kind place test (drop i xs)
+good_here kind place test xs i x within is good =
+    let at = next_of xs i x within is in
+    let here = sym good in
+    rw (at, here)
+
+device_at : (kind : LoadKind) (test : Line → Bool) (devices : List DeviceSpec) (i : ℕ) (device : DeviceSpec) → i < length devices → device ≡ get_or devices i device
+    → first_or (faults_by kind (λ line. line.at) test (all_lines (drop i devices))) None ≡ first_or (faults_by kind (λ line. line.at) test device.lines) (first_or (faults_by kind (λ line. line.at) test (all_lines (drop (i + 1) devices))) None)
+device_at kind test devices i device within is =
+    let at = next_of devices i device within is in
+    rw at (ap (λ (faults : List LoadFault). first_or faults None) (by_append kind (λ line. line.at) test device.lines (all_lines (drop (i + 1) devices)))
+    ∙ first_append (faults_by kind (λ line. line.at) test device.lines) (faults_by kind (λ line. line.at) test (all_lines (drop (i + 1) devices))) None)
+
+pub device_stops : (kind : LoadKind) (test : Line → Bool) (devices : List DeviceSpec) (i : ℕ) (device : DeviceSpec) (found : LoadFault) → i < length devices → device ≡ get_or devices i device
+    → first_or (faults_by kind (λ line. line.at) test device.lines) None ≡ Some found → first_or (faults_by kind (λ line. line.at) test (all_lines (drop i devices))) None ≡ Some found
+device_stops kind test devices i device found within is here =
+    device_at kind test devices i device within is ∙ first_or-found (faults_by kind (λ line. line.at) test device.lines) _ found here
+
+pub device_passes : (kind : LoadKind) (test : Line → Bool) (devices : List DeviceSpec) (i : ℕ) (device : DeviceSpec) → i < length devices → device ≡ get_or devices i device
+    → first_or (faults_by kind (λ line. line.at) test device.lines) None ≡ None → first_or (faults_by kind (λ line. line.at) test (all_lines (drop (i + 1) devices))) None ≡ first_or (faults_by kind (λ line. line.at) test (all_lines (drop i devices))) None
+device_passes kind test devices i device within is here =
+    sym (device_at kind test devices i device within is ∙ first_or-passed (faults_by kind (λ line. line.at) test device.lines) _ here)

@@ -1,0 +1,231 @@
+-- A device is a store exactly where its depth is within the limit, once those that no store may be made of name themselves.
+use Rattle.std.proofs.Common.{◌≡◌, ℕ, zero, suc, ◌+◌, ◌<◌, ◌≤◌, Bool, true, false, cond, not, nat_le, List, [], ◌∷◌, ◌++◌, arith, inl, inr, ◌⊎◌, refl, sym, ap, subst, ◌∙◌, get_or, length, map, max, Some, Vec, Global}
+use Rattle.std.specs.Prelude.{◌&&◌, slice_get}
+use Rattle.std.specs.List.{Contains, flat_map, list_all, range_with_len}
+use Rattle.std.proofs.lemmas.Bool.{cases_lt, le-leb, lt-leb}
+use Rattle.std.proofs.lemmas.List.{append-nil, get_or_past, length-map, map-append}
+use Rattle.std.proofs.lemmas.List.Elements.{Contains-append_cases}
+use Rattle.std.proofs.lemmas.Option.{slice_get_past, slice_get_read}
+use Rattle.std.proofs.lemmas.List.Folds.{list_all-append}
+use Rattle.std.proofs.lemmas.List.FromFn.{get_or-map-range_with_len, length-map-range_with_len, map-range_with_len_more}
+use Rattle.dm_table.specs.declared.tables.table.DevRef.{DevRef}
+use Rattle.dm_table.specs.declared.tables.table.DevRef.TheVariants as refs
+use Rattle.dm_table.specs.declared.tables.table.DeviceSpec.{DeviceSpec}
+use Rattle.dm_table.specs.declared.tables.table.Line.{Line}
+use Rattle.dm_table.specs.declared.tables.table.Target.{Target}
+use Rattle.dm_table.specs.declared.tables.table.Target.TheVariants as targets
+use Rattle.dm_table.specs.declared.load.load_fault.LoadKind.TheVariants.{Store}
+use Rattle.dm_table.specs.load.LoadFault.{faults_by}
+use Rattle.dm_stack.specs.declared.id.Lower.{Lower}
+use Rattle.dm_stack.specs.declared.id.Lower.TheVariants.{Device, Disk}
+use Rattle.dm_stack.specs.Description.{Description, device_links, is_ro_at, line_links, lines_at, lines_or_none, links, lower_of, ref_link}
+use Rattle.dm_stack.specs.checks.Graph.{IsClosed, depth_to, depths_to, greatest, links_in, links_of}
+use Rattle.dm_table.specs.tables.Span.{Span, spans}
+use Rattle.dm_stack.specs.checks.Soundness.{all_lines, has_bad_store, store}
+use Rattle.dm_stack.specs.checks.Store.{has_deep_store, is_plain, is_shallow, is_store_to, may_store, store_links, store_links_at, store_links_of}
+use Rattle.dm_stack.proofs.checks.CrowdLemmas.{by_same}
+use Rattle.dm_stack.proofs.checks.PathLemmas.{links_of-at}
+use Rattle.dm_stack.proofs.checks.RoundLemmas.{depths_to-at, depths_to-length}
+
+-- Tests of all elements
+
+all_flat : {X Y : Type 0} (p : Y → Bool) (f : X → List Y) (xs : List X) → list_all p (flat_map f xs) ≡ list_all (λ x. list_all p (f x)) xs
+all_flat p f [] = refl
+all_flat p f (x ∷ xs) = rw (← all_flat p f xs) (list_all-append p (f x) (flat_map f xs))
+
+both_swapped : (a b c d : Bool) → ((a && b) && (c && d)) ≡ ((a && c) && (b && d))
+both_swapped true true c d = refl
+both_swapped true false true d = refl
+both_swapped true false false d = refl
+both_swapped false b c d = refl
+
+all_both : {X : Type 0} (p q : X → Bool) (xs : List X) → list_all (λ x. p x && q x) xs ≡ (list_all p xs && list_all q xs)
+all_both p q [] = refl
+all_both p q (x ∷ xs) = rw (all_both p q xs) (both_swapped (p x) (q x) (list_all p xs) (list_all q xs))
+
+all_same : {X : Type 0} (p q : X → Bool) (xs : List X) → ((x : X) → p x ≡ q x) → list_all p xs ≡ list_all q xs
+all_same p q [] same = refl
+all_same p q (x ∷ xs) same = let here = same x in let rest = all_same p q xs same in rw (here, rest)
+
+-- What a device names is a store, by its links
+
+and-true : (b : Bool) → (b && true) ≡ b
+and-true true = refl
+and-true false = refl
+
+-- a device is a store through these levels
+abbrev pub is_store_device : Description → ℕ → ℕ → Bool
+is_store_device stack levels device = is_store_to stack levels (Device device)
+
+ref_store : (stack : Description) (levels : ℕ) (to : DevRef) → list_all (is_store_device stack levels) (ref_link stack to) ≡ is_store_to stack levels (lower_of stack to)
+unfolding is_store_to
+ref_store stack levels (refs.Device name) = and-true _
+ref_store stack levels (refs.Disk name) = refl
+
+line_store : (stack : Description) (levels : ℕ) (line : Line) → list_all (is_store_device stack levels) (line_links stack line) ≡ list_all (λ span. is_store_to stack levels (lower_of stack span.to)) (spans line)
+line_store stack levels line =
+    all_flat (is_store_device stack levels) (λ (span : Span). ref_link stack span.to) (spans line)
+    ∙ all_same (λ (span : Span). list_all (is_store_device stack levels) (ref_link stack span.to)) (λ span. is_store_to stack levels (lower_of stack span.to)) (spans line) (λ span. ref_store stack levels span.to)
+
+named_lines : (stack : Description) (devices : List DeviceSpec) (device : ℕ) → get_or (map (device_links stack) devices) device [] ≡ flat_map (line_links stack) (lines_or_none (slice_get devices device))
+named_lines stack [] device = refl
+named_lines stack (first ∷ devices) zero = refl
+named_lines stack (first ∷ devices) (suc device) = named_lines stack devices device
+
+and_assoc : (a b c : Bool) → (a && (b && c)) ≡ ((a && b) && c)
+and_assoc true b c = refl
+and_assoc false b c = refl
+
+store_step : (stack : Description) (levels device : ℕ) → is_store_device stack (suc levels) device ≡ (may_store (is_ro_at stack device) (lines_at stack device) && list_all (is_store_device stack levels) (links_of (links stack) device))
+unfolding is_store_to
+store_step stack levels device =
+    let lines = lines_at stack device in
+    let named = named_lines stack stack.devices device in
+    rw (all_both (λ line. is_plain line.target) (λ line. list_all (λ span. is_store_to stack levels (lower_of stack span.to)) (spans line)) lines
+    ∙ ap (λ (all : Bool). list_all (λ line. is_plain line.target) lines && all)
+    (all_same (λ line. list_all (λ span. is_store_to stack levels (lower_of stack span.to)) (spans line)) (λ line. list_all (is_store_device stack levels) (line_links stack line)) lines (λ line. sym (line_store stack levels line))
+    ∙ sym (all_flat (is_store_device stack levels) (line_links stack) lines) ∙ ap (λ (ids : List ℕ). list_all (is_store_device stack levels) ids) (sym named))) (and_assoc (not (is_ro_at stack device)) (list_all (λ line. is_plain line.target) lines) _)
+
+-- Depths within a limit
+
+max_within : (a b n : ℕ) → nat_le (max a b) n ≡ (nat_le a n && nat_le b n)
+max_within a b n = grind arith
+
+greatest_within : (f : ℕ → ℕ) (xs : List ℕ) (n : ℕ) → nat_le (greatest (map f xs)) n ≡ list_all (λ x. nat_le (f x) n) xs
+greatest_within f [] n = le-leb 0 n (omega arith)
+greatest_within f (x ∷ xs) n = rw (← greatest_within f xs n) (max_within (f x) (greatest (map f xs)) n)
+
+le_suc : (a b : ℕ) → nat_le (suc a) (suc b) ≡ nat_le a b
+le_suc a b = by_order (cases_lt b a)
+  where
+    by_order : (b < a) ⊎ (a ≤ b) → nat_le (suc a) (suc b) ≡ nat_le a b
+    by_order (inl more) = lt-leb (suc a) (suc b) (omega (arith, more)) ∙ sym (lt-leb a b more)
+    by_order (inr less) = le-leb (suc a) (suc b) (omega (arith, less)) ∙ sym (le-leb a b less)
+
+depth_within : (g : List (List ℕ)) (n device : ℕ) → nat_le (depth_to g (suc (suc n)) device) (suc n) ≡ list_all (λ e. nat_le (depth_to g (suc n) e) n) (links_of g device)
+unfolding depth_to
+depth_within g n device = le_suc (greatest (map (λ e. depth_to g (suc n) e) (links_of g device))) n ∙ greatest_within (λ e. depth_to g (suc n) e) (links_of g device) n
+
+depth_first : (g : List (List ℕ)) (device : ℕ) → nat_le (depth_to g 1 device) 0 ≡ false
+unfolding depth_to
+depth_first g device = lt-leb _ 0 (omega arith)
+
+-- The links of stores
+
+-- a device that names itself where it may not be in a store
+marked : (p : ℕ → Bool) (device : ℕ) (ids : List ℕ) (may : Bool) → (may ≡ false → p device ≡ false) → list_all p (ids ++ cond may [] (device ∷ [])) ≡ (may && list_all p ids)
+marked p device ids true barred = rw (append-nil ids)
+marked p device ids false barred =
+    list_all-append p ids (device ∷ []) ∙ ap (λ (b : Bool). list_all p ids && (b && true)) (barred refl) ∙ and_no (list_all p ids)
+  where
+    and_no : (b : Bool) → (b && false) ≡ false
+    and_no true = refl
+    and_no false = refl
+
+barred_at : (stack : Description) (levels device : ℕ) → may_store (is_ro_at stack device) (lines_at stack device) ≡ false → is_store_device stack levels device ≡ false
+unfolding is_store_to
+barred_at stack zero device barred = refl
+barred_at stack (suc levels) device barred = store_step stack levels device ∙ ap (λ (may : Bool). may && list_all (is_store_device stack levels) (links_of (links stack) device)) barred
+
+links_there : (stack : Description) (device : ℕ) → device < length stack.devices → links_of (store_links stack) device ≡ store_links_at stack device
+links_there stack device within = get_or-map-range_with_len (store_links_at stack) 0 (length stack.devices) device device [] within (omega arith)
+
+links_past : (stack : Description) (device : ℕ) → length stack.devices ≤ device → links_of (store_links stack) device ≡ []
+links_past stack device past = get_or_past (store_links stack) device [] (omega (arith, past, length-map-range_with_len (store_links_at stack) 0 (length stack.devices)))
+
+-- where a device names itself, it is no store at any level
+all_marked : (stack : Description) (levels device : ℕ) → list_all (is_store_device stack levels) (links_of (store_links stack) device) ≡ (may_store (is_ro_at stack device) (lines_at stack device) && list_all (is_store_device stack levels) (links_of (links stack) device))
+all_marked stack levels device = by_place (cases_lt device (length stack.devices))
+  where
+    by_place : (device < length stack.devices) ⊎ (length stack.devices ≤ device) → list_all (is_store_device stack levels) (links_of (store_links stack) device) ≡ (may_store (is_ro_at stack device) (lines_at stack device) && list_all (is_store_device stack levels) (links_of (links stack) device))
+    by_place (inl within) =
+        ap (λ (ids : List ℕ). list_all (is_store_device stack levels) ids) (links_there stack device within)
+        ∙ marked (is_store_device stack levels) device (links_of (links stack) device) (may_store (is_ro_at stack device) (lines_at stack device)) (barred_at stack levels device)
+    by_place (inr past) =
+        let none = slice_get_past stack.devices device past in
+        let named = named_lines stack stack.devices device in
+        ap (λ (ids : List ℕ). list_all (is_store_device stack levels) ids) (links_past stack device past) ∙ rw (named, none)
+
+pub store_depth : (stack : Description) (levels device : ℕ) → nat_le (depth_to (store_links stack) (suc levels) device) levels ≡ is_store_device stack levels device
+unfolding is_store_to
+store_depth stack zero device = depth_first (store_links stack) device
+store_depth stack (suc levels) device =
+    depth_within (store_links stack) levels device
+    ∙ all_same (λ e. nat_le (depth_to (store_links stack) (suc levels) e) levels) (is_store_device stack levels) (links_of (store_links stack) device) (store_depth stack levels)
+    ∙ all_marked stack levels device ∙ sym (store_step stack levels device)
+
+-- What is named is there
+
+closed_marked : (d e n : ℕ) (may : Bool) (ids : List ℕ) → d < n → ((e : ℕ) → Contains ids e → e < n) → Contains (store_links_of may d ids) e → e < n
+closed_marked d e n may ids within inside named = by_part (Contains-append_cases ids (cond may [] (d ∷ [])) e named)
+  where
+    itself : (b : Bool) → Contains (cond b [] (d ∷ [])) e → e < n
+    itself true (k, below, is) = absurd (omega (arith, below))
+    itself false (zero, below, is) = omega (arith, is, within)
+    itself false (suc k, below, is) = absurd (omega (arith, below))
+
+    by_part : Contains ids e ⊎ Contains (cond may [] (d ∷ [])) e → e < n
+    by_part (inl earlier) = inside e earlier
+    by_part (inr last) = itself may last
+
+pub closed_stores : (stack : Description) → IsClosed (links stack) → IsClosed (store_links stack)
+closed_stores stack closed d e named = by_place (cases_lt d (length stack.devices))
+  where
+    count : length (store_links stack) ≡ length stack.devices
+    count = length-map-range_with_len (store_links_at stack) 0 (length stack.devices)
+
+    by_place : (d < length stack.devices) ⊎ (length stack.devices ≤ d) → e < length (store_links stack)
+    by_place (inl within) =
+        let here = subst (λ (ids : List ℕ). Contains ids e) (links_there stack d within) named in
+        let below = closed_marked d e (length stack.devices) _ (links_of (links stack) d) within (λ other is. let inside = closed d other is in omega (arith, inside, length-map stack.devices (device_links stack))) here in
+        omega (arith, below, count)
+    by_place (inr past) = let here = subst (λ (ids : List ℕ). Contains ids e) (links_past stack d past) named in absurd (omega (arith, here.1))
+
+-- The depths that were counted
+
+past_store : (stack : Description) (device : ℕ) → length stack.devices ≤ device → is_store_device stack 32 device ≡ true
+past_store stack device past =
+    let none = slice_get_past stack.devices device past in
+    let named = named_lines stack stack.devices device in
+    store_step stack 31 device ∙ rw (named, none)
+
+shallow_same : (stack : Description) (depths : List ℕ) (lower : Lower) → depths ≡ depths_to (store_links stack) 33 → is_shallow depths lower ≡ is_store_to stack 32 lower
+unfolding is_store_to
+shallow_same stack depths (Disk disk) is = refl
+shallow_same stack depths (Device device) is = ap (λ (all : List ℕ). nat_le (get_or all device 0) 32) is ∙ by_place (cases_lt device (length stack.devices))
+  where
+    count : length (store_links stack) ≡ length stack.devices
+    count = length-map-range_with_len (store_links_at stack) 0 (length stack.devices)
+
+    by_place : (device < length stack.devices) ⊎ (length stack.devices ≤ device) → nat_le (get_or (depths_to (store_links stack) 33) device 0) 32 ≡ is_store_device stack 32 device
+    by_place (inl within) = rw (depths_to-at (store_links stack) 33 device (omega (arith, within, count))) (store_depth stack 32 device)
+    by_place (inr past) =
+        rw (get_or_past (depths_to (store_links stack) 33) device 0 (omega (arith, past, count, depths_to-length (store_links stack) 33))) (sym (past_store stack device past))
+
+deep_same : (stack : Description) (depths : List ℕ) (target : Target) → depths ≡ depths_to (store_links stack) 33 → has_deep_store stack depths target ≡ has_bad_store stack target
+deep_same stack depths (targets.Snapshot origin store kind chunk) is = ap not (shallow_same stack depths (lower_of stack store) is)
+deep_same stack depths _ is = refl
+
+pub deep_stores : (stack : Description) (depths : List ℕ) → depths ≡ depths_to (store_links stack) 33 → faults_by Store (λ line. line.at) (λ line. has_deep_store stack depths line.target) (all_lines stack.devices) ≡ store stack
+deep_stores stack depths is = by_same Store (λ line. line.at) (λ line. has_deep_store stack depths line.target) (λ line. has_bad_store stack line.target) (all_lines stack.devices) (λ line. deep_same stack depths line.target is)
+
+-- The links, device by device
+
+store_links_here : (stack : Description) (id : ℕ) (device : DeviceSpec) (named : List (Vec ℕ Global)) (links_at : Vec ℕ Global) → id < length stack.devices → device ≡ get_or stack.devices id device → id < length named → links_at ≡ get_or named id links_at → links_in named ≡ links stack
+    → store_links_of (may_store device.ro device.lines) id links_at.items ≡ store_links_at stack id
+store_links_here stack id device named links_at within is below is_links are =
+    let at : slice_get stack.devices id ≡ Some device = slice_get_read stack.devices (length stack.devices) id device refl within is in
+    let here = sym (links_of-at named id links_at below is_links) ∙ ap (λ (g : List (List ℕ)). links_of g id) are in
+    cc (here, at)
+
+pub store_links_next : (stack : Description) (id : ℕ) (device : DeviceSpec) (named before : List (Vec ℕ Global)) (links_at new : Vec ℕ Global) → id < length stack.devices → device ≡ get_or stack.devices id device → id < length named → links_at ≡ get_or named id links_at → links_in named ≡ links stack
+    → links_in before ≡ map (store_links_at stack) (range_with_len 0 id) → new.items ≡ store_links_of (may_store device.ro device.lines) id links_at.items → links_in (before ++ new ∷ []) ≡ map (store_links_at stack) (range_with_len 0 (id + 1))
+store_links_next stack id device named before links_at new within is below is_links are earlier made =
+    map-append (λ (v : Vec ℕ Global). v.items) before (new ∷ [])
+    ∙ ap (λ (all : List (List ℕ)). all ++ new.items ∷ []) earlier
+    ∙ ap (λ (ids : List ℕ). map (store_links_at stack) (range_with_len 0 id) ++ ids ∷ []) (made ∙ store_links_here stack id device named links_at within is below is_links are)
+    ∙ sym (map-range_with_len_more (store_links_at stack) 0 id id (omega arith))
+
+pub links_length : (stack : Description) (named : List (Vec ℕ Global)) → links_in named ≡ links stack → length named ≡ length stack.devices
+links_length stack named are =
+    cc (sym (length-map named (λ v. v.items)), are, length-map stack.devices (device_links stack))

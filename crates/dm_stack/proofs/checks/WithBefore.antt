@@ -1,0 +1,34 @@
+-- The elements of a list with those before them, one by one.
+use Rattle.std.proofs.Common.{◌≡◌, ℕ, zero, suc, ◌+◌, ◌<◌, ◌≤◌, List, [], ◌∷◌, arith, refl, sym, ap, ◌∙◌, drop, get_or, length, take}
+use Rattle.std.proofs.lemmas.List.{drop_more, get_or-map, length-map}
+use Rattle.dm_stack.specs.checks.Soundness.{WithBefore, with_before}
+
+-- an element further on
+abbrev pub further_on : {X : Type 0} → X → WithBefore X → WithBefore X
+further_on x later = record { before = x ∷ later.before; it = later.it }
+
+length-with_before : {X : Type 0} (xs : List X) → length (with_before xs) ≡ length xs
+length-with_before [] = refl
+length-with_before (x ∷ xs) = ap suc (length-map (with_before xs) (further_on x) ∙ length-with_before xs)
+
+get_or-with_before : {X : Type 0} (xs : List X) (i : ℕ) (other : WithBefore X) (x : X) → i < length xs → get_or (with_before xs) i other ≡ record { before = take i xs; it = get_or xs i x }
+get_or-with_before [] i other x within = absurd (omega arith)
+get_or-with_before (y ∷ ys) zero other x within = refl
+get_or-with_before (y ∷ ys) (suc i) other x within =
+    get_or-map (further_on y) (with_before ys) i other other (omega (arith, length-with_before ys)) ∙ ap (further_on y) (get_or-with_before ys i other x (omega arith))
+
+-- what is left at an element begins with it
+pub drop-with_before : {X : Type 0} (xs : List X) (i : ℕ) (x : X) → i < length xs → x ≡ get_or xs i x → drop i (with_before xs) ≡ record { before = take i xs; it = x } ∷ drop (i + 1) (with_before xs)
+drop-with_before {X} xs i x within is =
+    let here : WithBefore X = record { before = take i xs; it = x } in
+    rw (← (get_or-with_before xs i here x within ∙ ap (λ (y : X). record { before = take i xs; it = y }) (sym is))) (drop_more (with_before xs) i here (omega (arith, length-with_before xs)))
+
+-- nothing is left at the end
+drop-past : {X : Type 0} (xs : List X) (i : ℕ) → length xs ≤ i → drop i xs ≡ []
+drop-past [] zero past = refl
+drop-past [] (suc i) past = refl
+drop-past (x ∷ xs) zero past = absurd (omega arith)
+drop-past (x ∷ xs) (suc i) past = drop-past xs i (omega arith)
+
+pub none-with_before : {X : Type 0} (xs : List X) (i : ℕ) → length xs ≤ i → drop i (with_before xs) ≡ []
+none-with_before xs i past = drop-past (with_before xs) i (omega (arith, length-with_before xs))

@@ -1,0 +1,10 @@
+use Rattle.std.proofs.Common.{◌≡◌, None, drop, get_or, nat_lt}
+use Rattle.dm_table.specs.load.LoadFault.{first_or}
+use Rattle.dm_table.specs.declared.load.load_fault.LoadKind.TheVariants.{Deep}
+use Rattle.dm_stack.specs.checks.Soundness.{faults_by_id}
+use Rattle.dm_stack.proofs.checks.depth.check_depths.Given as goal
+
+abbrev pub invariant-loop-id : goal.invariant-loop-id
+invariant-loop-id l =
+    first_or (faults_by_id Deep (λ id. nat_lt 32 (get_or l.depths id 0)) l.id (drop l.id l.devices)) None
+    ≡ first_or (faults_by_id Deep (λ id. nat_lt 32 (get_or l.depths id 0)) 0 l.devices) None

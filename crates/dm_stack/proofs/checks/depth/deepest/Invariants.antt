@@ -1,0 +1,6 @@
+use Rattle.std.proofs.Common.{◌≡◌, drop, max}
+use Rattle.dm_stack.specs.checks.Graph.{greatest}
+use Rattle.dm_stack.proofs.checks.depth.deepest.Given as goal
+
+abbrev pub invariant-loop-depth : goal.invariant-loop-depth
+invariant-loop-depth l = max l.deepest (greatest (drop l.depth-index l.depths)) ≡ greatest l.depths

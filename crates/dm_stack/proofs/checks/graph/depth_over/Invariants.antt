@@ -1,0 +1,11 @@
+-- the greatest so far and that of what is left give the greatest of all, and no depth passes its bound
+use Rattle.std.proofs.Common.{◌≡◌, ◌≤◌, max, map, drop, get_or}
+use Rattle.dm_stack.specs.checks.Graph.{greatest}
+use Rattle.dm_stack.proofs.checks.graph.depth_over.Given as goal
+
+abbrev pub invariant-loop-device : goal.invariant-loop-device
+invariant-loop-device l =
+    record {
+      all : max l.greatest (greatest (map (λ e. get_or l.depths e 0) (drop l.device-index l.named))) ≡ greatest (map (λ e. get_or l.depths e 0) l.named);
+      bounded : l.greatest ≤ 33;
+    }

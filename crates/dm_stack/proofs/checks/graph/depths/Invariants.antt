@@ -1,0 +1,7 @@
+-- after each round the depths are those of one level more
+use Rattle.std.proofs.Common.{◌≡◌}
+use Rattle.dm_stack.specs.checks.Graph.{depths_to, links_in}
+use Rattle.dm_stack.proofs.checks.graph.depths.Given as goal
+
+abbrev pub invariant-loop-level : goal.invariant-loop-level
+invariant-loop-level l = l.depths.items ≡ depths_to (links_in l.links) l._level

@@ -1,0 +1,11 @@
+-- the search so far; each turn looks at one that waits, and each device waits once
+use Rattle.std.proofs.Common.{◌+◌, length}
+use Rattle.dm_stack.specs.checks.Graph.{links_in, unvisited}
+use Rattle.dm_stack.proofs.checks.SearchLemmas.{Searched}
+use Rattle.dm_stack.proofs.checks.graph.reaches_itself.Given as goal
+
+abbrev pub invariant-loop-next : goal.invariant-loop-next
+invariant-loop-next l = Searched (links_in l.links) l.device l.visited.items l.waiting.items
+
+abbrev pub decreases-loop-next : goal.decreases-loop-next
+decreases-loop-next l = unvisited l.visited.items + length l.waiting.items

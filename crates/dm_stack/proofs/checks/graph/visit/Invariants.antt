@@ -1,0 +1,7 @@
+-- those named so far are visited
+use Rattle.std.proofs.Common.{take}
+use Rattle.dm_stack.specs.checks.Graph.{Visits}
+use Rattle.dm_stack.proofs.checks.graph.visit.Given as goal
+
+abbrev pub invariant-loop-device : goal.invariant-loop-device
+invariant-loop-device l = Visits (take l.device-index l.named) l.initial.visited l.visited l.initial.waiting.items l.waiting.items

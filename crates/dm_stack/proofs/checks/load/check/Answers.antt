@@ -1,0 +1,203 @@
+-- Each check finds its fault where those before it find nothing.
+use Rattle.std.proofs.Common.{◌≡◌, ℕ, List, [], None, refl, sym, ap, subst, ◌∙◌, get_or, inl, inr, length, map}
+use Rattle.std.specs.Prelude.{nat_lt}
+use Rattle.std.proofs.lemmas.Result.{err_from_is_err_and}
+use Rattle.dm_table.specs.declared.load.load_fault.LoadKind.TheVariants.{Deep}
+use Rattle.dm_table.specs.load.LoadFault.{first_or, first_fault}
+use Rattle.dm_table.proofs.FaultLemmas.{first_or-none}
+use Rattle.dm_stack.specs.Description.{Description, links}
+use Rattle.dm_stack.specs.checks.Graph.{IsFirstRing, depths_to, greatest}
+use Rattle.dm_stack.specs.names.DiskText.{disk_text}
+use Rattle.dm_stack.specs.names.FrontNames.{ArePlaces}
+use Rattle.dm_stack.specs.Stack.{found_device}
+use Rattle.dm_stack.specs.checks.Snapshots.{snapshots}
+use Rattle.dm_stack.specs.checks.Depth.{stack_depth}
+use Rattle.dm_stack.specs.checks.Soundness.{HasNoCycle, IsFirstCycle, OnCycle, checks_before, crowded, deep, faults_by_id, range, snapshot, store, too_large, unknown}
+use Rattle.dm_stack.specs.checks.Store.{store_links}
+use Rattle.dm_stack.proofs.names.ApartLemmas.{apart_checked}
+use Rattle.dm_stack.proofs.checks.ChunkLemmas.{good_chunks}
+use Rattle.dm_stack.proofs.checks.DepthTests.{depth_each, told_deep}
+use Rattle.dm_stack.proofs.checks.HandedOn.{ends_within}
+use Rattle.dm_stack.proofs.checks.LoadLemmas.{are_sound, closed_links, deepest_is, early_passed, found_or_memory, made_ok, refused_early, refused_late}
+use Rattle.dm_stack.proofs.checks.load.check.Goals as goal
+use Rattle.dm_stack.proofs.checks.load.check.Goals.{After-deref}
+
+pub returns-in_err-check_counts-clause-fault : goal.returns-in_err-check_counts-clause-fault
+returns-in_err-check_counts-clause-fault c =
+    let stack : Description = record { devices = c.args.devices.now; disks = c.args.disks.now } in
+    let p = err_from_is_err_and c.from_residual.result c.from_residual.ensures.1 in
+    rw (p.1, p.2) (inl (refused_early stack 0 _ tt (sym c.in_err-check_counts.ensures)))
+
+pub returns-in_err-check_numbers-clause-fault : goal.returns-in_err-check_numbers-clause-fault
+returns-in_err-check_numbers-clause-fault c =
+    let stack : Description = record { devices = c.args.devices.now; disks = c.args.disks.now } in
+    let p = err_from_is_err_and c.from_residual-in_err-check_numbers.result c.from_residual-in_err-check_numbers.ensures.1 in
+    rw (p.1, p.2) (inl (refused_early stack 1 _ (sym c.in_ok-check_counts.ensures, tt) (sym c.in_err-check_numbers.ensures)))
+
+pub returns-in_err-check_lengths-clause-fault : goal.returns-in_err-check_lengths-clause-fault
+returns-in_err-check_lengths-clause-fault c =
+    let stack : Description = record { devices = c.args.devices.now; disks = c.args.disks.now } in
+    let p = err_from_is_err_and c.from_residual-in_err-check_lengths.result c.from_residual-in_err-check_lengths.ensures.1 in
+    rw (p.1, p.2) (inl (refused_early stack 3 _ (sym c.in_ok-check_counts.ensures, (sym c.in_ok-check_numbers.ensures, (c.in_ok-names.ensures.apart, tt))) (sym c.in_err-check_lengths.ensures)))
+
+pub returns-in_err-check_starts-clause-fault : goal.returns-in_err-check_starts-clause-fault
+returns-in_err-check_starts-clause-fault c =
+    let stack : Description = record { devices = c.args.devices.now; disks = c.args.disks.now } in
+    let p = err_from_is_err_and c.from_residual-in_err-check_starts.result c.from_residual-in_err-check_starts.ensures.1 in
+    rw (p.1, p.2) (inl (refused_early stack 4 _ (sym c.in_ok-check_counts.ensures, (sym c.in_ok-check_numbers.ensures, (c.in_ok-names.ensures.apart, (sym c.in_ok-check_lengths.ensures, tt)))) (sym c.in_err-check_starts.ensures)))
+
+pub returns-in_err-check_references-clause-fault : goal.returns-in_err-check_references-clause-fault
+returns-in_err-check_references-clause-fault c =
+    let stack : Description = record { devices = c.args.devices.now; disks = c.args.disks.now } in
+    let p = err_from_is_err_and c.from_residual-in_err-check_references.result c.from_residual-in_err-check_references.ensures.1 in
+    let e = ap (λ (described : Description). first_or (unknown described) None) (sym c.new-stack.ensures) ∙ sym c.in_err-check_references.ensures in
+    rw (p.1, p.2) (inl (refused_early stack 5 _ (sym c.in_ok-check_counts.ensures, (sym c.in_ok-check_numbers.ensures, (c.in_ok-names.ensures.apart, (sym c.in_ok-check_lengths.ensures, (sym c.in_ok-check_starts.ensures, tt))))) e))
+
+pub returns-in_err-names-clause-fault : goal.returns-in_err-names-clause-fault
+returns-in_err-names-clause-fault c =
+    let stack : Description = record { devices = c.args.devices.now; disks = c.args.disks.now } in
+    let p = err_from_is_err_and c.from_residual-in_err-names.result c.from_residual-in_err-names.ensures.1 in
+    rw (p.1, p.2)
+    (found_or_memory c.in_err-names.field-0.0.kind
+    (λ other. refused_early stack 2 _ (sym c.in_ok-check_counts.ensures, (sym c.in_ok-check_numbers.ensures, tt)) (c.in_err-names.ensures.fault other)) c.in_err-names.ensures.memory)
+
+pub new-stack-requires-clause-small : goal.new-stack-requires-clause-small
+new-stack-requires-clause-small c =
+    let stack : Description = record { devices = c.args.devices.now; disks = c.args.disks.now } in
+    ends_within stack (first_or-none (too_large stack) None (sym c.in_ok-check_numbers.ensures)).0
+
+pub follow-requires : goal.follow-requires
+follow-requires c = closed_links c.new-stack.result (sym c.in_ok-check_references.ensures)
+
+pub returns-in_err-check_cycles-clause-fault : goal.returns-in_err-check_cycles-clause-fault
+returns-in_err-check_cycles-clause-fault c =
+    let stack : Description = record { devices = c.args.devices.now; disks = c.args.disks.now } in
+    let p = err_from_is_err_and c.from_residual-in_err-check_cycles.result c.from_residual-in_err-check_cycles.ensures.1 in
+    let is = c.new-stack.ensures in
+    let before = early_passed stack (sym c.in_ok-check_counts.ensures, (sym c.in_ok-check_numbers.ensures, (c.in_ok-names.ensures.apart, (sym c.in_ok-check_lengths.ensures, (sym c.in_ok-check_starts.ensures, (ap (λ (described : Description). first_or (unknown described) None) (sym is) ∙ sym c.in_ok-check_references.ensures, tt)))))) in
+    rw (p.1, p.2) (inl (OnCycle before (subst (λ (described : Description). IsFirstCycle described c.in_err-check_cycles.field-0.0) is c.in_err-check_cycles.ensures.fault)))
+
+pub check_cycles-requires : goal.check_cycles-requires
+check_cycles-requires c = made_ok c.follow.result c.in_ok-graph.graph (λ graph. IsFirstRing (links c.new-stack.result) graph.cycle) c.in_ok-graph.ensures.made c.follow.ensures.cycle
+
+pub check_stores-requires : goal.check_stores-requires
+check_stores-requires c =
+    c.deref-2.ensures.value ∙ made_ok c.follow.result c.in_ok-graph.graph (λ graph. graph.store_depths.items ≡ depths_to (store_links c.new-stack.result) 33) c.in_ok-graph.ensures.made c.follow.ensures.stores
+
+-- the depths that were counted
+depths_are : (c : After-deref) → c.deref.result.now ≡ depths_to (links c.new-stack.result) 33
+depths_are c = c.deref.ensures.value ∙ made_ok c.follow.result c.in_ok-graph.graph (λ graph. graph.depths.items ≡ depths_to (links c.new-stack.result) 33) c.in_ok-graph.ensures.made c.follow.ensures.depths
+
+-- what is known once no device reaches itself
+record Passed (stack described : Description) (depths : List ℕ) : Type 0 where
+  same : described ≡ stack
+  before : first_fault (checks_before stack) ≡ None
+  acyclic : HasNoCycle stack
+  told : first_or (faults_by_id Deep (λ id. nat_lt 32 (get_or depths id 0)) 0 stack.devices) None ≡ first_or (deep stack) None
+
+passed : (c : After-deref) → Passed (record { devices = c.args.devices.now; disks = c.args.disks.now }) c.new-stack.result c.deref.result.now
+passed c =
+    let stack : Description = record { devices = c.args.devices.now; disks = c.args.disks.now } in
+    let is = c.new-stack.ensures in
+    record {
+      same = is;
+      before = early_passed stack (sym c.in_ok-check_counts.ensures, (sym c.in_ok-check_numbers.ensures, (c.in_ok-names.ensures.apart, (sym c.in_ok-check_lengths.ensures, (sym c.in_ok-check_starts.ensures, (ap (λ (described : Description). first_or (unknown described) None) (sym is) ∙ sym c.in_ok-check_references.ensures, tt))))));
+      acyclic = subst (λ (described : Description). HasNoCycle described) is c.in_ok-check_cycles.ensures.passed;
+      told = told_deep stack c.deref.result.now stack.devices (subst (λ (described : Description). c.deref.result.now ≡ depths_to (links described) 33) is (depths_are c)) refl;
+    }
+
+pub check_depths-requires : goal.check_depths-requires
+check_depths-requires c = depth_each c.new-stack.result c.deref.result.now (depths_are c) ∙ ap (λ (described : Description). length described.devices) c.new-stack.ensures
+
+pub returns-in_err-check_depths-clause-fault : goal.returns-in_err-check_depths-clause-fault
+returns-in_err-check_depths-clause-fault c =
+    let p = err_from_is_err_and c.from_residual-in_err-check_depths.result c.from_residual-in_err-check_depths.ensures.1 in
+    let k = passed (goal.at.returns-in_err-check_depths-clause-fault c).After-deref in
+    rw (p.1, p.2) (inl (refused_late _ 0 _ k.before k.acyclic tt (sym k.told ∙ sym c.in_err-check_depths.ensures)))
+
+pub returns-in_err-check_stripes-clause-fault : goal.returns-in_err-check_stripes-clause-fault
+returns-in_err-check_stripes-clause-fault c =
+    let p = err_from_is_err_and c.from_residual-in_err-check_stripes.result c.from_residual-in_err-check_stripes.ensures.1 in
+    let k = passed (goal.at.returns-in_err-check_stripes-clause-fault c).After-deref in
+    rw (p.1, p.2) (inl (refused_late _ 1 _ k.before k.acyclic (sym k.told ∙ sym c.in_ok-check_depths.ensures, tt) (sym c.in_err-check_stripes.ensures)))
+
+pub returns-in_err-check_ranges-clause-fault : goal.returns-in_err-check_ranges-clause-fault
+returns-in_err-check_ranges-clause-fault c =
+    let p = err_from_is_err_and c.from_residual-in_err-check_ranges.result c.from_residual-in_err-check_ranges.ensures.1 in
+    let k = passed (goal.at.returns-in_err-check_ranges-clause-fault c).After-deref in
+    rw (p.1, p.2) (inl (refused_late _ 2 _ k.before k.acyclic (sym k.told ∙ sym c.in_ok-check_depths.ensures, (sym c.in_ok-check_stripes.ensures, tt)) (ap (λ (described : Description). first_or (range described) None) (sym k.same) ∙ sym c.in_err-check_ranges.ensures)))
+
+pub returns-in_err-check_snapshots-clause-fault : goal.returns-in_err-check_snapshots-clause-fault
+returns-in_err-check_snapshots-clause-fault c =
+    let p = err_from_is_err_and c.from_residual-in_err-check_snapshots.result c.from_residual-in_err-check_snapshots.ensures.1 in
+    let k = passed (goal.at.returns-in_err-check_snapshots-clause-fault c).After-deref in
+    rw (p.1, p.2) (inl (refused_late _ 3 _ k.before k.acyclic (sym k.told ∙ sym c.in_ok-check_depths.ensures, (sym c.in_ok-check_stripes.ensures, (ap (λ (described : Description). first_or (range described) None) (sym k.same) ∙ sym c.in_ok-check_ranges.ensures, tt))) (ap (λ (described : Description). first_or (snapshot described) None) (sym k.same) ∙ sym c.in_err-check_snapshots.ensures)))
+
+pub returns-in_err-check_stores-clause-fault : goal.returns-in_err-check_stores-clause-fault
+returns-in_err-check_stores-clause-fault c =
+    let p = err_from_is_err_and c.from_residual-in_err-check_stores.result c.from_residual-in_err-check_stores.ensures.1 in
+    let k = passed (goal.at.returns-in_err-check_stores-clause-fault c).After-deref in
+    rw (p.1, p.2) (inl (refused_late _ 4 _ k.before k.acyclic (sym k.told ∙ sym c.in_ok-check_depths.ensures, (sym c.in_ok-check_stripes.ensures, (ap (λ (described : Description). first_or (range described) None) (sym k.same) ∙ sym c.in_ok-check_ranges.ensures, (ap (λ (described : Description). first_or (snapshot described) None) (sym k.same) ∙ sym c.in_ok-check_snapshots.ensures, tt)))) (ap (λ (described : Description). first_or (store described) None) (sym k.same) ∙ sym c.in_err-check_stores.ensures)))
+
+pub returns-in_err-check_places-clause-fault : goal.returns-in_err-check_places-clause-fault
+returns-in_err-check_places-clause-fault c =
+    let p = err_from_is_err_and c.from_residual-in_err-check_places.result c.from_residual-in_err-check_places.ensures.1 in
+    let k = passed (goal.at.returns-in_err-check_places-clause-fault c).After-deref in
+    rw (p.1, p.2) (inl (refused_late _ 5 _ k.before k.acyclic (sym k.told ∙ sym c.in_ok-check_depths.ensures, (sym c.in_ok-check_stripes.ensures, (ap (λ (described : Description). first_or (range described) None) (sym k.same) ∙ sym c.in_ok-check_ranges.ensures, (ap (λ (described : Description). first_or (snapshot described) None) (sym k.same) ∙ sym c.in_ok-check_snapshots.ensures, (ap (λ (described : Description). first_or (store described) None) (sym k.same) ∙ sym c.in_ok-check_stores.ensures, tt))))) (ap (λ (described : Description). first_or (crowded described) None) (sym k.same) ∙ sym c.in_err-check_places.ensures)))
+
+pub check_starts-requires : goal.check_starts-requires
+check_starts-requires c =
+    let stack : Description = record { devices = c.args.devices.now; disks = c.args.disks.now } in
+    ends_within stack (first_or-none (too_large stack) None (sym c.in_ok-check_numbers.ensures)).0
+
+pub found_devices-requires : goal.found_devices-requires
+found_devices-requires c = good_chunks c.new-stack.result (first_or-none (snapshot c.new-stack.result) None (sym c.in_ok-check_snapshots.ensures)).0
+
+pub check_places-requires : goal.check_places-requires
+check_places-requires c = good_chunks c.new-stack.result (first_or-none (snapshot c.new-stack.result) None (sym c.in_ok-check_snapshots.ensures)).0
+
+pub returns-in_err-graph-clause-fault : goal.returns-in_err-graph-clause-fault
+returns-in_err-graph-clause-fault c =
+    let p = err_from_is_err_and c.from_residual-in_err-graph.result c.from_residual-in_err-graph.ensures.1 in
+    rw (p.1, p.2) (inr c.in_err-graph.ensures.memory)
+
+pub returns-in_err-found-clause-fault : goal.returns-in_err-found-clause-fault
+returns-in_err-found-clause-fault c =
+    let p = err_from_is_err_and c.from_residual-in_err-found.result c.from_residual-in_err-found.ensures.1 in
+    rw (p.1, p.2) (inr c.in_err-found.ensures.memory)
+
+pub returns-in_err-snapshots-clause-fault : goal.returns-in_err-snapshots-clause-fault
+returns-in_err-snapshots-clause-fault c =
+    let p = err_from_is_err_and c.from_residual-in_err-snapshots.result c.from_residual-in_err-snapshots.ensures.1 in
+    rw (p.1, p.2) (inr c.in_err-snapshots.ensures.memory)
+
+pub returns-in_err-texts-clause-fault : goal.returns-in_err-texts-clause-fault
+returns-in_err-texts-clause-fault c =
+    let p = err_from_is_err_and c.from_residual-in_err-texts.result c.from_residual-in_err-texts.ensures.1 in
+    rw (p.1, p.2) (inr c.in_err-texts.ensures.memory)
+
+pub returns-in_err-fronts-clause-fault : goal.returns-in_err-fronts-clause-fault
+returns-in_err-fronts-clause-fault c =
+    let p = err_from_is_err_and c.from_residual-in_err-fronts.result c.from_residual-in_err-fronts.ensures.1 in
+    rw (p.1, p.2) (inr c.in_err-fronts.ensures.memory)
+
+pub new-requires : goal.new-requires
+new-requires c = apart_checked (record { devices = c.args.devices.now; disks = c.args.disks.now }) c.in_ok-names.ensures.apart
+
+pub returns-clause-loaded : goal.returns-clause-loaded
+returns-clause-loaded c =
+    let k = passed (goal.at.returns-clause-loaded c).After-deref in
+    record {
+      sound = are_sound _ k.before k.acyclic
+          (sym k.told ∙ sym c.in_ok-check_depths.ensures, (sym c.in_ok-check_stripes.ensures, (ap (λ (described : Description). first_or (range described) None) (sym k.same) ∙ sym c.in_ok-check_ranges.ensures, (ap (λ (described : Description). first_or (snapshot described) None) (sym k.same) ∙ sym c.in_ok-check_snapshots.ensures, (ap (λ (described : Description). first_or (store described) None) (sym k.same) ∙ sym c.in_ok-check_stores.ensures, (ap (λ (described : Description). first_or (crowded described) None) (sym k.same) ∙ sym c.in_ok-check_places.ensures, tt))))));
+      device_names = c.in_ok-names.ensures.devices;
+      disk_names = c.in_ok-names.ensures.disks;
+      found =
+          made_ok c.found_devices.result c.in_ok-found.found (λ found. found.items ≡ map (found_device c.new-stack.result) c.new-stack.result.devices) c.in_ok-found.ensures.made c.found_devices.ensures
+          ∙ ap (λ (stack : Description). map (found_device stack) stack.devices) k.same;
+      depth =
+          c.deepest.ensures ∙ ap greatest (c.deref-3.ensures.value ∙ sym c.deref.ensures.value) ∙ deepest_is c.new-stack.result c.deref.result.now (depths_are (goal.at.returns-clause-loaded c).After-deref) ∙ ap stack_depth k.same;
+      snapshots = made_ok c.snapshots.result c.in_ok-snapshots.snapshots (λ ids. ids.items ≡ snapshots (record { devices = c.args.devices.now; disks = [] })) c.in_ok-snapshots.ensures.made c.snapshots.ensures;
+      texts = made_ok c.disk_texts.result c.in_ok-texts.texts (λ texts. texts.items ≡ map (λ disk. disk_text disk.name) c.args.disks.now) c.in_ok-texts.ensures.made c.disk_texts.ensures;
+      fronts = made_ok c.new.result c.in_ok-fronts.fronts (λ fronts. ArePlaces c.args.devices.now fronts) c.in_ok-fronts.ensures.made c.new.ensures;
+    }

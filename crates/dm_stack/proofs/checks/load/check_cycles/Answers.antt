@@ -1,0 +1,15 @@
+use Rattle.std.proofs.Common.{ℕ, List, Option, ap, subst, get_or}
+use Rattle.dm_table.specs.declared.tables.table.DeviceSpec.{DeviceSpec}
+use Rattle.dm_stack.specs.Description.{links}
+use Rattle.dm_stack.specs.checks.Graph.{IsFirstRing}
+use Rattle.dm_stack.proofs.checks.LoadLemmas.{no_ring, ring_fault}
+use Rattle.dm_stack.proofs.checks.load.check_cycles.Goals as goal
+
+pub returns-in-Some-clause-fault : goal.returns-in-Some-clause-fault
+returns-in-Some-clause-fault c =
+    let ring = subst (λ (found : Option ℕ). IsFirstRing (links c.args.stack.now) found) c.in-Some.is c.requires in
+    ring_fault c.args.stack.now c.in-Some.device (get_or c.devices.result.now c.in-Some.device c.index-devices-device.result) c.index-devices-device.result ring
+    (ap (λ (devices : List DeviceSpec). get_or devices c.in-Some.device c.index-devices-device.result) c.devices.ensures.devices)
+
+pub returns-in-None-clause-passed : goal.returns-in-None-clause-passed
+returns-in-None-clause-passed c = no_ring c.args.stack.now (subst (λ (found : Option ℕ). IsFirstRing (links c.args.stack.now) found) c.in-None.is c.requires)

@@ -1,0 +1,39 @@
+-- A name that is in the index stands before, and one that is new does not.
+use Rattle.std.proofs.Common.{◌≡◌, ℕ, Bool, List, [], ◌∷◌, ◌++◌, Option, None, Ok, true, false, cond, sym, ap, ◌∙◌, map}
+use Rattle.std.proofs.lemmas.Bool.{not-true, not-false}
+use Rattle.std.proofs.lemmas.List.{take_all}
+use Rattle.dm_table.specs.load.LoadFault.{first_or, unless}
+use Rattle.dm_table.specs.declared.load.load_fault.LoadFault.{LoadFault}
+use Rattle.dm_table.specs.declared.load.place.Part.TheVariants.{Source}
+use Rattle.dm_stack.specs.checks.Soundness.{twice_in}
+use Rattle.dm_stack.proofs.names.NameLemmas.{names_more, refused_twice, seen_in, stands_nowhere, stands_once, stands_twice}
+use Rattle.dm_stack.proofs.checks.names.index_of.Goals as goal
+
+pub returns-in-Ok-false : goal.returns-in-Ok-false
+returns-in-Ok-false g c =
+    let name = g.T.Named.name_of in
+    let place = g.T.Placed.place_of in
+    let seen : seen_in (name c.item-item.result) c.loop-item.names ≡ true = rw (← c.name.ensures) (not-false _ (sym c.in-Ok-false.ensures.new ∙ c.in-Ok-false.field-0-test)) in
+    let stops = stands_twice name place c.args.list.now c.loop-item.item-index c.item-item.result _ c.loop-item-test.true c.item-item.is c.loop-item.invariant.indexed seen in
+    rw c.place-at.ensures (refused_twice Source _ _ _ (sym c.loop-item.invariant.left ∙ stops))
+
+pub loop-item-preserved : goal.loop-item-preserved
+loop-item-preserved g c =
+    let name = g.T.Named.name_of in
+    let place = g.T.Placed.place_of in
+    let new : seen_in (name c.item-item.result) c.loop-item.names ≡ false = rw (← c.name.ensures) (not-true _ (sym c.in-Ok-true.ensures.new ∙ c.in-Ok-true.field-0-test)) in
+    let added : c.add.new.self ≡ c.loop-item.names ++ name c.item-item.result ∷ [] =
+    c.in-Ok-true.ensures.added ∙ ap (λ (b : Bool). cond b (c.loop-item.names ++ c.name.result.now ∷ []) c.loop-item.names) c.in-Ok-true.field-0-test ∙ ap (λ (text : List ℕ). c.loop-item.names ++ text ∷ []) c.name.ensures in
+    record {
+      left = ap (λ (faults : List LoadFault). first_or faults None) (stands_once name place c.args.list.now c.loop-item.item-index c.item-item.result _ c.loop-item-test.true c.item-item.is c.loop-item.invariant.indexed new) ∙ c.loop-item.invariant.left;
+      indexed =
+          added ∙ ap (λ (names : List (List ℕ)). names ++ name c.item-item.result ∷ []) c.loop-item.invariant.indexed
+          ∙ sym (names_more name c.args.list.now c.loop-item.item-index c.item-item.result c.loop-item-test.true c.item-item.is);
+    }
+
+pub returns : goal.returns
+returns g c =
+    let name = g.T.Named.name_of in
+    let none : first_or (twice_in name g.T.Placed.place_of c.args.list.now) None ≡ None =
+    sym c.loop-item.invariant.left ∙ ap (λ (faults : List LoadFault). first_or faults None) (stands_nowhere name g.T.Placed.place_of c.args.list.now c.loop-item.item-index c.loop-item-test.false) in
+    ap (λ (fault : Option LoadFault). unless fault (map name c.args.list.now)) none ∙ ap Ok (sym (c.loop-item.invariant.indexed ∙ ap (map name) (take_all c.loop-item.item-index c.args.list.now c.loop-item-test.false)))

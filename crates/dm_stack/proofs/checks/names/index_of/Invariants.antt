@@ -1,0 +1,12 @@
+-- the rest has the first fault of the list, and the names so far are indexed
+use Rattle.std.proofs.Common.{◌≡◌, None, map, take}
+use Rattle.dm_table.specs.load.LoadFault.{first_or}
+use Rattle.dm_stack.specs.checks.Soundness.{twice_in}
+use Rattle.dm_stack.proofs.names.NameLemmas.{twice_from}
+use Rattle.dm_stack.proofs.checks.names.index_of.Given as goal
+
+abbrev pub invariant-loop-item : goal.invariant-loop-item
+invariant-loop-item g l = record {
+  left : first_or (twice_from g.T.Named.name_of g.T.Placed.place_of l.list l.item-index) None ≡ first_or (twice_in g.T.Named.name_of g.T.Placed.place_of l.list) None;
+  indexed : l.names ≡ map g.T.Named.name_of (take l.item-index l.list);
+}

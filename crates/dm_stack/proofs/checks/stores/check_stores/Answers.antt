@@ -1,0 +1,15 @@
+use Rattle.std.proofs.Common.{None, List, ap, ◌∙◌, rules, tests}
+use Rattle.dm_table.specs.load.LoadFault.{faults_by, first_or}
+use Rattle.dm_table.specs.declared.load.load_fault.LoadFault.{LoadFault}
+use Rattle.dm_table.specs.declared.load.load_fault.LoadKind.TheVariants.{Store}
+use Rattle.dm_table.specs.declared.tables.table.DeviceSpec.{DeviceSpec}
+use Rattle.dm_stack.specs.checks.Soundness.{all_lines}
+use Rattle.dm_stack.specs.checks.Store.{has_deep_store}
+use Rattle.dm_stack.proofs.checks.StoreLemmas.{deep_stores}
+use Rattle.dm_stack.proofs.checks.stores.check_stores.Goals as goal
+
+pub returns : goal.returns
+returns c =
+    c.check_lines.ensures (λ line. has_deep_store c.args.stack.now c.args.depths.now line.target) (λ line bad called. search (rules, tests))
+    ∙ ap (λ (devices : List DeviceSpec). first_or (faults_by Store (λ line. line.at) (λ line. has_deep_store c.args.stack.now c.args.depths.now line.target) (all_lines devices)) None) c.devices.ensures.devices
+    ∙ ap (λ (faults : List LoadFault). first_or faults None) (deep_stores c.args.stack.now c.args.depths.now c.requires)

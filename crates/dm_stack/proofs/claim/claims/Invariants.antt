@@ -1,8 +1,0 @@
--- the claims so far are those of the devices so far
-use Rattle.std.proofs.Common.{◌≡◌}
-use Rattle.std.specs.List.{flat_map, range_with_len}
-use Rattle.dm_stack.specs.Claims.{device_claims}
-use Rattle.dm_stack.proofs.claim.claims.Given as goal
-
-abbrev pub invariant-loop-id : goal.invariant-loop-id
-invariant-loop-id l = l.claims.items ≡ flat_map (device_claims l.stack) (range_with_len 0 l.id)

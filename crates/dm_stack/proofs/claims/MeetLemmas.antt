@@ -1,0 +1,96 @@
+-- That two claims meet, as it is computed and as it is defined.
+use Rattle.std.proofs.Common.{◌≡◌, ℕ, Bool, true, false, not, refl, sym, ap, ◌∙◌, arith}
+use Rattle.std.specs.Prelude.{◌&&◌, ◌==◌, max, min, nat_lt}
+use Rattle.std.proofs.lemmas.Bool.{and_from, and_parts, eq-eqb, eqb-true, lt-ltb, ltb-true, true≢false}
+use Rattle.dm_table.specs.declared.tables.table.Use.{Use}
+use Rattle.dm_table.specs.declared.tables.table.Use.TheVariants.{Own, Reading, Serving}
+use Rattle.dm_stack.specs.declared.claims.claim.Claim.{Claim}
+use Rattle.dm_stack.specs.declared.id.Lower.{Lower}
+use Rattle.dm_stack.specs.declared.id.Lower.TheVariants.{Device, Disk}
+use Rattle.dm_stack.specs.declared.claims.tidy.Numbered.{Numbered}
+use Rattle.dm_stack.specs.claims.Claims.{NeverMeet, MeetAt, may_share}
+use Rattle.dm_stack.specs.Description.{is_same_lower}
+use Rattle.dm_stack.specs.claims.Sweep.{meets, rivals}
+
+pub same_is : (one other : Lower) → is_same_lower one other ≡ true → one ≡ other
+same_is (Device one) (Device other) e = rw (eqb-true one other e)
+same_is (Device one) (Disk other) e = absurd (true≢false (sym e))
+same_is (Disk one) (Device other) e = absurd (true≢false (sym e))
+same_is (Disk one) (Disk other) e = rw (eqb-true one other e)
+
+pub self_same : (lower : Lower) → is_same_lower lower lower ≡ true
+self_same (Device id) = eq-eqb id id refl
+self_same (Disk id) = eq-eqb id id refl
+
+-- Either claim may come first
+
+eq_turn : (a b : ℕ) → (a == b) ≡ (b == a)
+eq_turn a b = grind arith
+
+same_turn : (one other : Lower) → is_same_lower one other ≡ is_same_lower other one
+same_turn (Device one) (Device other) = eq_turn one other
+same_turn (Device one) (Disk other) = refl
+same_turn (Disk one) (Device other) = refl
+same_turn (Disk one) (Disk other) = eq_turn one other
+
+pub share_turn : (one other : Use) → may_share one other ≡ may_share other one
+share_turn Own Own = refl
+share_turn Own Reading = refl
+share_turn Own Serving = refl
+share_turn Reading Own = refl
+share_turn Reading Reading = refl
+share_turn Reading Serving = refl
+share_turn Serving Own = refl
+share_turn Serving Reading = refl
+share_turn Serving Serving = refl
+
+max_turn : (a b : ℕ) → max a b ≡ max b a
+max_turn a b = omega arith
+
+min_turn : (a b : ℕ) → min a b ≡ min b a
+min_turn a b = omega arith
+
+meets_turn : (one other : Claim) → meets one other ≡ meets other one
+meets_turn one other =
+    rw (same_turn one.to other.to, max_turn one.start other.start, min_turn one.end other.end, share_turn one.kind other.kind)
+
+and_turn : (a b : Bool) → (a && b) ≡ (b && a)
+and_turn true true = refl
+and_turn true false = refl
+and_turn false true = refl
+and_turn false false = refl
+
+pub rivals_turn : (count : ℕ) (one other : Numbered) → rivals count one other ≡ rivals count other one
+rivals_turn count one other = rw (and_turn (nat_lt one.number count) (nat_lt other.number count), meets_turn one.claim other.claim)
+
+-- They meet exactly where some sector is in both, first of all at the greater start
+
+meets_at : (one other : Claim) (lower : Lower) (sector : ℕ) → MeetAt one other lower sector → meets one other ≡ true
+meets_at one other lower sector met =
+    and_from _ _ (ap (λ (l : Lower). is_same_lower l other.to) (met.here.on ∙ sym met.there.on) ∙ self_same other.to)
+    (and_from _ _ (lt-ltb (max one.start other.start) (min one.end other.end) (omega (arith, met.here.from, met.here.before, met.there.from, met.there.before))) (ap not met.rivals))
+
+pub never_meet_from : (one other : Claim) → meets one other ≡ false → NeverMeet one other
+never_meet_from one other none lower sector met = true≢false (sym (meets_at one other lower sector met) ∙ none)
+
+pub meet_from : (one other : Claim) → meets one other ≡ true → MeetAt one other other.to (max one.start other.start)
+meet_from one other some =
+    let parts = and_parts _ _ some in
+    let more = and_parts _ _ parts.1 in
+    let inside = ltb-true (max one.start other.start) (min one.end other.end) more.0 in
+    record {
+      here = record { on = same_is one.to other.to parts.0; from = omega arith; before = omega (arith, inside) };
+      there = record { on = refl; from = omega arith; before = omega (arith, inside) };
+      rivals = not_true (may_share one.kind other.kind) more.1;
+    }
+  where
+    not_true : (b : Bool) → not b ≡ true → b ≡ false
+    not_true true e = absurd (true≢false (sym e))
+    not_true false e = refl
+
+by_test : (one other : Claim) (b : Bool) → meets one other ≡ b → NeverMeet one other → meets one other ≡ false
+by_test one other true some apart = absurd (apart other.to (max one.start other.start) (meet_from one other some))
+by_test one other false none apart = none
+
+pub none_from : (one other : Claim) → NeverMeet one other → meets one other ≡ false
+none_from one other apart = by_test one other (meets one other) refl apart

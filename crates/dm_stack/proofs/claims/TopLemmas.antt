@@ -1,0 +1,301 @@
+-- What the claims of a stack are on, and which devices none of them are on.
+use Rattle.std.proofs.Common.{◌≡◌, ℕ, zero, suc, ◌+◌, ◌<◌, ◌≤◌, Bool, true, false, cond, not, List, [], ◌∷◌, ◌++◌, Option, Some, None, refl, sym, ap, subst, ◌∙◌, arith, get_or, length, map}
+use Rattle.std.specs.Prelude.{◌↔◌, ◌||◌, IfOk, IfSome, IsTrue, is_none, nat_lt, slice_get}
+use Rattle.std.proofs.Common.{Result, Ok, Err}
+use Rattle.std.specs.declared.alloc.AllocError.{AllocError}
+use Rattle.std.specs.List.{All, AllByRecursion, AllPairs, flat_map, list_any, position_or_len, range_with_len}
+use Rattle.std.proofs.Math.Seq.{get_or-append_seam}
+use Rattle.std.proofs.lemmas.Bool.{eq-eqb, eqb-true, ltb-false, ltb-true, or_parts, true≢false}
+use Rattle.std.proofs.lemmas.List.{append_assoc, get_or_default, get_or_append_left, length-append}
+use Rattle.std.proofs.lemmas.List.Elements.{All-from_recursion}
+use Rattle.std.proofs.lemmas.List.Folds.{Any-from_list_any}
+use Rattle.std.proofs.lemmas.Option.{slice_get_past, slice_get_read}
+use Rattle.dm_table.specs.declared.tables.table.DevRef.{DevRef}
+use Rattle.dm_table.specs.declared.tables.table.DevRef.TheVariants as refs
+use Rattle.dm_table.specs.declared.tables.table.DeviceSpec.{DeviceSpec}
+use Rattle.dm_table.specs.declared.tables.table.Line.{Line}
+use Rattle.dm_stack.specs.declared.claims.claim.Claim.{Claim}
+use Rattle.dm_stack.specs.declared.claims.clash.Clash.{Clash}
+use Rattle.dm_stack.specs.declared.id.Lower.{Lower}
+use Rattle.dm_stack.specs.declared.id.Lower.TheVariants.{Device, Disk}
+use Rattle.dm_stack.specs.claims.Claims.{AreTops, NeverMeet, IsClash, IsFirstClash, IsLower, IsThere, IsTidy, IsTop, MeetAt, claims, device_claims, line_claims, span_claim, span_end}
+use Rattle.dm_stack.specs.Description.{Description, end_of, is_same, len_or_none, lines_at, lines_or_none, lower_len, lower_of}
+use Rattle.dm_stack.specs.claims.Naming.{is_device, is_named, line_names}
+use Rattle.dm_stack.specs.Report.{IsReport, report_text}
+use Rattle.dm_stack.specs.checks.Soundness.{IsSound, is_past, passes, passes_end}
+use Rattle.dm_table.specs.tables.Span.{Span, spans}
+use Rattle.dm_stack.specs.claims.Sweep.{IsCounted}
+use Rattle.dm_stack.proofs.checks.HandedOn.{all_append, all_each}
+use Rattle.dm_stack.proofs.claims.PairLemmas.{none_before}
+use Rattle.dm_stack.proofs.SoundLines.{device_sound, lines_there, there}
+
+-- no line of a sound stack passes the end of what it names
+pub none_passes : (stack : Description) → IsSound stack → All (λ device. All (λ line. passes_end stack line ≡ false) device.lines) stack.devices
+none_passes stack sound k d within =
+    let device = get_or stack.devices k d in
+    let at : slice_get stack.devices k ≡ Some device = slice_get_read stack.devices (length stack.devices) k device refl within (get_or_default stack.devices k d device within) in
+    All-from_recursion (λ line. passes_end stack line ≡ false) device.lines (device_sound stack k device sound at).inside
+
+-- What claims are on has an id of the stack, or the one past the last
+
+id_more : (b : Bool) (id count : ℕ) → id < count + 1 → cond (not b) (1 + id) 0 < suc count + 1
+id_more true id count within = omega arith
+id_more false id count within = omega (arith, within)
+
+id_within : {X : Type 0} (test : X → Bool) (xs : List X) → position_or_len test xs < length xs + 1
+id_within test [] = omega arith
+id_within test (x ∷ xs) = id_more (test x) (position_or_len test xs) (length xs) (id_within test xs)
+
+to_within : (stack : Description) (to : DevRef) → IsCounted (length stack.devices + 1) (length stack.disks + 1) (lower_of stack to)
+to_within stack (refs.Device name) = id_within (λ device. is_same device.name name) stack.devices
+to_within stack (refs.Disk name) = id_within (λ disk. is_same disk.name name) stack.disks
+
+spans_within : (stack : Description) (device : ℕ) (list : List Span) → AllByRecursion (λ claim. IsCounted (length stack.devices + 1) (length stack.disks + 1) claim.to) (map (span_claim stack device) list)
+spans_within stack device [] = tt
+spans_within stack device (span ∷ list) = (to_within stack span.to, spans_within stack device list)
+
+pub claims_within : (stack : Description) → All (λ claim. IsCounted (length stack.devices + 1) (length stack.disks + 1) claim.to) (claims stack)
+claims_within stack =
+    let P = λ (claim : Claim). IsCounted (length stack.devices + 1) (length stack.disks + 1) claim.to in
+    All-from_recursion P (claims stack)
+    (all_each P (device_claims stack) (range_with_len 0 (length stack.devices)) (λ device. all_each P (line_claims stack device) (lines_at stack device) (λ line. spans_within stack device (spans line))))
+
+-- A device is named by a line exactly if a claim is on it
+
+any_append : {X : Type 0} (test : X → Bool) (xs ys : List X) → list_any test (xs ++ ys) ≡ (list_any test xs || list_any test ys)
+any_append test [] ys = refl
+any_append test (x ∷ xs) ys = by (test x) (any_append test xs ys)
+  where
+    by : (b : Bool) → list_any test (xs ++ ys) ≡ (list_any test xs || list_any test ys) → (b || list_any test (xs ++ ys)) ≡ ((b || list_any test xs) || list_any test ys)
+    by true e = refl
+    by false e = e
+
+any_flat : {X Y : Type 0} (test : Y → Bool) (f : X → List Y) (xs : List X) → list_any test (flat_map f xs) ≡ list_any (λ x. list_any test (f x)) xs
+any_flat test f [] = refl
+any_flat test f (x ∷ xs) = rw (← any_flat test f xs) (any_append test (f x) (flat_map f xs))
+
+any_map : {X Y : Type 0} (test : Y → Bool) (f : X → Y) (xs : List X) → list_any test (map f xs) ≡ list_any (λ x. test (f x)) xs
+any_map test f [] = refl
+any_map test f (x ∷ xs) = rw (any_map test f xs)
+
+any_same : {X : Type 0} (p q : X → Bool) (xs : List X) → ((x : X) → p x ≡ q x) → list_any p xs ≡ list_any q xs
+any_same p q [] same = refl
+any_same p q (x ∷ xs) same = rw (same x, any_same p q xs same)
+
+by_ids : (stack : Description) (test : List Line → Bool) (before devices : List DeviceSpec) (id : ℕ) → stack.devices ≡ before ++ devices → id ≡ length before
+    → list_any (λ device. test (lines_at stack device)) (range_with_len id (length devices)) ≡ list_any (λ device. test device.lines) devices
+by_ids stack test before [] id split is = refl
+by_ids stack test before (device ∷ devices) id split is =
+    let within : id < length stack.devices = omega (arith, ap (λ (all : List DeviceSpec). length all) split, length-append before (device ∷ devices)) in
+    let at : slice_get stack.devices id ≡ Some device =
+    slice_get_read stack.devices (length stack.devices) id device refl within
+    (sym (get_or-append_seam before device devices device) ∙ ap (λ (n : ℕ). get_or (before ++ device ∷ devices) n device) (sym is) ∙ ap (λ (all : List DeviceSpec). get_or all id device) (sym split)) in
+    let here : test (lines_at stack id) ≡ test device.lines = ap test (ap lines_or_none at) in
+    let later = by_ids stack test (before ++ device ∷ []) devices (id + 1) (split ∙ sym (append_assoc before (device ∷ []) devices)) (omega (arith, is, length-append before (device ∷ []))) in
+    rw (here, later)
+
+named_by_claims : (stack : Description) (device : ℕ) → list_any (λ claim. is_device device claim.to) (claims stack) ≡ is_named stack device
+named_by_claims stack device =
+    let test = λ (claim : Claim). is_device device claim.to in
+    any_flat test (device_claims stack) (range_with_len 0 (length stack.devices))
+    ∙ any_same (λ id. list_any test (device_claims stack id)) (λ id. list_any (line_names stack device) (lines_at stack id)) (range_with_len 0 (length stack.devices))
+    (λ id.
+    any_flat test (line_claims stack id) (lines_at stack id)
+    ∙ any_same (λ line. list_any test (line_claims stack id line)) (line_names stack device) (lines_at stack id) (λ line. any_map test (span_claim stack id) (spans line)))
+    ∙ by_ids stack (list_any (line_names stack device)) [] stack.devices 0 refl refl
+
+device_is : (device : ℕ) (lower : Lower) → is_device device lower ≡ true → lower ≡ Device device
+device_is device (Device id) e = rw (eqb-true id device e)
+device_is device (Disk id) e = absurd (true≢false (sym e))
+
+top_from : (stack : Description) (device : ℕ) → is_named stack device ≡ false → IsTop stack device
+top_from stack device none k d within on =
+    let free = none_before (λ claim. is_device device claim.to) (claims stack) (named_by_claims stack device ∙ none) k d within in
+    true≢false (sym (eq-eqb device device refl) ∙ sym (ap (is_device device) on) ∙ free)
+
+named_from : (stack : Description) (device : ℕ) → is_named stack device ≡ true → IsTop stack device → ⊥
+named_from stack device some top =
+    let claim = Any-from_list_any (λ claim. is_device device claim.to) (claims stack) (named_by_claims stack device ∙ some) in
+    top claim.0 claim.1 claim.2 (ap (λ (one : Claim). one.to) claim.3 ∙ device_is device claim.1.to claim.4)
+
+top_by : (stack : Description) (device : ℕ) (b : Bool) → is_named stack device ≡ b → IsTrue (not b) ↔ IsTop stack device
+top_by stack device true is = (λ e. absurd (true≢false (sym e)), λ top. absurd (named_from stack device is top))
+top_by stack device false is = (λ e. top_from stack device is, λ top. refl)
+
+pub top_is : (stack : Description) (device : ℕ) → IsTrue (not (is_named stack device)) ↔ IsTop stack device
+top_is stack device = top_by stack device (is_named stack device) refl
+
+-- the claims that were made are those of the stack
+pub are_claims : (stack described : Description) (slice items : List Claim) → slice ≡ items → items ≡ claims described → described ≡ stack → slice ≡ claims stack
+are_claims stack described slice items same made is = rw (← is) (same ∙ made)
+
+-- what is noted of the claims of a stack tells which devices are top
+pub noted_tops : {X : Type 0} (stack : Description) (all : List Claim) (count : ℕ) (items : X → List Bool) (result : Result X AllocError) → all ≡ claims stack → count ≡ length stack.devices → IfOk result (λ free. length (items free) ≡ count)
+    → IfOk result (λ free. (device : ℕ) → device < count → get_or (items free) device false ≡ not (list_any (λ claim. is_device device claim.to) all)) → IfOk result (λ free. AreTops stack (items free))
+noted_tops stack all count items (Err fault) made counted len each = tt
+noted_tops stack all count items (Ok free) made counted len each = record {
+  all = len ∙ counted;
+  each = λ device within.
+      let is = each device (omega (arith, within, counted)) ∙ ap (λ (list : List Claim). not (list_any (λ claim. is_device device claim.to) list)) made ∙ ap not (named_by_claims stack device) in
+      rw is (top_is stack device);
+}
+
+-- claims with a clash are not tidy
+clash_unties : (all : List Claim) (clash : Clash) → IsClash all clash → AllPairs NeverMeet all → ⊥
+clash_unties all clash is pairs =
+    let front = is.before ++ is.earlier ∷ is.between in
+    let whole = front ++ is.later ∷ is.after in
+    let apart = subst (AllPairs NeverMeet) is.split pairs (length is.before) (length front) is.later (omega (arith, length-append is.before (is.earlier ∷ is.between))) (omega (arith, length-append front (is.later ∷ is.after))) in
+    let one : get_or whole (length is.before) is.later ≡ is.earlier =
+    get_or_append_left front (is.later ∷ is.after) is.later (length is.before) (omega (arith, length-append is.before (is.earlier ∷ is.between))) ∙ get_or-append_seam is.before is.earlier is.between is.later in
+    subst (λ (claim : Claim). NeverMeet claim is.later) one (subst (NeverMeet (get_or whole (length is.before) is.later)) (get_or-append_seam front is.later is.after is.later) apart) clash.lower clash.sector is.meet
+
+untied : (stack : Description) (found : Option Clash) → IsFirstClash (claims stack) found → IsTrue (is_none found) ↔ IsTidy stack
+untied stack None pairs = (λ e. pairs, λ tidy. refl)
+untied stack (Some clash) is = (λ e. absurd (true≢false (sym e)), λ tidy. absurd (clash_unties (claims stack) clash is tidy))
+
+pub tidiness : (stack : Description) (result : Result (Option Clash) AllocError) → IfOk result (λ found. IsFirstClash (claims stack) found) → IfOk result (λ found. IsTrue (is_none found) ↔ IsTidy stack)
+tidiness stack (Ok found) is = untied stack found is
+tidiness stack (Err fault) is = tt
+
+-- The clash of claims is one
+
+-- at which places its claims stand
+record Stands (all : List Claim) (clash : Clash) : Type 0 where
+  one : ℕ
+  other : ℕ
+  in_order : one < other
+  within : other < length all
+  pairs : (i j : ℕ) (d : Claim) → i < j → j < other → NeverMeet (get_or all i d) (get_or all j d)
+  earliest : (i : ℕ) (d : Claim) → i < one → NeverMeet (get_or all i d) (get_or all other d)
+  meet : (d : Claim) → MeetAt (get_or all one d) (get_or all other d) clash.lower clash.sector
+  least : (d : Claim) (sector : ℕ) → sector < clash.sector → MeetAt (get_or all one d) (get_or all other d) clash.lower sector → ⊥
+  of_one : (d : Claim) → clash.first ≡ (get_or all one d).device
+  of_other : (d : Claim) → clash.second ≡ (get_or all other d).device
+
+stands : (all : List Claim) (clash : Clash) → IsClash all clash → Stands all clash
+stands all clash is =
+    let front = is.before ++ is.earlier ∷ is.between in
+    let whole = front ++ is.later ∷ is.after in
+    let front_length = length-append is.before (is.earlier ∷ is.between) in
+    let whole_length = length-append front (is.later ∷ is.after) in
+    let same_length = ap (λ (list : List Claim). length list) is.split in
+    let at : (i : ℕ) (d : Claim) → i < length front → get_or all i d ≡ get_or front i d = λ i d below. rw is.split (get_or_append_left front (is.later ∷ is.after) d i below) in
+    let early : (d : Claim) → is.earlier ≡ get_or all (length is.before) d = λ d. sym (at (length is.before) d (omega arith) ∙ get_or-append_seam is.before is.earlier is.between d) in
+    let late : (d : Claim) → is.later ≡ get_or all (length front) d = λ d. sym (ap (λ (list : List Claim). get_or list (length front) d) is.split ∙ get_or-append_seam front is.later is.after d) in
+    record {
+      one = length is.before;
+      other = length front;
+      in_order = omega arith;
+      within = omega arith;
+      pairs = λ i j d less below. rw (at i d (omega arith), at j d below) (is.first i j d less below);
+      earliest = λ i d below. rw (at i d (omega arith), get_or_append_left is.before (is.earlier ∷ is.between) d i below, ← late d) (is.earliest i d below);
+      meet = λ d. rw (← early d, ← late d) is.meet;
+      least = λ d. rw (← early d, ← late d) is.least;
+      of_one = λ d. rw (← early d) is.of_earlier;
+      of_other = λ d. rw (← late d) is.of_later;
+    }
+
+in_turn : (a b : ℕ) → (a < b → ⊥) → (b < a → ⊥) → a ≡ b
+in_turn a b less more = grind (arith, less, more)
+
+same_parts : (a b : Clash) → a.lower ≡ b.lower → a.sector ≡ b.sector → a.first ≡ b.first → a.second ≡ b.second → a ≡ b
+same_parts a b lower sector first second =
+    ap (λ (l : Lower). make l a.sector a.first a.second) lower ∙ ap (λ (s : ℕ). make b.lower s a.first a.second) sector
+    ∙ ap (λ (one : ℕ). make b.lower b.sector one a.second) first ∙ ap (λ (other : ℕ). make b.lower b.sector b.first other) second
+  where
+    make : Lower → ℕ → ℕ → ℕ → Clash
+    make lower sector first second = record { lower = lower; sector = sector; first = first; second = second }
+
+same_clash : (all : List Claim) (a b : Clash) (d : Claim) → Stands all a → Stands all b → a ≡ b
+same_clash all a b d x y =
+    let other : x.other ≡ y.other = in_turn x.other y.other
+    (λ less. y.pairs x.one x.other d x.in_order less a.lower a.sector (x.meet d))
+    (λ more. x.pairs y.one y.other d y.in_order more b.lower b.sector (y.meet d)) in
+    let there : get_or all x.other d ≡ get_or all y.other d = rw other in
+    let one : x.one ≡ y.one = in_turn x.one y.one
+    (λ less. y.earliest x.one d less a.lower a.sector (subst (λ (claim : Claim). MeetAt (get_or all x.one d) claim a.lower a.sector) there (x.meet d)))
+    (λ more. x.earliest y.one d more b.lower b.sector (subst (λ (claim : Claim). MeetAt (get_or all y.one d) claim b.lower b.sector) (sym there) (y.meet d))) in
+    let here : get_or all x.one d ≡ get_or all y.one d = rw one in
+    let lower : a.lower ≡ b.lower = cc (sym (x.meet d).there.on, there, (y.meet d).there.on) in
+    let meet_a : MeetAt (get_or all y.one d) (get_or all y.other d) b.lower a.sector = rw (← here, ← there, ← lower) (x.meet d) in
+    let meet_b : MeetAt (get_or all x.one d) (get_or all x.other d) a.lower b.sector = rw (here, there, lower) (y.meet d) in
+    let sector : a.sector ≡ b.sector = in_turn a.sector b.sector (λ less. y.least d a.sector less meet_a) (λ more. x.least d b.sector more meet_b) in
+    same_parts a b lower sector (x.of_one d ∙ ap (λ (claim : Claim). claim.device) here ∙ sym (y.of_one d)) (x.of_other d ∙ ap (λ (claim : Claim). claim.device) there ∙ sym (y.of_other d))
+
+pub one_clash : (all : List Claim) (found other : Option Clash) → IsFirstClash all found → IsFirstClash all other → found ≡ other
+one_clash all None None a b = refl
+one_clash all None (Some other) a b = absurd (clash_unties all other b a)
+one_clash all (Some found) None a b = absurd (clash_unties all found a b)
+one_clash all (Some found) (Some other) a b = ap Some (same_clash all found other a.earlier (stands all found a) (stands all other b))
+
+-- What a clash names is there
+
+record Inside (stack : Description) (claim : Claim) : Type 0 where
+  end : claim.end ≤ lower_len stack claim.to
+  device : claim.device < length stack.devices
+
+range_below : (from count end : ℕ) → from + count ≡ end → AllByRecursion (λ id. id < end) (range_with_len from count)
+range_below from zero end e = tt
+range_below from (suc count) end e = (omega (arith, e), range_below (from + 1) count end (omega (arith, e)))
+
+each_in : {X Y : Type 0} (Q : X → Type 0) (P : Y → Type 0) (f : X → List Y) (xs : List X) → AllByRecursion Q xs → ((x : X) → Q x → AllByRecursion P (f x)) → AllByRecursion P (flat_map f xs)
+each_in Q P f [] all each = tt
+each_in Q P f (x ∷ xs) all each = all_append P (f x) (flat_map f xs) (each x all.0) (each_in Q P f xs all.1 each)
+
+end_inside : (whole offset : ℕ) (len : Option ℕ) → passes whole offset len ≡ false → span_end whole offset len ≤ whole
+end_inside whole offset (Some len) e = ltb-false whole (offset + len) e
+end_inside whole offset None e = omega arith
+
+spans_inside : (stack : Description) (device : ℕ) (list : List Span) → device < length stack.devices → list_any (is_past stack) list ≡ false → AllByRecursion (Inside stack) (map (span_claim stack device) list)
+spans_inside stack device [] within none = tt
+spans_inside stack device (span ∷ list) within none =
+    let parts = or_parts _ _ none in
+    (record { end = end_inside (lower_len stack (lower_of stack span.to)) span.offset span.len parts.0; device = within }, spans_inside stack device list within parts.1)
+
+device_inside : (stack : Description) (device : ℕ) → IsSound stack → device < length stack.devices → AllByRecursion (Inside stack) (device_claims stack device)
+device_inside stack device sound within =
+    let found = there stack.devices device within in
+    let inside = subst (AllByRecursion (λ line. passes_end stack line ≡ false)) (sym (lines_there stack device found.it found.at)) (device_sound stack device found.it sound found.at).inside in
+    each_in (λ line. passes_end stack line ≡ false) (Inside stack) (line_claims stack device) (lines_at stack device) inside (λ line none. spans_inside stack device (spans line) within none)
+
+claims_inside : (stack : Description) → IsSound stack → All (Inside stack) (claims stack)
+claims_inside stack sound =
+    All-from_recursion (Inside stack) (claims stack)
+    (each_in (λ id. id < length stack.devices) (Inside stack) (device_claims stack) (range_with_len 0 (length stack.devices)) (range_below 0 (length stack.devices) (length stack.devices) (omega arith)) (λ device within. device_inside stack device sound within))
+
+by_length : {X : Type 0} (xs : List X) (id len : ℕ) (none_len : slice_get xs id ≡ None → len ≡ 0) (b : Bool) → nat_lt id (length xs) ≡ b → 0 < len → id < length xs
+by_length xs id len none_len true is some = ltb-true id (length xs) is
+by_length xs id len none_len false is some = absurd (omega (arith, some, none_len (slice_get_past xs id (ltb-false id (length xs) is))))
+
+lower_there : (stack : Description) (lower : Lower) → 0 < lower_len stack lower → IsLower stack lower
+lower_there stack (Device id) some = by_length stack.devices id (lower_len stack (Device id)) (λ none. ap (λ (found : Option DeviceSpec). end_of (lines_or_none found)) none) (nat_lt id (length stack.devices)) refl some
+lower_there stack (Disk id) some = by_length stack.disks id (lower_len stack (Disk id)) (λ none. ap len_or_none none) (nat_lt id (length stack.disks)) refl some
+
+clash_there : (stack : Description) (clash : Clash) → IsSound stack → IsClash (claims stack) clash → IsThere stack clash
+clash_there stack clash sound is =
+    let all = claims_inside stack sound in
+    let s = stands (claims stack) clash is in
+    let d = is.earlier in
+    let one = all s.one d (omega (arith, s.in_order, s.within)) in
+    let other = all s.other d s.within in
+    let met = s.meet d in
+    let inside : clash.sector < lower_len stack clash.lower = rw (← met.there.on) (omega (arith, met.there.before, other.end)) in
+    record {
+      lower = lower_there stack clash.lower (omega (arith, inside));
+      inside = inside;
+      first = rw (s.of_one d) one.device;
+      second = rw (s.of_other d) other.device;
+    }
+
+found_there : (stack : Description) (found : Option Clash) → IsSound stack → IsFirstClash (claims stack) found → IfSome found (IsThere stack)
+found_there stack None sound is = tt
+found_there stack (Some clash) sound is = clash_there stack clash sound is
+
+pub result_there : (stack : Description) (result : Result (Option Clash) AllocError) → IsSound stack → IfOk result (λ found. IsFirstClash (claims stack) found) → IfOk result (λ found. IfSome found (IsThere stack))
+result_there stack (Ok found) sound is = found_there stack found sound is
+result_there stack (Err fault) sound is = tt
+
+-- and so its report is one
+pub one_report : (stack : Description) (text other : List ℕ) → IsReport stack text → IsReport stack other → text ≡ other
+one_report stack text other a b = sym a.is ∙ ap (report_text stack) (one_clash (claims stack) a.found b.found a.clash b.clash) ∙ b.is

@@ -1,0 +1,13 @@
+-- what is left to claim, after what was claimed so far, gives all claims of the line
+use Rattle.std.proofs.Common.{◌≡◌, ◌++◌, false, map}
+use Rattle.std.specs.List.{list_any}
+use Rattle.dm_stack.specs.claims.Claims.{line_claims, span_claim}
+use Rattle.dm_stack.specs.checks.Soundness.{is_past}
+use Rattle.dm_stack.proofs.lines.SpanLemmas.{spans_left}
+use Rattle.dm_stack.proofs.claims.claim.add_line.Given as goal
+
+abbrev pub invariant-loop-span : goal.invariant-loop-span
+invariant-loop-span l = record {
+  left : l.claims.items ++ map (span_claim l.stack l.device) (spans_left l.span-iterator) ≡ l.fn.claims.items ++ line_claims l.stack l.device l.line;
+  inside : list_any (is_past l.stack) (spans_left l.span-iterator) ≡ false;
+}

@@ -1,0 +1,8 @@
+-- the claims so far are those of the lines so far
+use Rattle.std.proofs.Common.{◌≡◌, ◌++◌, take}
+use Rattle.std.specs.List.{flat_map}
+use Rattle.dm_stack.specs.claims.Claims.{line_claims}
+use Rattle.dm_stack.proofs.claims.claim.add_lines.Given as goal
+
+abbrev pub invariant-loop-line : goal.invariant-loop-line
+invariant-loop-line l = l.claims.items ≡ l.fn.claims.items ++ flat_map (line_claims l.stack l.device) (take l.line-index l.lines)

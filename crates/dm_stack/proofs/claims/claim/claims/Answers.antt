@@ -1,0 +1,19 @@
+use Rattle.std.proofs.Common.{◌≡◌, ◌<◌, ◌++◌, List, ℕ, ap, ◌∙◌, arith, get_or, length}
+use Rattle.std.specs.List.{flat_map}
+use Rattle.dm_table.specs.declared.tables.table.Line.{Line}
+use Rattle.dm_table.specs.declared.tables.table.DeviceSpec.{DeviceSpec}
+use Rattle.dm_stack.specs.claims.Claims.{line_claims}
+use Rattle.dm_stack.proofs.lines.ByDevice.{device_next}
+use Rattle.dm_stack.proofs.claims.claim.claims.Goals as goal
+
+pub loop-id-preserved : goal.loop-id-preserved
+loop-id-preserved c =
+    let id = c.loop-id.id in
+    let device = c.device-item.result in
+    let before = c.loop-id.claims.items in
+    let devices = c.devices-device-items.ensures.devices in
+    let within : id < length c.args.stack.now.devices = omega (arith, c.loop-id-test.true, ap (λ (all : List DeviceSpec). length all) devices) in
+    let is : device ≡ get_or c.args.stack.now.devices id device = c.device-item.is ∙ ap (λ (all : List DeviceSpec). get_or all id device) devices in
+    device_next (line_claims c.args.stack.now) c.args.stack.now id device before c.add_lines.new.claims.items within is c.loop-id.invariant
+    (c.in_ok-add_lines.ensures ∙ ap (λ (d : ℕ). before ++ flat_map (line_claims c.args.stack.now d) c.as_slice.result.now) c.new.ensures
+    ∙ ap (λ (lines : List Line). before ++ flat_map (line_claims c.args.stack.now id) lines) c.as_slice.ensures)

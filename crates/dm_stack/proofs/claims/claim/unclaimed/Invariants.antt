@@ -1,0 +1,11 @@
+-- the devices that none of the claims so far is on
+use Rattle.std.proofs.Common.{◌≡◌, ◌<◌, ℕ, false, length, not, slice_index_or, take}
+use Rattle.std.specs.List.{list_any}
+use Rattle.dm_stack.specs.claims.Naming.{is_device}
+use Rattle.dm_stack.proofs.claims.claim.unclaimed.Given as goal
+
+abbrev pub invariant-loop-claim : goal.invariant-loop-claim
+invariant-loop-claim l = record {
+  count : length l.free.items ≡ l.devices;
+  each : (device : ℕ) → device < l.devices → slice_index_or l.free.items device false ≡ not (list_any (λ claim. is_device device claim.to) (take l.claim-index l.claims));
+}

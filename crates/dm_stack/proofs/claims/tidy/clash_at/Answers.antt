@@ -1,0 +1,29 @@
+use Rattle.std.proofs.Common.{◌≡◌, Some, length, refl, sym, ap, ◌∙◌}
+use Rattle.std.specs.Prelude.{take}
+use Rattle.std.proofs.lemmas.Option.{slice_get_read}
+use Rattle.dm_stack.specs.declared.claims.claim.Claim.{Claim}
+use Rattle.dm_stack.specs.claims.Sweep.{clash_with}
+use Rattle.dm_stack.proofs.claims.TidyLemmas.{clash_here, clash_none}
+use Rattle.dm_stack.proofs.claims.tidy.clash_at.Goals as goal
+
+some_is : (one other : Claim) → Some one ≡ Some other → one ≡ other
+some_is one other e = cc
+
+pub returns-then-meets : goal.returns-then-meets
+returns-then-meets c later there =
+    let claims = c.args.claims.now in
+    let before = take c.args.index claims in
+    let read = slice_get_read claims (length claims) c.args.index c.index-claims-index.result refl c.requires c.index-claims-index.is in
+    let same = some_is c.index-claims-index.result later (sym read ∙ there) in
+    ap (λ (sector : _). Some (record { lower = c.index-claims-index.result.to; sector = sector; first = c.earlier-item.result.device; second = c.index-claims-index.result.device })) c.max.ensures
+    ∙ sym (clash_here before c.loop-earlier.earlier-index c.earlier-item.result c.index-claims-index.result c.loop-earlier-test.true c.earlier-item.is (sym c.meets.ensures ∙ c.if-meets.true))
+    ∙ c.loop-earlier.invariant ∙ ap (clash_with before) same
+
+pub returns : goal.returns
+returns c later there =
+    let claims = c.args.claims.now in
+    let before = take c.args.index claims in
+    let read = slice_get_read claims (length claims) c.args.index c.index-claims-index.result refl c.requires c.index-claims-index.is in
+    let same = some_is c.index-claims-index.result later (sym read ∙ there) in
+    sym (clash_none before c.loop-earlier.earlier-index c.index-claims-index.result c.loop-earlier-test.false)
+    ∙ c.loop-earlier.invariant ∙ ap (clash_with before) same

@@ -1,0 +1,7 @@
+-- none of the claims so far meets the later one
+use Rattle.std.proofs.Common.{◌≡◌, drop}
+use Rattle.dm_stack.specs.claims.Sweep.{clash_with}
+use Rattle.dm_stack.proofs.claims.tidy.clash_at.Given as goal
+
+abbrev pub invariant-loop-earlier : goal.invariant-loop-earlier
+invariant-loop-earlier l = clash_with (drop l.earlier-index l.earlier-items) l.later ≡ clash_with l.earlier-items l.later

@@ -1,0 +1,50 @@
+use Rattle.std.proofs.Common.{◌≡◌, false, true, not, sym, ap, ◌∙◌, cond, length, take}
+use Rattle.std.specs.List.{list_any}
+use Rattle.dm_stack.specs.declared.claims.reach.Reach.{Reach}
+use Rattle.dm_stack.specs.declared.claims.reach.Reaches.{Reaches}
+use Rattle.dm_stack.specs.Description.{is_same_lower}
+use Rattle.dm_stack.specs.claims.Sweep.{reach_at, reach_meets, reach_of, reach_with, rivals}
+use Rattle.dm_stack.proofs.claims.SweepLemmas.{counted, met, not_met, reach_more, search_ends, search_more, uncounted}
+use Rattle.dm_stack.proofs.claims.tidy.is_tidy_to.Goals as goal
+use Rattle.dm_stack.proofs.claims.tidy.is_tidy_to.Goals.{then-next-count+else-meets, else-next-count}
+
+pub loop-next-preserved : goal.loop-next-preserved
+loop-next-preserved c =
+    let order = c.args.order.now in
+    let k = c.loop-next.next-index in
+    let next = c.next-item.result in
+    let within = c.loop-next-test.true in
+    let is = c.next-item.is in
+    elim c.if-next-count.branch [
+      | then-next-count+else-meets w ↦
+          let none : list_any (λ one. rivals c.args.count one next) (take k order) ≡ false =
+          met c.args.count order k next c.requires.sorted within is w.if-next-count.true
+          ∙ ap (λ (reach : Reach). reach_meets reach next.claim) (sym (w.at.ensures ∙ c.loop-next.invariant.reaches next.claim.to)) ∙ sym w.meets.ensures ∙ w.if-meets.false in
+          record {
+            reaches = λ lower.
+                ap (λ (all : Reaches). reach_at all lower) w.reaches-is ∙ w.add.ensures.reach lower
+                ∙ ap (λ (reach : Reach). cond (is_same_lower next.claim.to lower) (reach_with reach next.claim) reach) (c.loop-next.invariant.reaches lower)
+                ∙ counted c.args.count lower (reach_of c.args.count lower (take k order)) next w.if-next-count.true ∙ sym (reach_more c.args.count lower order k next within is);
+            left = search_more c.args.count order k next _ within is none c.loop-next.invariant.left;
+            devices = ap (λ (all : Reaches). length all.devices.items) w.reaches-is ∙ w.add.ensures.devices ∙ c.loop-next.invariant.devices;
+            disks = ap (λ (all : Reaches). length all.disks.items) w.reaches-is ∙ w.add.ensures.disks ∙ c.loop-next.invariant.disks;
+          }
+      | else-next-count w ↦ record {
+        reaches = λ lower.
+            ap (λ (all : Reaches). reach_at all lower) w.reaches-is ∙ c.loop-next.invariant.reaches lower
+            ∙ uncounted c.args.count lower (reach_of c.args.count lower (take k order)) next w.if-next-count.false ∙ sym (reach_more c.args.count lower order k next within is);
+        left = search_more c.args.count order k next _ within is (not_met c.args.count next (take k order) w.if-next-count.false) c.loop-next.invariant.left;
+        devices = ap (λ (all : Reaches). length all.devices.items) w.reaches-is ∙ c.loop-next.invariant.devices;
+        disks = ap (λ (all : Reaches). length all.disks.items) w.reaches-is ∙ c.loop-next.invariant.disks;
+      }
+    ]
+
+pub returns-then-meets : goal.returns-then-meets
+returns-then-meets c =
+    let order = c.args.order.now in
+    let k = c.loop-next.next-index in
+    let next = c.next-item.result in
+    let some : list_any (λ one. rivals c.args.count one next) (take k order) ≡ true =
+    met c.args.count order k next c.requires.sorted c.loop-next-test.true c.next-item.is c.if-next-count.true
+    ∙ ap (λ (reach : Reach). reach_meets reach next.claim) (sym (c.at.ensures ∙ c.loop-next.invariant.reaches next.claim.to)) ∙ sym c.meets.ensures ∙ c.if-meets.true in
+    ap not (sym (search_ends c.args.count order k next _ c.loop-next-test.true c.next-item.is some c.loop-next.invariant.left))

@@ -1,0 +1,13 @@
+-- the claims so far do not meet, and what is kept of them is how far they reach
+use Rattle.std.proofs.Common.{◌≡◌, [], drop, length, take}
+use Rattle.dm_stack.specs.declared.id.Lower.{Lower}
+use Rattle.dm_stack.specs.claims.Sweep.{has_pair, reach_at, reach_of, rivals}
+use Rattle.dm_stack.proofs.claims.tidy.is_tidy_to.Given as goal
+
+abbrev pub invariant-loop-next : goal.invariant-loop-next
+invariant-loop-next l = record {
+  reaches : (lower : Lower) → reach_at l.reaches lower ≡ reach_of l.count lower (take l.next-index l.order);
+  left : has_pair (rivals l.count) (take l.next-index l.order) (drop l.next-index l.order) ≡ has_pair (rivals l.count) [] l.order;
+  devices : length l.reaches.devices.items ≡ l.devices;
+  disks : length l.reaches.disks.items ≡ l.disks;
+}

@@ -1,0 +1,15 @@
+-- none of the claims below the one index meet, and some below the other do
+use Rattle.std.proofs.Common.{◌≡◌, ◌<◌, ◌≤◌, ◌-◌, false, length, true}
+use Rattle.dm_stack.specs.claims.Sweep.{is_tidy_to}
+use Rattle.dm_stack.proofs.claims.tidy.tidy_len.Given as goal
+
+abbrev pub invariant-loop-tidy : goal.invariant-loop-tidy
+invariant-loop-tidy l = record {
+  apart : l.tidy < l.clashing;
+  within : l.clashing ≤ length l.order;
+  tidy : is_tidy_to l.tidy l.order ≡ true;
+  clash : is_tidy_to l.clashing l.order ≡ false;
+}
+
+abbrev pub decreases-loop-tidy : goal.decreases-loop-tidy
+decreases-loop-tidy l = l.clashing - l.tidy

@@ -1,6 +1,0 @@
-use Rattle.std.proofs.Common.{◌≡◌, drop, max}
-use Rattle.dm_stack.specs.Graph.{greatest}
-use Rattle.dm_stack.proofs.depth.deepest.Given as goal
-
-abbrev pub invariant-loop-depth : goal.invariant-loop-depth
-invariant-loop-depth l = max l.deepest (greatest (drop l.depth-index l.depths)) ≡ greatest l.depths

@@ -1,4 +1,0 @@
-use Rattle.dm_stack.proofs.front_names.FrontNames.new.Goals as goal
-
-pub loop-index-preserved : goal.loop-index-preserved
-loop-index-preserved c = c.put.ensures c.args.devices.now c.loop-index.invariant c.place_of-place.ensures

@@ -1,5 +1,0 @@
-use Rattle.dm_stack.specs.FrontNames.{ArePlaces}
-use Rattle.dm_stack.proofs.front_names.FrontNames.new.Given as goal
-
-abbrev pub invariant-loop-index : goal.invariant-loop-index
-invariant-loop-index l = ArePlaces l.devices l.places.items

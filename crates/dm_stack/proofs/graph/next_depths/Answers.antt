@@ -1,6 +1,0 @@
--- What a device names has its depth among those that are at hand.
-use Rattle.dm_stack.proofs.RoundLemmas.{named_within}
-use Rattle.dm_stack.proofs.graph.next_depths.Goals as goal
-
-pub depth_over-requires-clause-closed : goal.depth_over-requires-clause-closed
-depth_over-requires-clause-closed c = named_within c.args.links.now _ c.loop-named.named-index c.named-item.result c.loop-named-test.true c.named-item.is c.requires.closed c.deref.result.now c.deref.ensures.value

@@ -1,7 +1,0 @@
-use Rattle.std.proofs.Common.{◌≡◌, drop}
-use Rattle.std.specs.Prelude.{slice_get}
-use Rattle.dm_stack.specs.Soundness.{all_lines}
-use Rattle.dm_stack.proofs.limits.line_at.Given as goal
-
-abbrev pub invariant-loop-device : goal.invariant-loop-device
-invariant-loop-device l = slice_get (all_lines (drop l.device-index l.devices)) l.left ≡ slice_get (all_lines l.devices) l.index

@@ -1,0 +1,14 @@
+-- Of lines: how they are found, their spans, stripes and legs, the places of stores, and the snapshots
+-- of an origin.
+pub mod BucketLemmas
+pub mod ByDevice
+pub mod Inverses
+pub mod LegLemmas
+pub mod LineSearchLemmas
+pub mod Members
+pub mod OverLemmas
+pub mod SameLine
+pub mod SpanLemmas
+pub mod StoreLayoutLemmas
+pub mod StripeLemmas
+mod WorkedLayouts

@@ -1,0 +1,56 @@
+-- Buckets of sectors, and the line of the first sector of each.
+use Rattle.std.proofs.Common.{◌≡◌, ℕ, zero, suc, ◌+◌, ◌*◌, ◌^◌, ◌<◌, ◌≤◌, ◌⊎◌, List, [], ◌∷◌, ◌++◌, Option, Some, None, length, get_or, length-append, sym, arith, inl, inr}
+use Rattle.std.specs.Prelude.{MatchOption, slice_get}
+use Rattle.std.proofs.lemmas.Bool.{cases_lt}
+use Rattle.std.proofs.lemmas.List.{get_or_append_left, get_or_push}
+use Rattle.std.proofs.Math.Nat.{mul-le-mul_right}
+use Rattle.dm_stack.specs.declared.lines.found_line.FoundLine.{FoundLine}
+use Rattle.dm_stack.specs.lines.LineSearch.{AreFirsts, IsLineOf, StartsAfter, StartsBy}
+
+by_later : (found : Option FoundLine) (sector later : ℕ) → sector ≤ later → MatchOption found ⊥ (λ line. line.start ≤ sector) → MatchOption found ⊥ (λ line. line.start ≤ later)
+by_later (Some line) sector later more from = omega (arith, more, from)
+by_later None sector later more from = absurd from
+
+-- what starts at a sector or before it does so at a later one, too
+pub starts_by_later : (lines : List FoundLine) (index sector later : ℕ) → sector ≤ later → StartsBy lines index sector → StartsBy lines index later
+starts_by_later lines index sector later more from = by_later (slice_get lines index) sector later more from
+
+-- there is no line after the last one
+pub none_after : (lines : List FoundLine) (index sector : ℕ) → length lines ≤ index → StartsAfter lines index sector
+none_after [] index sector past = tt
+none_after (line ∷ lines) zero sector past = absurd (omega arith)
+none_after (line ∷ lines) (suc index) sector past = none_after lines index sector (omega (arith, past))
+
+-- the next bucket begins after this one
+pub next_bucket : (bucket shift : ℕ) → bucket * 2 ^ shift ≤ (bucket + 1) * 2 ^ shift
+next_bucket bucket shift = mul-le-mul_right (2 ^ shift) (omega arith)
+
+earlier_or_last : (firsts : List ℕ) (index bucket : ℕ) → bucket < length (firsts ++ index ∷ []) → (bucket < length firsts) ⊎ (bucket ≡ length firsts)
+earlier_or_last firsts index bucket within =
+    let more = length-append firsts (index ∷ []) in
+    elim (cases_lt bucket (length firsts)) [
+      | inl earlier ↦ inl earlier
+      | inr later ↦ inr (omega (arith, within, more, later))
+    ]
+
+-- one more bucket, whose line is none of the earlier ones
+pub firsts_pushed : (lines : List FoundLine) (firsts : List ℕ) (index shift : ℕ) → AreFirsts lines firsts shift → ((bucket : ℕ) → bucket < length firsts → get_or firsts bucket 0 ≤ index)
+    → IsLineOf lines index (length firsts * 2 ^ shift) → AreFirsts lines (firsts ++ index ∷ []) shift
+firsts_pushed lines firsts index shift are earlier is = record {
+  short = are.short;
+  at = λ bucket within. elim (earlier_or_last firsts index bucket within) [
+    | inl before ↦ rw (get_or_append_left firsts (index ∷ []) 0 bucket before) (are.at bucket before)
+    | inr last ↦ rw (get_or_push firsts index 0 bucket (sym last), last) is
+  ];
+  rising = λ bucket within. elim (earlier_or_last firsts index (bucket + 1) within) [
+    | inl before ↦ rw (get_or_append_left firsts (index ∷ []) 0 bucket (omega (arith, before)), get_or_append_left firsts (index ∷ []) 0 (bucket + 1) before) (are.rising bucket before)
+    | inr last ↦ rw (get_or_append_left firsts (index ∷ []) 0 bucket (omega (arith, last)), get_or_push firsts index 0 (bucket + 1) (sym last)) (earlier bucket (omega (arith, last)))
+  ];
+}
+
+pub earlier_pushed : (firsts : List ℕ) (index : ℕ) → ((bucket : ℕ) → bucket < length firsts → get_or firsts bucket 0 ≤ index)
+    → (bucket : ℕ) → bucket < length (firsts ++ index ∷ []) → get_or (firsts ++ index ∷ []) bucket 0 ≤ index
+earlier_pushed firsts index earlier bucket within = elim (earlier_or_last firsts index bucket within) [
+  | inl before ↦ rw (get_or_append_left firsts (index ∷ []) 0 bucket before) (earlier bucket before)
+  | inr last ↦ rw (get_or_push firsts index 0 bucket (sym last)) (omega arith)
+]

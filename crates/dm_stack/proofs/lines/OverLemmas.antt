@@ -1,0 +1,124 @@
+-- The snapshots of an origin: each of them is all of its device, and has that origin; and each such snapshot is among them.
+use Rattle.std.proofs.Common.{◌≡◌, ℕ, ◌<◌, Bool, true, false, cond, inl, inr, ◌⊎◌, List, [], ◌∷◌, Some, refl, sym, ap, subst, ◌∙◌, length}
+use Rattle.std.specs.Prelude.{filter, find, option_map}
+use Rattle.std.specs.List.{Contains, flat_map, range_with_len}
+use Rattle.std.proofs.lemmas.Bool.{or_left, or_right}
+use Rattle.std.proofs.lemmas.List.{append-nil}
+use Rattle.std.proofs.lemmas.List.Elements.{Contains-append_cases, Contains-append_left, Contains-append_right}
+use Rattle.dm_table.specs.declared.tables.table.DevRef.{DevRef}
+use Rattle.dm_table.specs.declared.tables.table.Line.{Line}
+use Rattle.dm_table.specs.declared.tables.table.Target.{Target}
+use Rattle.dm_table.specs.declared.tables.table.Target.TheVariants as targets
+use Rattle.dm_stack.specs.declared.lines.found_line.FoundLine.{FoundLine}
+use Rattle.dm_stack.specs.declared.lines.found_line.FoundOver.{FoundOver}
+use Rattle.dm_stack.specs.declared.lines.found_line.FoundSnapshot.{FoundSnapshot}
+use Rattle.dm_stack.specs.declared.lines.found_line.FoundTarget.{FoundTarget}
+use Rattle.dm_stack.specs.declared.lines.found_line.FoundTarget.TheVariants as found
+use Rattle.dm_stack.specs.declared.id.Lower.{Lower}
+use Rattle.dm_stack.specs.lines.Below.{found_at, found_line, found_target, holds}
+use Rattle.dm_stack.specs.Description.{Description, device_len, is_same_lower, lines_at, lower_of}
+use Rattle.dm_stack.specs.checks.Snapshots.{has_snapshot, is_snapshot}
+use Rattle.dm_stack.specs.lines.Over.{all_over, device_over, found_snapshot, over_of, snapshots_over}
+use Rattle.dm_stack.specs.checks.Soundness.{IsSound}
+use Rattle.dm_stack.proofs.claims.MeetLemmas.{same_is, self_same}
+use Rattle.dm_stack.proofs.lines.Members.{flat_part, flat_there, in_range, kept, kept_parts, none_there, only, only_there, range_within}
+use Rattle.dm_stack.proofs.SnapshotRule.{any_found, lines_within, snapshot_line}
+
+-- What the lists are
+
+pub over_is : (stack : Description) (to : Lower) → filter (λ one. is_same_lower one.snapshot.origin to) (all_over stack) ≡ snapshots_over stack to
+unfolding snapshots_over
+over_is stack to = refl
+
+pub all_is : (stack : Description) → flat_map (device_over stack) (range_with_len 0 (length stack.devices)) ≡ all_over stack
+unfolding all_over
+all_is stack = refl
+
+-- the line of an origin, by ids
+pub origin_is : (stack : Description) (origin : DevRef) (to : Lower) (all over : List FoundOver) → to ≡ lower_of stack origin → all ≡ all_over stack → over ≡ filter (λ one. is_same_lower one.snapshot.origin to) all
+    → found.Origin (record { to = to; over = over }) ≡ found_target stack (targets.Origin origin)
+origin_is stack origin to all over at are is =
+    let served : over ≡ snapshots_over stack to = cc (is, are, over_is stack to) in
+    rw (served, at)
+
+-- From the list to the devices
+
+-- the target of a line that is this snapshot
+record IsTargetOf (stack : Description) (device : ℕ) (target : Target) (one : FoundOver) : Type 0 where
+  here : one.device ≡ device
+  over : is_snapshot target ≡ true
+  is : found_target stack target ≡ found.Snapshot one.snapshot
+
+target_one : (stack : Description) (device : ℕ) (target : Target) (one : FoundOver) → Contains (over_of stack device target) one → IsTargetOf stack device target one
+target_one stack device (targets.Snapshot origin store kind chunk) one named =
+    let same = only one (record { device = device; snapshot = found_snapshot stack origin store kind chunk }) named in
+    record { here = sym (ap (λ (o : FoundOver). o.device) same); over = refl; is = cc (same) }
+target_one stack device _ one named = absurd (none_there one named)
+
+has_one : (stack : Description) (device : ℕ) (lines : List Line) (one : FoundOver) → Contains (flat_map (λ line. over_of stack device line.target) lines) one → has_snapshot lines ≡ true
+has_one stack device [] one named = absurd (none_there one named)
+has_one stack device (line ∷ lines) one named = by_part (has_one stack device lines one) (Contains-append_cases (over_of stack device line.target) (flat_map (λ line. over_of stack device line.target) lines) one named)
+  where
+    by_part : (Contains (flat_map (λ line. over_of stack device line.target) lines) one → has_snapshot lines ≡ true)
+        → Contains (over_of stack device line.target) one ⊎ Contains (flat_map (λ line. over_of stack device line.target) lines) one → has_snapshot (line ∷ lines) ≡ true
+    by_part more (inl here) = or_left (is_snapshot line.target) (has_snapshot lines) (target_one stack device line.target one here).over
+    by_part more (inr later) = or_right (is_snapshot line.target) (has_snapshot lines) (more later)
+
+-- a device that is this snapshot, all of it
+pub record IsSnapshotDevice (stack : Description) (one : FoundOver) : Type 0 where
+  pub there : one.device < length stack.devices
+  pub line : found_at stack one.device 0 ≡ Some (record { start = 0; len = device_len stack one.device; target = found.Snapshot one.snapshot })
+
+over_device : (stack : Description) (device : ℕ) (one : FoundOver) → IsSound stack → device < length stack.devices → Contains (device_over stack device) one → IsSnapshotDevice stack one
+over_device stack device one sound within named =
+    let line = snapshot_line stack sound device within (has_one stack device (lines_at stack device) one named) in
+    let alone : device_over stack device ≡ over_of stack device line.line.target =
+    ap (λ (lines : List Line). flat_map (λ (l : Line). over_of stack device l.target) lines) line.only ∙ append-nil (over_of stack device line.line.target) in
+    let of = target_one stack device line.line.target one (subst (λ (all : List FoundOver). Contains all one) alone named) in
+    record {
+      there = subst (λ (d : ℕ). d < length stack.devices) (sym of.here) within;
+      line =
+          subst (λ (d : ℕ). found_at stack d 0 ≡ Some (record { start = 0; len = device_len stack d; target = found.Snapshot one.snapshot })) (sym of.here)
+          (line.at ∙ ap (λ (t : FoundTarget). Some (record { start = 0; len = device_len stack device; target = t })) of.is);
+    }
+
+-- each snapshot of an origin is the whole of its device, with that origin
+pub over_sound : (stack : Description) (to : Lower) (one : FoundOver) → IsSound stack → Contains (snapshots_over stack to) one → IsSnapshotDevice stack one × (one.snapshot.origin ≡ to)
+over_sound stack to one sound named =
+    let passes = kept_parts (λ (o : FoundOver). is_same_lower o.snapshot.origin to) (all_over stack) one (subst (λ (all : List FoundOver). Contains all one) (sym (over_is stack to)) named) in
+    let by = flat_part (device_over stack) (range_with_len 0 (length stack.devices)) one (subst (λ (all : List FoundOver). Contains all one) (sym (all_is stack)) passes.0) in
+    (over_device stack by.by one sound (range_within (length stack.devices) by.by by.there) by.given, same_is one.snapshot.origin to passes.1)
+
+-- From a device to the list
+
+target_all : (stack : Description) (device : ℕ) (target : Target) (snapshot : FoundSnapshot) → found_target stack target ≡ found.Snapshot snapshot → Contains (over_of stack device target) (record { device = device; snapshot = snapshot })
+target_all stack device (targets.Snapshot origin store kind chunk) snapshot is =
+    let same : found_snapshot stack origin store kind chunk ≡ snapshot = cc in
+    only_there (record { device = device; snapshot = snapshot }) _ (ap (λ (s : FoundSnapshot). let one : FoundOver = record { device = device; snapshot = s } in one) same)
+target_all stack device _ snapshot is = absurd cc
+
+found_over : (stack : Description) (device : ℕ) (test : Line → Bool) (lines : List Line) (line : FoundLine) (snapshot : FoundSnapshot) → option_map (found_line stack) (find test lines) ≡ Some line → line.target ≡ found.Snapshot snapshot
+    → Contains (flat_map (λ l. over_of stack device l.target) lines) (record { device = device; snapshot = snapshot })
+found_over stack device test [] line snapshot at is = absurd cc
+found_over stack device test (first ∷ lines) line snapshot at is = by_test (λ e. found_over stack device test lines line snapshot e is) (test first) at
+  where
+    one : FoundOver
+    one = record { device = device; snapshot = snapshot }
+
+    by_test : (option_map (found_line stack) (find test lines) ≡ Some line → Contains (flat_map (λ l. over_of stack device l.target) lines) one) → (b : Bool) → option_map (found_line stack) (cond b (Some first) (find test lines)) ≡ Some line
+        → Contains (flat_map (λ l. over_of stack device l.target) (first ∷ lines)) one
+    by_test more true e =
+        let same : found_target stack first.target ≡ line.target = cc in
+        Contains-append_left (over_of stack device first.target) (flat_map (λ l. over_of stack device l.target) lines) one (target_all stack device first.target snapshot (same ∙ is))
+    by_test more false e = Contains-append_right (over_of stack device first.target) (flat_map (λ l. over_of stack device l.target) lines) one (more e)
+
+-- a snapshot is among those of its origin
+pub over_all : (stack : Description) (device : ℕ) (line : FoundLine) (snapshot : FoundSnapshot) → found_at stack device 0 ≡ Some line → line.target ≡ found.Snapshot snapshot → Contains (snapshots_over stack snapshot.origin) (record { device = device; snapshot = snapshot })
+over_all stack device line snapshot at is =
+    let one : FoundOver = record { device = device; snapshot = snapshot } in
+    let lines = lines_at stack device in
+    let within = lines_within stack device (any_found stack (holds 0) lines line snapshot at is) in
+    let all : Contains (all_over stack) one =
+    subst (λ (all : List FoundOver). Contains all one) (all_is stack)
+    (flat_there (device_over stack) (range_with_len 0 (length stack.devices)) device one (in_range (length stack.devices) device within) (found_over stack device (holds 0) lines line snapshot at is)) in
+    rw (← over_is stack snapshot.origin) (kept (λ (o : FoundOver). is_same_lower o.snapshot.origin snapshot.origin) (all_over stack) one (self_same snapshot.origin) all)

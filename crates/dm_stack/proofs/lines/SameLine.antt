@@ -1,0 +1,82 @@
+-- The line of a sector is also that of each other sector that it holds.
+use Rattle.std.proofs.Common.{◌≡◌, ℕ, ◌+◌, ◌<◌, ◌≤◌, Bool, true, false, cond, List, [], ◌∷◌, length, Option, Some, None, refl, sym, ap, ◌∙◌, arith}
+use Rattle.std.specs.Prelude.{◌&&◌, nat_le, option_map}
+use Rattle.std.proofs.lemmas.Bool.{le-ltb}
+use Rattle.dm_table.specs.declared.tables.table.Line.{Line}
+use Rattle.dm_stack.specs.declared.lines.found_line.FoundLine.{FoundLine}
+use Rattle.dm_stack.specs.Description.{Description, lines_at}
+use Rattle.dm_stack.specs.lines.Below.{holds, line_of, found_line, found_at, IsLineOf}
+use Rattle.dm_stack.specs.checks.Soundness.{IsSound}
+use Rattle.dm_stack.proofs.checks.LayoutLemmas.{AreInRow}
+use Rattle.dm_stack.proofs.SoundLines.{HoldsSoundly, holds_from, there, device_sound, lines_there}
+
+-- Lines that start where the one before ends
+
+starts_here : (end sector : ℕ) (first line : Line) (lines : List Line) (b : Bool) → first.start ≡ end → (line_of lines sector ≡ Some line → first.start + first.len ≤ line.start) → cond b (Some first) (line_of lines sector) ≡ Some line → end ≤ line.start
+starts_here end sector first line lines true start later is = let same : first ≡ line = cc in let starts = ap (λ (l : Line). l.start) same in omega arith
+starts_here end sector first line lines false start later is = let after = later is in omega arith
+
+-- a line that was found starts after the end of those before it
+starts_after : (end : ℕ) (lines : List Line) (sector : ℕ) (line : Line) → AreInRow end lines → line_of lines sector ≡ Some line → end ≤ line.start
+starts_after end [] sector line e is = absurd cc
+starts_after end (first ∷ lines) sector line e is =
+    starts_here end sector first line lines (holds sector first) e.0 (λ later. starts_after (first.start + first.len) lines sector line e.1 later) is
+
+and_none : (b : Bool) → (b && false) ≡ false
+and_none true = refl
+and_none false = refl
+
+pub holds_none : (line : Line) (sector : ℕ) → line.start + line.len ≤ sector → holds sector line ≡ false
+holds_none line sector past = rw (le-ltb sector (line.start + line.len) past) (and_none (nat_le line.start sector))
+
+same_here : (sector other : ℕ) (first line : Line) (lines : List Line) (b : Bool) → line.start ≤ other → other < line.start + line.len
+    → (line_of lines sector ≡ Some line → first.start + first.len ≤ line.start) → (line_of lines sector ≡ Some line → line_of lines other ≡ Some line)
+    → cond b (Some first) (line_of lines sector) ≡ Some line → line_of (first ∷ lines) other ≡ Some line
+same_here sector other first line lines true from before after later is =
+    let same : first ≡ line = cc in
+    let held : holds other first ≡ true = rw same (holds_from line other from before) in
+    rw held (ap Some same)
+same_here sector other first line lines false from before after later is =
+    let past = after is in
+    rw (holds_none first other (omega (arith, past, from))) (later is)
+
+same_line : (end : ℕ) (lines : List Line) (sector other : ℕ) (line : Line) → AreInRow end lines → line_of lines sector ≡ Some line → line.start ≤ other → other < line.start + line.len → line_of lines other ≡ Some line
+same_line end [] sector other line e is from before = absurd cc
+same_line end (first ∷ lines) sector other line e is from before =
+    same_here sector other first line lines (holds sector first) from before
+    (λ later. starts_after (first.start + first.len) lines sector line e.1 later)
+    (λ later. same_line (first.start + first.len) lines sector other line e.1 later from before) is
+
+-- The lines of a device
+
+record IsMapped {X Y : Type 0} (f : X → Y) (o : Option X) (y : Y) : Type 0 where
+  x : X
+  is : o ≡ Some x
+  value : f x ≡ y
+
+mapped : {X Y : Type 0} (f : X → Y) (o : Option X) (y : Y) → option_map f o ≡ Some y → IsMapped f o y
+mapped f (Some x) y is = record { x = x; is = refl; value = cc }
+mapped f None y is = absurd cc
+
+pub same_found : (stack : Description) (id sector other : ℕ) (line : FoundLine) → IsSound stack → id < length stack.devices → found_at stack id sector ≡ Some line → line.start ≤ other → other < line.start + line.len → found_at stack id other ≡ Some line
+same_found stack id sector other line sound within is from before =
+    let d = there stack.devices id within in
+    let s = device_sound stack id d.it sound d.at in
+    let lines = lines_there stack id d.it d.at in
+    let m = mapped (found_line stack) (line_of (lines_at stack id) sector) line is in
+    let start : m.x.start ≡ line.start = cc (m.value) in
+    let len : m.x.len ≡ line.len = cc (m.value) in
+    let held : line_of d.it.lines sector ≡ Some m.x = sym (ap (λ (ls : List Line). line_of ls sector) lines) ∙ m.is in
+    let same = same_line 0 d.it.lines sector other m.x s.placed held (omega (arith, start, from)) (omega (arith, start, len, before)) in
+    ap (option_map (found_line stack)) (ap (λ (ls : List Line). line_of ls other) lines ∙ same) ∙ ap Some m.value
+
+-- so what a search finds is the line of its sector
+pub found_line_of : (stack : Description) (id sector : ℕ) (line : FoundLine) → IsSound stack → id < length stack.devices → found_at stack id sector ≡ Some line → HoldsSoundly stack id line sector → IsLineOf stack id line sector
+found_line_of stack id sector line sound within is holds = record {
+  from = holds.from;
+  before = holds.before;
+  is = record { small = holds.small; target = holds.target; all = λ other from before. same_found stack id sector other line sound within is from before };
+}
+
+pub found_of : (stack : Description) (id sector : ℕ) (line : FoundLine) → IsLineOf stack id line sector → found_at stack id sector ≡ Some line
+found_of stack id sector line of = of.is.all sector of.from of.before

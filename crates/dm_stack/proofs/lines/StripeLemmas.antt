@@ -1,0 +1,127 @@
+-- Stripes: the column of a sector is one of the line's, its sector there is one of the column's share, and the next chunk is on the next column.
+use Rattle.std.proofs.Common.{◌≡◌, ℕ, zero, suc, false, ◌+◌, ◌-◌, ◌*◌, ◌/◌, ◌%◌, ◌<◌, ◌≤◌, List, [], ◌∷◌, Some, length, get_or, refl, sym, ap, subst, arith}
+use Rattle.std.specs.Prelude.{◌==◌, slice_get}
+use Rattle.std.proofs.lemmas.Bool.{ne_eqb}
+use Rattle.std.specs.List.{AllByRecursion}
+use Rattle.std.proofs.lemmas.Nat.{div-add-mod', div-mul-add, mod-mul-add, row_fits}
+use Rattle.std.proofs.lemmas.Option.{slice_get_read}
+use Rattle.std.proofs.Math.Nat.{div-lt_iff_lt-mul}
+use Rattle.dm_stack.specs.declared.lines.found_columns.FoundColumn.{FoundColumn}
+use Rattle.dm_stack.specs.Description.{Description, lower_len}
+use Rattle.dm_stack.specs.lines.Below.{AreStripes, column_of, in_column, below_stripes, Lies}
+use Rattle.dm_stack.specs.declared.lines.stripe_position.StripePosition.{StripePosition}
+use Rattle.dm_stack.specs.lines.StripePosition.{IsStripePosition}
+
+-- what is left of a chunk lies in its column's share of the line
+pub in_column_room : (chunk_size count column_len chunks len distance : ℕ) → 0 < chunk_size → 0 < count → len ≡ count * column_len → column_len ≡ chunks * chunk_size → distance < len
+    → in_column chunk_size count distance + (chunk_size - distance % chunk_size) ≤ column_len
+in_column_room chunk_size count column_len chunks len distance chunk_some count_some shares whole inside =
+    let product : len ≡ chunks * count * chunk_size = rw (shares, whole) (omega arith) in
+    let few : distance / chunk_size / count < chunks = (div-lt_iff_lt-mul count_some).1 ((div-lt_iff_lt-mul chunk_some).1 (omega arith)) in
+    let room = row_fits (distance / chunk_size / count) chunk_size chunks chunk_size few (omega arith) in
+    let left : distance % chunk_size < chunk_size = omega arith in
+    rw whole (omega (arith, room, left))
+
+-- the sectors of a chunk go on in one column
+pub record IsInChunk (chunk_size distance i : ℕ) : Type 0 where
+  pub number : (distance + i) / chunk_size ≡ distance / chunk_size
+  pub position : (distance + i) % chunk_size ≡ distance % chunk_size + i
+
+pub in_chunk : (chunk_size distance i : ℕ) → 0 < chunk_size → i < chunk_size - distance % chunk_size → IsInChunk chunk_size distance i
+in_chunk chunk_size distance i some within =
+    let whole : distance / chunk_size * chunk_size + distance % chunk_size ≡ distance = div-add-mod' distance chunk_size in
+    let at : distance + i ≡ distance / chunk_size * chunk_size + (distance % chunk_size + i) = omega (arith, whole) in
+    let small : distance % chunk_size + i < chunk_size = omega (arith, within) in
+    record {
+      number = rw at (div-mul-add (distance / chunk_size) chunk_size (distance % chunk_size + i) small);
+      position = rw at (mod-mul-add (distance / chunk_size) chunk_size (distance % chunk_size + i) small);
+    }
+
+-- what holds of each element holds of one
+pub at_index : {X : Type 0} (P : X → Type 0) (xs : List X) (i : ℕ) (x : X) → AllByRecursion P xs → slice_get xs i ≡ Some x → P x
+at_index P [] i x each e = absurd cc
+at_index P (y ∷ ys) zero x each e = let same : y ≡ x = cc in rw (← same) each.0
+at_index P (y ∷ ys) (suc i) x each e = at_index P ys i x each.1 e
+
+-- the column of a sector, as one of the columns
+pub column_got : (chunk_size distance : ℕ) (columns : List FoundColumn) (column : FoundColumn) → 0 < length columns → column ≡ get_or columns (column_of chunk_size (length columns) distance) column → slice_get columns (column_of chunk_size (length columns) distance) ≡ Some column
+column_got chunk_size distance columns column some e =
+    let position : column_of chunk_size (length columns) distance < length columns = omega arith in
+    slice_get_read columns (length columns) _ column refl position e
+
+-- a sector of a striped line is one of those that its column names
+pub column_inside : (stack : Description) (len chunk_size distance index : ℕ) (columns : List FoundColumn) (column : FoundColumn) → AreStripes stack len chunk_size columns → distance < len → slice_get columns index ≡ Some column
+    → column.offset + in_column chunk_size (length columns) distance + (chunk_size - distance % chunk_size) ≤ lower_len stack column.to
+column_inside stack len chunk_size distance index columns column stripes inside is =
+    let share = at_index (λ c. c.offset + stripes.column_len ≤ lower_len stack c.to) columns index column stripes.inside is in
+    let room = in_column_room chunk_size (length columns) stripes.column_len stripes.chunks len distance stripes.chunk_some stripes.some stripes.shares stripes.whole inside in
+    omega (arith, share, room)
+
+-- what lies below a sector of what is left of a chunk
+pub below_chunk : (chunk_size distance i : ℕ) (columns : List FoundColumn) (column : FoundColumn) (position : StripePosition) → 0 < length columns → 0 < chunk_size → IsStripePosition chunk_size (length columns) distance position
+    → i < chunk_size - position.past → column ≡ get_or columns position.column column → below_stripes chunk_size columns (distance + i) ≡ Lies column.to (column.offset + (position.chunk_start + position.past) + i)
+below_chunk chunk_size distance i columns column position some chunk_some at within is =
+    let left : i < chunk_size - distance % chunk_size = omega (arith, within, at.past) in
+    let same = in_chunk chunk_size distance i chunk_some left in
+    let there : column ≡ get_or columns (column_of chunk_size (length columns) (distance + i)) column = rw same.number (subst (λ (k : ℕ). column ≡ get_or columns k column) at.column is) in
+    let sum : in_column chunk_size (length columns) (distance + i) ≡ position.chunk_start + position.past + i = rw (same.number, same.position) (omega (arith, at.chunk_start, at.past)) in
+    rw (column_got chunk_size (distance + i) columns column some there) (ap (Lies column.to) (rw sum (omega arith)))
+
+-- The position of the next chunk
+
+-- the first sector after a chunk
+pub record IsAfter (chunk_size distance : ℕ) : Type 0 where
+  pub number : (distance + (chunk_size - distance % chunk_size)) / chunk_size ≡ distance / chunk_size + 1
+  pub past : (distance + (chunk_size - distance % chunk_size)) % chunk_size ≡ 0
+
+pub after_chunk : (chunk_size distance : ℕ) → 0 < chunk_size → IsAfter chunk_size distance
+after_chunk chunk_size distance some =
+    let whole : distance / chunk_size * chunk_size + distance % chunk_size ≡ distance = div-add-mod' distance chunk_size in
+    let small : distance % chunk_size < chunk_size = omega arith in
+    let at : distance + (chunk_size - distance % chunk_size) ≡ (distance / chunk_size + 1) * chunk_size + 0 = omega (arith, whole, small) in
+    record {
+      number = rw at (div-mul-add (distance / chunk_size + 1) chunk_size 0 some);
+      past = rw at (mod-mul-add (distance / chunk_size + 1) chunk_size 0 some);
+    }
+
+-- the first sector after a chunk is in another one
+pub other_chunk : (chunk_size at n : ℕ) → 0 < chunk_size → n ≡ chunk_size - at % chunk_size → ((at + n - 1) / chunk_size == (at + n) / chunk_size) ≡ false
+other_chunk chunk_size at n some is =
+    let next = (after_chunk chunk_size at some).number in
+    let last = (in_chunk chunk_size at (n - 1) some (omega (arith, is))).number in
+    let e : at + n - 1 ≡ at + (n - 1) = omega (arith, is) in
+    let here : (at + n) / chunk_size ≡ at / chunk_size + 1 = rw is next in
+    let before : (at + n - 1) / chunk_size ≡ at / chunk_size = rw e last in
+    ne_eqb ((at + n - 1) / chunk_size) ((at + n) / chunk_size) (λ same. omega (arith, here, before, same))
+
+-- on the next column
+pub position_within : (chunk_size count distance : ℕ) (position : StripePosition) → 0 < chunk_size → IsStripePosition chunk_size count distance position → position.column + 1 < count
+    → IsStripePosition chunk_size count (distance + (chunk_size - position.past)) (record { column = position.column + 1; chunk_start = position.chunk_start; past = 0 })
+position_within chunk_size count distance position some at within =
+    let next = after_chunk chunk_size distance some in
+    let whole : distance / chunk_size / count * count + distance / chunk_size % count ≡ distance / chunk_size = div-add-mod' (distance / chunk_size) count in
+    let on : distance / chunk_size + 1 ≡ distance / chunk_size / count * count + (distance / chunk_size % count + 1) = omega (arith, whole) in
+    let small : distance / chunk_size % count + 1 < count = omega (arith, within, at.column) in
+    let quotient : (distance / chunk_size + 1) / count ≡ distance / chunk_size / count = rw on (div-mul-add (distance / chunk_size / count) count _ small) in
+    let rest : (distance / chunk_size + 1) % count ≡ distance / chunk_size % count + 1 = rw on (mod-mul-add (distance / chunk_size / count) count _ small) in
+    rw at.past (record {
+      column = rw (next.number, rest) (ap (λ (n : ℕ). n + 1) at.column);
+      chunk_start = rw (next.number, quotient) at.chunk_start;
+      past = sym next.past;
+    })
+
+-- after the last column, on the first one
+pub position_after : (chunk_size count distance : ℕ) (position : StripePosition) → 0 < chunk_size → IsStripePosition chunk_size count distance position → position.column + 1 ≡ count
+    → IsStripePosition chunk_size count (distance + (chunk_size - position.past)) (record { column = 0; chunk_start = position.chunk_start + chunk_size; past = 0 })
+position_after chunk_size count distance position some at last =
+    let next = after_chunk chunk_size distance some in
+    let whole : distance / chunk_size / count * count + distance / chunk_size % count ≡ distance / chunk_size = div-add-mod' (distance / chunk_size) count in
+    let on : distance / chunk_size + 1 ≡ (distance / chunk_size / count + 1) * count + 0 = omega (arith, whole, last, at.column) in
+    let some_columns : 0 < count = omega (arith, last) in
+    let quotient : (distance / chunk_size + 1) / count ≡ distance / chunk_size / count + 1 = rw on (div-mul-add (distance / chunk_size / count + 1) count 0 some_columns) in
+    let rest : (distance / chunk_size + 1) % count ≡ 0 = rw on (mod-mul-add (distance / chunk_size / count + 1) count 0 some_columns) in
+    rw at.past (record {
+      column = rw (next.number, rest);
+      chunk_start = rw (next.number, quotient) (omega (arith, at.chunk_start));
+      past = sym next.past;
+    })

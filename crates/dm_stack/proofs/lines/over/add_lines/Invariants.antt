@@ -1,0 +1,8 @@
+-- the snapshots so far are those of the lines so far
+use Rattle.std.proofs.Common.{◌≡◌, ◌++◌, take}
+use Rattle.std.specs.List.{flat_map}
+use Rattle.dm_stack.specs.lines.Over.{over_of}
+use Rattle.dm_stack.proofs.lines.over.add_lines.Given as goal
+
+abbrev pub invariant-loop-line : goal.invariant-loop-line
+invariant-loop-line l = l.over.items ≡ l.fn.over.items ++ flat_map (λ line. over_of l.stack l.device line.target) (take l.line-index l.lines)

@@ -1,0 +1,15 @@
+use Rattle.std.proofs.Common.{◌∙◌, Some, ap, refl, sym, subst, rules}
+use Rattle.std.proofs.lemmas.Option.{slice_get_read}
+use Rattle.dm_table.specs.declared.tables.table.DeviceSpec.{DeviceSpec}
+use Rattle.dm_stack.specs.names.FrontNames.{IsKeyOf}
+use Rattle.dm_stack.proofs.names.front_names.place_of.Goals as goal
+
+pub returns : goal.returns
+returns c = λ short. record {
+  name = c.index-devices-index.result.name;
+  key = subst (λ text. IsKeyOf text c.of.result) (c.as_bytes.ensures.value ∙ c.as_str.ensures.text ∙ ap (λ (device : DeviceSpec). device.name) (sym c.index-devices-index.is)) (c.of.ensures short);
+  named = search rules;
+  found =
+      c.requires.apart c.args.index c.index-devices-index.result (slice_get_read c.args.devices.now _ c.args.index c.index-devices-index.result refl c.requires.within c.index-devices-index.is)
+      ∙ ap Some (sym c.new.ensures);
+}

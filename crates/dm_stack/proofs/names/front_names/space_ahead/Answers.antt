@@ -1,0 +1,19 @@
+use Rattle.std.proofs.Common.{◌≡◌, ◌+◌, ◌-◌, ℕ, List, get_or, length, sym, ap, ◌∙◌, arith}
+use Rattle.std.proofs.lemmas.List.{get_or-take}
+use Rattle.std.proofs.lemmas.Simd.{get_or-chunk}
+use Rattle.dm_stack.proofs.names.front_names.space_ahead.Goals as goal
+
+pub returns-in-Some-clause-space : goal.returns-in-Some-clause-space
+returns-in-Some-clause-space c =
+    let text = c.args.text.now in
+    let from = c.rooms.from in
+    let at = c.in-Some.at in
+    let rest = c.in_ok-get.field-0.now in
+    let shown = c.in_ok-get.ensures.lookup.0 in
+    let chunk = c.in_ok-room.ensures.cases in
+    let size : length rest + from ≡ length text = shown.3 in
+    sym (get_or-chunk from (length text - from) text at 0 (omega (arith, size, chunk.enough, c.in-Some.ensures.within)))
+    ∙ ap (λ (xs : List ℕ). get_or xs at 0) (sym shown.2)
+    ∙ sym (get_or-take 16 rest at 0 c.in-Some.ensures.within)
+    ∙ ap (λ (xs : List ℕ). get_or xs at 0) (sym chunk.same)
+    ∙ c.in-Some.ensures.space

@@ -1,6 +1,0 @@
-use Rattle.std.proofs.Common.{◌≡◌, map, take}
-use Rattle.dm_stack.specs.Below.{found_line}
-use Rattle.dm_stack.proofs.resolve.table.Given as goal
-
-abbrev pub invariant-loop-line : goal.invariant-loop-line
-invariant-loop-line l = l.by_ids.items ≡ map (found_line l.stack) (take l.line-index l.lines)

@@ -1,8 +1,0 @@
-use Rattle.std.proofs.Common.{◌≡◌, None, drop}
-use Rattle.std.specs.List.{flat_map}
-use Rattle.dm_table.specs.load.LoadFault.{first_or}
-use Rattle.dm_stack.specs.Soundness.{bad_snapshots_in}
-use Rattle.dm_stack.proofs.snapshots.check_snapshots.Given as goal
-
-abbrev pub invariant-loop-device : goal.invariant-loop-device
-invariant-loop-device l = first_or (flat_map (λ device. bad_snapshots_in l.stack device.lines) (drop l.device-index l.stack.devices)) None ≡ first_or (flat_map (λ device. bad_snapshots_in l.stack device.lines) l.stack.devices) None

@@ -1,9 +1,0 @@
--- the ids so far are those of the devices so far
-use Rattle.std.proofs.Common.{◌≡◌}
-use Rattle.std.specs.Prelude.{filter}
-use Rattle.std.specs.List.{range_with_len}
-use Rattle.dm_stack.proofs.SnapshotIds.{is_over}
-use Rattle.dm_stack.proofs.snapshots.snapshots.Given as goal
-
-abbrev pub invariant-loop-id : goal.invariant-loop-id
-invariant-loop-id l = l.ids.items ≡ filter (is_over l.devices) (range_with_len 0 l.id)

@@ -1,5 +1,0 @@
-use Rattle.dm_stack.proofs.StoreLemmas.{closed_stores}
-use Rattle.dm_stack.proofs.stores.store_depths.Goals as goal
-
-pub depths-requires : goal.depths-requires
-depths-requires c = rw (c.deref.ensures.value, c.in_ok-named.ensures) (closed_stores c.args.stack.now c.requires.closed)

@@ -1,9 +1,0 @@
--- the links so far are those of the devices so far
-use Rattle.std.proofs.Common.{◌≡◌, map}
-use Rattle.std.specs.List.{range_with_len}
-use Rattle.dm_stack.specs.Graph.{links_in}
-use Rattle.dm_stack.specs.Store.{store_links_at}
-use Rattle.dm_stack.proofs.stores.store_links.Given as goal
-
-abbrev pub invariant-loop-id : goal.invariant-loop-id
-invariant-loop-id l = links_in l.marked.items ≡ map (store_links_at l.stack) (range_with_len 0 l.id)

@@ -1,7 +1,0 @@
--- the claims so far, with their numbers
-use Rattle.std.proofs.Common.{◌≡◌, take}
-use Rattle.dm_stack.specs.Sweep.{numbered}
-use Rattle.dm_stack.proofs.tidy.in_order.Given as goal
-
-abbrev pub invariant-loop-number : goal.invariant-loop-number
-invariant-loop-number l = l.order.items ≡ numbered 0 (take l.number l.claims)

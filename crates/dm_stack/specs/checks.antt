@@ -1,0 +1,7 @@
+-- What the checks of a load pass: `Soundness` has them in their order.
+pub mod Depth
+pub mod Graph
+pub mod Snapshots
+pub mod Soundness
+pub mod Store
+pub mod StoreLimit

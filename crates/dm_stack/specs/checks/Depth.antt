@@ -1,0 +1,25 @@
+-- How deep a stack is.
+use Rattle.std.specs.Prelude.{◌≡◌, ℕ, suc, ◌<◌, List, length, map}
+use Rattle.std.specs.List.{flat_map, range_with_len}
+use Rattle.dm_stack.specs.declared.id.Lower.{Lower}
+use Rattle.dm_stack.specs.declared.id.Lower.TheVariants as lowers
+use Rattle.dm_stack.specs.Description.{Description, lines_at, lower_of}
+use Rattle.dm_table.specs.tables.Span.{spans}
+use Rattle.dm_stack.specs.checks.Graph.{greatest}
+use Rattle.dm_stack.specs.checks.Soundness.{depth_of}
+
+-- the greatest depth of a device; 0 without devices
+abbrev pub stack_depth : Description → ℕ
+stack_depth stack = greatest (map (depth_of stack) (range_with_len 0 (length stack.devices)))
+
+-- what the lines of a device name, and the depth of each of these: that of a device, and 0 of a disk
+abbrev pub named_at : Description → ℕ → List Lower
+named_at stack device = map (λ span. lower_of stack span.to) (flat_map spans (lines_at stack device))
+
+abbrev pub lower_depth : Description → Lower → ℕ
+lower_depth stack (lowers.Device device) = depth_of stack device
+lower_depth stack (lowers.Disk disk) = 0
+
+-- each device is one deeper than the deepest of what it names
+abbrev pub IsDeeperByOne : Description → Type 0
+IsDeeperByOne stack = (device : ℕ) → device < length stack.devices → depth_of stack device ≡ suc (greatest (map (lower_depth stack) (named_at stack device)))

@@ -1,0 +1,242 @@
+-- The checks of a load, over the devices and the disks that it is handed.
+use Rattle.std.specs.Prelude.{◌≡◌, ℕ, suc, ◌+◌, ◌/◌, ◌%◌, ◌≤◌, ◌<◌, Bool, true, false, not, ◌||◌, ◌==◌, List, [], ◌∷◌, ◌++◌, Option, Some, None, drop, filter, length, map, is_none, nat_lt, if◌then◌else◌}
+use Rattle.std.specs.Int.{is_power_of_two}
+use Rattle.std.specs.List.{All, flat_map, list_any, sum_by}
+use Rattle.dm_table.specs.declared.tables.table.DevRef.{DevRef}
+use Rattle.dm_table.specs.declared.tables.table.DevRef.TheVariants as refs
+use Rattle.dm_table.specs.declared.tables.table.Target.{Target}
+use Rattle.dm_table.specs.declared.tables.table.Target.TheVariants as targets
+use Rattle.dm_table.specs.declared.tables.table.Line.{Line}
+use Rattle.dm_table.specs.declared.tables.table.DeviceSpec.{DeviceSpec}
+use Rattle.dm_table.specs.declared.load.place.Place.{Place}
+use Rattle.dm_table.specs.declared.load.load_fault.LoadKind.{LoadKind}
+use Rattle.dm_table.specs.declared.load.load_fault.LoadKind.TheVariants.{Limit, Twice, Empty, Gap, Overlap, Unknown, Cycle, Deep, Stripe, Range, Snapshot, Store}
+use Rattle.dm_table.specs.declared.load.load_fault.LoadFault.{LoadFault}
+use Rattle.dm_table.specs.load.LoadFault.{fault, faults_by, first_fault}
+use Rattle.dm_stack.specs.Description.{Description, is_same, device_named, disk_named, end_of, lower_of, lower_len, links}
+use Rattle.dm_table.specs.tables.Span.{Span, spans}
+use Rattle.dm_stack.specs.checks.Graph.{Reaches, depth_to}
+use Rattle.dm_stack.specs.lines.StoreLayout.{place_count}
+use Rattle.dm_stack.specs.checks.Store.{is_store_to}
+use Rattle.dm_stack.specs.declared.checks.graph.TheConstants.{MOST_DEPTH}
+use Rattle.dm_stack.specs.declared.checks.limits.TheConstants.{MOST_DEVICES, MOST_DISKS, MOST_LINES, MOST_LENGTH, MOST_STRIPES, MOST_CHUNK, MOST_SNAPSHOT_CHUNK, MOST_PLACES}
+
+-- the lines of all devices
+abbrev pub all_lines : List DeviceSpec → List Line
+all_lines devices = flat_map (λ device. device.lines) devices
+
+-- the faults of a kind at the lines that are bad
+abbrev pub line_faults : LoadKind → (Line → Bool) → Description → List LoadFault
+line_faults kind bad stack = faults_by kind (λ line. line.at) bad (all_lines stack.devices)
+
+-- the elements after the first most
+abbrev pub past : {X : Type 0} → ℕ → (X → Place) → List X → List LoadFault
+past most place xs = faults_by Limit place (λ x. true) (drop most xs)
+
+-- too many devices, then disks, then lines
+abbrev pub too_many : Description → List LoadFault
+too_many stack =
+    past MOST_DEVICES (λ device. device.at) stack.devices ++ past MOST_DISKS (λ disk. disk.at) stack.disks
+    ++ past MOST_LINES (λ line. line.at) (all_lines stack.devices)
+
+-- an offset above the limit
+abbrev pub is_far : Span → Bool
+is_far span = nat_lt MOST_LENGTH span.offset
+
+-- a start, a length, an end or an offset above the limit
+abbrev pub is_large : Line → Bool
+is_large line =
+    nat_lt MOST_LENGTH line.start || (nat_lt MOST_LENGTH line.len || (nat_lt MOST_LENGTH (line.start + line.len) || list_any is_far (spans line)))
+
+-- lines whose ends are within the limit, so that they can be added up
+abbrev pub HaveSmallEnds : List Line → Type 0
+HaveSmallEnds lines = All (λ line. line.start + line.len ≤ MOST_LENGTH) lines
+
+-- too large a line, then a disk
+abbrev pub too_large : Description → List LoadFault
+too_large stack = line_faults Limit is_large stack ++ faults_by Limit (λ disk. disk.at) (λ disk. nat_lt MOST_LENGTH disk.len) stack.disks
+
+-- an element of a list, and those before it
+pub record WithBefore (X : Type 0) : Type 0 where
+  pub before : List X
+  pub it : X
+
+-- the elements of a list, each with those before it
+abbrev pub with_before : {X : Type 0} → List X → List (WithBefore X)
+with_before [] = []
+with_before (x ∷ xs) = record { before = []; it = x } ∷ map (λ later. record { before = x ∷ later.before; it = later.it }) (with_before xs)
+
+-- an element whose name one before it has
+abbrev pub is_repeated : {X : Type 0} → (X → List ℕ) → WithBefore X → Bool
+is_repeated name x = list_any (λ other. is_same (name other) (name x.it)) x.before
+
+abbrev pub twice_in : {X : Type 0} → (X → List ℕ) → (X → Place) → List X → List LoadFault
+twice_in name place xs = faults_by Twice (λ x. place x.it) (is_repeated name) (with_before xs)
+
+-- a device's name that an earlier one has, then a disk's
+abbrev pub twice : Description → List LoadFault
+twice stack =
+    twice_in (λ device. device.name) (λ device. device.at) stack.devices
+    ++ twice_in (λ disk. disk.name) (λ disk. disk.at) stack.disks
+
+-- a device without lines
+abbrev pub without_lines : DeviceSpec → List Line → List LoadFault
+without_lines device [] = fault Empty device.at ∷ []
+without_lines device (line ∷ lines) = []
+
+-- a device without lines, or its lines of length 0
+abbrev pub empty_in : DeviceSpec → List LoadFault
+empty_in device = without_lines device device.lines ++ faults_by Empty (λ line. line.at) (λ line. line.len == 0) device.lines
+
+-- an empty device or line, then a disk of length 0
+abbrev pub empty : Description → List LoadFault
+empty stack = flat_map empty_in stack.devices ++ faults_by Empty (λ disk. disk.at) (λ disk. disk.len == 0) stack.disks
+
+-- a line that starts elsewhere than at the end of the one before, or, as the first, elsewhere than at 0
+abbrev pub is_misplaced : WithBefore Line → Bool
+is_misplaced line = not (line.it.start == end_of line.before)
+
+-- after that end it leaves a gap, before it it overlaps the line before
+abbrev pub misplaced_kind : WithBefore Line → LoadKind
+misplaced_kind line = if nat_lt (end_of line.before) line.it.start then Gap else Overlap
+
+abbrev pub misplaced_in : List Line → List LoadFault
+misplaced_in lines = map (λ line. fault (misplaced_kind line) line.it.at) (filter is_misplaced (with_before lines))
+
+abbrev pub misplaced : Description → List LoadFault
+misplaced stack = flat_map (λ device. misplaced_in device.lines) stack.devices
+
+-- a name of no device or disk
+abbrev pub is_unknown_ref : Description → DevRef → Bool
+is_unknown_ref stack (refs.Device name) = is_none (device_named stack.devices name)
+is_unknown_ref stack (refs.Disk name) = is_none (disk_named stack.disks name)
+
+-- a line that names what is not there
+abbrev pub is_unknown : Description → Line → Bool
+is_unknown stack line = list_any (λ span. is_unknown_ref stack span.to) (spans line)
+
+abbrev pub unknown : Description → List LoadFault
+unknown stack = line_faults Unknown (is_unknown stack) stack
+
+-- the faults of a kind at the devices whose id is bad, where the first has this id
+abbrev pub faults_by_id : LoadKind → (ℕ → Bool) → ℕ → List DeviceSpec → List LoadFault
+faults_by_id kind bad id [] = []
+faults_by_id kind bad id (device ∷ devices) =
+    if bad id then fault kind device.at ∷ faults_by_id kind bad (suc id) devices else faults_by_id kind bad (suc id) devices
+
+-- the depth of a device: 1 plus the greatest of the devices that it names, followed up to one above the limit
+abbrev pub depth_of : Description → ℕ → ℕ
+depth_of stack device = depth_to (links stack) (suc MOST_DEPTH) device
+
+-- a device of too great a depth
+abbrev pub deep : Description → List LoadFault
+deep stack = faults_by_id Deep (λ id. nat_lt MOST_DEPTH (depth_of stack id)) 0 stack.devices
+
+-- a number of stripes or a chunk out of its limits, or a length that the stripes or their chunks do not divide
+abbrev pub is_bad_stripe : (len chunk count : ℕ) → Bool
+is_bad_stripe len chunk count =
+    count == 0 || (nat_lt MOST_STRIPES count || (chunk == 0 || (nat_lt MOST_CHUNK chunk || (not (len % count == 0) || not ((len / count) % chunk == 0)))))
+
+abbrev pub has_bad_stripes : Line → Target → Bool
+has_bad_stripes line (targets.Striped chunk columns) = is_bad_stripe line.len chunk (length columns)
+has_bad_stripes line _ = false
+
+abbrev pub stripe : Description → List LoadFault
+stripe stack = line_faults Stripe (λ line. has_bad_stripes line line.target) stack
+
+-- a range that passes an end; what is named whole does not
+abbrev pub passes : (end offset : ℕ) → (len : Option ℕ) → Bool
+passes end offset (Some len) = nat_lt end (offset + len)
+passes end offset None = false
+
+abbrev pub is_past : Description → Span → Bool
+is_past stack span = passes (lower_len stack (lower_of stack span.to)) span.offset span.len
+
+-- a line that passes the end of what it names
+abbrev pub passes_end : Description → Line → Bool
+passes_end stack line = list_any (is_past stack) (spans line)
+
+abbrev pub range : Description → List LoadFault
+range stack = line_faults Range (passes_end stack) stack
+
+-- a chunk of a snapshot that is no power of two within its limit
+abbrev pub is_bad_chunk : ℕ → Bool
+is_bad_chunk chunk = nat_lt MOST_SNAPSHOT_CHUNK chunk || not (is_power_of_two chunk)
+
+-- a snapshot or an origin that isn't the only line of its table, or is not as long as the origin that it names, or a snapshot that has a bad chunk
+abbrev pub is_bad_snapshot : Description → (lines len : ℕ) → Target → Bool
+is_bad_snapshot stack lines len (targets.Snapshot origin store kind chunk) =
+    not (lines == 1) || (is_bad_chunk chunk || not (len == lower_len stack (lower_of stack origin)))
+is_bad_snapshot stack lines len (targets.Origin origin) = not (lines == 1) || not (len == lower_len stack (lower_of stack origin))
+is_bad_snapshot stack lines len _ = false
+
+-- the lines of a device that are bad in this way
+abbrev pub bad_snapshots_in : Description → List Line → List LoadFault
+bad_snapshots_in stack lines = faults_by Snapshot (λ line. line.at) (λ line. is_bad_snapshot stack (length lines) line.len line.target) lines
+
+abbrev pub snapshot : Description → List LoadFault
+snapshot stack = flat_map (λ device. bad_snapshots_in stack device.lines) stack.devices
+
+-- a chunk within its limits
+abbrev pub HasGoodChunk : Target → Type 0
+HasGoodChunk (targets.Snapshot origin store kind chunk) = (0 < chunk) × (chunk ≤ MOST_SNAPSHOT_CHUNK)
+HasGoodChunk _ = Unit {0}
+
+abbrev pub HaveGoodChunks : List Line → Type 0
+HaveGoodChunks lines = All (λ line. HasGoodChunk line.target) lines
+
+-- the places for chunks that a line's store has: only a snapshot has one
+abbrev pub target_places : Description → Target → ℕ
+target_places stack (targets.Snapshot origin store kind chunk) = place_count kind chunk (lower_len stack (lower_of stack store))
+target_places stack _ = 0
+
+-- a snapshot whose store cannot be one
+abbrev pub has_bad_store : Description → Target → Bool
+has_bad_store stack (targets.Snapshot origin store kind chunk) = not (is_store_to stack MOST_DEPTH (lower_of stack store))
+has_bad_store stack _ = false
+
+abbrev pub store : Description → List LoadFault
+store stack = line_faults Store (λ line. has_bad_store stack line.target) stack
+
+-- a line up to which all stores have too many places together; the first is a snapshot
+abbrev pub is_crowded : Description → WithBefore Line → Bool
+is_crowded stack line = nat_lt MOST_PLACES (sum_by (λ other. target_places stack other.target) line.before + target_places stack line.it.target)
+
+abbrev pub crowded : Description → List LoadFault
+crowded stack = faults_by Limit (λ line. line.it.at) (is_crowded stack) (with_before (all_lines stack.devices))
+
+-- the checks of a load before the one for cycles, and those after it, in their order
+abbrev pub checks_before : Description → List (List LoadFault)
+checks_before stack = too_many stack ∷ too_large stack ∷ twice stack ∷ empty stack ∷ misplaced stack ∷ unknown stack ∷ []
+
+abbrev pub checks_after : Description → List (List LoadFault)
+checks_after stack = deep stack ∷ stripe stack ∷ range stack ∷ snapshot stack ∷ store stack ∷ crowded stack ∷ []
+
+-- a device is on a cycle that reaches itself by what devices name
+abbrev pub IsOnCycle : Description → ℕ → Type 0
+IsOnCycle stack device = Reaches (links stack) device device
+
+abbrev pub HasNoCycle : Description → Type 0
+HasNoCycle stack = (device : ℕ) → device < length stack.devices → IsOnCycle stack device → ⊥
+
+-- the fault is at the first device that is on a cycle
+pub record IsFirstCycle (stack : Description) (found : LoadFault) : Type 0 where
+  pub before : List DeviceSpec
+  pub device : DeviceSpec
+  pub after : List DeviceSpec
+  pub split : stack.devices ≡ before ++ device ∷ after
+  pub none_before : (earlier : ℕ) → earlier < length before → IsOnCycle stack earlier → ⊥
+  pub cycle : IsOnCycle stack (length before)
+  pub is : found ≡ fault Cycle device.at
+
+-- no check finds a fault
+pub record IsSound (stack : Description) : Type 0 where
+  pub before : first_fault (checks_before stack) ≡ None
+  pub acyclic : HasNoCycle stack
+  pub after : first_fault (checks_after stack) ≡ None
+
+-- the first fault of the first check that finds any
+pub data IsRefusedBy (stack : Description) (found : LoadFault) : Type 0 where
+  Early : first_fault (checks_before stack) ≡ Some found → IsRefusedBy stack found
+  OnCycle : first_fault (checks_before stack) ≡ None → IsFirstCycle stack found → IsRefusedBy stack found
+  Late : first_fault (checks_before stack) ≡ None → HasNoCycle stack → first_fault (checks_after stack) ≡ Some found → IsRefusedBy stack found

@@ -1,0 +1,91 @@
+-- A clash as it is looked for: the claims in the order of their starts, and how far those before reach.
+use Rattle.std.specs.Prelude.{ℕ, suc, Bool, false, not, ◌&&◌, ◌||◌, ◌<◌, List, [], ◌∷◌, ◌++◌, Option, max, min, nat_lt, fold, find, option_map, slice_index_or, if◌then◌else◌}
+use Rattle.std.specs.List.{list_any}
+use Rattle.dm_table.specs.declared.tables.table.Use.{Use}
+use Rattle.dm_table.specs.declared.tables.table.Use.TheVariants.{Own, Reading, Serving}
+use Rattle.dm_stack.specs.declared.claims.claim.Claim.{Claim}
+use Rattle.dm_stack.specs.declared.claims.clash.Clash.{Clash}
+use Rattle.dm_stack.specs.declared.id.Lower.{Lower}
+use Rattle.dm_stack.specs.declared.id.Lower.TheVariants.{Device, Disk}
+use Rattle.dm_stack.specs.declared.claims.reach.Reach.{Reach}
+use Rattle.dm_stack.specs.declared.claims.reach.Reaches.{Reaches}
+use Rattle.dm_stack.specs.declared.claims.tidy.Numbered.{Numbered}
+use Rattle.dm_stack.specs.claims.Claims.{may_share}
+use Rattle.dm_stack.specs.Description.{is_same_lower}
+
+-- whether two claims meet at any sector
+abbrev pub meets : Claim → Claim → Bool
+meets one other = is_same_lower one.to other.to && (nat_lt (max one.start other.start) (min one.end other.end) && not (may_share one.kind other.kind))
+
+-- the clash with a later claim, where an earlier one meets it
+abbrev pub clash_of : (earlier later : Claim) → Clash
+clash_of earlier later = record { lower = later.to; sector = max earlier.start later.start; first = earlier.device; second = later.device }
+
+abbrev pub clash_with : (before : List Claim) → (later : Claim) → Option Clash
+clash_with before later = option_map (λ earlier. clash_of earlier later) (find (λ earlier. meets earlier later) before)
+
+-- how far claims reach, with one more
+abbrev pub no_reach : Reach
+no_reach = record { own = 0; held = 0; all = 0 }
+
+-- the end of a claim, if it is for itself alone
+abbrev pub own_end : Use → ℕ → ℕ
+own_end Own end = end
+own_end _ end = 0
+
+-- if it doesn't only read
+abbrev pub held_end : Use → ℕ → ℕ
+held_end Reading end = 0
+held_end _ end = end
+
+abbrev pub reach_with : Reach → Claim → Reach
+reach_with reach claim = record {
+  own = max reach.own (own_end claim.kind claim.end);
+  held = max reach.held (held_end claim.kind claim.end);
+  all = max reach.all claim.end;
+}
+
+-- the greatest end of those that a claim of a kind may not share with: it must not start before it
+abbrev pub rival_end : Use → Reach → ℕ
+rival_end Own reach = reach.all
+rival_end Reading reach = reach.own
+rival_end Serving reach = reach.held
+
+-- whether claims that reach so far meet one that starts at no earlier sector than they
+abbrev pub reach_meets : Reach → Claim → Bool
+reach_meets reach claim = nat_lt claim.start claim.end && nat_lt claim.start (rival_end claim.kind reach)
+
+-- how far claims reach on one device or disk
+abbrev pub reach_at : Reaches → Lower → Reach
+reach_at reaches (Device id) = slice_index_or reaches.devices.items id no_reach
+reach_at reaches (Disk id) = slice_index_or reaches.disks.items id no_reach
+
+-- an id below these counts
+abbrev pub IsCounted : (devices disks : ℕ) → Lower → Type 0
+IsCounted devices disks (Device id) = id < devices
+IsCounted devices disks (Disk id) = id < disks
+
+-- claims with their numbers, in the order of the list
+abbrev pub numbered : ℕ → List Claim → List Numbered
+numbered number [] = []
+numbered number (claim ∷ claims) = record { number = number; claim = claim } ∷ numbered (suc number) claims
+
+-- how far the claims of a list reach whose numbers are below a count
+abbrev pub reach_next : (count : ℕ) → Lower → Reach → Numbered → Reach
+reach_next count lower reach next = if nat_lt next.number count && is_same_lower next.claim.to lower then reach_with reach next.claim else reach
+
+abbrev pub reach_of : (count : ℕ) → Lower → List Numbered → Reach
+reach_of count lower claims = fold (reach_next count lower) no_reach claims
+
+-- whether two claims with numbers below a count meet
+abbrev pub rivals : (count : ℕ) → Numbered → Numbered → Bool
+rivals count one other = (nat_lt one.number count && nat_lt other.number count) && meets one.claim other.claim
+
+-- whether an element and one before it pass a test
+abbrev pub has_pair : {X : Type 0} → (X → X → Bool) → (before : List X) → List X → Bool
+has_pair test before [] = false
+has_pair test before (x ∷ xs) = list_any (λ earlier. test earlier x) before || has_pair test (before ++ x ∷ []) xs
+
+-- no two claims with numbers below a count meet
+abbrev pub is_tidy_to : (count : ℕ) → List Numbered → Bool
+is_tidy_to count order = not (has_pair (rivals count) [] order)

@@ -1,0 +1,31 @@
+-- The snapshots of an origin (the kernel's admin guide, device-mapper/snapshot).
+use Rattle.std.specs.Prelude.{ℕ, List, [], ◌∷◌, filter, length}
+use Rattle.std.specs.List.{flat_map, range_with_len}
+use Rattle.dm_table.specs.declared.tables.table.DevRef.{DevRef}
+use Rattle.dm_table.specs.declared.tables.table.StoreKind.{StoreKind}
+use Rattle.dm_table.specs.declared.tables.table.Target.{Target}
+use Rattle.dm_table.specs.declared.tables.table.Target.TheVariants as targets
+use Rattle.dm_stack.specs.declared.lines.found_line.FoundOver.{FoundOver}
+use Rattle.dm_stack.specs.declared.lines.found_line.FoundSnapshot.{FoundSnapshot}
+use Rattle.dm_stack.specs.declared.id.Lower.{Lower}
+use Rattle.dm_stack.specs.Description.{Description, is_same_lower, lines_at, lower_of}
+
+-- what a snapshot's line says, with ids for names
+abbrev pub found_snapshot : Description → (origin store : DevRef) → StoreKind → (chunk : ℕ) → FoundSnapshot
+found_snapshot stack origin store kind chunk = record { origin = lower_of stack origin; store = lower_of stack store; kind = kind; chunk = chunk }
+
+-- the snapshot that a line of a device with this target is; one of any other target is none
+abbrev pub over_of : Description → (device : ℕ) → Target → List FoundOver
+over_of stack device (targets.Snapshot origin store kind chunk) = record { device = device; snapshot = found_snapshot stack origin store kind chunk } ∷ []
+over_of stack device _ = []
+
+abbrev pub device_over : Description → (device : ℕ) → List FoundOver
+device_over stack device = flat_map (λ line. over_of stack device line.target) (lines_at stack device)
+
+-- all snapshots, with their devices: in the order of the source
+unfoldable pub all_over : Description → List FoundOver
+all_over stack = flat_map (device_over stack) (range_with_len 0 (length stack.devices))
+
+-- those whose origin is this device or disk
+unfoldable pub snapshots_over : Description → Lower → List FoundOver
+snapshots_over stack to = filter (λ one. is_same_lower one.snapshot.origin to) (all_over stack)

@@ -1,0 +1,10 @@
+-- Where the sectors of a striped line lie in its columns.
+use Rattle.std.specs.Prelude.{ℕ, ◌≡◌, ◌*◌, ◌/◌, ◌%◌}
+use Rattle.dm_stack.specs.declared.lines.stripe_position.StripePosition.{StripePosition}
+use Rattle.dm_stack.specs.lines.Below.{column_of}
+
+-- the position in stripes of a sector at a distance from the line's start
+pub record IsStripePosition (chunk_size count distance : ℕ) (position : StripePosition) : Type 0 where
+  pub column : position.column ≡ column_of chunk_size count distance
+  pub chunk_start : position.chunk_start ≡ distance / chunk_size / count * chunk_size
+  pub past : position.past ≡ distance % chunk_size

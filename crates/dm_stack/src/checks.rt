@@ -1,0 +1,15 @@
+//! The checks of a load, a module each: `load` has their order.
+
+pub mod depth;
+pub mod faults;
+pub mod graph;
+pub mod layout;
+pub mod limits;
+pub mod links;
+pub mod load;
+pub mod names;
+pub mod ranges;
+pub mod snapshots;
+pub mod store_limit;
+pub mod stores;
+pub mod stripes;

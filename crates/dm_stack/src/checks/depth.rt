@@ -1,0 +1,45 @@
+//! Devices that are too deep, and the depth of a stack.
+//!
+//! The depths come from `graph`, which says what a depth is and follows none further than one above
+//! the limit. Both functions here walk them once.
+
+ghost use Rattle.std.specs.Prelude.{◌≡◌, None, length, nat_lt};
+ghost use Rattle.std.specs.List.{slice_index_or};
+ghost use Rattle.std.specs.Result.{result_err};
+ghost use Rattle.dm_table.specs.load.LoadFault.{first_or};
+ghost use Rattle.dm_table.specs.declared.load.load_fault.LoadKind.TheVariants.{Deep};
+ghost use Rattle.dm_stack.specs.checks.Graph.{greatest};
+ghost use Rattle.dm_stack.specs.checks.Soundness.{faults_by_id};
+
+use crate::checks::graph::MOST_DEPTH;
+use dm_table::{DeviceSpec, LoadFault, LoadKind};
+
+/// Fails at the first device whose depth is above the limit.
+///
+/// Cost: a walk over the devices.
+pub(crate) fn check_depths(devices: &[DeviceSpec], depths: &[u32]) -> Result<(), LoadFault>
+    requires { length depths.now ≡ length devices.now }
+    ensures { result_err result ≡ first_or
+        (faults_by_id Deep (λ id. nat_lt MOST_DEPTH (slice_index_or depths.now id 0)) 0 devices.now) None }
+{
+    for (id, device) in devices.iter().enumerate() {
+        if MOST_DEPTH < depths[id] {
+            return Err(LoadFault {
+                kind: LoadKind::Deep,
+                at: device.at,
+            });
+        }
+    }
+    Ok(())
+}
+
+/// The greatest of these depths, 0 of none.
+pub(crate) fn deepest(depths: &[u32]) -> u32
+    ensures { result ≡ greatest depths.now }
+{
+    let mut deepest = 0;
+    for depth in depths {
+        deepest = deepest.max(*depth);
+    }
+    deepest
+}

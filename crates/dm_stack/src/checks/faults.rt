@@ -1,0 +1,103 @@
+//! How a check fails: with a fault that tells the user where in the source the first bad element stands.
+//!
+//! A check that tests elements one by one says only which are bad; the fault is made here.
+
+ghost use Rattle.std.specs.Prelude.{◌≡◌, Bool, IfErr, IfOk, None};
+ghost use Rattle.std.specs.Fn.{FnReturnsAt};
+ghost use Rattle.std.specs.Result.{result_err};
+ghost use Rattle.dm_table.specs.load.LoadFault.{IsMemoryFault, faults_by, first_or};
+ghost use Rattle.dm_table.specs.declared.load.place.Part.TheVariants.{Source};
+ghost use Rattle.dm_table.specs.declared.load.place.Place.{Place};
+ghost use Rattle.dm_table.specs.declared.tables.table.Line.{Line};
+ghost use Rattle.dm_stack.specs.checks.Soundness.{all_lines};
+
+use dm_table::{DeviceSpec, Disk, Line, LoadFault, LoadKind, Part, Place};
+use std::alloc::AllocError;
+
+/// The fault of a load that got no memory.
+pub(crate) fn out_of_memory() -> LoadFault
+    ensures { IsMemoryFault Source result }
+{
+    LoadFault::memory(Part::Source)
+}
+
+/// What was made, or that fault where it was not.
+pub(crate) fn or_out_of_memory<T>(made: Result<T, AllocError>) -> Result<T, LoadFault>
+    ensures made { IfOk result (λ value. made ≡ Ok value) }
+    ensures memory { IfErr result (λ fault. IsMemoryFault Source fault) }
+{
+    match made {
+        Ok(value) => Ok(value),
+        Err(_) => Err(out_of_memory()),
+    }
+}
+
+/// What a user finds again in the source by its place there: a device, a line of one, or a disk.
+pub(crate) trait Placed {
+    ghost place_of: { Self → Place };
+
+    /// Where it stands in the source.
+    fn place(&self) -> Place
+        ensures { result ≡ place_of self.now };
+}
+
+impl Placed for DeviceSpec {
+    ghost place_of = { λ device. device.at };
+
+    fn place(&self) -> Place {
+        self.at
+    }
+}
+
+impl Placed for Line {
+    ghost place_of = { λ line. line.at };
+
+    fn place(&self) -> Place {
+        self.at
+    }
+}
+
+impl Placed for Disk {
+    ghost place_of = { λ disk. disk.at };
+
+    fn place(&self) -> Place {
+        self.at
+    }
+}
+
+/// Fails at the first element of a list that is bad, with the fault of a kind.
+pub(crate) fn check_each<T: Placed, F: Fn(&T) -> bool>(
+    kind: LoadKind,
+    list: &[T],
+    is_bad: F,
+) -> Result<(), LoadFault>
+    requires { F.IsAlwaysCallable is_bad }
+    ensures { (test : T → Bool)
+        → ((item : T) (bad : Bool) → FnReturnsAt F.Fn is_bad item bad → bad ≡ test item)
+        → result_err result ≡ first_or (faults_by kind T.place_of test list.now) None }
+{
+    for item in list {
+        if is_bad(item) {
+            let at = item.place();
+            return Err(LoadFault { kind, at });
+        }
+    }
+    Ok(())
+}
+
+/// Fails at the first line of all devices that is bad, with the fault of a kind.
+pub(crate) fn check_lines<F: Fn(&Line) -> bool>(
+    kind: LoadKind,
+    devices: &[DeviceSpec],
+    is_bad: F,
+) -> Result<(), LoadFault>
+    requires { F.IsAlwaysCallable is_bad }
+    ensures { (test : Line → Bool)
+        → ((line : Line) (bad : Bool) → FnReturnsAt F.Fn is_bad line bad → bad ≡ test line)
+        → result_err result ≡ first_or (faults_by kind (λ line. line.at) test (all_lines devices.now)) None }
+{
+    for device in devices {
+        check_each(kind, device.lines.as_slice(), &is_bad)?;
+    }
+    Ok(())
+}

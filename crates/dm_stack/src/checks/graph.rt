@@ -1,0 +1,129 @@
+//! Devices that name one another, by their indexes: which reaches itself, and how deep each is.
+//!
+//! Depths come first, by rounds that are linear in the links, since only a device that is too deep
+//! can reach itself; what a device reaches is then searched for few devices or none.
+
+ghost use Rattle.std.specs.Prelude.{◌≡◌, ◌≤◌, ◌<◌, ℕ, length, map, IfOk, IfSome, IfNone, OnOk, IsTrue, false};
+ghost use Rattle.std.specs.List.{All, Contains};
+ghost use Rattle.dm_stack.specs.declared.checks.graph.TheConstants.{FOLLOWED_LEVELS};
+ghost use Rattle.dm_stack.specs.checks.Graph.{IsClosed, Names, Reaches, Visits, depth_over, depths_to, links_in};
+
+use std::alloc::{AllocError, Global};
+
+/// The greatest depth that a stack of devices may have.
+pub const MOST_DEPTH: u32 = 32;
+
+/// Through how many levels a depth is followed: one more than a stack may have, so that a greater depth
+/// is seen.
+const FOLLOWED_LEVELS: u32 = MOST_DEPTH + 1;
+
+/// The depth of each device, followed through at most `FOLLOWED_LEVELS`.
+///
+/// A device that names nothing has depth 1, else its depth is 1 plus the greatest of those that it
+/// names. `FOLLOWED_LEVELS` stands for every greater depth too, and for that of a device in a ring.
+///
+/// Fails only when out of memory. Cost: linear in the links for each level that there is, and for
+/// `FOLLOWED_LEVELS` at most, with memory for two numbers a device.
+pub(crate) fn depths(alloc: Global, links: &[Vec<usize>]) -> Result<Vec<u32>, AllocError>
+    requires { IsClosed (links_in links.now) }
+    ensures { IfOk result (λ depths. depths.items ≡ depths_to (links_in links.now) FOLLOWED_LEVELS) }
+{
+    let mut depths: Vec<u32> = vec![in alloc; 0; links.len()]?;
+    for _level in 0..FOLLOWED_LEVELS {
+        let next = next_depths(alloc, links, &depths)?;
+        if next == depths {
+            return Ok(depths);
+        }
+        depths = next;
+    }
+    Ok(depths)
+}
+
+/// The depths through one level more than these.
+fn next_depths(alloc: Global, links: &[Vec<usize>], depths: &[u32]) -> Result<Vec<u32>, AllocError>
+    requires closed { (d e : ℕ) → Names (links_in links.now) d e → e < length depths.now }
+    requires bounded { All (λ depth. depth ≤ FOLLOWED_LEVELS) depths.now }
+    ensures { IfOk result (λ next. next.items ≡ map (depth_over depths.now) (links_in links.now)) }
+{
+    let mut next = Vec::new(alloc);
+    for named in links {
+        next.push(depth_over(named, depths))?;
+    }
+    Ok(next)
+}
+
+/// One more than the greatest of the depths of devices that a device names, up to `FOLLOWED_LEVELS`.
+fn depth_over(named: &[usize], depths: &[u32]) -> u32
+    requires closed { All (λ e. e < length depths.now) named.now }
+    requires bounded { All (λ depth. depth ≤ FOLLOWED_LEVELS) depths.now }
+    ensures { result ≡ depth_over depths.now named.now }
+{
+    let mut greatest = 0;
+    for device in named {
+        greatest = greatest.max(depths[*device]);
+    }
+    greatest + 1
+}
+
+/// Whether a device reaches itself, by what it names and what that names in turn.
+///
+/// Fails only when out of memory. Cost: linear in the links, with memory for a mark a device and
+/// for the devices that are still to be looked at.
+pub(crate) fn reaches_itself(
+    alloc: Global,
+    links: &[Vec<usize>],
+    device: usize,
+) -> Result<bool, AllocError>
+    requires closed { IsClosed (links_in links.now) }
+    requires within { device < length links.now }
+    ensures yes { IfOk result (λ found. IsTrue found → Reaches (links_in links.now) device device) }
+    ensures no { IfOk result (λ found. found ≡ false → Reaches (links_in links.now) device device → ⊥) }
+{
+    let mut visited: Vec<bool> = vec![in alloc; false; links.len()]?;
+    let mut waiting = Vec::new(alloc);
+    visit(&links[device], &mut visited, &mut waiting)?;
+    while let Some(next) = waiting.pop() {
+        visit(&links[next], &mut visited, &mut waiting)?;
+    }
+    Ok(visited[device])
+}
+
+/// Visits the named devices; those that are new wait to be looked at.
+fn visit(named: &[usize], visited: &mut [bool], waiting: &mut Vec<usize>) -> Result<(), AllocError>
+    requires { (e : ℕ) → Contains named.now e → e < length visited.old }
+    ensures { OnOk result (Visits named.now visited.old visited.new waiting.old.items waiting.new.items) }
+{
+    for device in named {
+        if !visited[*device] {
+            visited[*device] = true;
+            waiting.push(*device)?;
+        }
+    }
+    Ok(())
+}
+
+/// The first device that reaches itself; `depths` are those that the function `depths` returns.
+///
+/// Fails only when out of memory. Cost: linear in the devices where none is too deep; else a search
+/// of all links for each device that is, up to the first that reaches itself.
+pub(crate) fn first_cycle(
+    alloc: Global,
+    links: &[Vec<usize>],
+    depths: &[u32],
+) -> Result<Option<usize>, AllocError>
+    requires closed { IsClosed (links_in links.now) }
+    requires depths { depths.now ≡ depths_to (links_in links.now) FOLLOWED_LEVELS }
+    ensures found { IfOk result (λ found. IfSome found
+        (λ d. d < length links.now × Reaches (links_in links.now) d d)) }
+    ensures first { IfOk result (λ found. IfSome found
+        (λ d. (e : ℕ) → e < d → Reaches (links_in links.now) e e → ⊥)) }
+    ensures none { IfOk result (λ found. IfNone found
+        ((d : ℕ) → d < length links.now → Reaches (links_in links.now) d d → ⊥)) }
+{
+    for (device, depth) in depths.iter().enumerate() {
+        if *depth > MOST_DEPTH && reaches_itself(alloc, links, device)? {
+            return Ok(Some(device));
+        }
+    }
+    Ok(None)
+}

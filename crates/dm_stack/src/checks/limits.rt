@@ -1,0 +1,112 @@
+//! Counts and numbers above their limits.
+//!
+//! Sums of two numbers within the limits fit 64 bits, so every later check adds freely. The
+//! definitions name these constants, so a limit that changes here changes for them too.
+
+ghost use Rattle.std.specs.Prelude.{◌≡◌, None, option_copied, slice_get};
+ghost use Rattle.std.specs.List.{list_any};
+ghost use Rattle.std.specs.Result.{result_err};
+ghost use Rattle.dm_table.specs.load.LoadFault.{first_or};
+ghost use Rattle.dm_stack.specs.checks.Soundness.{all_lines, is_far, is_large, past, too_large, too_many};
+ghost use Rattle.dm_table.specs.tables.Span.{spans};
+ghost use Rattle.dm_stack.specs.Description.{described};
+
+use crate::checks::faults::{Placed, check_each, check_lines};
+use crate::lines::span::Spans;
+use dm_table::{DeviceSpec, Disk, Line, LoadFault, LoadKind};
+
+/// The most devices of a stack.
+pub const MOST_DEVICES: usize = 1024;
+
+/// The most disks.
+pub const MOST_DISKS: usize = 1024;
+
+/// The most lines of all tables together.
+pub const MOST_LINES: usize = 65536;
+
+/// The most sectors of a device or a disk, and the greatest offset: 2^50.
+pub const MOST_LENGTH: u64 = 1 << 50;
+
+/// The most columns of a striped line.
+pub const MOST_STRIPES: usize = 128;
+
+/// The greatest chunk of a striped line, in sectors: 2^32 - 1.
+pub const MOST_CHUNK: u64 = (1 << 32) - 1;
+
+/// The most sectors of a chunk of a snapshot.
+pub const MOST_SNAPSHOT_CHUNK: u64 = 1024;
+
+/// The most places for chunks of all stores together.
+pub const MOST_PLACES: u64 = 4_194_304;
+
+/// Fails at the first device, or else disk, or else line, above the count that is allowed.
+///
+/// Cost: a walk over the devices.
+pub(crate) fn check_counts(devices: &[DeviceSpec], disks: &[Disk]) -> Result<(), LoadFault>
+    ensures { result_err result ≡ first_or (too_many (described devices.now disks.now)) None }
+{
+    check_count(MOST_DEVICES, devices)?;
+    check_count(MOST_DISKS, disks)?;
+    match line_at(devices, MOST_LINES) {
+        Some(line) => Err(LoadFault {
+            kind: LoadKind::Limit,
+            at: line.at,
+        }),
+        None => Ok(()),
+    }
+}
+
+/// Fails at the first element of a list that is one too many.
+fn check_count<T: Placed>(most: usize, list: &[T]) -> Result<(), LoadFault>
+    ensures { result_err result ≡ first_or (past most T.place_of list.now) None }
+{
+    match list.get(most) {
+        Some(item) => Err(LoadFault {
+            kind: LoadKind::Limit,
+            at: item.place(),
+        }),
+        None => Ok(()),
+    }
+}
+
+/// The line of an index among the lines of all devices.
+fn line_at(devices: &[DeviceSpec], index: usize) -> Option<&Line>
+    ensures { option_copied result ≡ slice_get (all_lines devices.now) index }
+{
+    let mut left = index;
+    for device in devices {
+        let lines = device.lines.as_slice();
+        if left < lines.len() {
+            return Some(&lines[left]);
+        }
+        left -= lines.len();
+    }
+    None
+}
+
+/// Fails at the first line, or else the first disk, with a number above the limit.
+///
+/// Cost: a walk over the lines and their columns, and over the disks.
+pub(crate) fn check_numbers(devices: &[DeviceSpec], disks: &[Disk]) -> Result<(), LoadFault>
+    ensures { result_err result ≡ first_or (too_large (described devices.now disks.now)) None }
+{
+    check_lines(LoadKind::Limit, devices, is_large)?;
+    check_each(LoadKind::Limit, disks, |disk| MOST_LENGTH < disk.len)
+}
+
+/// Whether a start, a length, an end or an offset is above the limit.
+fn is_large(line: &Line) -> bool
+    ensures { result ≡ is_large line.now }
+{
+    MOST_LENGTH < line.start
+        || MOST_LENGTH < line.len
+        || MOST_LENGTH - line.start < line.len
+        || has_far_span(line)
+}
+
+/// Whether a line names an offset above the greatest length.
+fn has_far_span(line: &Line) -> bool
+    ensures { result ≡ list_any is_far (spans line.now) }
+{
+    Spans::of(line).any(|span| MOST_LENGTH < span.offset)
+}

@@ -1,0 +1,131 @@
+//! The checks of a load in their order, and what a stack keeps of them.
+//!
+//! Each check fails with its first fault, and none runs after one that fails, so later checks may
+//! rely on what earlier ones passed. A new check takes its place here and in `specs/checks/Soundness.antt`.
+
+ghost use Rattle.std.specs.Prelude.{◌≡◌, ◌⊎◌, IfErr, IfOk, OnOk};
+ghost use Rattle.dm_table.specs.load.LoadFault.{IsMemoryFault};
+ghost use Rattle.dm_table.specs.declared.load.place.Part.TheVariants.{Source};
+ghost use Rattle.dm_stack.specs.declared.checks.graph.TheConstants.{FOLLOWED_LEVELS};
+ghost use Rattle.dm_stack.specs.Description.{described, links};
+ghost use Rattle.dm_stack.specs.checks.Graph.{IsClosed, IsFirstRing, depths_to};
+ghost use Rattle.dm_stack.specs.Stack.{IsLoaded};
+ghost use Rattle.dm_stack.specs.checks.Soundness.{HasNoCycle, IsFirstCycle, IsRefusedBy};
+ghost use Rattle.dm_stack.specs.checks.Store.{store_links};
+
+use crate::checks::depth::{check_depths, deepest};
+use crate::checks::faults::or_out_of_memory;
+use crate::checks::graph::{depths, first_cycle};
+use crate::checks::layout::{check_lengths, check_starts};
+use crate::checks::limits::{check_counts, check_numbers};
+use crate::checks::links::links;
+use crate::checks::names::{Names, check_names};
+use crate::checks::ranges::check_ranges;
+use crate::checks::snapshots::{check_snapshots, snapshots};
+use crate::checks::store_limit::check_places;
+use crate::checks::stores::{check_stores, store_depths};
+use crate::checks::stripes::check_stripes;
+use crate::id::DeviceId;
+use crate::lines::found_table::FoundDevice;
+use crate::lines::resolve::{check_references, found_devices};
+use crate::names::disk_text::{DiskText, disk_texts};
+use crate::names::front_names::FrontNames;
+use crate::names::indexed::Indexed;
+use dm_table::{DeviceSpec, Disk, LoadFault, LoadKind};
+use std::alloc::{AllocError, Global};
+
+/// What a stack keeps beside its description.
+#[derive(Drop)]
+pub(crate) struct Checked {
+    pub names: Names,
+    pub found: Vec<FoundDevice>,
+    pub depth: u32,
+    pub snapshots: Vec<DeviceId>,
+    pub texts: Vec<DiskText>,
+    pub fronts: FrontNames,
+}
+
+/// The depth of each device, also as a part of a store, and the first that reaches itself.
+#[derive(Drop)]
+struct Graph {
+    depths: Vec<u32>,
+    store_depths: Vec<u32>,
+    cycle: Option<usize>,
+}
+
+/// Runs the checks of a load, up to the first that finds a fault.
+///
+/// Cost: near-linear in lines, columns, devices and disks, and a search of what is reached for each
+/// device that is too deep. `Memory` if memory was refused.
+pub(crate) fn check(
+    alloc: Global,
+    devices: &[DeviceSpec],
+    disks: &[Disk],
+) -> Result<Checked, LoadFault>
+    ensures loaded { IfOk result (λ checked. IsLoaded (described devices.now disks.now)
+        checked.names.devices checked.names.disks checked.found.items checked.depth
+        checked.snapshots.items checked.texts.items checked.fronts) }
+    ensures fault { IfErr result (λ fault.
+        IsRefusedBy (described devices.now disks.now) fault ⊎ IsMemoryFault Source fault) }
+{
+    check_counts(devices, disks)?;
+    check_numbers(devices, disks)?;
+    let names = check_names(alloc, devices, disks)?;
+    check_lengths(devices, disks)?;
+    check_starts(devices)?;
+    let stack = Indexed::new(devices, disks, &names.devices, &names.disks);
+    check_references(&stack)?;
+    let graph = or_out_of_memory(follow(alloc, &stack))?;
+    check_cycles(&stack, graph.cycle)?;
+    check_depths(devices, &graph.depths)?;
+    check_stripes(devices)?;
+    check_ranges(&stack)?;
+    check_snapshots(&stack)?;
+    check_stores(&stack, &graph.store_depths)?;
+    check_places(&stack)?;
+    let found = or_out_of_memory(found_devices(alloc, &stack))?;
+    let snapshots = or_out_of_memory(snapshots(alloc, devices))?;
+    let texts = or_out_of_memory(disk_texts(alloc, disks))?;
+    let fronts = or_out_of_memory(FrontNames::new(alloc, devices))?;
+    Ok(Checked {
+        names,
+        found,
+        depth: deepest(&graph.depths),
+        snapshots,
+        texts,
+        fronts,
+    })
+}
+
+/// Which device reaches itself first, and how deep each is.
+fn follow(alloc: Global, stack: &Indexed) -> Result<Graph, AllocError>
+    requires { IsClosed (links stack.now) }
+    ensures depths { IfOk result (λ graph. graph.depths.items ≡ depths_to (links stack.now) FOLLOWED_LEVELS) }
+    ensures stores { IfOk result (λ graph. graph.store_depths.items ≡ depths_to (store_links stack.now) FOLLOWED_LEVELS) }
+    ensures cycle { IfOk result (λ graph. IsFirstRing (links stack.now) graph.cycle) }
+{
+    let links = links(alloc, stack)?;
+    let depths = depths(alloc, &links)?;
+    let cycle = first_cycle(alloc, &links, &depths)?;
+    let store_depths = store_depths(alloc, stack, &links)?;
+    Ok(Graph {
+        depths,
+        store_depths,
+        cycle,
+    })
+}
+
+/// Fails at the first device that reaches itself.
+fn check_cycles(stack: &Indexed, cycle: Option<usize>) -> Result<(), LoadFault>
+    requires { IsFirstRing (links stack.now) cycle }
+    ensures passed { OnOk result (HasNoCycle stack.now) }
+    ensures fault { IfErr result (IsFirstCycle stack.now) }
+{
+    match cycle {
+        Some(device) => Err(LoadFault {
+            kind: LoadKind::Cycle,
+            at: stack.devices()[device].at,
+        }),
+        None => Ok(()),
+    }
+}

@@ -1,0 +1,96 @@
+//! Snapshots and origins: whether each fits its table and what it names, and which devices are
+//! snapshots.
+//!
+//! Each is a whole device: its line stands alone in its table and is as long as the origin that it
+//! names. Mapping relies on it, and divides by the chunk, so that no rule here may be let go.
+
+ghost use Rattle.std.specs.Prelude.{◌≡◌, ◌∷◌, ◌++◌, [], IfOk, None, OnOk, if◌then◌else◌};
+ghost use Rattle.std.specs.Result.{result_err};
+ghost use Rattle.dm_table.specs.load.LoadFault.{first_or};
+ghost use Rattle.dm_stack.specs.Description.{described};
+ghost use Rattle.dm_stack.specs.checks.Snapshots.{has_snapshot, snapshots};
+ghost use Rattle.dm_stack.specs.checks.Soundness.{is_bad_chunk, is_bad_snapshot, snapshot, bad_snapshots_in};
+
+use crate::checks::faults::check_each;
+use crate::checks::limits::MOST_SNAPSHOT_CHUNK;
+use crate::id::DeviceId;
+use crate::names::indexed::Indexed;
+use dm_table::{DeviceSpec, Line, LoadFault, LoadKind, Target};
+use std::alloc::{AllocError, Global};
+
+/// Fails at the first line of a snapshot or of an origin that is not the only one of its table or is not
+/// as long as the origin that it names, or snapshot whose chunk is no power of two from 1 to 1,024
+/// sectors.
+///
+/// Cost: a walk over the lines.
+pub(crate) fn check_snapshots(stack: &Indexed) -> Result<(), LoadFault>
+    ensures { result_err result ≡ first_or (snapshot stack.now) None }
+{
+    for device in stack.devices() {
+        check_snapshots_in(stack, device.lines.as_slice())?;
+    }
+    Ok(())
+}
+
+/// Fails at the first line of a device that is no fit snapshot, or no fit line of an origin.
+fn check_snapshots_in(stack: &Indexed, lines: &[Line]) -> Result<(), LoadFault>
+    ensures { result_err result ≡ first_or (bad_snapshots_in stack.now lines.now) None }
+{
+    let count = lines.len();
+    check_each(LoadKind::Snapshot, lines, |line| {
+        is_bad_snapshot(stack, count, line.len, &line.target)
+    })
+}
+
+/// Whether the target of a line, among so many of its device, is such a one.
+fn is_bad_snapshot(stack: &Indexed, lines: usize, len: u64, target: &Target) -> bool
+    ensures { result ≡ is_bad_snapshot stack.now lines len target.now }
+{
+    match target {
+        Target::Snapshot { origin, chunk, .. } => {
+            lines != 1 || is_bad_chunk(*chunk) || len != stack.len_of(origin)
+        }
+        Target::Origin { origin } => lines != 1 || len != stack.len_of(origin),
+        _ => false,
+    }
+}
+
+/// Whether a chunk is no power of two from 1 to 1,024.
+fn is_bad_chunk(chunk: u64) -> bool
+    ensures { result ≡ is_bad_chunk chunk }
+{
+    MOST_SNAPSHOT_CHUNK < chunk || !chunk.is_power_of_two()
+}
+
+/// The devices that are snapshots, in their order.
+///
+/// Fails only when out of memory. Cost: a walk over the lines, with memory for an id a snapshot.
+pub(crate) fn snapshots(alloc: Global, devices: &[DeviceSpec]) -> Result<Vec<DeviceId>, AllocError>
+    ensures { IfOk result (λ ids. ids.items ≡ snapshots (described devices.now [])) }
+{
+    let mut ids = Vec::new(alloc);
+    for (id, device) in devices.iter().enumerate() {
+        add_snapshot(&mut ids, id, device.lines.as_slice())?;
+    }
+    Ok(ids)
+}
+
+/// Adds the id of a device that has a snapshot's line.
+fn add_snapshot(ids: &mut Vec<DeviceId>, id: usize, lines: &[Line]) -> Result<(), AllocError>
+    ensures { OnOk result
+        (ids.new.items ≡ ids.old.items ++ (if has_snapshot lines.now then id ∷ [] else [])) }
+{
+    if has_snapshot(lines) {
+        ids.push(DeviceId::new(id))?;
+    }
+    Ok(())
+}
+
+/// Whether one of these lines is that of a snapshot.
+fn has_snapshot(lines: &[Line]) -> bool
+    ensures { result ≡ has_snapshot lines.now }
+{
+    lines
+        .iter()
+        .any(|line| matches!(line.target, Target::Snapshot { .. }))
+}

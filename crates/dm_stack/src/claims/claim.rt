@@ -1,0 +1,186 @@
+//! Claims: the sectors below that the lines of a stack rely on.
+//!
+//! A line claims its spans, so a target says nothing of claims beside what it names. One that comes
+//! to share what it names in another way is a variant of `Use` (`dm_table`), and arms in `may_share`
+//! here and in `reach`.
+
+ghost use Rattle.std.specs.Prelude.{◌≡◌, ◌<◌, ◌∷◌, ◌++◌, ◌&&◌, [], ℕ, IfOk, OnOk, false, length, not};
+ghost use Rattle.std.specs.List.{All, flat_map, list_any, slice_index_or};
+ghost use Rattle.dm_stack.specs.claims.Claims.{claims, line_claims, may_share, span_claim};
+ghost use Rattle.dm_stack.specs.Description.{lower_of};
+ghost use Rattle.dm_stack.specs.claims.Naming.{is_device, is_named, line_names};
+ghost use Rattle.dm_stack.specs.checks.Soundness.{is_past, passes_end};
+
+use crate::id::{DeviceId, Lower};
+use crate::lines::span::{Span, Spans};
+use crate::names::indexed::Indexed;
+use dm_table::{DevRef, Line, Use};
+use std::alloc::{AllocError, Global};
+
+/// Sectors of a lower device or disk, from a start to before an end, that a device claims.
+#[derive(Clone, Copy, Drop)]
+pub(crate) struct Claim {
+    pub device: DeviceId,
+    pub to: Lower,
+    pub start: u64,
+    pub end: u64,
+    pub kind: Use,
+}
+
+/// Whether claims of these kinds may have sectors in common.
+pub(crate) fn may_share(one: Use, other: Use) -> bool
+    ensures { result ≡ may_share one other }
+{
+    match (one, other) {
+        (Use::Reading, Use::Reading | Use::Serving) | (Use::Serving, Use::Reading) => true,
+        _ => false,
+    }
+}
+
+/// The claims of a stack: by device, line and column, a store before its origin.
+///
+/// No line passes the end of what it names. Fails only when out of memory. Cost: linear in the
+/// lines and their columns.
+pub(crate) fn claims(alloc: Global, stack: &Indexed) -> Result<Vec<Claim>, AllocError>
+    requires { All (λ device. All (λ line. passes_end stack.now line ≡ false) device.lines)
+        stack.now.devices }
+    ensures { IfOk result (λ all. all.items ≡ claims stack.now) }
+{
+    let mut claims = Vec::new(alloc);
+    for (id, device) in stack.devices().iter().enumerate() {
+        add_lines(
+            &mut claims,
+            stack,
+            DeviceId::new(id),
+            device.lines.as_slice(),
+        )?;
+    }
+    Ok(claims)
+}
+
+/// Adds the claims of the lines of a device.
+fn add_lines(
+    claims: &mut Vec<Claim>,
+    stack: &Indexed,
+    device: DeviceId,
+    lines: &[Line],
+) -> Result<(), AllocError>
+    requires { All (λ line. passes_end stack.now line ≡ false) lines.now }
+    ensures { OnOk result
+        (claims.new.items ≡ claims.old.items ++ flat_map (line_claims stack.now device) lines.now) }
+{
+    for line in lines {
+        add_line(claims, stack, device, line)?;
+    }
+    Ok(())
+}
+
+/// Adds the claims of a line of a device, one for each of its spans.
+fn add_line(
+    claims: &mut Vec<Claim>,
+    stack: &Indexed,
+    device: DeviceId,
+    line: &Line,
+) -> Result<(), AllocError>
+    requires { passes_end stack.now line.now ≡ false }
+    ensures { OnOk result (claims.new.items ≡ claims.old.items ++ line_claims stack.now device line.now) }
+{
+    for span in Spans::of(line) {
+        add_claim(claims, stack, device, &span)?;
+    }
+    Ok(())
+}
+
+/// Adds what a device claims by a span that ends within what it names.
+fn add_claim(
+    claims: &mut Vec<Claim>,
+    stack: &Indexed,
+    device: DeviceId,
+    span: &Span<'_>,
+) -> Result<(), AllocError>
+    requires { is_past stack.now span.now ≡ false }
+    ensures { OnOk result (claims.new.items ≡ claims.old.items ++ span_claim stack.now device span.now ∷ []) }
+{
+    let to = stack.lower_of(span.to);
+    let whole = stack.len_of(span.to);
+    let claim = Claim {
+        device,
+        to,
+        start: span.offset,
+        end: match span.len {
+            Some(len) => span.offset + len,
+            None => whole,
+        },
+        kind: span.kind,
+    };
+    claims.push(claim)?;
+    Ok(())
+}
+
+/// For each device with an id below a count, whether no claim is on it.
+///
+/// Fails only when out of memory. Cost: linear in the claims and the count.
+pub(crate) fn unclaimed(
+    alloc: Global,
+    claims: &[Claim],
+    devices: usize,
+) -> Result<Vec<bool>, AllocError>
+    ensures count { IfOk result (λ free. length free.items ≡ devices) }
+    ensures each { IfOk result (λ free. (device : ℕ) → device < devices
+        → slice_index_or free.items device false
+        ≡ not (list_any (λ claim. is_device device claim.to) claims.now)) }
+{
+    let mut free = vec![in alloc; true; devices]?;
+    for claim in claims {
+        note_claim(&mut free, claim.to);
+    }
+    Ok(free)
+}
+
+/// Notes that a claim is on a device, if it is one of these.
+fn note_claim(free: &mut [bool], to: Lower)
+    ensures each { (device : ℕ) → slice_index_or free.new device false
+        ≡ (slice_index_or free.old device false && not (is_device device to)) }
+{
+    if let Lower::Device(id) = to
+        && id.index() < free.len()
+    {
+        free[id.index()] = false;
+    }
+}
+
+/// Whether a line of any device names the device of an id.
+///
+/// Cost: linear in the lines and their columns.
+pub(crate) fn is_named(stack: &Indexed, device: DeviceId) -> bool
+    ensures { result ≡ is_named stack.now device }
+{
+    stack
+        .devices()
+        .iter()
+        .any(|other| lines_name(stack, other.lines.as_slice(), device))
+}
+
+/// Whether one of these lines names a device.
+fn lines_name(stack: &Indexed, lines: &[Line], device: DeviceId) -> bool
+    ensures { result ≡ list_any (line_names stack.now device) lines.now }
+{
+    lines.iter().any(|line| line_names(stack, line, device))
+}
+
+/// Whether a line names a device.
+fn line_names(stack: &Indexed, line: &Line, device: DeviceId) -> bool
+    ensures { result ≡ line_names stack.now device line.now }
+{
+    Spans::of(line).any(|span| is_device(stack, span.to, device))
+}
+
+/// Whether what a line names is this device.
+fn is_device(stack: &Indexed, to: &DevRef, device: DeviceId) -> bool
+    ensures { result ≡ is_device device (lower_of stack.now to.now) }
+{
+    match stack.lower_of(to) {
+        Lower::Device(id) => id == device,
+        Lower::Disk(_) => false,
+    }
+}

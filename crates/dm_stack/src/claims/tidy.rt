@@ -1,0 +1,149 @@
+//! The clash of claims: the first that meets an earlier one.
+//!
+//! The claims are put in the order of their starts once. Whether those before some index in the
+//! list meet is then a walk in that order, and halving finds the greatest index up to which none
+//! do: the claim there is the first that meets an earlier one.
+
+ghost use Rattle.std.specs.Prelude.{◌≡◌, ◌+◌, ◌<◌, IfOk, Some, false, length, slice_get, take, true};
+ghost use Rattle.std.specs.List.{All};
+ghost use Rattle.std.specs.List.Sorted.{IsNonDecreasingBy, IsPermutation};
+ghost use Rattle.dm_stack.specs.claims.Claims.{IsFirstClash};
+ghost use Rattle.dm_stack.specs.Description.{is_same_lower};
+ghost use Rattle.dm_stack.specs.declared.claims.claim.Claim.{Claim};
+ghost use Rattle.dm_stack.specs.claims.Sweep.{IsCounted, clash_with, is_tidy_to, meets, numbered};
+
+use crate::claims::claim::{Claim, may_share};
+use crate::claims::clash::Clash;
+use crate::claims::reach::Reaches;
+use crate::id::Lower;
+use std::alloc::{AllocError, Global};
+
+/// A claim, and its number among the claims of its stack.
+#[derive(Clone, Copy, Drop)]
+pub(crate) struct Numbered {
+    number: usize,
+    claim: Claim,
+}
+
+/// The clash of claims on devices and disks with ids below these counts, and none exactly where no
+/// two meet.
+///
+/// Fails only when out of memory. Cost: that of sorting the claims, and a walk over them for each
+/// binary digit of their number, with memory for a copy of each.
+pub(crate) fn first_clash(
+    alloc: Global,
+    claims: &[Claim],
+    devices: usize,
+    disks: usize,
+) -> Result<Option<Clash>, AllocError>
+    requires { All (λ claim. IsCounted devices disks claim.to) claims.now }
+    ensures { IfOk result (λ found. IsFirstClash claims.now found) }
+{
+    let order = in_order(alloc, claims)?;
+    if is_tidy_to(alloc, &order, claims.len(), devices, disks)? {
+        return Ok(None);
+    }
+    let tidy = tidy_len(alloc, &order, devices, disks)?;
+    Ok(clash_at(claims, tidy))
+}
+
+/// The claims with their numbers, in the order of their starts.
+fn in_order(alloc: Global, claims: &[Claim]) -> Result<Vec<Numbered>, AllocError>
+    ensures same { IfOk result (λ order. IsPermutation (numbered 0 claims.now) order.items) }
+    ensures sorted { IfOk result (λ order. IsNonDecreasingBy (λ next. next.claim.start) order.items) }
+{
+    let mut order = Vec::new(alloc);
+    for (number, claim) in claims.iter().enumerate() {
+        let claim = *claim;
+        order.push(Numbered { number, claim })?;
+    }
+    order.sort_unstable_by_key(|next| next.claim.start);
+    Ok(order)
+}
+
+/// Whether no two of the claims meet whose numbers are below a count.
+fn is_tidy_to(
+    alloc: Global,
+    order: &[Numbered],
+    count: usize,
+    devices: usize,
+    disks: usize,
+) -> Result<bool, AllocError>
+    requires counted { All (λ next. IsCounted devices disks next.claim.to) order.now }
+    requires sorted { IsNonDecreasingBy (λ next. next.claim.start) order.now }
+    ensures { IfOk result (λ tidy. tidy ≡ is_tidy_to count order.now) }
+{
+    let mut reaches = Reaches::new(alloc, devices, disks)?;
+    for next in order {
+        if next.number < count {
+            if reaches.at(next.claim.to).meets(&next.claim) {
+                return Ok(false);
+            }
+            reaches.add(&next.claim);
+        }
+    }
+    Ok(true)
+}
+
+/// The greatest count such that no two of the claims meet whose numbers are below it, where some do.
+fn tidy_len(
+    alloc: Global,
+    order: &[Numbered],
+    devices: usize,
+    disks: usize,
+) -> Result<usize, AllocError>
+    requires counted { All (λ next. IsCounted devices disks next.claim.to) order.now }
+    requires sorted { IsNonDecreasingBy (λ next. next.claim.start) order.now }
+    requires clash { is_tidy_to (length order.now) order.now ≡ false }
+    ensures within { IfOk result (λ tidy. tidy < length order.now) }
+    ensures tidy { IfOk result (λ tidy. is_tidy_to tidy order.now ≡ true) }
+    ensures next { IfOk result (λ tidy. is_tidy_to (tidy + 1) order.now ≡ false) }
+{
+    let mut tidy = 0;
+    let mut clashing = order.len();
+    while tidy + 1 < clashing {
+        let middle = tidy + (clashing - tidy) / 2;
+        if is_tidy_to(alloc, order, middle, devices, disks)? {
+            tidy = middle;
+        } else {
+            clashing = middle;
+        }
+    }
+    Ok(tidy)
+}
+
+/// The clash of the claim at an index with the first that meets it.
+fn clash_at(claims: &[Claim], index: usize) -> Option<Clash>
+    requires { index < length claims.now }
+    ensures { (later : Claim) → slice_get claims.now index ≡ Some later
+        → result ≡ clash_with (take index claims.now) later }
+{
+    let later = &claims[index];
+    for earlier in &claims[..index] {
+        if meets(earlier, later) {
+            return Some(Clash {
+                lower: later.to,
+                sector: earlier.start.max(later.start),
+                first: earlier.device,
+                second: later.device,
+            });
+        }
+    }
+    None
+}
+
+/// Whether two claims meet at any sector.
+fn meets(one: &Claim, other: &Claim) -> bool
+    ensures { result ≡ meets one.now other.now }
+{
+    is_same_lower(one.to, other.to)
+        && one.start.max(other.start) < one.end.min(other.end)
+        && !may_share(one.kind, other.kind)
+}
+
+/// Whether two claims are on the same device or disk.
+fn is_same_lower(one: Lower, other: Lower) -> bool
+    ensures { result ≡ is_same_lower one other }
+{
+    one == other
+}

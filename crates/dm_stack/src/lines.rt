@@ -1,0 +1,15 @@
+//! Lines by ids: how the line of a sector is found, what lies below it, and how a store is laid out.
+
+pub mod divisor;
+pub mod found_columns;
+pub mod found_line;
+pub mod found_table;
+pub mod leg;
+pub mod legs;
+pub mod line_search;
+pub mod over;
+pub mod prefetched;
+pub mod resolve;
+pub mod span;
+pub mod store_layout;
+pub mod stripe_position;

@@ -1,0 +1,95 @@
+//! Numbers that are divided by often: a division by one is a multiplication by its inverse.
+//!
+//! A range of stripes takes two divisions at each level that it goes through, which were a sixth of
+//! the time of such a request.
+
+ghost use Rattle.std.specs.Prelude.{◌≡◌, ◌+◌, ◌*◌, ◌^◌, ◌/◌, ◌%◌, ◌<◌, ◌≤◌};
+
+use std::marker::Model;
+
+/// A number to divide by. Clauses see it as the number.
+#[derive(Debug, Drop)]
+pub struct Divisor {
+    value: u64,
+    /// 2^64 over the value, rounded down, or one less.
+    inverse: u64,
+}
+
+impl Model for Divisor {
+    ghost use Rattle.std.specs.Prelude.{◌≤◌, ◌<◌, ◌+◌, ◌*◌, ◌^◌, ℕ};
+
+    ghost Value = { ℕ };
+
+    ghost view = { λ divisor. divisor.value };
+
+    ghost invariant = { λ divisor. 0 < divisor.value → (divisor.inverse * divisor.value ≤ 2 ^ 64)
+        × (2 ^ 64 ≤ divisor.inverse * divisor.value + divisor.value) };
+}
+
+impl Divisor {
+    /// Any number; only one that is not 0 can divide.
+    pub(crate) fn new(value: u64) -> Divisor
+        ensures { result ≡ value }
+    {
+        if value == 0 {
+            return Divisor { value, inverse: 0 };
+        }
+        Divisor {
+            value,
+            inverse: u64::MAX / value,
+        }
+    }
+
+    /// The number itself.
+    #[inline(always)]
+    pub fn value(&self) -> u64
+        ensures { result ≡ self.now }
+    {
+        self.value
+    }
+
+    /// The quotient and the remainder of a number.
+    #[tactic(auto, using(crate::proofs::lines::Inverses::divided))]
+    #[inline(always)]
+    pub fn divide(&self, number: u64) -> (u64, u64)
+        requires { 0 < self.now }
+        ensures quotient { result.0 ≡ number / self.now }
+        ensures remainder { result.1 ≡ number % self.now }
+    {
+        self.parts(number)
+    }
+
+    /// A quotient and what is left of a number, less than the divisor.
+    #[inline(always)]
+    fn parts(&self, number: u64) -> (u64, u64)
+        requires { 0 < self.now }
+        ensures whole { number ≡ result.0 * self.now + result.1 }
+        ensures small { result.1 < self.now }
+    {
+        let quotient = self.near(number);
+        let rest = number - quotient * self.value;
+        if rest < self.value {
+            return (quotient, rest);
+        }
+        (quotient + 1, rest - self.value)
+    }
+
+    /// The quotient of a number, or one less.
+    #[tactic(auto, using(crate::proofs::lines::Inverses::near))]
+    #[inline(always)]
+    fn near(&self, number: u64) -> u64
+        requires { 0 < self.now }
+        ensures below { result * self.now ≤ number }
+        ensures above { number < result * self.now + self.now + self.now }
+    {
+        high_part(number, self.inverse)
+    }
+}
+
+/// The upper half of a product.
+#[inline(always)]
+fn high_part(a: u64, b: u64) -> u64
+    ensures { result ≡ a * b / 2 ^ 64 }
+{
+    ((u128::from(a) * u128::from(b)) >> 64) as u64
+}

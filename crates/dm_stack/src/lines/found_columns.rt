@@ -1,0 +1,73 @@
+//! The columns of a striped line, with their number to divide by.
+//!
+//! They are boxed, so that a line without columns takes no room for them.
+
+ghost use Rattle.std.specs.Prelude.{◌≡◌, IfOk, length};
+
+use crate::id::Lower;
+use crate::lines::divisor::Divisor;
+use dm_table::{Listed, ReservedBox};
+use std::alloc::{AllocError, Global};
+use std::marker::Model;
+
+/// A column of a striped line: what it names, and the first sector there.
+#[derive(Clone, Copy, Debug, Drop)]
+pub struct FoundColumn {
+    pub to: Lower,
+    pub offset: u64,
+}
+
+/// The columns of a striped line in their order. A clause sees them as a list.
+#[derive(Debug, Drop)]
+pub struct FoundColumns {
+    counted: ReservedBox<CountedColumns>,
+}
+
+/// Columns, and how many these are.
+#[derive(Debug, Drop)]
+struct CountedColumns {
+    columns: Listed<FoundColumn>,
+    count: Divisor,
+}
+
+impl Model for FoundColumns {
+    ghost use Rattle.std.specs.Prelude.{◌≡◌, List, length};
+    ghost use Rattle.dm_stack.specs.declared.lines.found_columns.FoundColumn.{FoundColumn};
+
+    ghost Value = { List FoundColumn };
+
+    ghost view = { λ found. found.counted.columns };
+
+    ghost invariant = { λ found. found.counted.count ≡ length found.counted.columns };
+}
+
+impl FoundColumns {
+    /// The columns as one value. It fails only when out of memory.
+    pub(crate) fn from_vec(
+        alloc: Global,
+        columns: Vec<FoundColumn>,
+    ) -> Result<FoundColumns, AllocError>
+        ensures { IfOk result (λ found. found ≡ columns.items) }
+    {
+        let count = Divisor::new(columns.len() as u64);
+        let columns = Listed::from_vec(columns);
+        let counted = ReservedBox::new(alloc, CountedColumns { columns, count })?;
+        Ok(FoundColumns { counted })
+    }
+
+    /// The columns in their order.
+    #[inline(always)]
+    pub fn as_slice(&self) -> &[FoundColumn]
+        ensures { result.now ≡ self.now }
+    {
+        self.counted.as_ref().columns.as_slice()
+    }
+
+    /// The number of columns.
+    #[inline(always)]
+    pub fn count(&self) -> &Divisor
+        ensures { result.now ≡ length self.now }
+    {
+        &self.counted.as_ref().count
+    }
+}

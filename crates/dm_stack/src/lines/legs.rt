@@ -1,0 +1,91 @@
+//! Rows of legs: a part of a striped line, one leg after the other.
+//!
+//! Each leg is what is left of a chunk, or of the part where that ends first, and its position follows from
+//! that of the one before without a division. What the target says is read once, so a loop over legs keeps
+//! it in registers.
+
+ghost use Rattle.std.specs.Prelude.{◌≡◌, true, IfNone, IfSome};
+ghost use Rattle.dm_stack.specs.lines.Below.{is_striped};
+ghost use Rattle.dm_stack.specs.lines.Leg.{after_leg, HasSectors, IsLeg};
+
+use crate::lines::found_columns::FoundColumn;
+use crate::lines::found_line::FoundTarget;
+use crate::lines::leg::{Beneath, Leg};
+use crate::lines::stripe_position::{StripePosition, next_chunk, position_at};
+use std::marker::Model;
+
+/// The legs that are left of a part of a striped line. A clause sees the line's target, the distance of
+/// the next sector from the line's start, and how many sectors are left.
+#[derive(Drop)]
+pub struct Legs<'l> {
+    chunk_size: u64,
+    columns: &'l [FoundColumn],
+    position: StripePosition,
+    distance: u64,
+    left: u64,
+}
+
+impl<'l> Model for Legs<'l> {
+    ghost use Rattle.dm_stack.specs.declared.lines.found_line.FoundTarget.TheVariants.{Striped};
+    ghost use Rattle.dm_stack.specs.lines.Leg.{AreLeft, LegsView};
+
+    ghost Value = { LegsView };
+
+    ghost view = { λ legs. record {
+      target = Striped legs.chunk_size legs.columns.now;
+      distance = legs.distance;
+      left = legs.left;
+    } };
+
+    ghost invariant = { λ legs.
+        AreLeft legs.chunk_size legs.columns.now legs.position legs.distance legs.left };
+}
+
+impl FoundTarget {
+    /// The legs of sectors of a striped line of this target, from a distance from its start on. No
+    /// memory is taken.
+    #[inline(always)]
+    pub fn legs(&self, distance: u64, len: u64) -> Legs<'_>
+        requires striped { is_striped self.now ≡ true }
+        requires there { HasSectors self.now distance len }
+        ensures { result ≡ record { target = self.now; distance = distance; left = len } }
+    {
+        let FoundTarget::Striped { chunk, columns } = self else {
+            unreachable!()
+        };
+        Legs {
+            chunk_size: chunk.value(),
+            columns: columns.as_slice(),
+            position: position_at(chunk, columns.count(), distance),
+            distance,
+            left: len,
+        }
+    }
+}
+
+impl<'l> Legs<'l> {
+    /// The next leg; none where no sector is left.
+    #[inline(always)]
+    pub fn next_leg(&mut self) -> Option<Leg<'l>>
+        ensures none { IfNone result (self.old.left ≡ 0) }
+        ensures leg { IfSome result (λ leg. IsLeg self.old.target self.old.distance self.old.left leg) }
+        ensures after { IfSome result (λ leg. self.new ≡ after_leg self.old leg.len) }
+    {
+        if self.left == 0 {
+            return None;
+        }
+        let column = self.columns[self.position.column];
+        let sector = column.offset + self.position.in_column();
+        let len = self.left.min(self.chunk_size - self.position.past);
+        self.position = next_chunk(self.chunk_size, self.columns.len(), self.position);
+        self.distance += len;
+        self.left -= len;
+        Some(Leg {
+            below: Beneath::Lies {
+                to: column.to,
+                sector,
+            },
+            len,
+        })
+    }
+}

@@ -1,0 +1,109 @@
+//! The snapshots of an origin, which its line has.
+//!
+//! All snapshots of a stack are collected once a load, and each line of an origin has a copy of its
+//! own, so that a write to one neither goes over the devices nor searches their lines.
+
+ghost use Rattle.std.specs.Prelude.{◌≡◌, ◌≤◌, ◌++◌, IfOk, OnOk, filter};
+ghost use Rattle.std.specs.List.{All, flat_map};
+ghost use Rattle.dm_stack.specs.Description.{is_same_lower};
+ghost use Rattle.dm_stack.specs.lines.Over.{all_over, found_snapshot, over_of};
+ghost use Rattle.dm_stack.specs.checks.Soundness.{HasGoodChunk, HaveGoodChunks};
+ghost use Rattle.dm_stack.specs.declared.checks.limits.TheConstants.{MOST_SNAPSHOT_CHUNK};
+
+use crate::id::{DeviceId, Lower};
+use crate::lines::found_line::{FoundOver, FoundSnapshot};
+use crate::names::indexed::Indexed;
+use dm_table::{DevRef, Line, Listed, StoreKind, Target};
+use std::alloc::{AllocError, Global};
+
+/// All snapshots of a stack, whose chunks are within their limits, in the order of their devices.
+///
+/// Fails only when out of memory. Cost: a walk over the lines, with memory for each snapshot.
+pub(crate) fn all_over(alloc: Global, stack: &Indexed) -> Result<Vec<FoundOver>, AllocError>
+    requires { All (λ device. HaveGoodChunks device.lines) stack.now.devices }
+    ensures { IfOk result (λ over. over.items ≡ all_over stack.now) }
+{
+    let mut over = Vec::new(alloc);
+    for (id, device) in stack.devices().iter().enumerate() {
+        add_lines(&mut over, stack, DeviceId::new(id), device.lines.as_slice())?;
+    }
+    Ok(over)
+}
+
+/// Adds the snapshots among the lines of a device.
+fn add_lines(
+    over: &mut Vec<FoundOver>,
+    stack: &Indexed,
+    device: DeviceId,
+    lines: &[Line],
+) -> Result<(), AllocError>
+    requires { HaveGoodChunks lines.now }
+    ensures { OnOk result (over.new.items
+        ≡ over.old.items ++ flat_map (λ line. over_of stack.now device line.target) lines.now) }
+{
+    for line in lines {
+        add_line(over, stack, device, &line.target)?;
+    }
+    Ok(())
+}
+
+/// Adds a device to the snapshots of their origins, if its line is that of a snapshot.
+fn add_line(
+    over: &mut Vec<FoundOver>,
+    stack: &Indexed,
+    device: DeviceId,
+    target: &Target,
+) -> Result<(), AllocError>
+    requires { HasGoodChunk target.now }
+    ensures { OnOk result (over.new.items ≡ over.old.items ++ over_of stack.now device target.now) }
+{
+    if let Target::Snapshot {
+        origin,
+        store,
+        kind,
+        chunk,
+    } = target
+    {
+        let snapshot = found_snapshot(stack, origin, store, *kind, *chunk);
+        over.push(FoundOver { device, snapshot })?;
+    }
+    Ok(())
+}
+
+/// What the line of a snapshot with a chunk within its limits says, with ids for names.
+pub(crate) fn found_snapshot(
+    stack: &Indexed,
+    origin: &DevRef,
+    store: &DevRef,
+    kind: StoreKind,
+    chunk: u64,
+) -> FoundSnapshot
+    requires { chunk ≤ MOST_SNAPSHOT_CHUNK }
+    ensures { result ≡ found_snapshot stack.now origin.now store.now kind chunk }
+{
+    FoundSnapshot {
+        origin: stack.lower_of(origin),
+        store: stack.lower_of(store),
+        kind,
+        chunk: chunk as u32,
+    }
+}
+
+/// Those of some snapshots whose origin is a device or a disk.
+///
+/// Fails only when out of memory. Cost: a walk over them, with memory for each that is one.
+pub(crate) fn snapshots_over(
+    alloc: Global,
+    all: &[FoundOver],
+    to: Lower,
+) -> Result<Listed<FoundOver>, AllocError>
+    ensures { IfOk result (λ over. over ≡ filter (λ one. is_same_lower one.snapshot.origin to) all.now) }
+{
+    let mut over = Vec::new(alloc);
+    for one in all {
+        if one.snapshot.origin == to {
+            over.push(*one)?;
+        }
+    }
+    Ok(Listed::from_vec(over))
+}

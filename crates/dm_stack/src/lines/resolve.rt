@@ -1,0 +1,142 @@
+//! Lines by ids: what each names is looked up once, while a stack is loaded.
+//!
+//! What is not there is found by `check_references`, which runs first; making lines by ids then asks for
+//! nothing. A new target is an arm of `target` here and of `found_target` in the specs.
+
+ghost use Rattle.std.specs.Prelude.{◌≡◌, IfOk, None, map};
+ghost use Rattle.std.specs.List.{All};
+ghost use Rattle.std.specs.Result.{result_err};
+ghost use Rattle.dm_table.specs.load.LoadFault.{first_or};
+ghost use Rattle.dm_stack.specs.lines.Below.{found_columns, found_line, found_target};
+ghost use Rattle.dm_stack.specs.Stack.{found_device};
+ghost use Rattle.dm_stack.specs.lines.Over.{all_over};
+ghost use Rattle.dm_stack.specs.checks.Soundness.{HasGoodChunk, HaveGoodChunks, is_unknown, unknown};
+
+use crate::checks::faults::check_lines;
+use crate::checks::layout::end_of;
+use crate::lines::divisor::Divisor;
+use crate::lines::found_columns::{FoundColumn, FoundColumns};
+use crate::lines::found_line::{FoundLine, FoundOrigin, FoundOver, FoundTarget};
+use crate::lines::found_table::{FoundDevice, FoundTable};
+use crate::lines::over::{all_over, found_snapshot, snapshots_over};
+use crate::lines::span::Spans;
+use crate::names::indexed::Indexed;
+use dm_table::{Column, Line, LoadFault, LoadKind, Target};
+use std::alloc::{AllocError, Global};
+
+/// Fails at the first line that names a device or a disk that is not there.
+///
+/// Cost: linear in the lines and their columns.
+pub(crate) fn check_references(stack: &Indexed) -> Result<(), LoadFault>
+    ensures { result_err result ≡ first_or (unknown stack.now) None }
+{
+    check_lines(LoadKind::Unknown, stack.devices(), |line| {
+        is_unknown(stack, line)
+    })
+}
+
+/// Whether a line names a device or a disk that is not there.
+fn is_unknown(stack: &Indexed, line: &Line) -> bool
+    ensures { result ≡ is_unknown stack.now line.now }
+{
+    Spans::of(line).any(|span| stack.is_unknown(span.to))
+}
+
+/// The devices by ids, in their order.
+///
+/// Fails only when out of memory. Cost: linear in the lines and their columns, and in the snapshots
+/// for each line of an origin.
+pub(crate) fn found_devices(alloc: Global, stack: &Indexed) -> Result<Vec<FoundDevice>, AllocError>
+    requires { All (λ device. HaveGoodChunks device.lines) stack.now.devices }
+    ensures { IfOk result (λ found. found.items ≡ map (found_device stack.now) stack.now.devices) }
+{
+    let over = all_over(alloc, stack)?;
+    let devices = stack.devices();
+    let mut found = Vec::with_capacity(alloc, devices.len())?;
+    for device in devices {
+        let lines = device.lines.as_slice();
+        found.push(FoundDevice {
+            end: end_of(lines),
+            ro: device.ro,
+            table: table(alloc, stack, &over, lines)?,
+        })?;
+    }
+    Ok(found)
+}
+
+/// The lines of a device by ids, where these are all snapshots of the stack.
+fn table(
+    alloc: Global,
+    stack: &Indexed,
+    over: &[FoundOver],
+    lines: &[Line],
+) -> Result<FoundTable, AllocError>
+    requires over { over.now ≡ all_over stack.now }
+    requires chunks { HaveGoodChunks lines.now }
+    ensures { IfOk result (λ table. table ≡ map (found_line stack.now) lines.now) }
+{
+    let mut by_ids = Vec::with_capacity(alloc, lines.len())?;
+    for line in lines {
+        let target = target(alloc, stack, over, &line.target)?;
+        by_ids.push(FoundLine {
+            start: line.start,
+            len: line.len,
+            target,
+        })?;
+    }
+    FoundTable::from_vec(alloc, by_ids)
+}
+
+/// A target by ids.
+fn target(
+    alloc: Global,
+    stack: &Indexed,
+    over: &[FoundOver],
+    target: &Target,
+) -> Result<FoundTarget, AllocError>
+    requires over { over.now ≡ all_over stack.now }
+    requires chunk { HasGoodChunk target.now }
+    ensures { IfOk result (λ by_ids. by_ids ≡ found_target stack.now target.now) }
+{
+    match target {
+        Target::Linear { to, offset } => Ok(FoundTarget::Linear {
+            to: stack.lower_of(to),
+            offset: *offset,
+        }),
+        Target::Striped { chunk, columns } => Ok(FoundTarget::Striped {
+            chunk: Divisor::new(*chunk),
+            columns: columns_by_ids(alloc, stack, columns.as_slice())?,
+        }),
+        Target::Zero => Ok(FoundTarget::Zero),
+        Target::Error => Ok(FoundTarget::Error),
+        Target::Snapshot {
+            origin,
+            store,
+            kind,
+            chunk,
+        } => Ok(FoundTarget::Snapshot(found_snapshot(stack, origin, store, *kind, *chunk))),
+        Target::Origin { origin } => {
+            let to = stack.lower_of(origin);
+            let over = snapshots_over(alloc, over, to)?;
+            Ok(FoundTarget::Origin(FoundOrigin { to, over }))
+        }
+    }
+}
+
+/// The columns of a striped line by ids.
+fn columns_by_ids(
+    alloc: Global,
+    stack: &Indexed,
+    columns: &[Column],
+) -> Result<FoundColumns, AllocError>
+    ensures { IfOk result (λ by_ids. by_ids ≡ found_columns stack.now columns.now) }
+{
+    let mut by_ids = Vec::new(alloc);
+    for column in columns {
+        by_ids.push(FoundColumn {
+            to: stack.lower_of(&column.to),
+            offset: column.offset,
+        })?;
+    }
+    FoundColumns::from_vec(alloc, by_ids)
+}

@@ -1,0 +1,69 @@
+//! Positions in stripes: the column of a sector, and where its chunk lies there.
+//!
+//! A sector's position is found by divisions, and that of the next chunk follows from it without any,
+//! so a row of chunks costs the divisions of the first one. The rule that assigns chunks to columns
+//! is in this file alone.
+
+ghost use Rattle.std.specs.Prelude.{◌≡◌, ◌+◌, ◌-◌, ◌<◌, ◌^◌, ℕ};
+ghost use Rattle.dm_stack.specs.lines.StripePosition.{IsStripePosition};
+
+use crate::lines::divisor::Divisor;
+
+/// A sector of a striped line: its column, where its chunk starts in that column, and how many
+/// sectors of the chunk come before it.
+#[derive(Clone, Copy, Drop)]
+pub(crate) struct StripePosition {
+    pub(crate) column: usize,
+    pub(crate) chunk_start: u64,
+    pub(crate) past: u64,
+}
+
+impl StripePosition {
+    /// The sector's distance from the start of its column.
+    #[inline(always)]
+    pub(crate) fn in_column(&self) -> u64
+        requires { self.now.chunk_start + self.now.past < 2 ^ 64 }
+        ensures { result ≡ self.now.chunk_start + self.now.past }
+    {
+        self.chunk_start + self.past
+    }
+}
+
+/// The position of the sector at a distance from the line's start.
+pub(crate) fn position_at(chunk_size: &Divisor, count: &Divisor, distance: u64) -> StripePosition
+    requires chunk { 0 < chunk_size.now }
+    requires count { 0 < count.now }
+    ensures { IsStripePosition chunk_size.now count.now distance result }
+{
+    let (number, past) = chunk_size.divide(distance);
+    let (row, column) = count.divide(number);
+    StripePosition {
+        column: column as usize,
+        chunk_start: row * chunk_size.value(),
+        past,
+    }
+}
+
+/// The position of the first sector of the next chunk: on the next column, or, after the last column,
+/// on the first one, a chunk further on.
+pub(crate) fn next_chunk(chunk_size: u64, count: usize, position: StripePosition) -> StripePosition
+    requires chunk { 0 < chunk_size }
+    requires column { position.column < count }
+    requires small { position.chunk_start + chunk_size < 2 ^ 64 }
+    ensures { (distance : ℕ) → IsStripePosition chunk_size count distance position
+        → IsStripePosition chunk_size count (distance + (chunk_size - position.past)) result }
+{
+    let next = position.column + 1;
+    if next < count {
+        return StripePosition {
+            column: next,
+            chunk_start: position.chunk_start,
+            past: 0,
+        };
+    }
+    StripePosition {
+        column: 0,
+        chunk_start: position.chunk_start + chunk_size,
+        past: 0,
+    }
+}

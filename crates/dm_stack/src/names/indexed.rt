@@ -1,0 +1,126 @@
+//! Descriptions whose names are indexed.
+//!
+//! The checks after the one for names, and what makes lines by ids, look names up only here. A
+//! clause sees the description alone; the invariant says that the indexes are those of its names.
+
+ghost use Rattle.std.specs.Prelude.{◌≡◌, map};
+ghost use Rattle.std.specs.List.{All};
+ghost use Rattle.dm_stack.specs.Description.{described, device_id, disk_id, lower_len, lower_of};
+ghost use Rattle.dm_stack.specs.checks.Soundness.{HaveSmallEnds, is_unknown_ref};
+
+use crate::checks::layout::end_of;
+use crate::id::{DeviceId, DiskId, Lower};
+use crate::names::name_index::NameIndex;
+use dm_table::{DevRef, DeviceSpec, Disk, DiskName, Name};
+use std::marker::Model;
+
+/// The devices and the disks of a description, with indexes of their names. The ends of its
+/// lines are within the limit.
+#[derive(Drop)]
+pub(crate) struct Indexed<'a> {
+    devices: &'a [DeviceSpec],
+    disks: &'a [Disk],
+    device_names: &'a NameIndex,
+    disk_names: &'a NameIndex,
+}
+
+impl<'a> Model for Indexed<'a> {
+    ghost use Rattle.dm_stack.specs.Description.{Description, described};
+    ghost use Rattle.dm_stack.specs.names.NameIndex.{AreIndexed};
+
+    ghost Value = { Description };
+
+    ghost view = { λ stack. record { devices = stack.devices.now; disks = stack.disks.now } };
+
+    ghost invariant = { λ stack. AreIndexed (described stack.devices.now stack.disks.now)
+        stack.device_names.now stack.disk_names.now };
+}
+
+impl<'a> Indexed<'a> {
+    /// Devices and disks with the index of their names.
+    pub(crate) fn new(
+        devices: &'a [DeviceSpec],
+        disks: &'a [Disk],
+        device_names: &'a NameIndex,
+        disk_names: &'a NameIndex,
+    ) -> Indexed<'a>
+        requires devices { device_names.now ≡ map (λ device. device.name) devices.now }
+        requires disks { disk_names.now ≡ map (λ disk. disk.name) disks.now }
+        requires small { All (λ device. HaveSmallEnds device.lines) devices.now }
+        ensures { result ≡ described devices.now disks.now }
+    {
+        Indexed {
+            devices,
+            disks,
+            device_names,
+            disk_names,
+        }
+    }
+
+    /// The devices in their order.
+    pub(crate) fn devices(&self) -> &'a [DeviceSpec]
+        ensures devices { result.now ≡ self.now.devices }
+        ensures small { All (λ device. HaveSmallEnds device.lines) result.now }
+    {
+        self.devices
+    }
+
+    /// The disks in their order.
+    pub(crate) fn disks(&self) -> &'a [Disk]
+        ensures { result.now ≡ self.now.disks }
+    {
+        self.disks
+    }
+
+    /// Whether no device or disk has the name.
+    pub(crate) fn is_unknown(&self, to: &DevRef) -> bool
+        ensures { result ≡ is_unknown_ref self.now to.now }
+    {
+        match to {
+            DevRef::Device(name) => self.device_names.find(name.as_str()).is_none(),
+            DevRef::Disk(name) => self.disk_names.find(name.as_str()).is_none(),
+        }
+    }
+
+    /// The id of a device's name; one past the last where no device has it.
+    pub(crate) fn device_of(&self, name: &Name) -> DeviceId
+        ensures { result ≡ device_id self.now name.now }
+    {
+        let index = self.device_names.find(name.as_str());
+        DeviceId::new(index.unwrap_or(self.devices.len()))
+    }
+
+    /// The id of a disk's name; one past the last where no disk has it.
+    fn disk_of(&self, name: &DiskName) -> DiskId
+        ensures { result ≡ disk_id self.now name.now }
+    {
+        let index = self.disk_names.find(name.as_str());
+        DiskId::new(index.unwrap_or(self.disks.len()))
+    }
+
+    /// What a line names, by its id; one past the last where it is not there.
+    pub(crate) fn lower_of(&self, to: &DevRef) -> Lower
+        ensures { result ≡ lower_of self.now to.now }
+    {
+        match to {
+            DevRef::Device(name) => Lower::Device(self.device_of(name)),
+            DevRef::Disk(name) => Lower::Disk(self.disk_of(name)),
+        }
+    }
+
+    /// The length of what is named, in sectors; 0 where it is not there.
+    pub(crate) fn len_of(&self, to: &DevRef) -> u64
+        ensures { result ≡ lower_len self.now (lower_of self.now to.now) }
+    {
+        match self.lower_of(to) {
+            Lower::Device(id) => match self.devices.get(id.index()) {
+                Some(device) => end_of(device.lines.as_slice()),
+                None => 0,
+            },
+            Lower::Disk(id) => match self.disks.get(id.index()) {
+                Some(disk) => disk.len,
+                None => 0,
+            },
+        }
+    }
+}

@@ -1,0 +1,113 @@
+//! Names as two words and a length, which are compared at once.
+//!
+//! Of a short name, which ends within sixteen bytes, the words are all of it: the sixteen bytes are read
+//! together, and those from its end on are set to zero. Of a longer one they are a mix of its first sixteen
+//! bytes and its last sixteen, which other names may have too.
+
+ghost use Rattle.std.specs.Prelude.{◌≡◌, ◌-◌, ◌<◌, ◌≤◌, ◌++◌, ◌↔◌, IfSome, IsTrue, get_or, length, replicate, take};
+ghost use Rattle.std.specs.Int.{to_le_bytes, w64};
+ghost use Rattle.dm_table.specs.words.Bytes.{space};
+ghost use Rattle.dm_stack.specs.names.FrontNames.{IsKeyOf};
+ghost use Rattle.dm_stack.specs.declared.names.name_key.TheConstants.{ROOM};
+
+use dm_table::{as_room, put_bytes};
+use std::simd::prelude::*;
+
+/// How many bytes are read together: one more than a short name has.
+pub(crate) const ROOM: usize = 16;
+
+/// A name as two words, and its length.
+#[derive(Clone, Copy)]
+pub(crate) struct NameKey {
+    pub first: u64,
+    pub last: u64,
+    pub len: usize,
+}
+
+impl NameKey {
+    /// The key of a name.
+    pub(crate) fn of(name: &[u8]) -> NameKey
+        ensures { result.len < ROOM → IsKeyOf name.now result }
+    {
+        let len = name.len();
+        if len >= ROOM {
+            return NameKey::long(name);
+        }
+        let mut room = [0; ROOM];
+        let _end = put_bytes(&mut room, 0, name);
+        NameKey::short(&room, len)
+    }
+
+    /// The key of a short name, the first bytes of a room.
+    #[inline(always)]
+    pub(crate) fn short(room: &[u8; ROOM], len: usize) -> NameKey
+        requires { len < ROOM }
+        ensures { IsKeyOf (take len room.now) result }
+    {
+        let kept = first_kept(room, len);
+        NameKey {
+            first: word_of(&kept[..8]),
+            last: word_of(&kept[8..]),
+            len,
+        }
+    }
+
+    /// The key of a long name.
+    pub(crate) fn long(name: &[u8]) -> NameKey
+        requires { ROOM ≤ length name.now }
+        ensures { result.len ≡ length name.now }
+    {
+        let len = name.len();
+        let first = word_of(&name[..8]) ^ word_of(&name[len - 16..len - 8]).rotate_left(32);
+        let last = word_of(&name[8..16]) ^ word_of(&name[len - 8..]).rotate_left(32);
+        NameKey { first, last, len }
+    }
+
+    /// Whether two keys are one.
+    #[inline(always)]
+    pub(crate) fn is(&self, other: &NameKey) -> bool
+        ensures { IsTrue result ↔ self.now ≡ other.now }
+    {
+        self.first == other.first && self.last == other.last && self.len == other.len
+    }
+}
+
+/// As many bytes that keep a byte as bytes that don't.
+static KEPT: [u8; 2 * ROOM] = [
+    255, 255, 255, 255, 255, 255, 255, 255, 255, 255, 255, 255, 255, 255, 255, 255, 0, 0, 0, 0, 0,
+    0, 0, 0, 0, 0, 0, 0, 0, 0, 0, 0,
+];
+
+/// The first bytes of a room, and zeros for the others.
+#[inline(always)]
+fn first_kept(room: &[u8; ROOM], len: usize) -> [u8; ROOM]
+    requires { len < ROOM }
+    ensures { result ≡ take len room.now ++ replicate (16 - len) 0 }
+{
+    let kept = as_room::<ROOM>(&KEPT[ROOM - len..2 * ROOM - len]);
+    (u8x16::from_array(*room) & u8x16::from_array(*kept)).to_array()
+}
+
+/// Eight bytes as a word.
+#[inline(always)]
+fn word_of(bytes: &[u8]) -> u64
+    requires { length bytes.now ≡ 8 }
+    ensures { to_le_bytes w64 result ≡ bytes.now }
+{
+    u64::from_le_bytes(*as_room::<8>(bytes))
+}
+
+/// Where the first space of a room stands.
+#[inline(always)]
+pub(crate) fn first_space(room: &[u8; ROOM]) -> Option<usize>
+    ensures within { IfSome result (λ at. at < ROOM) }
+    ensures space { IfSome result (λ at. get_or room.now at 0 ≡ space) }
+{
+    let spaces = u8x16::from_array(*room)
+        .simd_eq(u8x16::splat(b' '))
+        .to_bitmask();
+    if spaces == 0 {
+        return None;
+    }
+    Some(spaces.trailing_zeros() as usize)
+}

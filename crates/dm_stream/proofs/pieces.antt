@@ -1,0 +1,6 @@
+-- Of pieces that are joined, and of their texts.
+pub mod FewestLemmas
+pub mod FitsLemmas
+pub mod JoinLemmas
+pub mod LastDigit
+pub mod PieceLemmas

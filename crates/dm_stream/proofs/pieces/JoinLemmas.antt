@@ -1,0 +1,98 @@
+-- What a join took and left at one piece.
+use Rattle.std.proofs.Common.{◌≡◌, ℕ, zero, suc, ◌+◌, ◌≤◌, Bool, true, false, List, ◌∷◌, ◌++◌, Option, Some, None, refl, sym, ap, subst, ◌∙◌, append_assoc, arith}
+use Rattle.std.proofs.lemmas.List.{append-nil}
+use Rattle.std.proofs.lemmas.Grind.{flat_map-append}
+use Rattle.dm_table.specs.io.DeviceIo.{since}
+use Rattle.dm_stack.specs.Description.{Description}
+use Rattle.dm_map.specs.declared.pieces.piece.Piece as code
+use Rattle.dm_map.specs.pieces.Units.{BlockUnit, first_unit, next_unit, piece_len, units_in, units_of}
+use Rattle.dm_stream.specs.pieces.Pending.{Pending, HoldsNoRange, IsHeld, IsNoRange, goes_on, held_of, held_units, piece_view, range_piece}
+use Rattle.dm_stream.specs.declared.pieces.disk_range.DiskRange.{DiskRange}
+use Rattle.dm_stream.specs.pieces.Join.{HasUnits, HasLeft}
+use Rattle.dm_stream.specs.laws.Join.{last_of_units, some_before, beginning-before}
+use Rattle.dm_stream.specs.pieces.Pieces.{UnitRun, fewest, is_after}
+use Rattle.dm_table.specs.words.Fields.{all_but_last}
+use Rattle.dm_stream.specs.pieces.PieceText.{piece_text, pieces_text}
+use Rattle.dm_table.specs.io.WriteAll.{IsBeginning, IsCutShort}
+use Rattle.dm_stream.proofs.pieces.PieceLemmas.{fewest-apart, fewest-run, units_joined}
+
+-- where a piece does not go on from another, that one is whole
+pub fewest-whole : (first after : BlockUnit) (len more : ℕ) (rest : List BlockUnit) → 1 ≤ len → 1 ≤ more → is_after first len after ≡ false → fewest (units_in first len ++ units_in after more ++ rest) ≡ fewest (units_in first len) ++ fewest (units_in after more ++ rest)
+fewest-whole first after zero more rest some one apart = absurd (omega arith)
+fewest-whole first after (suc len) zero rest some one apart = absurd (omega arith)
+fewest-whole first after (suc len) (suc more) rest some one apart =
+    ap fewest (append_assoc (units_in first (suc len)) (units_in after (suc more)) rest)
+    ∙ fewest-apart first len after (units_in (next_unit after) more ++ rest) apart
+    ∙ ap (λ (ps : List UnitRun). ps ++ fewest (units_in after (suc more) ++ rest)) (sym (fewest-run first len))
+
+-- what is held and a piece that does not go on from it
+pub held_apart : (stack : Description) (old : Option code.Piece) (piece : code.Piece) → IsHeld stack old → 1 ≤ piece_len piece → goes_on old piece ≡ false
+    → (rest : List BlockUnit) → fewest (held_units old ++ units_of piece ++ rest) ≡ fewest (held_units old) ++ fewest (units_of piece ++ rest)
+held_apart stack None piece fits one apart rest = refl
+held_apart stack (Some held) piece fits one apart rest = fewest-whole (first_unit held) (first_unit piece) (piece_len held) (piece_len piece) rest fits.0 one apart
+
+-- the held piece and one that does, as one
+pub held_joined : (old : Option code.Piece) (held piece both : code.Piece) → old ≡ Some held → goes_on old piece ≡ true → first_unit both ≡ first_unit held → piece_len both ≡ piece_len held + piece_len piece → units_of both ≡ held_units old ++ units_of piece
+held_joined old held piece both is after first len =
+    ap (λ (u : BlockUnit). units_in u (piece_len both)) first ∙ ap (units_in (first_unit held)) len
+    ∙ units_joined (first_unit held) (first_unit piece) (piece_len held) (piece_len piece) (sym (ap (λ (p : Option code.Piece). goes_on p piece) is) ∙ after)
+    ∙ ap (λ (p : Option code.Piece). held_units p ++ units_of piece) (sym is)
+
+-- a range has the length of its piece
+pub piece_len-range : (is_write : Bool) (disk start len : ℕ) → piece_len (range_piece is_write disk start len) ≡ len
+piece_len-range true disk start len = refl
+piece_len-range false disk start len = refl
+
+-- where no range is held, there is none
+a_range : (is_write : Bool) (disk start len : ℕ) → IsNoRange (range_piece is_write disk start len) → ⊥
+a_range true disk start len none = none
+a_range false disk start len none = none
+
+pub no_range : (range : Option DiskRange) (other : Option code.Piece) → HoldsNoRange (held_of range other) → range ≡ None
+no_range None other none = refl
+no_range (Some range) other none = absurd (a_range range.letter range.disk range.start range.len none)
+
+-- the line of a piece is the text of its units
+text_run : (stack : Description) (number : ℕ) (first : BlockUnit) (len : ℕ) → 1 ≤ len → piece_text stack number (record { first = first; len = len }) ≡ pieces_text stack number (fewest (units_in first len))
+text_run stack number first zero some = absurd (omega arith)
+text_run stack number first (suc len) some =
+    sym (ap (pieces_text stack number) (fewest-run first len) ∙ append-nil (piece_text stack number (record { first = first; len = suc len })))
+
+pub held_text : (stack : Description) (number : ℕ) (piece : code.Piece) → 1 ≤ piece_len piece → piece_text stack number (piece_view piece) ≡ pieces_text stack number (fewest (units_of piece))
+held_text stack number piece some = text_run stack number (first_unit piece) (piece_len piece) some
+
+-- so is the line of a piece beside what is held
+pub line_beside : (inside held : Pending) (piece : code.Piece) → inside ≡ held → 1 ≤ piece_len piece → piece_text inside.stack inside.number (piece_view piece) ≡ pieces_text held.stack held.number (fewest (units_of piece))
+line_beside inside held piece same some =
+    held_text inside.stack inside.number piece some ∙ ap (λ (h : Pending). pieces_text h.stack h.number (fewest (units_of piece))) same
+
+-- the line of the held piece is the text of what is held
+pub held_line : (inside held : Pending) (piece : code.Piece) → inside ≡ held → inside.piece ≡ Some piece → IsHeld inside.stack inside.piece
+    → piece_text inside.stack inside.number (piece_view piece) ≡ pieces_text held.stack held.number (fewest (held_units held.piece))
+held_line inside held piece same is fits =
+    held_text inside.stack inside.number piece (subst (IsHeld inside.stack) is fits).0
+    ∙ ap (λ (p : Option code.Piece). pieces_text inside.stack inside.number (fewest (held_units p))) (sym is)
+    ∙ ap (λ (h : Pending). pieces_text h.stack h.number (fewest (held_units h.piece))) same
+
+some_units : (unit : BlockUnit) (len : ℕ) → 1 ≤ len → HasUnits (units_in unit len)
+some_units unit zero some = absurd (omega arith)
+some_units unit (suc len) some = tt
+
+-- a piece that did not go on, where the held one was not written whole
+pub left_apart : (old mid new : Pending) (piece : code.Piece) (w0 w1 : List ℕ) → 1 ≤ piece_len piece → mid ≡ old → new ≡ record { stack = mid.stack; number = mid.number; piece = None }
+    → ((rest : List BlockUnit) → fewest (held_units old.piece ++ units_of piece ++ rest) ≡ fewest (held_units old.piece) ++ fewest (units_of piece ++ rest))
+    → IsCutShort (pieces_text mid.stack mid.number (fewest (held_units mid.piece))) (since w0 w1)
+    → HasLeft old new (units_of piece) w0 w1
+left_apart old mid new piece w0 w1 some same emptied apart cut = record {
+  some = some_units (first_unit piece) (piece_len piece) some;
+  beginning = λ rest.
+      subst (λ (xs : List ℕ). IsBeginning xs (since w0 w1))
+      (sym (ap (λ (ps : List UnitRun). pieces_text old.stack old.number (all_but_last ps)) (apart rest)
+      ∙ ap (pieces_text old.stack old.number) (last_of_units (fewest (held_units old.piece)) (units_of piece ++ rest) (some_before (units_of piece) rest (some_units (first_unit piece) (piece_len piece) some)))
+      ∙ flat_map-append (piece_text old.stack old.number) (fewest (held_units old.piece)) (all_but_last (fewest (units_of piece ++ rest)))))
+      (beginning-before (pieces_text old.stack old.number (fewest (held_units old.piece))) _ (since w0 w1)
+      (subst (λ (h : Pending). IsBeginning (pieces_text h.stack h.number (fewest (held_units h.piece))) (since w0 w1)) same (cut.0 ∷ cut.1, cut.2)));
+  nothing = ap (λ (h : Pending). h.piece) emptied;
+  stack = ap (λ (h : Pending). h.stack) emptied ∙ ap (λ (h : Pending). h.stack) same;
+  number = ap (λ (h : Pending). h.number) emptied ∙ ap (λ (h : Pending). h.number) same;
+}

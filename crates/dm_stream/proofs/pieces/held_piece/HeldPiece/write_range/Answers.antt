@@ -1,0 +1,8 @@
+use Rattle.std.proofs.Common.{List, ℕ, subst}
+use Rattle.dm_table.specs.io.Progress.{Wrote}
+use Rattle.dm_stream.proofs.pieces.JoinLemmas.{line_beside}
+use Rattle.dm_stream.proofs.pieces.held_piece.HeldPiece.write_range.Goals as goal
+
+pub returns : goal.returns
+returns g c =
+    subst (λ (text : List ℕ). Wrote (g.W.Output.past c.args.writer.now) (g.W.Output.past c.put_alone.new.writer) c.put_alone.result text) (line_beside _ c.args.self.now _ c.self.view_is c.requires.0) c.put_alone.ensures

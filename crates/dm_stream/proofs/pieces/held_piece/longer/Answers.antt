@@ -1,0 +1,28 @@
+use Rattle.std.proofs.Common.{◌+◌, ℕ, sym, subst, ◌∙◌, ap, arith}
+use Rattle.dm_stack.specs.Description.{Description}
+use Rattle.dm_map.specs.pieces.Units.{BlockUnit, IsOnDisks, first_unit, piece_len}
+use Rattle.dm_map.specs.declared.pieces.piece.Piece.{Piece}
+use Rattle.dm_map.specs.declared.pieces.piece.Piece.TheVariants as code
+use Rattle.dm_stream.specs.pieces.Pending.{Fits}
+use Rattle.dm_stream.proofs.pieces.FitsLemmas.{fits_few}
+use Rattle.dm_stream.proofs.pieces.held_piece.longer.Goals as goal
+
+fits_there : (stack : Description) (piece : Piece) → Fits stack (first_unit piece) (piece_len piece) → IsOnDisks stack piece
+fits_there stack (code.Read disk start len) fits = fits
+fits_there stack (code.Write disk start len) fits = fits
+fits_there stack (code.Zero len) fits = tt
+fits_there stack (code.Drop len) fits = tt
+fits_there stack (code.Error len) fits = tt
+fits_there stack (code.Copy disk start len to to_start) fits = fits
+fits_there stack (code.Fill len disk start) fits = fits
+
+pub overflow_add-len : goal.overflow_add-len
+overflow_add-len c =
+    let fits = fits_few c.args.stack.now (first_unit c.args.held.now) _ c.depth.ensures.sound c.requires in
+    omega (arith, fits, c.len.ensures)
+
+pub returns-clause-lies : goal.returns-clause-lies
+returns-clause-lies c =
+    fits_there c.args.stack.now c.with_len.result
+    (subst (λ (u : BlockUnit). Fits c.args.stack.now u (piece_len c.with_len.result)) (sym c.with_len.ensures.first)
+    (subst (λ (n : ℕ). Fits c.args.stack.now (first_unit c.args.held.now) n) (sym (c.with_len.ensures.len ∙ ap (λ (n : ℕ). n + c.args.more) c.len.ensures)) c.requires))

@@ -1,0 +1,10 @@
+use Rattle.std.proofs.Common.{◌≡◌, ◌-◌, ◌≤◌, length}
+use Rattle.dm_stream.specs.pieces.LineEnds.{AreMade}
+use Rattle.dm_stream.proofs.pieces.line_ends.LineEnds.new.Given as goal
+
+-- those so far have their text
+abbrev pub invariant-lengths : goal.invariant-lengths
+invariant-lengths l = (l.len ≤ 1000) × (length l.ends ≡ 1000) × AreMade l.len l.ends
+
+abbrev pub decreases-lengths : goal.decreases-lengths
+decreases-lengths l = 1000 - l.len

@@ -1,0 +1,175 @@
+-- One turn over the lines: a request that is handed on, or the end.
+use Rattle.std.proofs.Common.{◌≡◌, ◌≤◌, ◌==◌, cond, true, false, Bool, ltb, ℕ, suc, ◌+◌, List, [], ◌∷◌, ◌++◌, length, drop, sym, ap, subst, ◌∙◌, refl, append_assoc, add-one, arith}
+use Rattle.std.specs.List.{onto_first}
+use Rattle.std.proofs.lemmas.Bool.{ltb-false}
+use Rattle.std.proofs.lemmas.List.{append-nil}
+use Rattle.dm_table.specs.io.DeviceIo.{Clean, Failed, InputPast, Open, Stand, delivery, since, stand_of}
+use Rattle.dm_stream.specs.requests.Lines.{Answer, ALine, ALong, line_parts, next_answer, rest_answer}
+use Rattle.dm_table.specs.io.Progress.{HasGrown, MetNothing}
+use Rattle.dm_table.specs.laws.Progress.{since-same}
+use Rattle.dm_stream.specs.requests.Requests.{HasMet, IsAmong, NumberedRequest, Requests, after_requests, ends as only_ends, line_requests, next_requests, requests_from, requests_of}
+use Rattle.dm_stream.specs.declared.requests.lines.TheConstants.{MOST_LINE_BYTES}
+use Rattle.dm_stream.specs.declared.runs.ending.Ending as ending
+use Rattle.dm_stream.specs.declared.runs.ending.RequestWord as word
+use Rattle.dm_table.specs.laws.Progress.{since_more}
+use Rattle.dm_stream.proofs.requests.LineParts.{some_part, next_line}
+
+-- The first part
+
+-- a first part that a newline ends stays, whatever comes after it
+pub part_stays : (xs line second : List ℕ) (parts : List (List ℕ)) (more : List ℕ) → line_parts xs ≡ line ∷ second ∷ parts → line_parts (xs ++ more) ≡ line ∷ line_parts (drop (suc (length line)) xs ++ more)
+part_stays [] line second parts more e = cc
+part_stays (x ∷ xs) line second parts more e =
+    let s = some_part xs in
+    let P : Bool → Type 0 = λ b. cond b ([] ∷ line_parts xs) (onto_first x (line_parts xs)) ≡ line ∷ second ∷ parts → cond b ([] ∷ line_parts (xs ++ more)) (onto_first x (line_parts (xs ++ more))) ≡ line ∷ line_parts (drop (length line) xs ++ more) in
+    let at_newline : P true = λ f. let nil : [] ≡ line = cc in ap (λ (l : List ℕ). l ∷ line_parts (drop (length l) xs ++ more)) nil in
+    let at_other : P false = λ f.
+    let opened : (x ∷ s.0) ∷ s.1 ≡ line ∷ second ∷ parts = sym (ap (onto_first x) s.2) ∙ f in
+    let front : x ∷ s.0 ≡ line = cc in
+    let rest : s.1 ≡ second ∷ parts = cc in
+    let same : line_parts xs ≡ s.0 ∷ second ∷ parts = s.2 ∙ ap (λ ys. s.0 ∷ ys) rest in
+    ap (onto_first x) (part_stays xs s.0 second parts more same) ∙ ap (λ (l : List ℕ). l ∷ line_parts (drop (length l) xs ++ more)) front in
+    (elim (x == 10) as P [ true ↦ at_newline | false ↦ at_other ]) e
+
+-- how a line that comes next stands among the parts
+pub record IsNextLine (parts : List (List ℕ)) (line : List ℕ) : Type 0 where
+  pub short : length line ≤ MOST_LINE_BYTES
+  pub second : List ℕ
+  pub others : List (List ℕ)
+  pub is : parts ≡ line ∷ second ∷ others
+
+by_test : (b : Bool) (found line : List ℕ) → cond b ALong (ALine found) ≡ ALine line → (b ≡ false) × (found ≡ line)
+by_test true found line e = cc
+by_test false found line e = (refl, cc)
+
+by_rest : (b : Bool) (stand : Stand) (rest line : List ℕ) → cond b ALong (rest_answer stand rest) ≡ ALine line → ⊥
+by_rest true stand rest line e = cc
+by_rest false Clean [] line e = cc
+by_rest false Clean (x ∷ xs) line e = cc
+by_rest false Failed rest line e = cc
+by_rest false Open rest line e = cc
+
+pub next_is : (stand : Stand) (parts : List (List ℕ)) (line : List ℕ) → next_answer stand parts ≡ ALine line → IsNextLine parts line
+next_is stand [] line e = absurd cc
+next_is stand (rest ∷ []) line e = absurd (by_rest (ltb MOST_LINE_BYTES (length rest)) stand rest line e)
+next_is stand (found ∷ second ∷ others) line e =
+    let h = by_test (ltb MOST_LINE_BYTES (length found)) found line e in
+    record {
+      short = subst (λ (l : List ℕ). length l ≤ MOST_LINE_BYTES) h.1 (ltb-false MOST_LINE_BYTES (length found) h.0);
+      second = second;
+      others = others;
+      is = ap (λ (l : List ℕ). l ∷ second ∷ others) h.1;
+    }
+
+-- What was handed on so far
+
+-- the requests of all bytes, whatever comes after them, are those that were handed on and then those of the held bytes from line n on
+abbrev pub Told : (all held : List ℕ) → List NumberedRequest → ℕ → Type 0
+Told all held done n =
+    (stand : Stand) (more : List ℕ) → requests_from stand 1 (line_parts (all ++ more)) ≡ after_requests done (requests_from stand n (line_parts (held ++ more)))
+
+-- the requests that were answered from the first states on, and then those of the held bytes, are those of all, whatever is still to come; no end and no fault was met
+pub record HasHandled {H S : Type 0} (AreAnswered : H → S → List NumberedRequest → H → S → Type 0) (first now : InputPast) (h0 h1 : H) (s0 s1 : S) (held : List ℕ) (n : ℕ) : Type 0 where
+  pub done : List NumberedRequest
+  pub answered : AreAnswered h0 s0 done h1 s1
+  pub reads : HasGrown first.handed now.handed
+  pub faults : now.faults ≡ first.faults
+  pub ends : now.ends ≡ first.ends
+  pub told : Told (since first.handed now.handed) held done n
+
+-- nothing was handed on before the first byte
+pub told_none : (handed held : List ℕ) → held ≡ [] → Told (since handed handed) held [] 1
+told_none handed held none = λ stand more. ap (λ (xs : List ℕ). requests_from stand 1 (line_parts (xs ++ more))) (since-same handed ∙ sym none)
+
+-- the requests from a line on that is held
+pub line_first : (stand : Stand) (held line more : List ℕ) (n : ℕ) → IsNextLine (line_parts held) line → requests_from stand n (line_parts (held ++ more)) ≡ line_requests n line (requests_from stand (n + 1) (line_parts (drop (length line + 1) held ++ more)))
+line_first stand held line more n h =
+    let rest = drop (suc (length line)) held ++ more in
+    ap (requests_from stand n) (part_stays held line h.second h.others more h.is)
+    ∙ ap (λ a. next_requests n a (requests_from stand (n + 1) (line_parts rest))) (next_line stand line rest h.short)
+    ∙ ap (λ k. line_requests n line (requests_from stand (n + 1) (line_parts (drop k held ++ more)))) (sym (add-one (length line)))
+
+-- a line more is a request
+told_more : (all held new line : List ℕ) (done more : List NumberedRequest) (n : ℕ) (stand : Stand) → Told all held done n → next_answer stand (line_parts (held ++ new)) ≡ ALine line → ((rest : Requests) → line_requests n line rest ≡ after_requests more rest)
+    → Told (all ++ new) (drop (length line + 1) (held ++ new)) (done ++ more) (n + 1)
+told_more all held new line done more n stand told next is = λ at_end later.
+    let rest = requests_from at_end (n + 1) (line_parts (drop (length line + 1) (held ++ new) ++ later)) in
+    ap (λ xs. requests_from at_end 1 (line_parts xs)) (append_assoc all new later)
+    ∙ told at_end (new ++ later)
+    ∙ ap (λ xs. after_requests done (requests_from at_end n (line_parts xs))) (sym (append_assoc held new later))
+    ∙ ap (after_requests done) (line_first at_end (held ++ new) line later n (next_is stand (line_parts (held ++ new)) line next) ∙ is rest)
+    ∙ ap (λ (requests : List NumberedRequest). record { all = requests; ending = rest.ending }) (sym (append_assoc done more rest.all))
+
+-- the same, by what the input handed out
+pub told_turn : (h0 h1 h2 held after line : List ℕ) (done more : List NumberedRequest) (n : ℕ) (stand : Stand) → Told (since h0 h1) held done n
+    → h1 ≡ h0 ++ since h0 h1 → h2 ≡ h1 ++ since h1 h2
+    → ALine line ≡ next_answer stand (line_parts (held ++ since h1 h2)) → ((rest : Requests) → line_requests n line rest ≡ after_requests more rest)
+    → after ≡ drop (length line + 1) (held ++ since h1 h2) → Told (since h0 h2) after (done ++ more) (n + 1)
+told_turn h0 h1 h2 held after line done more n stand told e f next is left =
+    subst (λ (xs : List ℕ). Told xs after (done ++ more) (n + 1)) (sym (since_more h0 h1 h2 e f))
+    (subst (λ (xs : List ℕ). Told (since h0 h1 ++ since h1 h2) xs (done ++ more) (n + 1)) (sym left)
+    (told_more (since h0 h1) held (since h1 h2) line done more n stand told (sym next) is))
+
+-- What comes next
+
+-- the requests by what comes next
+by_answer : (stand : Stand) (held : List ℕ) (n : ℕ) → (rest : Requests) × (requests_from stand n (line_parts held) ≡ next_requests n (next_answer stand (line_parts held)) rest)
+by_answer stand held n =
+    let s = some_part held in
+    let rest = requests_from stand (n + 1) s.1 in
+    (rest, ap (requests_from stand n) s.2 ∙ ap (λ parts. next_requests n (next_answer stand parts) rest) (sym s.2))
+
+-- the requests of all that was delivered: those that were handed on, and then by what comes next
+all_requests : (p0 p1 p2 : InputPast) (held : List ℕ) (n : ℕ) (done : List NumberedRequest) (answer : Answer) → Told (since p0.handed p1.handed) held done n
+    → HasGrown p0.handed p1.handed → HasGrown p1.handed p2.handed → p1.faults ≡ p0.faults → p1.ends ≡ p0.ends → answer ≡ next_answer (stand_of p1 p2) (line_parts (held ++ since p1.handed p2.handed))
+    → (rest : Requests) × (requests_of (delivery p0 p2) ≡ after_requests done (next_requests n answer rest))
+all_requests p0 p1 p2 held n done answer told reads more faults ends next =
+    let stand = stand_of p0 p2 in
+    let new = since p1.handed p2.handed in
+    let same : stand_of p1 p2 ≡ stand = ap (λ (k : ℕ). stand_of (record p1 { faults = k }) p2) faults ∙ ap (λ (k : ℕ). stand_of (record p0 { ends = k }) p2) ends in
+    let b = by_answer stand (held ++ new) n in (
+      b.0,
+      ap (λ xs. requests_from stand 1 (line_parts xs)) (since_more p0.handed p1.handed p2.handed reads more) ∙ told stand new
+          ∙ ap (after_requests done) (b.1 ∙ ap (λ a. next_requests n a b.0) (sym (next ∙ ap (λ s. next_answer s (line_parts (held ++ new))) same))),
+    )
+
+-- a handler that was told of a read answered what it had answered
+pub after_waiting : {H S : Type 0} {AreAnswered : H → S → List NumberedRequest → H → S → Type 0} {first mid : InputPast} {h0 h1 h2 : H} {s0 s1 : S} {held : List ℕ} {n : ℕ}
+    → ((a b c : H) (s t u : S) (us vs : List NumberedRequest) → AreAnswered a s us b t → AreAnswered b t vs c u → AreAnswered a s (us ++ vs) c u) → HasHandled AreAnswered first mid h0 h1 s0 s1 held n → AreAnswered h1 s1 [] h2 s1
+    → HasHandled AreAnswered first mid h0 h2 s0 s1 held n
+after_waiting {AreAnswered = AreAnswered} {h0 = h0} {h1 = h1} {h2 = h2} {s0 = s0} {s1 = s1} both turned waits = record {
+  done = turned.done;
+  answered = subst (λ (requests : List NumberedRequest). AreAnswered h0 s0 requests h2 s1) (append-nil turned.done) (both h0 h1 h2 s0 s1 s1 turned.done [] turned.answered waits);
+  reads = turned.reads;
+  faults = turned.faults;
+  ends = turned.ends;
+  told = turned.told;
+}
+
+-- they end with what comes next, so those that were answered are all
+pub ended : {H S : Type 0} (AreAnswered : H → S → List NumberedRequest → H → S → Type 0) (last : InputPast) {first mid : InputPast} {h0 h1 h2 : H} {s0 s1 : S} {held : List ℕ} {n : ℕ} (answer : Answer) (e : ending.Ending)
+    → ((a b c : H) (s t u : S) (us vs : List NumberedRequest) → AreAnswered a s us b t → AreAnswered b t vs c u → AreAnswered a s (us ++ vs) c u) → HasHandled AreAnswered first mid h0 h1 s0 s1 held n → AreAnswered h1 s1 [] h2 s1
+    → HasGrown mid.handed last.handed → answer ≡ next_answer (stand_of mid last) (line_parts (held ++ since mid.handed last.handed))
+    → ((rest : Requests) → next_requests n answer rest ≡ only_ends e) → AreAnswered h0 s0 (requests_of (delivery first last)).all h2 s1
+ended AreAnswered last {first = first} {mid = mid} {h0 = h0} {h2 = h2} {s0 = s0} {s1 = s1} {held = held} {n = n} answer e both before waits more next is =
+    let turned = after_waiting both before waits in
+    let a = all_requests first mid last held n turned.done answer turned.told turned.reads more turned.faults turned.ends next in
+    subst (λ (requests : List NumberedRequest). AreAnswered h0 s0 requests h2 s1) (sym (ap (λ (q : Requests). q.all) (a.1 ∙ ap (after_requests turned.done) (is a.0)) ∙ append-nil turned.done)) turned.answered
+
+-- where nothing was met, a bad line may be bad by any word
+pub bad_met : (old new : InputPast) (number : ℕ) (w : word.RequestWord) → MetNothing old new → HasMet (ending.TheVariants.BadRequest number w) old new
+bad_met old new number word.TheVariants.Unended met = omega (arith, met.0)
+bad_met old new number w met = met
+
+-- the next one is a request, which is the last that was handed on
+pub among : (p0 p1 p2 : InputPast) (held : List ℕ) (n : ℕ) (done more : List NumberedRequest) (line : List ℕ) (IsFirst : List NumberedRequest → Type 0) → Told (since p0.handed p1.handed) held done n
+    → HasGrown p0.handed p1.handed → HasGrown p1.handed p2.handed → p1.faults ≡ p0.faults → p1.ends ≡ p0.ends → ALine line ≡ next_answer (stand_of p1 p2) (line_parts (held ++ since p1.handed p2.handed))
+    → ((rest : Requests) → line_requests n line rest ≡ after_requests more rest) → IsFirst (done ++ more) → IsAmong IsFirst (requests_of (delivery p0 p2)).all
+among p0 p1 p2 held n done more line IsFirst told reads again faults none next is holds =
+    let a = all_requests p0 p1 p2 held n done (ALine line) told reads again faults none next in
+    record {
+      first = done ++ more;
+      later = a.0.all;
+      is = ap (λ (q : Requests). q.all) (a.1 ∙ ap (after_requests done) (is a.0)) ∙ sym (append_assoc done more a.0.all);
+      holds = holds;
+    }

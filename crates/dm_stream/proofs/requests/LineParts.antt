@@ -1,0 +1,81 @@
+-- Where the parts between newlines end.
+use Rattle.std.proofs.Common.{◌≡◌, ℕ, zero, suc, ◌+◌, ◌<◌, ◌≤◌, ◌++◌, ◌==◌, cond, Bool, true, false, List, [], ◌∷◌, length, get_or, take, drop, refl, sym, ap, ◌∙◌, arith, length-take, take-append-drop}
+use Rattle.std.specs.List.{onto_first}
+use Rattle.std.proofs.lemmas.List.Splits.{slice_split-cons_yes, slice_split-cons_no}
+use Rattle.std.proofs.lemmas.Bool.{le-ltb}
+use Rattle.std.proofs.lemmas.List.{drop-drop}
+use Rattle.std.proofs.Math.Seq.{take-add}
+use Rattle.dm_table.specs.io.DeviceIo.{Stand}
+use Rattle.dm_stream.specs.declared.requests.lines.TheConstants.{MOST_LINE_BYTES}
+use Rattle.dm_stream.specs.requests.Lines.{line_parts, next_answer, ALine, ALong}
+
+abbrev pub is_newline : ℕ → Bool
+is_newline b = b == 10
+
+not_true : (b : Bool) → (b ≡ true → ⊥) → b ≡ false
+not_true true h = absurd (h refl)
+not_true false h = refl
+
+-- without a newline there is one part
+pub parts_without : (xs : List ℕ) → ((k : ℕ) → k < length xs → is_newline (get_or xs k 0) ≡ true → ⊥) → line_parts xs ≡ xs ∷ []
+parts_without [] h = refl
+parts_without (x ∷ xs) h =
+    slice_split-cons_no is_newline x xs (not_true _ (h 0 (omega arith)))
+    ∙ ap (onto_first x) (parts_without xs (λ k l e. h (suc k) (omega arith) e))
+
+-- the first part ends at the first newline
+pub parts_first : (xs : List ℕ) (n : ℕ) → n < length xs → ((k : ℕ) → k < n → is_newline (get_or xs k 0) ≡ true → ⊥) → is_newline (get_or xs n 0) ≡ true → line_parts xs ≡ take n xs ∷ line_parts (drop (suc n) xs)
+parts_first [] n l h e = absurd (omega arith)
+parts_first (x ∷ xs) zero l h e = slice_split-cons_yes is_newline x xs e
+parts_first (x ∷ xs) (suc n) l h e =
+    slice_split-cons_no is_newline x xs (not_true _ (h 0 (omega arith)))
+    ∙ ap (onto_first x) (parts_first xs n (omega arith) (λ k l e. h (suc k) (omega arith) e) e)
+
+-- there is always a part
+pub some_part : (xs : List ℕ) → (part : List ℕ) × (parts : List (List ℕ)) × (line_parts xs ≡ part ∷ parts)
+some_part [] = ([], [], refl)
+some_part (x ∷ xs) = let s = some_part xs in elim (is_newline x) as (λ b. (part : List ℕ) × (parts : List (List ℕ)) × (cond b ([] ∷ line_parts xs) (onto_first x (line_parts xs)) ≡ part ∷ parts)) [
+  | true ↦ ([], line_parts xs, refl)
+  | false ↦ (x ∷ s.0, s.1, ap (onto_first x) s.2)
+]
+
+-- a front without a newline lengthens the first part
+pub parts_after : (front xs : List ℕ) (part : List ℕ) (parts : List (List ℕ)) → line_parts front ≡ front ∷ [] → line_parts xs ≡ part ∷ parts → line_parts (front ++ xs) ≡ (front ++ part) ∷ parts
+parts_after [] xs part parts clear e = e
+parts_after (x ∷ front) xs part parts clear e =
+    let s = some_part front in
+    let P : Bool → Type 0 = λ b. cond b ([] ∷ line_parts front) (onto_first x (line_parts front)) ≡ (x ∷ front) ∷ [] → cond b ([] ∷ line_parts (front ++ xs)) (onto_first x (line_parts (front ++ xs))) ≡ (x ∷ front ++ part) ∷ parts in
+    let at_newline : P true = λ f. cc in
+    let at_other : P false = λ f.
+    let opened : (x ∷ s.0) ∷ s.1 ≡ (x ∷ front) ∷ [] = sym (ap (onto_first x) s.2) ∙ f in
+    let first : s.0 ≡ front = cc in
+    let rest : s.1 ≡ [] = cc in
+    let same : line_parts front ≡ front ∷ [] = s.2 ∙ ap (λ ys. s.0 ∷ ys) rest ∙ ap (λ (l : List ℕ). l ∷ []) first in
+    ap (onto_first x) (parts_after front xs part parts same e) in
+    (elim (is_newline x) as P [ true ↦ at_newline | false ↦ at_other ]) clear
+
+-- the parts by those of what stands after the bytes that were searched: none of them ends
+pub still_one : (xs : List ℕ) (n : ℕ) → line_parts (take n xs) ≡ take n xs ∷ [] → line_parts (drop n xs) ≡ drop n xs ∷ [] → line_parts xs ≡ xs ∷ []
+still_one xs n clear e =
+    let whole = take-append-drop n xs in
+    ap line_parts (sym whole) ∙ parts_after (take n xs) (drop n xs) (drop n xs) [] clear e ∙ ap (λ (l : List ℕ). l ∷ []) whole
+
+-- or the first of them does
+pub first_after : (xs : List ℕ) (n k : ℕ) → line_parts (take n xs) ≡ take n xs ∷ [] → line_parts (drop n xs) ≡ take k (drop n xs) ∷ line_parts (drop (k + 1) (drop n xs))
+    → line_parts xs ≡ take (n + k) xs ∷ line_parts (drop (n + k + 1) xs)
+first_after xs n k clear e =
+    let place : n + (k + 1) ≡ n + k + 1 = omega arith in
+    ap line_parts (sym (take-append-drop n xs)) ∙ parts_after (take n xs) (drop n xs) _ _ clear e
+    ∙ ap (λ (l : List ℕ). l ∷ line_parts (drop (k + 1) (drop n xs))) (sym (take-add n k xs))
+    ∙ ap (λ ys. take (n + k) xs ∷ line_parts ys) (drop-drop (k + 1) n xs ∙ ap (λ i. drop i xs) place)
+
+-- a line that is not too long comes next
+pub next_line : (stand : Stand) (line rest : List ℕ) → length line ≤ MOST_LINE_BYTES → next_answer stand (line ∷ line_parts rest) ≡ ALine line
+next_line stand line rest h =
+    let s = some_part rest in
+    ap (λ parts. next_answer stand (line ∷ parts)) s.2 ∙ ap (λ b. cond b ALong (ALine line)) (le-ltb MOST_LINE_BYTES (length line) h)
+
+-- the line at the front of the bytes that are held
+pub next_held : (stand : Stand) (held : List ℕ) (n : ℕ) → n < length held → n ≤ MOST_LINE_BYTES → line_parts held ≡ take n held ∷ line_parts (drop (n + 1) held) → next_answer stand (line_parts held) ≡ ALine (take n held)
+next_held stand held n l h e =
+    ap (next_answer stand) e ∙ next_line stand (take n held) (drop (n + 1) held) (omega (arith, length-take n held))

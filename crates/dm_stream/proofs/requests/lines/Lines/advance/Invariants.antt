@@ -1,0 +1,23 @@
+use Rattle.std.proofs.Common.{◌≡◌, ◌-◌, ◌≤◌, ◌++◌, [], ◌∷◌, length, take}
+use Rattle.dm_table.specs.io.DeviceIo.{since}
+use Rattle.dm_stream.specs.requests.Lines.{line_parts}
+use Rattle.dm_stream.specs.declared.requests.lines.TheConstants.{ROOM}
+use Rattle.dm_stream.proofs.requests.lines.Lines.advance.Given as goal
+
+-- what came is held, its front was searched, and neither an end nor a fault was met
+abbrev pub invariant-turns : goal.invariant-turns
+invariant-turns g l =
+    let old = g.H.ReadsFrom.asked l.fn.requests in
+    let new = g.H.ReadsFrom.asked l.requests in
+    record {
+      within : l.searched ≤ length l.self;
+      clear : line_parts (take l.searched l.self) ≡ take l.searched l.self ∷ [];
+      out : line_parts l.self ≡ l.self ∷ [] → g.H.ReadsFrom.is_out l.handler;
+      held : l.self ≡ l.fn.self ++ since old.handed new.handed;
+      bytes : new.handed ≡ old.handed ++ since old.handed new.handed;
+      faults : new.faults ≡ old.faults;
+      ends : new.ends ≡ old.ends;
+    }
+
+abbrev pub decreases-turns : goal.decreases-turns
+decreases-turns g l = ROOM - length l.self

@@ -1,0 +1,97 @@
+-- What the requests mapped so far say of the outcome of a run.
+use Rattle.std.proofs.Common.{◌≡◌, ◌≢◌, ℕ, Bool, List, [], ◌++◌, Option, Some, Result, Ok, Err, IsErr, OnErr, OnOk, sym, ap, subst, ◌∙◌, refl}
+use Rattle.std.proofs.lemmas.List.{append-nil}
+use Rattle.dm_table.specs.io.DeviceIo.{Delivery, InputPast, OutputPast, since, written_since}
+use Rattle.dm_stack.specs.Description.{Description}
+use Rattle.dm_map.specs.Mapper.{MapperView}
+use Rattle.dm_stream.specs.runs.Mapped.{HasAnswered, HasStopped}
+use Rattle.dm_stream.specs.runs.Outcome.{Outcome, if_done, outcome_from, requests_outcome, with_status}
+use Rattle.dm_table.specs.io.Progress.{HasWritten, IsClosedAfter, MetNothing, Wrote}
+use Rattle.dm_table.specs.laws.Progress.{closed_as}
+use Rattle.dm_stream.specs.runs.StatusLines.{status_text}
+use Rattle.dm_stream.proofs.runs.RequestMapped.{cut_of_more}
+use Rattle.dm_stream.specs.requests.Requests.{HasMet, IsAmong, NumberedRequest, requests_of}
+use Rattle.dm_stream.specs.runs.Run.{HasRun, IsMapped, ending_for, write_faults}
+use Rattle.dm_map.specs.state.State.{State}
+use Rattle.dm_stream.specs.declared.runs.ending.Ending as ending
+use Rattle.dm_stream.specs.declared.runs.ending.NotMapped.{NotMapped}
+use Rattle.dm_stream.specs.declared.runs.ending.NotMapped.TheVariants as causes
+
+-- all requests were answered, and they end by themselves
+pub all_mapped : (stack : Description) (old new : State) (delivered : Delivery) (w0 w1 : List ℕ) (e : ending.Ending) → HasAnswered stack old new (requests_of delivered).all w0 w1 → (requests_of delivered).ending ≡ Some e → e ≢ ending.TheVariants.WriteFault
+    → IsMapped (requests_outcome stack old delivered) (since w0 w1) new e
+all_mapped stack old new delivered w0 w1 e answered ends no_fault =
+    let requests = requests_of delivered in
+    let whole : requests_outcome stack old delivered ≡ record { output = since w0 w1; state = new; ending = Some e } =
+    ap (λ (rs : List NumberedRequest). outcome_from stack old rs requests.ending) (sym (append-nil requests.all))
+    ∙ answered.told [] requests.ending
+    ∙ ap (λ (x : Option ending.Ending). record { output = since w0 w1 ++ []; state = new; ending = x }) ends
+    ∙ ap (λ (text : List ℕ). record { output = text; state = new; ending = Some e }) (append-nil (since w0 w1)) in
+    record {
+      whole = λ n. (ap (λ (o : Outcome). o.output) whole, ap (λ (o : Outcome). o.ending) whole, sym (ap (λ (o : Outcome). o.state) whole));
+      cut = λ is. absurd (no_fault is);
+    }
+
+-- the mapping stopped at one of them
+stopped_at : (stack : Description) (fault : NotMapped) (old : State) (new : MapperView) (first later : List NumberedRequest) (e : Option ending.Ending) (w0 w1 : List ℕ) → HasStopped stack fault old new first w0 w1
+    → IsMapped (outcome_from stack old (first ++ later) e) (since w0 w1) new.state (ending_for fault)
+stopped_at stack (causes.Unknown number) old new first later e w0 w1 stopped =
+    let whole = stopped.1 later e in
+    record {
+      whole = λ n. (ap (λ (o : Outcome). o.output) whole, ap (λ (o : Outcome). o.ending) whole, sym (ap (λ (o : Outcome). o.state) whole));
+      cut = λ is. absurd cc;
+    }
+stopped_at stack causes.Output old new first later e w0 w1 stopped = record {
+  whole = λ n. absurd (n refl);
+  cut = λ is. stopped later e;
+}
+
+pub part_mapped : (stack : Description) (fault : NotMapped) (e : ending.Ending) (old : State) (new : MapperView) (delivered : Delivery) (w0 w1 : List ℕ) (Stopped : List NumberedRequest → Type 0) → e ≡ ending_for fault
+    → ((first : List NumberedRequest) → Stopped first → HasStopped stack fault old new first w0 w1) → IsAmong Stopped (requests_of delivered).all
+    → IsMapped (requests_outcome stack old delivered) (since w0 w1) new.state e
+part_mapped stack fault e old new delivered w0 w1 Stopped ends stopped among =
+    let requests = requests_of delivered in
+    subst (λ (x : ending.Ending). IsMapped (requests_outcome stack old delivered) (since w0 w1) new.state x) (sym ends)
+    (subst (λ (rs : List NumberedRequest). IsMapped (outcome_from stack old rs requests.ending) (since w0 w1) new.state (ending_for fault)) (sym among.is)
+    (stopped_at stack fault old new among.first among.later requests.ending w0 w1 (stopped among.first among.holds)))
+
+-- nothing more is read then
+pub stopped_met : (old new : InputPast) (fault : NotMapped) (e : ending.Ending) → e ≡ ending_for fault → MetNothing old new → HasMet e old new
+stopped_met old new (causes.Unknown number) e is met = subst (λ (x : ending.Ending). HasMet x old new) (sym is) met
+stopped_met old new causes.Output e is met = subst (λ (x : ending.Ending). HasMet x old new) (sym is) tt
+
+-- ---- what comes after the answers
+
+-- what the answers leave to write is left of the whole
+pub rest_cut : {E : Type 0} (fault : E) (old new : OutputPast) (stack : Description) (status : Bool) (outcome : Outcome) (left : State) (e : ending.Ending) → e ≡ ending.TheVariants.WriteFault
+    → HasWritten old new (write_faults e) → IsMapped outcome (written_since old new) left e → Wrote old new (Err fault) (with_status stack status outcome).output
+rest_cut fault old new stack status outcome left e is moved mapped = record {
+  moved = subst (λ (x : ending.Ending). HasWritten old new (write_faults x)) is moved;
+  ok = tt;
+  left = cut_of_more outcome.output (written_since old new) (if_done status outcome.ending (status_text stack outcome.state)) (mapped.cut is);
+}
+
+-- ---- the end of a run
+
+-- an output that was closed without a fault had taken all
+pub closed_after : {E : Type 0} (wrote : Result (Unit {0}) E) (P Q : Type 0) → OnErr wrote (IsErr {T = Unit {0}} {E = E} (Ok tt) × Q) → OnOk wrote P → P
+closed_after (Ok done) P Q failed fact = fact
+closed_after (Err fault) P Q failed fact = let err = failed.0 in absurd cc
+
+-- all was written and flushed
+pub ran_whole : (E : Type 0) (old new : OutputPast) (stack : Description) (status : Bool) (outcome : Outcome) (text : List ℕ) (left after : State) (e : ending.Ending) → e ≢ ending.TheVariants.WriteFault → after ≡ left
+    → IsMapped outcome text left e → IsClosedAfter old new (IsErr {T = Unit {0}} {E = E} (Ok tt)) (with_status stack status outcome).output → HasRun old new (with_status stack status outcome) after e
+ran_whole E old new stack status outcome text left after e no_fault same mapped closed =
+    let whole = mapped.whole no_fault in
+    record {
+      output = closed_as (IsErr {T = Unit {0}} {E = E} (Ok tt)) (e ≡ ending.TheVariants.WriteFault) (λ err. absurd cc) (λ is. absurd (no_fault is)) closed;
+      ends = λ n. (whole.1, same ∙ whole.2);
+    }
+
+-- the output failed
+pub ran_failed : (E : Type 0) (old new : OutputPast) (fault : E) (outcome : Outcome) (left : State) → IsClosedAfter old new (IsErr {T = Unit {0}} (Err fault)) outcome.output
+    → HasRun old new outcome left ending.TheVariants.WriteFault
+ran_failed E old new fault outcome left closed = record {
+  output = closed_as _ _ (λ err. refl) (λ is. refl) closed;
+  ends = λ other. absurd (other refl);
+}

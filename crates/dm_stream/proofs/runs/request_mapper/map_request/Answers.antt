@@ -1,0 +1,54 @@
+use Rattle.std.proofs.Common.{◌≡◌, ◌∙◌, sym, ap, subst, Some, Ok, Err}
+use Rattle.dm_stack.specs.Description.{Description}
+use Rattle.dm_map.specs.pieces.Units.{IsOnDisk, units_of}
+use Rattle.dm_stream.specs.pieces.Pending.{Pending, piece_of}
+use Rattle.dm_stream.specs.runs.Outcome.{step_of}
+use Rattle.dm_stream.specs.requests.Requests.{numbered}
+use Rattle.dm_stream.specs.pieces.Pieces.{fewest}
+use Rattle.dm_stream.specs.pieces.PieceText.{pieces_text}
+use Rattle.dm_table.specs.io.Progress.{Wrote}
+use Rattle.dm_table.specs.declared.io.device_io.OutFault.{OutFault}
+use Rattle.dm_stream.proofs.runs.RequestMapped.{at_home, cut_short, home_wrote, on_ok, on_sink, state_at, taken_wrote, took_all}
+use Rattle.dm_stream.proofs.runs.request_mapper.map_request.Goals as goal
+
+-- what is said of a mapper's stack and of the writer that a join began with, is said of the join's stack and of its writer before
+before_begin : {W : Type 0} (P : Description → W → Type 0) (stack other : Description) (writer begun : W) → other ≡ stack → begun ≡ writer → P other begun → P stack writer
+before_begin P stack other writer begun same kept fact = subst (λ (s : Description). P s writer) same (subst (λ w. P other w) kept fact)
+
+pub returns-in-Ok-None-clause-wrote : goal.returns-in-Ok-None-clause-wrote
+returns-in-Ok-None-clause-wrote g c =
+    let request = c.args.request.now in let begun = c.begin.new.self in let new = c.request_or_home.new.sink in
+    let took = took_all _ _ _ _ c.request_or_home.result (c.in-Ok-None.is ∙ ap Ok c.in-Ok-None.field-0-is) c.request_or_home.ensures.took in
+    before_begin (λ s w. Wrote (g.W.Output.past w) (g.W.Output.past c.finish.new.self.writer.now) c.finish.result (pieces_text c.args.join.now.held.stack request.number (fewest (step_of s c.args.device (numbered request) c.args.mapper.now.state).units))) _ _ _ _ c.requires.stack c.begin.ensures.writer
+    (taken_wrote _ request.number begun.held new.held _ c.begin.ensures.number took.0 took.1.moved c.finish.ensures.wrote)
+
+pub write_range-requires : goal.write_range-requires
+write_range-requires g c =
+    let begun = c.begin.new.self in let new = c.request_or_home.new.sink in
+    let home = at_home _ c.request_or_home.result c.in-Ok-Some.home (c.in-Ok-Some.is ∙ ap Ok c.in-Ok-Some.field-0-is) c.request_or_home.ensures.took in
+    let stack : new.held.stack ≡ c.args.mapper.now.stack = ap (λ j. j.held.stack) home.1 ∙ ap (λ (h : Pending). h.stack) c.begin.ensures.number ∙ sym c.requires.stack in
+    c.at.ensures.held new.held.stack c.args.request.now.at_least (subst (λ (s : Description). IsOnDisk s c.in-Ok-Some.home.disk c.in-Ok-Some.home.start c.args.request.now.len) (sym stack) home.0.lies)
+
+pub returns-in-Ok-Some-clause-state : goal.returns-in-Ok-Some-clause-state
+returns-in-Ok-Some-clause-state g c =
+    let a = c.args in
+    let state = state_at c.request_or_home.result (Some c.in-Ok-Some.home) _ (c.in-Ok-Some.is ∙ ap Ok c.in-Ok-Some.field-0-is) c.request_or_home.ensures.state in
+    on_ok c.write_range.result _ (subst (λ (s : Description). c.request_or_home.new.self.state ≡ (step_of s a.device (numbered a.request.now) a.mapper.now.state).state) c.requires.stack state)
+
+pub returns-in-Ok-Some-clause-wrote : goal.returns-in-Ok-Some-clause-wrote
+returns-in-Ok-Some-clause-wrote g c =
+    let request = c.args.request.now in let begun = c.begin.new.self in let new = c.request_or_home.new.sink in
+    let home = at_home _ c.request_or_home.result c.in-Ok-Some.home (c.in-Ok-Some.is ∙ ap Ok c.in-Ok-Some.field-0-is) c.request_or_home.ensures.took in
+    before_begin (λ s w. Wrote (g.W.Output.past w) (g.W.Output.past c.write_range.new.self.writer.now) c.write_range.result (pieces_text c.args.join.now.held.stack request.number (fewest (step_of s c.args.device (numbered request) c.args.mapper.now.state).units))) _ _ _ _ c.requires.stack c.begin.ensures.writer
+    (home_wrote begun new (λ j. g.W.Output.past j.writer.now) (λ j. j.held) _ request.number _ (units_of (piece_of c.at.result)) home.1 c.begin.ensures.number (home.0.units ∙ sym c.at.ensures.units) c.write_range.ensures.wrote)
+
+pub returns-in-Err-Sink-clause-wrote : goal.returns-in-Err-Sink-clause-wrote
+returns-in-Err-Sink-clause-wrote g c =
+    let request = c.args.request.now in let begun = c.begin.new.self in let new = c.request_or_home.new.sink in
+    let left = on_sink c.request_or_home.result c.in-Err-Sink.fault _ (c.in-Err-Sink.is ∙ ap Err c.in-Err-Sink.field-0-is) c.request_or_home.ensures.left in
+    before_begin (λ s w. Wrote {E = OutFault} (g.W.Output.past w) (g.W.Output.past new.writer.now) (Err c.in-Err-Sink.fault) (pieces_text c.args.join.now.held.stack request.number (fewest (step_of s c.args.device (numbered request) c.args.mapper.now.state).units))) _ _ _ _ c.requires.stack c.begin.ensures.writer
+    (record {
+      moved = left.holds.1.moved;
+      ok = tt;
+      left = cut_short _ request.number begun.held new.held left.front left.rest _ (g.W.Output.past begun.writer.now).written (g.W.Output.past new.writer.now).written c.begin.ensures.number left.whole left.holds.0;
+    })

@@ -1,0 +1,8 @@
+-- The fewest pieces of units, and their lines.
+pub mod Join
+pub mod LineEnds
+pub mod NumberPrefix
+pub mod Pending
+pub mod PieceText
+pub mod Pieces
+pub mod RangeText

@@ -1,0 +1,38 @@
+-- What playing earlier requests leaves: requests that were carried out before a run, whose answers nobody waits for.
+use Rattle.std.specs.Prelude.{◌≡◌, ℕ, List, ◌++◌, Option, Some, Result, Ok, Err, IfErr, OnOk}
+use Rattle.dm_stack.specs.Description.{Description}
+use Rattle.dm_map.specs.state.State.{State}
+use Rattle.dm_stream.specs.runs.Outcome.{Outcome, outcome_from}
+use Rattle.dm_stream.specs.requests.Requests.{NumberedRequest}
+use Rattle.dm_stream.specs.declared.runs.earlier.EarlierFault.{EarlierFault}
+use Rattle.dm_stream.specs.declared.runs.earlier.EarlierFault.TheVariants as faults
+use Rattle.dm_stream.specs.declared.runs.ending.Ending as ending
+use Rattle.dm_stream.specs.declared.runs.ending.RequestWord as word
+
+-- two outcomes leave the same state, and end alike; what they write is another matter
+pub record LeaveTheSame (a b : Outcome) : Type 0 where
+  pub state : a.state ≡ b.state
+  pub ending : a.ending ≡ b.ending
+
+-- whatever requests come after these, they leave what the others leave from the new state on
+pub record HasMoved (stack : Description) (old new : State) (requests : List NumberedRequest) : Type 0 where
+  pub told : (rest : List NumberedRequest) (e : Option ending.Ending) → LeaveTheSame (outcome_from stack old (requests ++ rest) e) (outcome_from stack new rest e)
+
+-- one of these requests, of this number, names no device, so they end there
+pub record HasStoppedAt (stack : Description) (old : State) (requests : List NumberedRequest) (number : ℕ) : Type 0 where
+  pub told : (rest : List NumberedRequest) (e : Option ending.Ending) → (outcome_from stack old (requests ++ rest) e).ending ≡ Some (ending.TheVariants.BadRequest number word.TheVariants.Unknown)
+
+-- how requests end that are refused so
+abbrev pub refused_ending : EarlierFault → ending.Ending
+refused_ending (faults.BadRequest number w) = ending.TheVariants.BadRequest number w
+refused_ending faults.Read = ending.TheVariants.ReadFault
+
+-- how requests ended that were played, or refused
+abbrev pub played_ending : Result (Unit {0}) EarlierFault → ending.Ending
+played_ending (Ok done) = ending.TheVariants.Done
+played_ending (Err fault) = refused_ending fault
+
+-- requests of this outcome were played: all of them, up to a clean end, and this is the state that they left; or they ended badly
+pub record HasPlayed (outcome : Outcome) (left : State) (result : Result (Unit {0}) EarlierFault) : Type 0 where
+  pub done : OnOk result ((outcome.ending ≡ Some ending.TheVariants.Done) × (left ≡ outcome.state))
+  pub refused : IfErr result (λ fault. outcome.ending ≡ Some (refused_ending fault))

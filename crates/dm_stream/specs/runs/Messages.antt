@@ -1,0 +1,61 @@
+-- The message of each ending, and how a message is told.
+use Rattle.std.specs.Prelude.{◌≡◌, ◌≤◌, ℕ, ◌+◌, List, [], ◌++◌, Result, Ok, Err, codes, decimal}
+use Rattle.dm_table.specs.io.DeviceIo.{OutputPast, written_since}
+use Rattle.dm_table.specs.io.WriteAll.{IsBeginning}
+use Rattle.dm_table.specs.io.Progress.{HasGrown}
+use Rattle.dm_stream.specs.declared.runs.earlier.EarlierFault.{EarlierFault}
+use Rattle.dm_stream.specs.declared.runs.earlier.EarlierFault.TheVariants as earlier
+use Rattle.dm_stream.specs.declared.runs.ending.Ending.{Ending}
+use Rattle.dm_stream.specs.declared.runs.ending.Ending.TheVariants as endings
+use Rattle.dm_stream.specs.declared.runs.ending.RequestWord.{RequestWord}
+use Rattle.dm_stream.specs.declared.runs.ending.RequestWord.TheVariants as words
+
+-- the word of a bad request
+abbrev pub request_word : RequestWord → List ℕ
+request_word words.Long = codes "long"
+request_word words.Unended = codes "unended"
+request_word words.Many = codes "many"
+request_word words.Form = codes "form"
+request_word words.Number = codes "number"
+request_word words.Length = codes "length"
+request_word words.Unknown = codes "unknown"
+
+-- the message of a request that is refused, with a word that says why
+abbrev pub refused_request : ℕ → List ℕ → List ℕ
+refused_request number word = codes "dmremap: request " ++ decimal number ++ codes ": " ++ word ++ codes "\n"
+
+-- the message of earlier requests that are refused
+abbrev pub earlier_message : EarlierFault → List ℕ
+earlier_message (earlier.BadRequest number word) = codes "dmremap: before: " ++ request_word word ++ codes " at " ++ decimal number ++ codes "\n"
+earlier_message earlier.Read = codes "dmremap: before: read\n"
+
+abbrev pub read_message : List ℕ
+read_message = codes "dmremap: requests: read\n"
+
+abbrev pub write_message : List ℕ
+write_message = codes "dmremap: output: write\n"
+
+-- the message of an ending: none if all requests were answered
+abbrev pub ending_message : Ending → List ℕ
+ending_message endings.Done = []
+ending_message (endings.BadRequest number word) = refused_request number (request_word word)
+ending_message endings.ReadFault = read_message
+ending_message endings.WriteFault = write_message
+
+-- the message that is told when an output was closed: that of a failed output goes before any other
+abbrev pub told_at_close : {E : Type 0} → Result (Unit {0}) E → List ℕ → List ℕ
+told_at_close (Ok closed) message = message
+told_at_close (Err fault) message = write_message
+
+-- the message was written whole, or a beginning of it if its stream failed
+pub record IsTold (message : List ℕ) (old new : OutputPast) : Type 0 where
+  pub beginning : IsBeginning message (written_since old new)
+  pub whole : new.faults ≡ old.faults → written_since old new ≡ message
+
+-- it was told on a stream, which only took more, and was not flushed; nothing is told after a write that failed
+pub record HasTold (message : List ℕ) (old new : OutputPast) : Type 0 where
+  pub appends : HasGrown old.written new.written
+  pub told : IsTold message old new
+  pub grows : old.faults ≤ new.faults
+  pub fails_once : new.faults ≤ old.faults + 1
+  pub unflushed : new.flushes ≡ old.flushes

@@ -1,0 +1,93 @@
+//! Ranges of a disk that are read or written, as most pieces are.
+//!
+//! Both kinds go one way: which of them comes next is not foreseen by the processor.
+
+ghost use Rattle.std.specs.Prelude.{◌≡◌, ◌+◌, ◌≤◌, ◌==◌, Some, MatchOption};
+ghost use Rattle.dm_stack.specs.Description.{Description};
+ghost use Rattle.dm_map.specs.pieces.Units.{IsOnDisk, first_unit, units_in, units_of};
+ghost use Rattle.dm_map.specs.walk.Range.{disk_unit};
+ghost use Rattle.dm_stream.specs.pieces.Pending.{Fits, IsHeld, IsNoRange, piece_of};
+ghost use Rattle.dm_stream.specs.pieces.Pieces.{is_after};
+
+use crate::pieces::letter::Letter;
+use dm_map::{Home, Piece};
+use dm_stack::{DiskId, Stack};
+use dm_table::Op;
+
+/// Consecutive sectors of a disk, and the letter of what is done at them.
+#[derive(Clone, Copy, Drop)]
+pub(crate) struct DiskRange {
+    pub(crate) letter: Letter,
+    pub(crate) disk: DiskId,
+    pub(crate) start: u64,
+    pub(crate) len: u64,
+}
+
+impl DiskRange {
+    /// The range of a read or a write, which no other piece has.
+    #[inline(always)]
+    pub(crate) fn of(piece: &Piece) -> Option<DiskRange>
+        ensures { MatchOption result (IsNoRange piece.now) (λ range. piece.now ≡ piece_of range) }
+    {
+        match *piece {
+            Piece::Read { disk, start, len } | Piece::Write { disk, start, len } => {
+                Some(DiskRange {
+                    letter: Letter::new(matches!(*piece, Piece::Write { .. })),
+                    disk,
+                    start,
+                    len,
+                })
+            }
+            _ => None,
+        }
+    }
+
+    /// The range of sectors of a request that lie in a row on a disk.
+    #[inline(always)]
+    pub(crate) fn at(op: Op, home: Home, len: u64) -> DiskRange
+        ensures units { units_of (piece_of result) ≡ units_in (disk_unit op home.disk home.start) len }
+        ensures held { (stack : Description) → 1 ≤ len → IsOnDisk stack home.disk home.start len
+            → IsHeld stack (Some (piece_of result)) }
+    {
+        DiskRange {
+            letter: Letter::new(matches!(op, Op::Write)),
+            disk: home.disk,
+            start: home.start,
+            len,
+        }
+    }
+
+    /// Whether another range continues this one.
+    #[inline(always)]
+    pub(crate) fn goes_on(&self, next: &DiskRange) -> bool
+        ensures { result ≡ is_after (first_unit (piece_of self.now)) self.now.len
+            (first_unit (piece_of next.now)) }
+    {
+        self.letter.is(next.letter)
+            && self.disk == next.disk
+            && follows(self.start, self.len, next.start)
+    }
+
+    /// This range, longer by `more` sectors.
+    #[inline(always)]
+    pub(crate) fn longer(&self, stack: &Stack, more: u64) -> DiskRange
+        requires { Fits stack.now (first_unit (piece_of self.now)) (self.now.len + more) }
+        ensures first { first_unit (piece_of result) ≡ first_unit (piece_of self.now) }
+        ensures len { result.len ≡ self.now.len + more }
+    {
+        // A stack is sound by its type, so no disk of it is too long for the sum.
+        stack.depth();
+        DiskRange {
+            len: self.len + more,
+            ..*self
+        }
+    }
+}
+
+/// Whether `next` is the sector after `len` sectors from `sector` on.
+#[inline(always)]
+pub(crate) fn follows(sector: u64, len: u64, next: u64) -> bool
+    ensures { result ≡ (sector + len == next) }
+{
+    sector <= next && next - sector == len
+}

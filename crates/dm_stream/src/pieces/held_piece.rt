@@ -1,0 +1,246 @@
+//! The piece that a join holds back, since the next one may continue it.
+//!
+//! Its invariant keeps it on the disks of the stack, so that its line can always be written. For a
+//! new kind of piece, say here when one continues another.
+
+ghost use Rattle.std.specs.Bool.{OnTrue, OnFalse};
+ghost use Rattle.std.specs.Prelude.{◌≡◌, ◌+◌, ◌-◌, ◌≤◌, ◌++◌, ◌^◌, List, OnErr, OnOk, Some, None};
+ghost use Rattle.dm_map.specs.pieces.Units.{BlockUnit, IsOnDisks, diskless_len, first_unit, piece_len, units_of};
+ghost use Rattle.dm_stream.specs.pieces.Pending.{Fits, HoldsNoRange, IsHeld, IsNoRange, goes_on, held_diskless, held_units, piece_of};
+ghost use Rattle.dm_stream.specs.pieces.PieceText.{pieces_text};
+ghost use Rattle.dm_stream.specs.pieces.Pieces.{fewest, is_after};
+ghost use Rattle.dm_table.specs.io.Progress.{Wrote};
+
+use crate::pieces::disk_range::{DiskRange, follows};
+use crate::pieces::number_prefix::NumberPrefix;
+use crate::pieces::piece_text::{put_alone, put_other, put_range};
+use crate::pieces::range_text::RangeText;
+use dm_map::Piece;
+use dm_stack::Stack;
+use dm_table::{OutFault, Output};
+use std::marker::Model;
+
+/// At most one piece of a request to a stack's devices, under the request's number.
+#[derive(Drop)]
+pub(crate) struct HeldPiece<'s> {
+    stack: &'s Stack,
+    /// The read or write that is held, if one is.
+    range: Option<DiskRange>,
+    /// The piece of another kind that is held, if one is.
+    other: Option<Piece>,
+    /// What each line begins with: the request's number.
+    prefix: NumberPrefix,
+    /// What the line of a range ended with that was written last.
+    text: RangeText,
+}
+
+impl<'s> Model for HeldPiece<'s> {
+    ghost use Rattle.dm_stream.specs.pieces.Pending.{AreApart, IsHeld, Pending, held_of};
+
+    ghost Value = { Pending };
+
+    ghost view = { λ held. record {
+      stack = held.stack.now;
+      number = held.prefix;
+      piece = held_of held.range held.other;
+    } };
+
+    ghost invariant = { λ held. IsHeld held.stack.now (held_of held.range held.other)
+        × AreApart held.range held.other };
+}
+
+impl<'s> HeldPiece<'s> {
+    /// No piece, under the number 0.
+    pub(crate) fn new(stack: &'s Stack) -> HeldPiece<'s>
+        ensures { result ≡ record { stack = stack.now; number = 0; piece = None } }
+    {
+        HeldPiece {
+            stack,
+            range: None,
+            other: None,
+            prefix: NumberPrefix::new(),
+            text: RangeText::new(),
+        }
+    }
+
+    /// Sets the number of the request.
+    #[inline(always)]
+    pub(crate) fn set_number(&mut self, number: u64)
+        ensures { self.new ≡ record { stack = self.old.stack; number = number; piece = self.old.piece } }
+    {
+        self.prefix.set(number);
+    }
+
+    /// Lengthens the held piece by one that continues it. Returns false, and changes nothing, if
+    /// none is held or the piece does not continue it.
+    #[inline(always)]
+    pub(crate) fn lengthen(&mut self, piece: &Piece) -> bool
+        requires some { 1 ≤ piece_len piece.now }
+        requires lies { IsOnDisks self.old.stack piece.now }
+        requires room { diskless_len piece.now ≤ 2 ^ 64 - 1 - held_diskless self.old.piece }
+        ensures joined { OnTrue result
+            (held_units self.new.piece ≡ held_units self.old.piece ++ units_of piece.now) }
+        ensures diskless { OnTrue result
+            (held_diskless self.new.piece ≡ held_diskless self.old.piece + diskless_len piece.now) }
+        ensures others { OnTrue result ((self.new.stack ≡ self.old.stack)
+            × (self.new.number ≡ self.old.number)) }
+        ensures same { OnFalse result (self.new ≡ self.old) }
+        // Whatever units follow, the held piece is complete.
+        ensures apart { OnFalse result ((rest : List BlockUnit)
+            → fewest (held_units self.old.piece ++ units_of piece.now ++ rest)
+            ≡ fewest (held_units self.old.piece) ++ fewest (units_of piece.now ++ rest)) }
+    {
+        if !self.goes_on(piece) {
+            return false;
+        }
+        let more = piece.len();
+        if let Some(range) = &self.range {
+            self.range = Some(range.longer(self.stack, more));
+        } else if let Some(other) = &self.other {
+            self.other = Some(longer(self.stack, other, more));
+        }
+        true
+    }
+
+    /// Whether a piece continues the held one.
+    #[inline(always)]
+    fn goes_on(&self, piece: &Piece) -> bool
+        ensures { result ≡ goes_on self.now.piece piece.now }
+    {
+        match DiskRange::of(piece) {
+            Some(next) => match &self.range {
+                Some(range) => range.goes_on(&next),
+                None => false,
+            },
+            None => match &self.other {
+                Some(other) => goes_on(other, piece),
+                None => false,
+            },
+        }
+    }
+
+    /// Holds a piece in the place of the held one, whose line is written. If that fails, none is held.
+    #[inline(always)]
+    pub(crate) fn replace<W: Output>(
+        &mut self,
+        piece: Piece,
+        writer: &mut W,
+    ) -> Result<(), OutFault>
+        requires fits { IsHeld self.old.stack (Some piece) }
+        ensures wrote { Wrote (W.past writer.old) (W.past writer.new) result
+            (pieces_text self.old.stack self.old.number (fewest (held_units self.old.piece))) }
+        ensures held { OnOk result (self.new
+            ≡ record { stack = self.old.stack; number = self.old.number; piece = Some piece }) }
+        ensures nothing { OnErr result (self.new
+            ≡ record { stack = self.old.stack; number = self.old.number; piece = None }) }
+    {
+        if let Some(range) = &self.range {
+            // It stays until the next piece is there, so that it isn't cleared in between.
+            if let Err(fault) = put_range(writer, &self.prefix, &mut self.text, self.stack, range) {
+                self.range = None;
+                return Err(fault);
+            }
+        } else {
+            self.write_other(writer)?;
+        }
+        match DiskRange::of(&piece) {
+            Some(next) => self.range = Some(next),
+            None => {
+                self.range = None;
+                self.other = Some(piece);
+            }
+        }
+        Ok(())
+    }
+
+    /// Writes the line of the held piece, which is then held no longer. Writes nothing if none is held.
+    #[inline(always)]
+    pub(crate) fn write<W: Output>(&mut self, writer: &mut W) -> Result<(), OutFault>
+        ensures wrote { Wrote (W.past writer.old) (W.past writer.new) result
+            (pieces_text self.old.stack self.old.number (fewest (held_units self.old.piece))) }
+        ensures nothing { self.new
+            ≡ record { stack = self.old.stack; number = self.old.number; piece = None } }
+    {
+        if let Some(range) = &self.range {
+            let wrote = put_range(writer, &self.prefix, &mut self.text, self.stack, range);
+            self.range = None;
+            return wrote;
+        }
+        self.write_other(writer)
+    }
+
+    /// The same where no range is held.
+    #[inline(always)]
+    fn write_other<W: Output>(&mut self, writer: &mut W) -> Result<(), OutFault>
+        requires { HoldsNoRange self.old.piece }
+        ensures wrote { Wrote (W.past writer.old) (W.past writer.new) result
+            (pieces_text self.old.stack self.old.number (fewest (held_units self.old.piece))) }
+        ensures nothing { self.new
+            ≡ record { stack = self.old.stack; number = self.old.number; piece = None } }
+    {
+        let Some(other) = &self.other else {
+            return Ok(());
+        };
+        let wrote = put_other(writer, &self.prefix, self.text.ends(), self.stack, other);
+        self.other = None;
+        wrote
+    }
+
+    /// Writes the line of a range that is all of a request's answer, so that nothing is held.
+    #[inline(always)]
+    pub(crate) fn write_range<W: Output>(
+        &self,
+        range: &DiskRange,
+        writer: &mut W,
+    ) -> Result<(), OutFault>
+        requires { IsHeld self.now.stack (Some (piece_of range.now)) }
+        ensures { Wrote (W.past writer.old) (W.past writer.new) result
+            (pieces_text self.now.stack self.now.number (fewest (units_of (piece_of range.now)))) }
+    {
+        put_alone(writer, &self.prefix, self.text.ends(), self.stack, range)
+    }
+}
+
+/// Whether the second piece continues the first, of which neither is a range.
+#[inline(always)]
+fn goes_on(held: &Piece, piece: &Piece) -> bool
+    requires held { IsNoRange held.now }
+    requires piece { IsNoRange piece.now }
+    ensures { result ≡ is_after (first_unit held.now) (piece_len held.now) (first_unit piece.now) }
+{
+    match *piece {
+        Piece::Read { .. } | Piece::Write { .. } => unreachable!(),
+        Piece::Zero { .. } => matches!(*held, Piece::Zero { .. }),
+        Piece::Drop { .. } => matches!(*held, Piece::Drop { .. }),
+        Piece::Error { .. } => matches!(*held, Piece::Error { .. }),
+        Piece::Copy {
+            disk,
+            start: next,
+            to,
+            to_start: next_to,
+            ..
+        } => {
+            matches!(*held, Piece::Copy { disk: other, start, len, to: other_to, to_start } if other == disk && follows(start, len, next) && other_to == to && follows(to_start, len, next_to))
+        }
+        Piece::Fill {
+            disk,
+            start: next,
+            ..
+        } => {
+            matches!(*held, Piece::Fill { len, disk: other, start } if other == disk && follows(start, len, next))
+        }
+    }
+}
+
+/// A piece that is longer by `more` sectors.
+#[inline(always)]
+fn longer(stack: &Stack, held: &Piece, more: u64) -> Piece
+    requires { Fits stack.now (first_unit held.now) (piece_len held.now + more) }
+    ensures first { first_unit result ≡ first_unit held.now }
+    ensures len { piece_len result ≡ piece_len held.now + more }
+    ensures lies { IsOnDisks stack.now result }
+{
+    // A stack is sound by its type, so no disk of it is too long for the sum.
+    stack.depth();
+    held.with_len(held.len() + more)
+}

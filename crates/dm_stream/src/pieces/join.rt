@@ -1,0 +1,157 @@
+//! Joins: sinks that write lines.
+//!
+//! One piece is held while others continue it, so a request takes no memory however long it is. What
+//! a join took is stated in whole pieces, whatever units follow; keep that when you change it.
+
+ghost use Rattle.std.specs.Prelude.{◌≡◌, ◌-◌, ◌^◌, List, None, Some};
+ghost use Rattle.dm_map.specs.pieces.Units.{BlockUnit, units_of};
+ghost use Rattle.dm_stream.specs.pieces.Pending.{IsHeld, held_diskless, held_units, piece_of};
+ghost use Rattle.dm_stream.specs.pieces.Join.{HasTaken, HasLeft};
+ghost use Rattle.dm_stream.specs.pieces.Pieces.{AreFewest, fewest};
+ghost use Rattle.dm_stream.specs.pieces.PieceText.{pieces_text};
+ghost use Rattle.dm_stream.specs.laws.Join.{took_none, took_more, left_more};
+ghost use Rattle.dm_table.specs.io.Progress.{HasWrittenTo, IsSameReference, Wrote};
+ghost use Rattle.dm_table.specs.laws.Progress.{written_to_none, written_to_more};
+
+use crate::pieces::disk_range::DiskRange;
+use crate::pieces::held_piece::HeldPiece;
+use crate::requests::exchange::Exchange;
+use dm_map::{Piece, Sink};
+use dm_stack::Stack;
+use dm_table::{OutFault, Output};
+
+/// A sink that joins the pieces of a request to the fewest, and writes each as a line.
+///
+/// It borrows its caller's writer until it ends. Before a piece that does not continue the held one, the
+/// held one is written; if that fails, neither is held, and a beginning of the line was written.
+/// The room is what is left of 64 bits beside the length of a held piece without a disk, in sectors
+/// of 512 bytes.
+#[derive(Drop)]
+pub struct Join<'s, W> {
+    pub(crate) held: HeldPiece<'s>,
+    pub(crate) writer: &'s mut W,
+}
+
+impl<'s, W: Output> Join<'s, W> {
+    /// A join that holds nothing, for requests to the devices of a stack. The number is 0.
+    pub fn new(stack: &'s Stack, writer: &'s mut W) -> Join<'s, W>
+        ensures nothing { result.held ≡ record { stack = stack.now; number = 0; piece = None } }
+        ensures writer { result.writer.now ≡ writer.old }
+        ensures same_reference { IsSameReference writer.entry result.writer }
+    {
+        Join {
+            held: HeldPiece::new(stack),
+            writer,
+        }
+    }
+
+    /// Sets the number of the request that comes next; the one before is finished, so nothing is held.
+    #[inline(always)]
+    pub fn begin(&mut self, number: u64)
+        requires { self.old.held.piece ≡ None }
+        ensures number { self.new.held
+            ≡ record { stack = self.old.held.stack; number = number; piece = None } }
+        ensures writer { self.new.writer.now ≡ self.old.writer.now }
+        ensures same_reference { IsSameReference self.old.writer self.new.writer }
+    {
+        self.held.set_number(number);
+    }
+
+    /// Writes the held piece, at a request's end. Nothing is held afterwards.
+    ///
+    /// `OutFault` if a write failed: a beginning of the line was written, and not all of it. Cost: as
+    /// many writes as the one line takes, and none if nothing is held. No memory is taken.
+    #[inline(always)]
+    pub fn finish(&mut self) -> Result<(), OutFault>
+        ensures wrote { Wrote (W.past self.old.writer.now) (W.past self.new.writer.now) result
+            (pieces_text self.old.held.stack self.old.held.number (fewest (held_units self.old.held.piece))) }
+        ensures nothing { self.new.held
+            ≡ record { stack = self.old.held.stack; number = self.old.held.number; piece = None } }
+        ensures same_reference { IsSameReference self.old.writer self.new.writer }
+        // They are the only pieces of the units of which none continues the one before, and no others
+        // are fewer.
+        ensures fewest { (units : List BlockUnit) → AreFewest units (fewest units) }
+    {
+        self.held.write(&mut *self.writer)
+    }
+
+    /// Writes a range that is all of a request's answer. Nothing is held, before and afterwards.
+    ///
+    /// `OutFault` if a write failed: a beginning of the line was written, and not all of it. No memory is taken.
+    #[inline(always)]
+    pub(crate) fn write_range(&mut self, range: &DiskRange) -> Result<(), OutFault>
+        requires { IsHeld self.old.held.stack (Some (piece_of range.now)) }
+        ensures wrote { Wrote (W.past self.old.writer.now) (W.past self.new.writer.now) result
+            (pieces_text self.old.held.stack self.old.held.number (fewest (units_of (piece_of range.now)))) }
+        ensures held { self.new.held ≡ self.old.held }
+        ensures same_reference { IsSameReference self.old.writer self.new.writer }
+    {
+        self.held.write_range(range, &mut *self.writer)
+    }
+
+    /// Has the writer pass on what it gathered, before requests are read. Nothing is written or flushed.
+    pub(crate) fn pass_on<Q: Exchange<W>>(&mut self)
+        ensures held { self.new.held ≡ self.old.held }
+        ensures moved { HasWrittenTo W.past self.old.writer self.new.writer 0 }
+        ensures written { (W.past self.new.writer.now).written ≡ (W.past self.old.writer.now).written }
+        ensures out { Q.is_out self.new.writer.now }
+    {
+        Q::pass_on(&mut *self.writer);
+    }
+
+    /// Ends the join, after its last request was finished, and gives its writer back as it is:
+    /// nothing is written or flushed.
+    pub fn end(self) -> &'s mut W
+        requires { self.held.piece ≡ None }
+        ensures writer { result.now ≡ self.entry.writer.now }
+        ensures same_reference { IsSameReference self.entry.writer result }
+    {
+        let Join {
+            held: _held,
+            writer,
+        } = self;
+        writer
+    }
+}
+
+impl<W: Output> Sink for Join<'_, W> {
+    type Fault = OutFault;
+
+    ghost view = { λ join. record {
+      stack = join.held.stack;
+      room = 2 ^ 64 - 1 - held_diskless join.held.piece;
+      faults = (W.past join.writer.now).faults;
+    } };
+
+    ghost took = { λ old units new. HasTaken old.held new.held units (W.past old.writer.now).written
+        (W.past new.writer.now).written
+        × HasWrittenTo W.past old.writer new.writer 0 };
+
+    ghost left = { λ old units new. HasLeft old.held new.held units (W.past old.writer.now).written
+        (W.past new.writer.now).written
+        × HasWrittenTo W.past old.writer new.writer 1 };
+
+    ghost took_nothing = { λ s.
+        (took_none s.held (W.past s.writer.now).written, written_to_none W.past s.writer) };
+
+    ghost took_then_took = { λ a b c us vs first second. (
+      took_more a.held b.held c.held us vs _ _ _ first.1.moved.appends second.1.moved.appends first.0
+          second.0,
+      written_to_more W.past a.writer b.writer c.writer 0 first.1 second.1,
+    ) };
+
+    ghost took_then_left = { λ a b c us vs first second. (
+      left_more a.held b.held c.held us vs _ _ _ first.1.moved.appends second.1.moved.appends first.0
+          second.0,
+      written_to_more W.past a.writer b.writer c.writer 1 first.1 second.1,
+    ) };
+
+    #[inline(always)]
+    fn piece(&mut self, piece: Piece) -> Result<(), OutFault> {
+        if self.held.lengthen(&piece) {
+            return Ok(());
+        }
+        self.held.replace(piece, &mut *self.writer)?;
+        Ok(())
+    }
+}

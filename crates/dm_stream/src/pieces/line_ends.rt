@@ -1,0 +1,85 @@
+//! Ends of lines: short lengths with the newline after them, made once and then copied whole.
+//!
+//! Most requests have fewer than 1,000 sectors, and no jump depends on how many digits a length has
+//! that is copied from here.
+
+ghost use Rattle.std.specs.Prelude.{◌≡◌, ◌+◌, ◌<◌, ◌≤◌, length};
+ghost use Rattle.dm_table.specs.io.Block.{IsPut};
+ghost use Rattle.dm_stream.specs.pieces.LineEnds.{AreMade, IsLineEnd, line_end};
+ghost use Rattle.dm_stream.specs.declared.pieces.line_ends.TheConstants.{LENGTHS, LONGEST, ROOM};
+
+use dm_table::{put_bytes, put_digits, put_next_digits};
+
+/// The bytes of the longest end: those of a length, and a newline.
+const LONGEST: usize = 21;
+
+/// How many lengths have a text.
+const LENGTHS: usize = 1000;
+
+/// The room in bytes: three digits, a newline, and how many bytes these are as the last.
+const ROOM: usize = 8;
+
+/// The ends of lines of each length below 1,000.
+#[derive(Drop)]
+pub(crate) struct LineEnds {
+    ends: [[u8; ROOM]; LENGTHS],
+    ghost made: { AreMade 1000 ends },
+}
+
+impl LineEnds {
+    /// Each as text.
+    pub(crate) fn new() -> LineEnds {
+        let mut ends = [[b' '; ROOM]; LENGTHS];
+        let mut len = 0;
+        'lengths: while len < LENGTHS {
+            ends[len] = line_end(len);
+            len += 1;
+        }
+        LineEnds { ends }
+    }
+
+    /// Puts the end of a line of this length at an offset in a block, after at least four bytes, and
+    /// returns where it ends.
+    #[inline(always)]
+    pub(crate) fn put_into(&self, block: &mut [u8], at: usize, len: u64) -> usize
+        requires after { 4 ≤ at }
+        requires room { at + LONGEST ≤ length block.old }
+        ensures put { IsPut (line_end len) at block.old block.new result }
+        ensures few { result ≤ at + LONGEST }
+    {
+        if len < LENGTHS as u64 {
+            return self.put_short(block, at, len);
+        }
+        let at = put_next_digits(block, at, len);
+        put_bytes(block, at, b"\n")
+    }
+
+    /// Puts the end of a line of a short length, which was made before.
+    #[inline(always)]
+    fn put_short(&self, block: &mut [u8], at: usize, len: u64) -> usize
+        requires short { len < LENGTHS }
+        requires room { at + ROOM ≤ length block.old }
+        ensures put { IsPut (line_end len) at block.old block.new result }
+        ensures few { result ≤ at + ROOM }
+    {
+        let end = self.ends[len as usize];
+        let _whole = put_bytes(block, at, &end);
+        at + usize::from(end[ROOM - 1])
+    }
+}
+
+/// The end of a line of this length, at the front of its room.
+fn line_end(len: usize) -> [u8; ROOM]
+    requires { len < LENGTHS }
+    ensures { IsLineEnd len result }
+{
+    let mut text = [b'\n'; 24];
+    let end = put_digits(&mut text, 0, len as u64);
+    let end = put_bytes(&mut text, end, b"\n");
+    let Some(front) = text.first_chunk::<ROOM>() else {
+        unreachable!()
+    };
+    let mut room = *front;
+    room[ROOM - 1] = end as u8;
+    room
+}

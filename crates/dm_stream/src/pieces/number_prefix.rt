@@ -1,0 +1,93 @@
+//! What each line of a request begins with: its number and a space.
+//!
+//! The numbers of requests mostly rise by one, so if only the last digit differs it is changed in
+//! place. The room is copied whole.
+
+ghost use Rattle.std.specs.Prelude.{◌≡◌, ◌+◌, ◌<◌, ◌≤◌, length, take};
+ghost use Rattle.dm_table.specs.io.Block.{IsPut};
+ghost use Rattle.dm_stream.specs.pieces.NumberPrefix.{number_prefix};
+
+use dm_table::{put_bytes, put_digits, put_room};
+use std::marker::Model;
+
+/// The room in bytes: the digits of a number, a space, and what makes the copy cheap.
+pub(crate) const ROOM: usize = 32;
+
+/// A number and a space as text, at the front of the room.
+#[derive(Drop)]
+pub(crate) struct NumberPrefix {
+    number: u64,
+    /// The number with 0 for its last digit.
+    tens: u64,
+    text: [u8; ROOM],
+    /// Where the text ends, two bytes after its last digit.
+    end: usize,
+}
+
+impl Model for NumberPrefix {
+    ghost use Rattle.std.specs.Prelude.{◌≡◌, ◌+◌, ◌%◌, ◌≤◌, ℕ, take};
+    ghost use Rattle.dm_stream.specs.pieces.NumberPrefix.{number_prefix};
+
+    ghost Value = { ℕ };
+
+    ghost view = { λ prefix. prefix.number };
+
+    ghost invariant = { λ prefix. (prefix.tens + prefix.number % 10 ≡ prefix.number)
+        × (2 ≤ prefix.end)
+        × (prefix.end ≤ 32)
+        × (take prefix.end prefix.text ≡ number_prefix prefix.number) };
+}
+
+impl NumberPrefix {
+    /// The prefix of the number 0.
+    pub(crate) fn new() -> NumberPrefix
+        ensures { result ≡ 0 }
+    {
+        let mut text = [b' '; ROOM];
+        let end = put_prefix(&mut text, 0);
+        NumberPrefix {
+            number: 0,
+            tens: 0,
+            text,
+            end,
+        }
+    }
+
+    /// Sets the number.
+    #[inline(always)]
+    pub(crate) fn set(&mut self, number: u64)
+        ensures { self.new ≡ number }
+    {
+        if self.tens <= number && number - self.tens < 10 {
+            self.text[self.end - 2] = b'0' + (number - self.tens) as u8;
+        } else {
+            self.end = put_prefix(&mut self.text, number);
+            self.tens = number - number % 10;
+        }
+        self.number = number;
+    }
+
+    /// Puts the number and a space at an offset in a block, and returns where they end.
+    #[inline(always)]
+    pub(crate) fn put_into(&self, block: &mut [u8], at: usize) -> usize
+        requires { at + ROOM ≤ length block.old }
+        ensures put { IsPut (number_prefix self.now) at block.old block.new result }
+        ensures some { at < result }
+        ensures few { result ≤ at + ROOM }
+    {
+        put_room(block, at, &self.text, self.end)
+    }
+}
+
+/// Puts a number and a space at the front of a room, and returns where they end.
+#[cold]
+#[inline(never)]
+fn put_prefix(text: &mut [u8], number: u64) -> usize
+    requires { length text.old ≡ ROOM }
+    ensures some { 2 ≤ result }
+    ensures within { result ≤ ROOM }
+    ensures text { take result text.new ≡ number_prefix number }
+{
+    let end = put_digits(text, 0, number);
+    put_bytes(text, end, b" ")
+}

@@ -1,0 +1,336 @@
+//! The lines of pieces, as texts that put themselves into a block.
+//!
+//! Reads and writes come by the hundreds of millions, so they are put in line; the other kinds go
+//! through a function of their own. A new kind of piece is an arm of `put_other` or `put_rare` here and of
+//! `unit_text` in `specs/pieces/PieceText`.
+
+ghost use Rattle.std.specs.Prelude.{◌≡◌, ◌++◌, ◌+◌, ◌<◌, ◌≤◌, ◌∷◌, [], length, decimal};
+ghost use Rattle.dm_table.specs.io.Block.{IsPut};
+ghost use Rattle.dm_stack.specs.Description.{disk_name_at};
+ghost use Rattle.dm_stack.specs.names.DiskText.{disk_text};
+ghost use Rattle.dm_map.specs.pieces.Units.{CopyOf, FillOf, IsOnDisks, first_unit, piece_len};
+ghost use Rattle.dm_stream.specs.pieces.Pending.{IsNoRange, piece_of, piece_view};
+ghost use Rattle.dm_stream.specs.pieces.PieceText.{IsOther, piece_text, sector_text, unit_text};
+ghost use Rattle.dm_table.specs.io.Progress.{Wrote};
+ghost use Rattle.dm_table.specs.words.Bytes.{newline};
+
+use crate::pieces::disk_range::DiskRange;
+use crate::pieces::line_ends::LineEnds;
+use crate::pieces::number_prefix::NumberPrefix;
+use crate::pieces::plain_word::PlainWord;
+use crate::pieces::range_text::{RangeText, put_next_range};
+use dm_map::Piece;
+use dm_stack::{DiskId, Stack};
+use dm_table::{OutFault, Output, Text, put_bytes, put_digits};
+use std::marker::Model;
+
+/// The line of a range of a disk of a stack, under a number.
+#[derive(Drop)]
+struct RangeLine<'a> {
+    prefix: &'a NumberPrefix,
+    text: &'a RangeText,
+    stack: &'a Stack,
+    range: &'a DiskRange,
+}
+
+impl<'a> Model for RangeLine<'a> {
+    ghost use Rattle.std.specs.Prelude.{ℕ, List, ◌<◌, length};
+    ghost use Rattle.dm_stream.specs.pieces.RangeText.{IsKept};
+    ghost use Rattle.dm_stream.specs.pieces.PieceText.{letter_for, range_line};
+
+    ghost Value = { List ℕ };
+
+    ghost view = { λ line. range_line line.stack.now line.prefix.now
+        (letter_for line.range.now.letter) line.range.now.disk line.range.now.start
+        line.range.now.len };
+
+    ghost invariant = { λ line. (line.range.now.disk < length line.stack.now.disks)
+        × IsKept line.text.now line.range.now.start line.range.now.len };
+}
+
+impl<'a> Text for RangeLine<'a> {
+    ghost text = { λ line. line };
+
+    #[inline(always)]
+    fn put_into(&self, block: &mut [u8], at: usize) -> usize {
+        let range = self.range;
+        let at = self.prefix.put_into(block, at);
+        let at = put_named(
+            block,
+            at,
+            &[range.letter.byte(), b' '],
+            self.stack,
+            range.disk,
+        );
+        self.text.put_into(block, at, range.start, range.len)
+    }
+}
+
+/// The line of a range that is all of a request's answer: the next one isn't likely to end with the same.
+#[derive(Drop)]
+struct AloneLine<'a> {
+    prefix: &'a NumberPrefix,
+    ends: &'a LineEnds,
+    stack: &'a Stack,
+    range: &'a DiskRange,
+}
+
+impl<'a> Model for AloneLine<'a> {
+    ghost use Rattle.std.specs.Prelude.{ℕ, List, ◌<◌, length};
+    ghost use Rattle.dm_stream.specs.pieces.PieceText.{letter_for, range_line};
+
+    ghost Value = { List ℕ };
+
+    ghost view = { λ line. range_line line.stack.now line.prefix.now
+        (letter_for line.range.now.letter) line.range.now.disk line.range.now.start
+        line.range.now.len };
+
+    ghost invariant = { λ line. line.range.now.disk < length line.stack.now.disks };
+}
+
+impl<'a> Text for AloneLine<'a> {
+    ghost text = { λ line. line };
+
+    #[inline(always)]
+    fn put_into(&self, block: &mut [u8], at: usize) -> usize {
+        let range = self.range;
+        let at = self.prefix.put_into(block, at);
+        let at = put_named(
+            block,
+            at,
+            &[range.letter.byte(), b' '],
+            self.stack,
+            range.disk,
+        );
+        put_next_range(self.ends, block, at, range.start, range.len)
+    }
+}
+
+/// The line of a piece without a disk, under a number.
+#[derive(Drop)]
+struct PlainLine<'a> {
+    prefix: &'a NumberPrefix,
+    ends: &'a LineEnds,
+    word: PlainWord,
+    len: u64,
+}
+
+impl<'a> Model for PlainLine<'a> {
+    ghost use Rattle.std.specs.Prelude.{ℕ, List};
+    ghost use Rattle.dm_stream.specs.pieces.PieceText.{plain_line};
+
+    ghost Value = { List ℕ };
+
+    ghost view = { λ line. plain_line line.prefix.now line.word line.len };
+}
+
+impl<'a> Text for PlainLine<'a> {
+    ghost text = { λ line. line };
+
+    #[inline(always)]
+    fn put_into(&self, block: &mut [u8], at: usize) -> usize {
+        let at = self.prefix.put_into(block, at);
+        let at = self.word.put_into(block, at);
+        self.ends.put_into(block, at, self.len)
+    }
+}
+
+/// The line of a copy or a fill on disks of a stack, under a number.
+#[derive(Drop)]
+struct RareLine<'a> {
+    prefix: &'a NumberPrefix,
+    stack: &'a Stack,
+    piece: &'a Piece,
+}
+
+impl<'a> Model for RareLine<'a> {
+    ghost use Rattle.std.specs.Prelude.{ℕ, List};
+    ghost use Rattle.dm_map.specs.pieces.Units.{IsOnDisks};
+    ghost use Rattle.dm_stream.specs.pieces.Pending.{piece_view};
+    ghost use Rattle.dm_stream.specs.pieces.PieceText.{IsOther, piece_text};
+
+    ghost Value = { List ℕ };
+
+    ghost view = { λ line. piece_text line.stack.now line.prefix.now (piece_view line.piece.now) };
+
+    ghost invariant = { λ line. IsOnDisks line.stack.now line.piece.now × IsOther line.piece.now };
+}
+
+impl<'a> Text for RareLine<'a> {
+    ghost text = { λ line. line };
+
+    #[inline(always)]
+    fn put_into(&self, block: &mut [u8], at: usize) -> usize {
+        let at = self.prefix.put_into(block, at);
+        put_rare(block, at, self.stack, self.piece)
+    }
+}
+
+/// Has a writer put the line of a range of a disk of a stack, under a number, and notes what it ends
+/// with. It fails where the writer does.
+#[inline(always)]
+pub(crate) fn put_range<W: Output>(
+    writer: &mut W,
+    prefix: &NumberPrefix,
+    text: &mut RangeText,
+    stack: &Stack,
+    range: &DiskRange,
+) -> Result<(), OutFault>
+    requires lies { IsOnDisks stack.now (piece_of range.now) }
+    ensures { Wrote (W.past writer.old) (W.past writer.new) result
+        (piece_text stack.now prefix.now (piece_view (piece_of range.now))) }
+{
+    text.note(range.start, range.len);
+    writer.put(&RangeLine {
+        prefix,
+        text,
+        stack,
+        range,
+    })
+}
+
+/// Has a writer put the line of a range that is all of a request's answer, under a number. It fails where the
+/// writer does.
+#[inline(always)]
+pub(crate) fn put_alone<W: Output>(
+    writer: &mut W,
+    prefix: &NumberPrefix,
+    ends: &LineEnds,
+    stack: &Stack,
+    range: &DiskRange,
+) -> Result<(), OutFault>
+    requires lies { IsOnDisks stack.now (piece_of range.now) }
+    ensures { Wrote (W.past writer.old) (W.past writer.new) result
+        (piece_text stack.now prefix.now (piece_view (piece_of range.now))) }
+{
+    writer.put(&AloneLine {
+        prefix,
+        ends,
+        stack,
+        range,
+    })
+}
+
+/// Has a writer put the line of a piece on disks of a stack that is no range, under a number. It is never
+/// inlined, so that ranges have the registers to themselves.
+#[inline(never)]
+pub(crate) fn put_other<W: Output>(
+    writer: &mut W,
+    prefix: &NumberPrefix,
+    ends: &LineEnds,
+    stack: &Stack,
+    piece: &Piece,
+) -> Result<(), OutFault>
+    requires lies { IsOnDisks stack.now piece.now }
+    requires other { IsNoRange piece.now }
+    ensures { Wrote (W.past writer.old) (W.past writer.new) result
+        (piece_text stack.now prefix.now (piece_view piece.now)) }
+{
+    match *piece {
+        Piece::Zero { len } | Piece::Drop { len } | Piece::Error { len } => {
+            writer.put(&PlainLine {
+                prefix,
+                ends,
+                word: PlainWord::of(piece),
+                len,
+            })
+        }
+        _ => writer.put(&RareLine {
+            prefix,
+            stack,
+            piece,
+        }),
+    }
+}
+
+/// Puts what a copy or a fill is, and a newline, at an offset in a block, and returns where they end. It is
+/// never inlined, since these are rare.
+#[cold]
+#[inline(never)]
+fn put_rare(block: &mut [u8], at: usize, stack: &Stack, piece: &Piece) -> usize
+    requires room { at + 800 ≤ length block.old }
+    requires lies { IsOnDisks stack.now piece.now }
+    requires other { IsOther piece.now }
+    ensures put { IsPut (unit_text stack.now (first_unit piece.now) (piece_len piece.now) ++ newline ∷ []) at
+        block.old block.new result }
+    ensures few { result ≤ at + 800 }
+{
+    match *piece {
+        Piece::Copy {
+            disk,
+            start,
+            len,
+            to,
+            to_start,
+        } => put_copy(block, at, stack, disk, start, len, to, to_start),
+        Piece::Fill { len, disk, start } => put_fill(block, at, stack, disk, start, len),
+        _ => unreachable!(),
+    }
+}
+
+/// Puts what a copy is and a newline at an offset in a block.
+fn put_copy(
+    block: &mut [u8],
+    at: usize,
+    stack: &Stack,
+    disk: DiskId,
+    start: u64,
+    len: u64,
+    to: DiskId,
+    to_start: u64,
+) -> usize
+    requires room { at + 800 ≤ length block.old }
+    requires there { disk < length stack.now.disks }
+    requires target { to < length stack.now.disks }
+    ensures put { IsPut (unit_text stack.now (CopyOf disk start to to_start) len ++ newline ∷ []) at block.old
+        block.new result }
+    ensures few { result ≤ at + 800 }
+{
+    let at = put_bytes(block, at, b"copy ");
+    let at = put_sector(block, at, stack, disk, start);
+    let at = put_bytes(block, at, b" ");
+    let at = put_digits(block, at, len);
+    let at = put_bytes(block, at, b" ");
+    let at = put_sector(block, at, stack, to, to_start);
+    put_bytes(block, at, b"\n")
+}
+
+/// Puts what a fill is and a newline at an offset in a block.
+fn put_fill(block: &mut [u8], at: usize, stack: &Stack, disk: DiskId, start: u64, len: u64) -> usize
+    requires room { at + 800 ≤ length block.old }
+    requires there { disk < length stack.now.disks }
+    ensures put { IsPut (unit_text stack.now (FillOf disk start) len ++ newline ∷ []) at block.old block.new
+        result }
+    ensures few { result ≤ at + 400 }
+{
+    let at = put_bytes(block, at, b"fill ");
+    let at = put_digits(block, at, len);
+    let at = put_bytes(block, at, b" ");
+    let at = put_sector(block, at, stack, disk, start);
+    put_bytes(block, at, b"\n")
+}
+
+/// Puts a word and the name of a disk of the stack, with a space after it, at an offset in a block.
+#[inline(always)]
+fn put_named(block: &mut [u8], at: usize, word: &[u8], stack: &Stack, disk: DiskId) -> usize
+    requires room { at + 300 ≤ length block.old }
+    requires short { length word.now ≤ 9 }
+    requires there { disk < length stack.now.disks }
+    ensures put { IsPut (word.now ++ disk_text (disk_name_at stack.now disk)) at block.old block.new result }
+    ensures more { at + length word.now < result }
+    ensures few { result ≤ at + 265 }
+{
+    let at = put_bytes(block, at, word);
+    stack.disk_text(disk).put_into(block, at)
+}
+
+/// Puts a sector of a disk of the stack at an offset in a block: the name of the disk and the sector.
+fn put_sector(block: &mut [u8], at: usize, stack: &Stack, disk: DiskId, sector: u64) -> usize
+    requires room { at + 300 ≤ length block.old }
+    requires there { disk < length stack.now.disks }
+    ensures put { IsPut (sector_text stack.now disk sector) at block.old block.new result }
+    ensures few { result ≤ at + 276 }
+{
+    let at = stack.disk_text(disk).put_into(block, at);
+    put_digits(block, at, sector)
+}

@@ -1,0 +1,67 @@
+//! What the lines of pieces without a disk begin with after the number: a word and a space, which are
+//! copied as one room.
+
+ghost use Rattle.std.specs.Prelude.{◌≡◌, ◌+◌, ◌≤◌, length};
+ghost use Rattle.dm_table.specs.io.Block.{IsPut};
+ghost use Rattle.dm_map.specs.pieces.Units.{first_unit};
+ghost use Rattle.dm_stream.specs.pieces.PieceText.{IsPlain, plain_word};
+
+use dm_map::Piece;
+use dm_table::put_bytes;
+use std::marker::Model;
+
+/// The room in bytes: the longest word, a space, and what makes the copy cheap.
+const ROOM: usize = 8;
+
+/// A word and a space, at the front of the room. A clause sees these bytes.
+#[derive(Drop)]
+pub(crate) struct PlainWord {
+    room: [u8; ROOM],
+    len: usize,
+}
+
+impl Model for PlainWord {
+    ghost use Rattle.std.specs.Prelude.{◌≤◌, ℕ, List, take};
+
+    ghost Value = { List ℕ };
+
+    ghost view = { λ word. take word.len word.room };
+
+    ghost invariant = { λ word. (4 ≤ word.len) × (word.len ≤ 8) };
+}
+
+impl PlainWord {
+    /// The word of a piece without a disk.
+    #[inline(always)]
+    pub(crate) fn of(piece: &Piece) -> PlainWord
+        requires { IsPlain piece.now }
+        ensures { result ≡ plain_word (first_unit piece.now) }
+    {
+        match *piece {
+            Piece::Zero { .. } => PlainWord {
+                room: *b"zero    ",
+                len: 5,
+            },
+            Piece::Drop { .. } => PlainWord {
+                room: *b"drop    ",
+                len: 5,
+            },
+            _ => PlainWord {
+                room: *b"error   ",
+                len: 6,
+            },
+        }
+    }
+
+    /// Puts the word and the space at an offset in a block, and returns where they end.
+    #[inline(always)]
+    pub(crate) fn put_into(&self, block: &mut [u8], at: usize) -> usize
+        requires { at + ROOM ≤ length block.old }
+        ensures put { IsPut self.now at block.old block.new result }
+        ensures some { at + 4 ≤ result }
+        ensures few { result ≤ at + ROOM }
+    {
+        let _whole = put_bytes(block, at, &self.room);
+        at + self.len
+    }
+}

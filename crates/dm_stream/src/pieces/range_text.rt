@@ -1,0 +1,141 @@
+//! The range that a line ends with: a start, a length and a newline.
+//!
+//! Over many columns the same range comes once for each column. Its text is kept as soon as it comes
+//! a second time, and then copied whole; a range after one that came again is kept at once. Any other
+//! has its digits written where they belong, and its end copied where its length is short.
+
+ghost use Rattle.std.specs.Prelude.{◌≡◌, ◌+◌, ◌≤◌, length};
+ghost use Rattle.dm_table.specs.io.Block.{IsPut};
+ghost use Rattle.dm_stream.specs.pieces.RangeText.{range_text, IsKept};
+
+use crate::pieces::line_ends::LineEnds;
+use dm_table::{put_bytes, put_digits, put_next_digits, put_room};
+use std::marker::Model;
+
+/// The room in bytes: two numbers, a space and a newline, and what makes the copy cheap.
+const ROOM: usize = 48;
+
+/// The range that came last, and its text if it came twice or is likely to.
+#[derive(Drop)]
+pub(crate) struct RangeText {
+    start: u64,
+    len: u64,
+    text: [u8; ROOM],
+    /// Where the text ends: 0 if none is kept.
+    end: usize,
+    /// Whether the range came more than once.
+    came_again: bool,
+    ends: LineEnds,
+}
+
+impl Model for RangeText {
+    ghost use Rattle.std.specs.Prelude.{◌≡◌, ◌<◌, ◌≤◌, ℕ, List, take};
+    ghost use Rattle.dm_stream.specs.pieces.RangeText.{range_text};
+
+    ghost Value = { List ℕ };
+
+    ghost view = { λ range. take range.end range.text };
+
+    ghost invariant = { λ range. (range.end ≤ 48)
+        × (0 < range.end → take range.end range.text ≡ range_text range.start range.len) };
+}
+
+impl RangeText {
+    /// None came yet.
+    pub(crate) fn new() -> RangeText {
+        RangeText {
+            start: 0,
+            len: 0,
+            text: [b' '; ROOM],
+            end: 0,
+            came_again: false,
+            ends: LineEnds::new(),
+        }
+    }
+
+    /// Notes the range of the next line, and keeps its text if it came last, too, or if the one before it
+    /// came more than once. What is kept afterwards is that range.
+    #[inline(always)]
+    pub(crate) fn note(&mut self, start: u64, len: u64)
+        ensures kept { IsKept self.new start len }
+    {
+        if self.start == start && self.len == len {
+            self.came_again = true;
+            if self.end == 0 {
+                self.keep(start, len);
+            }
+        } else if self.came_again {
+            self.came_again = false;
+            self.keep(start, len);
+        } else {
+            self.start = start;
+            self.len = len;
+            self.end = 0;
+        }
+    }
+
+    /// Keeps the text of a range. It is never inlined, since it is rare.
+    #[inline(never)]
+    fn keep(&mut self, start: u64, len: u64)
+        ensures { self.new ≡ range_text start len }
+    {
+        self.start = start;
+        self.len = len;
+        self.end = put_range(&mut self.text, 0, start, len);
+    }
+
+    /// What lines end with that have a length and no range.
+    #[inline(always)]
+    pub(crate) fn ends(&self) -> &LineEnds {
+        &self.ends
+    }
+
+    /// Puts the range that was noted at an offset in a block, after at least four bytes, and returns where
+    /// it ends.
+    #[inline(always)]
+    pub(crate) fn put_into(&self, block: &mut [u8], at: usize, start: u64, len: u64) -> usize
+        requires after { 4 ≤ at }
+        requires room { at + ROOM ≤ length block.old }
+        requires kept { IsKept self.now start len }
+        ensures put { IsPut (range_text start len) at block.old block.new result }
+        ensures few { result ≤ at + ROOM }
+    {
+        if self.end > 0 {
+            return put_room(block, at, &self.text, self.end);
+        }
+        put_next_range(&self.ends, block, at, start, len)
+    }
+}
+
+/// Puts a start, a length and a newline at an offset in a block, after at least four bytes, and returns
+/// where they end.
+#[inline(never)]
+pub(crate) fn put_next_range(
+    ends: &LineEnds,
+    block: &mut [u8],
+    at: usize,
+    start: u64,
+    len: u64,
+) -> usize
+    requires after { 4 ≤ at }
+    requires within { at + ROOM ≤ length block.old }
+    ensures put { IsPut (range_text start len) at block.old block.new result }
+    ensures few { result ≤ at + 43 }
+{
+    let at = put_next_digits(block, at, start);
+    let at = put_bytes(block, at, b" ");
+    ends.put_into(block, at, len)
+}
+
+/// The same wherever it is put.
+#[inline(never)]
+fn put_range(block: &mut [u8], at: usize, start: u64, len: u64) -> usize
+    requires { at + ROOM ≤ length block.old }
+    ensures put { IsPut (range_text start len) at block.old block.new result }
+    ensures few { result ≤ at + 43 }
+{
+    let at = put_digits(block, at, start);
+    let at = put_bytes(block, at, b" ");
+    let at = put_digits(block, at, len);
+    put_bytes(block, at, b"\n")
+}

@@ -1,0 +1,145 @@
+//! Requests that are answered in batches, so that their waits for memory overlap.
+//!
+//! Over long tables an answer spends most of its time waiting for memory. So the requests at the front of the
+//! held bytes are all read, the handler is told of each, and only then is the first one answered. No input is
+//! read in between, so no answer goes out later than it would one by one.
+
+ghost use Rattle.std.specs.Prelude.{◌≡◌, ◌+◌, ◌≤◌, [], length, drop, IfErr, OnOk, Some};
+ghost use Rattle.std.specs.List.{All};
+ghost use Rattle.dm_stream.specs.requests.Batch.{AnswersFronts, AreFirst, front_requests};
+ghost use Rattle.dm_stream.specs.runs.Outcome.{device_of};
+ghost use Rattle.dm_stream.specs.requests.Requests.{IsAmong};
+ghost use Rattle.dm_stream.specs.declared.requests.handling.TheConstants.{MOST_REQUESTS};
+
+use crate::requests::front::{Front, front_of};
+use crate::requests::handler::Handler;
+use arrayvec::ArrayVec;
+use dm_stack::Stack;
+
+/// The most requests of a batch.
+const MOST_FRONTS: usize = 16;
+
+/// How many requests were answered, and how many bytes their lines have.
+#[derive(Drop)]
+pub(crate) struct Answered {
+    pub(crate) count: u64,
+    pub(crate) len: usize,
+}
+
+/// Answers the requests at the front of the held bytes that are quickly read, after `done` others, if requests are
+/// gathered.
+#[inline(always)]
+pub(crate) fn answer_gathered<H: Handler>(
+    gathers: bool,
+    stack: &Stack,
+    handler: &mut H,
+    source: &mut H::Source,
+    held: &[u8],
+    done: u64,
+) -> Result<Answered, H::Fault>
+    requires ready { H.ready stack.now handler.old source.old }
+    requires few { done ≤ MOST_REQUESTS }
+    ensures { AnswersFronts (H.ready stack.now) (H.answered stack.now) (H.stopped stack.now) done held.now
+        handler.old source.old handler.new source.new result }
+{
+    if gathers {
+        answer_batch(stack, handler, source, held, done)
+    } else {
+        Ok(Answered { count: 0, len: 0 })
+    }
+}
+
+/// Answers a batch of the requests at the front of the held bytes, after `done` others.
+#[inline(never)]
+fn answer_batch<H: Handler>(
+    stack: &Stack,
+    handler: &mut H,
+    source: &mut H::Source,
+    held: &[u8],
+    done: u64,
+) -> Result<Answered, H::Fault>
+    requires ready { H.ready stack.now handler.old source.old }
+    requires few { done ≤ MOST_REQUESTS }
+    ensures { AnswersFronts (H.ready stack.now) (H.answered stack.now) (H.stopped stack.now) done held.now
+        handler.old source.old handler.new source.new result }
+{
+    let mut fronts = ArrayVec::new();
+    let len = read_fronts(stack, held, done, &mut fronts);
+    prefetch_fronts(stack, handler, &*source, &fronts);
+    if let Err(fault) = answer_all(stack, handler, source, &fronts) {
+        return Err(fault);
+    }
+    Ok(Answered {
+        count: fronts.len() as u64,
+        len,
+    })
+}
+
+/// Reads the requests at the front of the held bytes, after `done` others, as long as they are quickly read. It
+/// returns how many bytes their lines have.
+fn read_fronts<'a>(
+    stack: &Stack,
+    held: &'a [u8],
+    done: u64,
+    fronts: &mut ArrayVec<Front<'a>, MOST_FRONTS>,
+) -> usize
+    requires few { done ≤ MOST_REQUESTS }
+    requires empty { fronts.old.items ≡ [] }
+    ensures first { AreFirst (done + 1) held.now (front_requests fronts.new.items)
+        (done + length fronts.new.items + 1) (drop result held.now) }
+    ensures within { result ≤ length held.now }
+    ensures few { done + length fronts.new.items ≤ MOST_REQUESTS }
+    ensures found { All (λ front. device_of stack.now front.request.device.now ≡ Some front.device)
+        fronts.new.items }
+{
+    let mut len = 0;
+    'fronts: while fronts.len() < MOST_FRONTS {
+        let Some(front) = front_of(stack, &held[len..], done + fronts.len() as u64 + 1) else {
+            break;
+        };
+        len += front.len + 1;
+        fronts.push(front);
+    }
+    len
+}
+
+/// Tells the handler of requests that come soon.
+fn prefetch_fronts<H: Handler>(
+    stack: &Stack,
+    handler: &mut H,
+    source: &H::Source,
+    fronts: &[Front<'_>],
+)
+    ensures answered { H.answered stack.now handler.old source.now [] handler.new source.now }
+    ensures ready { H.ready stack.now handler.old source.now → H.ready stack.now handler.new source.now }
+{
+    'fronts: for front in fronts {
+        handler.prefetch(stack, source, front.device, front.request.start);
+    }
+}
+
+/// Answers requests whose devices were found, one after the other.
+fn answer_all<H: Handler>(
+    stack: &Stack,
+    handler: &mut H,
+    source: &mut H::Source,
+    fronts: &[Front<'_>],
+) -> Result<(), H::Fault>
+    requires ready { H.ready stack.now handler.old source.old }
+    requires found { All (λ front. device_of stack.now front.request.device.now ≡ Some front.device) fronts.now }
+    ensures answered { OnOk result
+        (H.answered stack.now handler.old source.old (front_requests fronts.now) handler.new source.new) }
+    ensures ready { OnOk result (H.ready stack.now handler.new source.new) }
+    ensures stopped { IfErr result
+        (λ fault. IsAmong
+        (λ first. H.stopped stack.now handler.old source.old first fault handler.new source.new)
+        (front_requests fronts.now)) }
+{
+    'fronts: for front in fronts {
+        let device = Some(front.device);
+        if let Err(fault) = handler.handle(stack, &mut *source, &front.request, device) {
+            return Err(fault);
+        }
+    }
+    Ok(())
+}

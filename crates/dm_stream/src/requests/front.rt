@@ -1,0 +1,66 @@
+//! Requests at the front of held bytes, which are read where they stand.
+
+ghost use Rattle.std.specs.Prelude.{◌≡◌, ◌+◌, ◌<◌, ◌≤◌, ◌∷◌, [], length, take, drop, IfSome, Some};
+ghost use Rattle.dm_stream.specs.requests.Lines.{line_parts};
+ghost use Rattle.dm_stream.specs.declared.requests.lines.TheConstants.{MOST_LINE_BYTES};
+ghost use Rattle.dm_stream.specs.declared.requests.handling.TheConstants.{MOST_REQUESTS};
+ghost use Rattle.dm_stream.specs.runs.Outcome.{device_of};
+ghost use Rattle.dm_stream.specs.requests.Requests.{Requests, after_requests, line_requests, numbered};
+
+use crate::requests::handling::MOST_REQUESTS;
+use dm_stack::{DeviceId, Stack};
+use dm_table::{Op, Request, first_op, front_request};
+
+/// How many bytes are held at least where a request is read quickly.
+const FRONT_ROOM: usize = 64;
+
+/// A request at the front of a text, its device, and the bytes of its line without the newline.
+#[derive(Drop)]
+pub(crate) struct Front<'a> {
+    pub(crate) request: Request<'a>,
+    pub(crate) device: DeviceId,
+    pub(crate) len: usize,
+}
+
+/// A place of a batch that holds no request yet.
+impl Default for Front<'_> {
+    fn default() -> Self {
+        Front {
+            request: Request {
+                number: 0,
+                op: Op::Read,
+                device: "",
+                start: 0,
+                len: 1,
+            },
+            device: DeviceId::default(),
+            len: 0,
+        }
+    }
+}
+
+/// The request of line `number`, where the held bytes begin with it and it is quickly read.
+#[inline(always)]
+pub(crate) fn front_of<'a>(stack: &Stack, held: &'a [u8], number: u64) -> Option<Front<'a>>
+    ensures good { IfSome result
+        (λ front. (rest : Requests) → line_requests number (take front.len held.now) rest
+        ≡ after_requests (numbered front.request ∷ []) rest) }
+    ensures line { IfSome result
+        (λ front. line_parts held.now ≡ take front.len held.now ∷ line_parts (drop (front.len + 1) held.now)) }
+    ensures within { IfSome result (λ front. front.len < length held.now) }
+    ensures short { IfSome result (λ front. front.len ≤ MOST_LINE_BYTES) }
+    ensures few { IfSome result (λ front. number ≤ MOST_REQUESTS) }
+    ensures device { IfSome result (λ front. device_of stack.now front.request.device.now ≡ Some front.device) }
+{
+    if number > MOST_REQUESTS || held.len() < FRONT_ROOM {
+        return None;
+    }
+    let (op, rest) = first_op(held)?;
+    let (device, name) = stack.front(rest)?;
+    let (request, len) = front_request(held, op, &rest[..name], &rest[name + 1..], number)?;
+    Some(Front {
+        request,
+        device,
+        len,
+    })
+}

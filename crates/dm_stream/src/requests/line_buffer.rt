@@ -1,0 +1,59 @@
+//! The slice in which lines are held: where a line ends, room for a read, and the read.
+//! These work on a plain slice and two places in it, so that `lines` deals only with its value.
+//! Held bytes move only when there is too little room after them: a buffer full of short lines stays put.
+ghost use Rattle.std.specs.Prelude.{◌≡◌, ◌+◌, ◌-◌, ◌<◌, ◌≤◌, ◌∷◌, [], length, take, drop, slice_range, IfOk, MatchOption};
+ghost use Rattle.dm_table.specs.io.DeviceIo.{given};
+ghost use Rattle.dm_table.specs.words.Fields.{parts_at};
+ghost use Rattle.dm_table.specs.io.Progress.{HasRead};
+ghost use Rattle.dm_table.specs.words.Bytes.{newline};
+
+use crate::requests::handler::ReadsFrom;
+use dm_table::InFault;
+use memchr::memchr;
+
+/// The length of the first line, where its newline is held. The first `searched` bytes have none,
+/// and are not searched again.
+pub(crate) fn line_len(held: &[u8], searched: usize) -> Option<usize>
+    requires within { searched ≤ length held.now }
+    requires clear { parts_at newline (take searched held.now) ≡ take searched held.now ∷ [] }
+    ensures { MatchOption result
+        (parts_at newline held.now ≡ held.now ∷ [])
+        (λ n. (n < length held.now)
+        × (parts_at newline held.now ≡ take n held.now ∷ parts_at newline (drop (n + 1) held.now))) }
+{
+    let n = memchr(b'\n', &held[searched..])?;
+    Some(searched + n)
+}
+
+/// Makes room for more than `room` bytes after those from `start` to `end`, and returns where they
+/// start now. They stay where they are if there is room already.
+pub(crate) fn make_room(buffer: &mut [u8], start: usize, end: usize, room: usize) -> usize
+    requires ordered { start ≤ end }
+    requires within { end ≤ length buffer.old }
+    requires short { end - start + room < length buffer.old }
+    ensures kept { slice_range buffer.new result (result + (end - start)) ≡ slice_range buffer.old start end }
+    ensures room { result + (end - start) + room < length buffer.new }
+{
+    if start < end && room < buffer.len() - end {
+        return start;
+    }
+    buffer.copy_within(start..end, 0);
+    0
+}
+
+/// Reads once, into the buffer after its first `end` bytes.
+pub(crate) fn read_after<Q, H: ReadsFrom<Q>>(
+    buffer: &mut [u8],
+    end: usize,
+    requests: &mut Q,
+    handler: &H,
+) -> Result<usize, InFault>
+    requires room { end < length buffer.old }
+    requires out { H.is_out handler.now }
+    ensures within { IfOk result (λ n. end + n ≤ length buffer.new) }
+    ensures kept { take end buffer.new ≡ take end buffer.old }
+    ensures read { HasRead (H.asked requests.old) (H.asked requests.new) result
+        (given result (drop end buffer.new)) }
+{
+    handler.read(requests, &mut buffer[end..])
+}

@@ -1,0 +1,217 @@
+//! The lines of an input, from a buffer that holds what was read and not yet returned.
+//! Clauses see only those bytes, so lines depend on the bytes and never on how reads cut them.
+//! No memory is taken, and the search for a newline continues where the last one stopped: each byte is
+//! searched once.
+ghost use Rattle.std.specs.Prelude.{◌≡◌, ◌+◌, ◌≤◌, ◌++◌, ◌≢◌, [], ◌∷◌, length, take, drop, IfOk, OnErr};
+ghost use Rattle.std.specs.Bool.{OnTrue, OnFalse};
+ghost use Rattle.std.specs.Borrow.{sem};
+ghost use Rattle.std.specs.Io.BufRead.{Rests};
+ghost use Rattle.dm_table.specs.io.DeviceIo.{delivery, since};
+ghost use Rattle.dm_table.specs.io.Progress.{HasRead, IsReadOn, MetNothing};
+
+use crate::requests::handler::ReadsFrom;
+use crate::requests::line_buffer::{line_len, make_room, read_after};
+use dm_table::InFault;
+use std::marker::Model;
+
+/// The most bytes of a line, without its newline.
+pub const MOST_LINE_BYTES: usize = 4096;
+
+/// How many bytes the buffer has.
+const ROOM: usize = 65536;
+
+/// What comes next.
+#[derive(Clone, Copy, Debug, PartialEq, Eq)]
+pub enum Next<'a> {
+    /// A line, without its newline.
+    Line(&'a [u8]),
+    /// A clean end after the last newline.
+    End,
+    /// A clean end after bytes without a newline.
+    Unended,
+    /// A line of more than 4,096 bytes, or more than that with no newline so far.
+    Long,
+    /// The input failed before the next line was whole.
+    ReadFault,
+}
+
+/// What comes next, where a line is said by its length: the held bytes begin with it.
+enum NextHeld {
+    Line(usize),
+    End,
+    Unended,
+    Long,
+    ReadFault,
+}
+
+/// Lines of an input. Clauses see the bytes that were read and not yet returned.
+#[derive(Drop)]
+pub struct Lines {
+    buffer: [u8; ROOM],
+    start: usize,
+    end: usize,
+}
+
+impl Model for Lines {
+    ghost use Rattle.std.specs.Prelude.{◌≤◌, List, ℕ, slice_range};
+    ghost use Rattle.dm_stream.specs.declared.requests.lines.TheConstants.{ROOM};
+
+    ghost Value = { List ℕ };
+
+    ghost view = { λ lines. slice_range lines.buffer lines.start lines.end };
+
+    ghost invariant = { λ lines. (lines.start ≤ lines.end) × (lines.end ≤ ROOM) };
+}
+
+impl Lines {
+    ghost use Rattle.dm_stream.specs.requests.Lines.{line_parts, next_answer, answer_of, left_of, OnLine};
+    ghost use Rattle.dm_stream.specs.requests.NextHeld.{held_answer, FitsIn, IsLook, OnHeldLine};
+    ghost use Rattle.dm_stream.specs.contracts.lines.Lines.{the_row};
+
+    /// Lines of an input that was not read yet.
+    pub fn new() -> Lines
+        ensures { result ≡ [] }
+    {
+        Lines {
+            buffer: [0; ROOM],
+            start: 0,
+            end: 0,
+        }
+    }
+
+    /// The bytes that were read and not yet returned.
+    #[inline(always)]
+    pub(crate) fn held(&self) -> &[u8]
+        ensures { result.now ≡ self.now }
+    {
+        let buffer: &[u8] = &self.buffer;
+        &buffer[self.start..self.end]
+    }
+
+    /// Whether a newline is held, so that the next line is there without a read.
+    pub(crate) fn has_newline(&self) -> bool
+        ensures held { OnTrue result (line_parts self.now ≢ self.now ∷ []) }
+        ensures none { OnFalse result (line_parts self.now ≡ self.now ∷ []) }
+    {
+        line_len(self.held(), 0).is_some()
+    }
+
+    /// Lets the first bytes go that are held.
+    #[inline(always)]
+    pub(crate) fn skip(&mut self, len: usize)
+        requires { len ≤ length self.old }
+        ensures { self.new ≡ drop len self.old }
+    {
+        self.start += len;
+    }
+
+    /// How many bytes are held.
+    fn len(&self) -> usize
+        ensures { result ≡ length self.now }
+    {
+        self.end - self.start
+    }
+
+    /// What the held bytes alone say, where the first `searched` of them have no newline.
+    fn look(&self, searched: usize) -> Option<NextHeld>
+        requires within { searched ≤ length self.now }
+        requires clear { line_parts (take searched self.now) ≡ take searched self.now ∷ [] }
+        ensures { IsLook result self.now }
+    {
+        let held = &self.buffer[self.start..self.end];
+        if let Some(n) = line_len(held, searched) {
+            return Some(if n > MOST_LINE_BYTES {
+                NextHeld::Long
+            } else {
+                NextHeld::Line(n)
+            });
+        }
+        if held.len() > MOST_LINE_BYTES {
+            Some(NextHeld::Long)
+        } else {
+            None
+        }
+    }
+
+    /// Reads once, after the held bytes.
+    fn fill<Q, H: ReadsFrom<Q>>(&mut self, requests: &mut Q, handler: &H) -> Result<usize, InFault>
+        requires room { length self.old ≤ MOST_LINE_BYTES }
+        requires out { H.is_out handler.now }
+        ensures read { HasRead (H.asked requests.old) (H.asked requests.new) result
+            (since (H.asked requests.old).handed (H.asked requests.new).handed) }
+        ensures held { self.new ≡ self.old ++ since (H.asked requests.old).handed (H.asked requests.new).handed }
+        ensures count { IfOk result (λ n. length self.new ≡ length self.old + n) }
+        ensures none { IfOk result (λ n. n ≡ 0 → self.new ≡ self.old) }
+        ensures err { OnErr result (self.new ≡ self.old) }
+        ensures room { length self.new ≤ ROOM }
+    {
+        let held = self.end - self.start;
+        self.start = make_room(&mut self.buffer, self.start, self.end, MOST_LINE_BYTES);
+        self.end = self.start + held;
+        let n = read_after(&mut self.buffer, self.end, requests, handler)?;
+        self.end += n;
+        Ok(n)
+    }
+
+    /// Reads until the held bytes settle what comes next. A line stays held.
+    fn advance<Q, H: ReadsFrom<Q>>(&mut self, requests: &mut Q, handler: &H) -> NextHeld
+        requires { line_parts self.old ≡ self.old ∷ [] → H.is_out handler.now }
+        ensures reads { IsReadOn (H.asked requests.old) (H.asked requests.new) }
+        ensures held { self.new ≡ self.old ++ since (H.asked requests.old).handed (H.asked requests.new).handed }
+        ensures fits { FitsIn result self.new }
+        ensures quiet { OnHeldLine result (MetNothing (H.asked requests.old) (H.asked requests.new)) }
+        ensures answer { next_answer (delivery (H.asked requests.old) (H.asked requests.new)).stand
+            (line_parts self.new)
+            ≡ held_answer result self.new }
+    {
+        let mut searched = 0;
+        'turns: loop {
+            if let Some(found) = self.look(searched) {
+                return found;
+            }
+            searched = self.len();
+            match self.fill(requests, handler) {
+                Err(InFault) => return NextHeld::ReadFault,
+                Ok(0) => {
+                    return if searched == 0 {
+                        NextHeld::End
+                    } else {
+                        NextHeld::Unended
+                    };
+                }
+                Ok(_) => {}
+            }
+        }
+    }
+
+    /// The next line, or why there is none. Only a line leaves the held bytes.
+    ///
+    /// Cost: time linear in the bytes read, however they arrive. Takes no memory.
+    pub fn next<Q, H: ReadsFrom<Q>>(&mut self, requests: &mut Q, handler: &H) -> Next<'_>
+        // Nothing is read where a whole line is held, and else all answers are out.
+        requires { line_parts self.old ≡ self.old ∷ [] → H.is_out handler.now }
+        ensures* after { sem 𝓛 (Rests the_row self.entry (λ new.
+            new ≡ left_of (answer_of result)
+            (self.old ++ since (H.asked requests.old).handed (H.asked requests.new).handed))) }
+        // Nothing is read after an end or a fault.
+        ensures reads { IsReadOn (H.asked requests.old) (H.asked requests.new) }
+        // A line is returned, or is too long, before an end or a fault is met.
+        ensures quiet { OnLine result (MetNothing (H.asked requests.old) (H.asked requests.new)) }
+        ensures answer { answer_of result
+            ≡ next_answer (delivery (H.asked requests.old) (H.asked requests.new)).stand
+            (line_parts (self.old ++ since (H.asked requests.old).handed (H.asked requests.new).handed)) }
+    {
+        match self.advance(requests, handler) {
+            NextHeld::Line(n) => {
+                let start = self.start;
+                self.start = start + n + 1;
+                let buffer = &self.buffer;
+                Next::Line(&buffer[start..start + n])
+            }
+            NextHeld::End => Next::End,
+            NextHeld::Unended => Next::Unended,
+            NextHeld::Long => Next::Long,
+            NextHeld::ReadFault => Next::ReadFault,
+        }
+    }
+}

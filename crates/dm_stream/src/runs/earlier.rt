@@ -1,0 +1,150 @@
+//! Earlier requests: those that were carried out before a run, which leave the state that it starts from.
+//!
+//! They are read like the requests of a run, and played through the same mapper, to a sink that does nothing.
+
+ghost use Rattle.std.specs.Prelude.{◌≡◌, false};
+ghost use Rattle.std.proofs.Common.{refl, ◌∙◌};
+ghost use Rattle.dm_stream.specs.runs.Earlier.{HasMoved, HasPlayed, HasStoppedAt, played_ending};
+ghost use Rattle.dm_stream.specs.laws.Earlier.{moved_more, moved_none, stopped_more};
+ghost use Rattle.dm_stream.specs.runs.Outcome.{requests_outcome};
+ghost use Rattle.dm_stream.specs.requests.Requests.{HasMet};
+ghost use Rattle.dm_stream.specs.runs.Run.{CanMap};
+ghost use Rattle.dm_table.specs.io.DeviceIo.{delivery};
+ghost use Rattle.dm_table.specs.io.Progress.{IsReadOn};
+
+use crate::requests::handler::{Handler, ReadsFrom};
+use crate::requests::handling::handle_requests;
+use crate::runs::ending::{Ending, RequestWord};
+use crate::runs::request_mapper::read_ahead;
+use dm_map::{Discard, MapFault, Mapper, Taken};
+use dm_stack::{DeviceId, Stack};
+use dm_table::{InFault, Input, Request};
+use std::marker::PhantomData;
+
+/// Why earlier requests were refused.
+#[derive(Clone, Copy, Debug, PartialEq, Eq)]
+pub enum EarlierFault {
+    /// The request of this number is bad.
+    BadRequest(u64, RequestWord),
+    /// Reading them failed.
+    Read,
+}
+
+/// Plays requests on the state of a mapper, and answers none.
+#[derive(Drop)]
+struct EarlierPlayer<'s, T> {
+    discard: Discard<'s>,
+    /// What was read ahead of requests, added up: see `RequestMapper`.
+    prefetched: u64,
+    taken: PhantomData<T>,
+}
+
+impl<'s, T: Taken> Handler for EarlierPlayer<'s, T> {
+    type Source = Mapper<'s, T>;
+
+    /// The number of a request that names no device.
+    type Fault = u64;
+
+    ghost ready = { λ stack h mapper. CanMap stack mapper × (h.discard.stack.now ≡ stack) };
+
+    ghost answered = { λ stack old before requests new after.
+        HasMoved stack before.state after.state requests × (after.stack ≡ before.stack) };
+
+    ghost stopped = { λ stack old before requests number new after.
+        HasStoppedAt stack before.state requests number × (after.stack ≡ before.stack)
+        × (after.failed ≡ false) };
+
+    ghost answered_none = { λ stack h mapper. (moved_none stack mapper.state, refl) };
+
+    ghost answered_then_answered = { λ stack a b c s t u us vs first second.
+        (moved_more stack s.state t.state u.state us vs first.0 second.0, second.1 ∙ first.1) };
+
+    ghost answered_then_stopped = { λ stack a b c s t u us vs number first second. (
+      stopped_more stack s.state t.state us vs number first.0 second.0,
+      second.1 ∙ first.1,
+      second.2,
+    ) };
+
+    #[inline(always)]
+    fn handle(
+        &mut self,
+        _stack: &Stack,
+        mapper: &mut Mapper<'s, T>,
+        request: &Request<'_>,
+        device: Option<DeviceId>,
+    ) -> Result<(), u64> {
+        let Some(device) = device else {
+            return Err(request.number);
+        };
+        match mapper.request(request, device, &mut self.discard) {
+            Ok(()) => Ok(()),
+            Err(MapFault::Sink(())) => unreachable!(),
+            Err(MapFault::Stopped) => unreachable!(),
+        }
+    }
+
+    fn gathers(&self, stack: &Stack) -> bool {
+        stack.gains_by_prefetch()
+    }
+
+    #[inline(always)]
+    fn prefetch(&mut self, stack: &Stack, mapper: &Mapper<'s, T>, device: DeviceId, start: u64) {
+        let read = read_ahead(stack, mapper, device, start);
+        self.prefetched = self.prefetched.wrapping_add(read);
+    }
+}
+
+/// No answer is kept back, since there is none.
+impl<T: Taken, R: Input> ReadsFrom<R> for EarlierPlayer<'_, T> {
+    ghost asked = { R.past };
+
+    ghost is_out = { λ h. Unit {0} };
+
+    fn before_read(&mut self) {}
+
+    fn read(&self, requests: &mut R, buffer: &mut [u8]) -> Result<usize, InFault> {
+        requests.read(buffer)
+    }
+}
+
+/// Plays requests, line by line, and answers none: the mapper's state moves on as if they had been answered.
+///
+/// The mapper is one of this stack and has not failed, and stays so. Nothing is read after a bad line, an end or
+/// a fault.
+///
+/// Cost: less than that of `run` over these requests, since nothing is joined or written. No memory is taken.
+///
+/// # Errors
+///
+/// | Fault | When |
+/// |---|---|
+/// | `BadRequest` | the line of this number is bad |
+/// | `Read` | reading requests failed, and no line that was delivered before is bad |
+pub fn play_earlier<'s, T: Taken, R: Input>(
+    stack: &'s Stack,
+    mapper: &mut Mapper<'s, T>,
+    requests: &mut R,
+) -> Result<(), EarlierFault>
+    requires { CanMap stack.now mapper.old }
+    ensures stack { mapper.new.stack ≡ mapper.old.stack }
+    ensures going { mapper.new.failed ≡ false }
+    // What the requests delivered gives the state that is left, and how they end.
+    ensures played { HasPlayed (requests_outcome stack.now mapper.old.state
+        (delivery (R.past requests.old) (R.past requests.new))) mapper.new.state result }
+    // Requests are only read on, and nothing is read after a bad line, an end or a fault.
+    ensures reads { IsReadOn (R.past requests.old) (R.past requests.new) }
+    ensures met { HasMet (played_ending result) (R.past requests.old) (R.past requests.new) }
+{
+    let mut player = EarlierPlayer {
+        discard: Discard { stack },
+        prefetched: 0,
+        taken: PhantomData,
+    };
+    match handle_requests(stack, requests, &mut player, mapper) {
+        Ok(Ending::Done) => Ok(()),
+        Ok(Ending::BadRequest(number, word)) => Err(EarlierFault::BadRequest(number, word)),
+        Ok(Ending::ReadFault) => Err(EarlierFault::Read),
+        Ok(Ending::WriteFault) => unreachable!(),
+        Err(number) => Err(EarlierFault::BadRequest(number, RequestWord::Unknown)),
+    }
+}

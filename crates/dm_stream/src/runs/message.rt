@@ -1,0 +1,85 @@
+//! The messages of a run: one line each, and at most one a run.
+//!
+//! The words are fixed in `specs/runs/Messages.antt`, since users match on them. A new ending is an arm
+//! here and there.
+
+ghost use Rattle.std.specs.Prelude.{◌≡◌, ◌≤◌, length};
+ghost use Rattle.dm_stream.specs.runs.Messages.{HasTold, earlier_message, ending_message, refused_request, request_word};
+
+use crate::runs::earlier::EarlierFault;
+use crate::runs::ending::{Ending, RequestWord};
+use arrayvec::ArrayVec;
+use dm_table::{Output, append, append_number, write_all};
+
+/// A message of a run.
+pub type Message = ArrayVec<u8, 64>;
+
+/// Writes a message, as far as its stream takes it. Nothing is flushed.
+pub fn tell<E: Output>(messages: &mut E, message: &[u8])
+    ensures { HasTold message.now (E.past messages.old) (E.past messages.new) }
+{
+    let _ = write_all(messages, message);
+}
+
+/// The message of an ending: a line, or empty if all requests were answered. Takes no memory.
+pub fn message_of(ending: Ending) -> Message
+    ensures { result.items ≡ ending_message ending }
+{
+    let mut text = ArrayVec::new();
+    match ending {
+        Ending::Done => {}
+        Ending::BadRequest(number, word) => return refused_request(number, word_text(word)),
+        Ending::ReadFault => append(&mut text, b"dmremap: requests: read\n"),
+        Ending::WriteFault => append(&mut text, b"dmremap: output: write\n"),
+    }
+    text
+}
+
+/// The message of a request that is refused: a line with its number, and a word of at most 16 bytes
+/// that says why. Takes no memory.
+pub fn refused_request(number: u64, word: &[u8]) -> Message
+    requires { length word.now ≤ 16 }
+    ensures { result.items ≡ refused_request number word.now }
+{
+    let mut text = ArrayVec::new();
+    append(&mut text, b"dmremap: request ");
+    append_number(&mut text, number);
+    append(&mut text, b": ");
+    append(&mut text, word);
+    append(&mut text, b"\n");
+    text
+}
+
+/// The message of earlier requests that are refused: a line. Takes no memory.
+pub fn earlier_message(fault: EarlierFault) -> Message
+    ensures { result.items ≡ earlier_message fault }
+{
+    let mut text = ArrayVec::new();
+    match fault {
+        EarlierFault::BadRequest(number, word) => {
+            append(&mut text, b"dmremap: before: ");
+            append(&mut text, word_text(word));
+            append(&mut text, b" at ");
+            append_number(&mut text, number);
+            append(&mut text, b"\n");
+        }
+        EarlierFault::Read => append(&mut text, b"dmremap: before: read\n"),
+    }
+    text
+}
+
+/// How the word of a bad request is written.
+fn word_text(word: RequestWord) -> &'static [u8]
+    ensures word { result.now ≡ request_word word }
+    ensures short { length result.now ≤ 7 }
+{
+    match word {
+        RequestWord::Long => b"long",
+        RequestWord::Unended => b"unended",
+        RequestWord::Many => b"many",
+        RequestWord::Form => b"form",
+        RequestWord::Number => b"number",
+        RequestWord::Length => b"length",
+        RequestWord::Unknown => b"unknown",
+    }
+}

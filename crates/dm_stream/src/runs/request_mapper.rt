@@ -1,0 +1,164 @@
+//! Mapping requests to an output: the handler of a run.
+//!
+//! It hands the units of a request through a mapper to a join, which writes them. `specs/runs/Outcome.antt` says what is written, and `specs/runs/Mapped.antt` what one
+//! request adds to it.
+
+ghost use Rattle.std.specs.Prelude.{◌≡◌, ◌<◌, None, false, length, OnOk};
+ghost use Rattle.dm_stream.specs.runs.Mapped.{IsReady, HasAnswered, HasStopped, failed_writes};
+ghost use Rattle.dm_stream.specs.laws.Mapped.{answered_none, answered_more, stopped_more};
+ghost use Rattle.dm_stream.specs.runs.Outcome.{request_answer, step_of};
+ghost use Rattle.dm_table.specs.io.Progress.{HasWrittenTo, IsSameReference, Wrote};
+ghost use Rattle.dm_table.specs.laws.Progress.{written_to_none, written_to_more};
+ghost use Rattle.dm_stream.specs.requests.Requests.{numbered};
+ghost use Rattle.std.proofs.Common.{refl, ◌∙◌};
+
+use crate::pieces::disk_range::DiskRange;
+use crate::pieces::join::Join;
+use crate::requests::exchange::Exchange;
+use crate::requests::handler::{Handler, ReadsFrom};
+use crate::runs::ending::NotMapped;
+use dm_map::{MapFault, Mapper, Taken};
+use dm_stack::{DeviceId, Prefetched, Stack};
+use dm_table::{InFault, OutFault, Output, Request};
+use std::marker::PhantomData;
+
+/// Joins the units of a request of a device of the stack, and writes them. Nothing is held before.
+#[inline(always)]
+fn map_request<T: Taken, W: Output>(
+    mapper: &mut Mapper<'_, T>,
+    request: &Request<'_>,
+    device: DeviceId,
+    join: &mut Join<'_, W>,
+) -> Result<(), OutFault>
+    requires stack { mapper.old.stack ≡ join.old.held.stack }
+    requires going { mapper.old.failed ≡ false }
+    requires device { device < length join.old.held.stack.devices }
+    requires nothing { join.old.held.piece ≡ None }
+    ensures stack { mapper.new.stack ≡ mapper.old.stack }
+    ensures going { OnOk result (mapper.new.failed ≡ false) }
+    ensures state { OnOk result
+        (mapper.new.state ≡ (step_of join.old.held.stack device (numbered request.now)
+        mapper.old.state).state) }
+    ensures of_stack { join.new.held.stack ≡ join.old.held.stack }
+    ensures nothing { join.new.held.piece ≡ None }
+    ensures same_reference { IsSameReference join.old.writer join.new.writer }
+    ensures wrote { Wrote (W.past join.old.writer.now) (W.past join.new.writer.now) result
+        (request_answer join.old.held.stack device (numbered request.now) mapper.old.state) }
+{
+    join.begin(request.number);
+    match mapper.request_or_home(request, device, join) {
+        Ok(None) => join.finish(),
+        Ok(Some(home)) => join.write_range(&DiskRange::at(request.op, home, request.len)),
+        Err(MapFault::Sink(fault)) => Err(fault),
+        Err(MapFault::Stopped) => unreachable!(),
+    }
+}
+
+/// Reads what the answer to a request of this device from this sector on reads first, so that it is in the cache by
+/// then. What it read is returned, since a read of which nothing comes is left out.
+#[inline(always)]
+pub(crate) fn read_ahead<T: Taken>(
+    stack: &Stack,
+    mapper: &Mapper<'_, T>,
+    device: DeviceId,
+    start: u64,
+) -> u64 {
+    match stack.prefetch(device, start) {
+        Prefetched::Lines(starts) => starts,
+        Prefetched::Chunk(chunk) => mapper.prefetch(device, chunk),
+        Prefetched::Nothing => 0,
+    }
+}
+
+/// Writes the pieces that a mapper makes of requests.
+#[derive(Drop)]
+pub(crate) struct RequestMapper<'m, 's, T, W> {
+    pub(crate) join: Join<'m, W>,
+    /// What was read ahead of requests, added up: nobody asks for it, but without it nothing would be read.
+    pub(crate) prefetched: u64,
+    /// The stack of the mapper that the answers come from, and how it keeps taken chunks.
+    pub(crate) mapper: PhantomData<(&'s Stack, T)>,
+}
+
+impl<'s, T: Taken, W: Output> Handler for RequestMapper<'_, 's, T, W> {
+    type Source = Mapper<'s, T>;
+
+    type Fault = NotMapped;
+
+    ghost ready = { λ stack h mapper. IsReady stack mapper h.join.held };
+
+    ghost answered = { λ stack old before requests new after.
+        HasAnswered stack before.state after.state requests (W.past old.join.writer.now).written
+        (W.past new.join.writer.now).written
+        × HasWrittenTo W.past old.join.writer new.join.writer 0
+        × (after.stack ≡ before.stack) };
+
+    ghost stopped = { λ stack old before requests fault new after.
+        HasStopped stack fault before.state after requests (W.past old.join.writer.now).written
+        (W.past new.join.writer.now).written
+        × HasWrittenTo W.past old.join.writer new.join.writer (failed_writes fault)
+        × (after.stack ≡ before.stack)
+        × (new.join.held.piece ≡ None) };
+
+    ghost answered_none = { λ stack h mapper. (
+      answered_none stack mapper.state (W.past h.join.writer.now).written,
+      written_to_none W.past h.join.writer,
+      refl,
+    ) };
+
+    ghost answered_then_answered = { λ stack a b c s t u us vs first second. (
+      answered_more stack s.state t.state u.state us vs _ _ _ first.1.moved.appends second.1.moved.appends first.0
+          second.0,
+      written_to_more W.past a.join.writer b.join.writer c.join.writer 0 first.1 second.1,
+      second.2 ∙ first.2,
+    ) };
+
+    ghost answered_then_stopped = { λ stack a b c s t u us vs fault first second. (
+      stopped_more stack fault s.state t.state u us vs _ _ _ first.1.moved.appends second.1.moved.appends first.0
+          second.0,
+      written_to_more W.past a.join.writer b.join.writer c.join.writer (failed_writes fault) first.1 second.1,
+      second.2 ∙ first.2,
+      second.3,
+    ) };
+
+    #[inline(always)]
+    fn handle(
+        &mut self,
+        _stack: &Stack,
+        mapper: &mut Mapper<'s, T>,
+        request: &Request<'_>,
+        device: Option<DeviceId>,
+    ) -> Result<(), NotMapped> {
+        let Some(device) = device else {
+            return Err(NotMapped::Unknown(request.number));
+        };
+        match map_request(mapper, request, device, &mut self.join) {
+            Ok(()) => Ok(()),
+            Err(OutFault) => Err(NotMapped::Output),
+        }
+    }
+
+    fn gathers(&self, stack: &Stack) -> bool {
+        stack.gains_by_prefetch()
+    }
+
+    #[inline(always)]
+    fn prefetch(&mut self, stack: &Stack, mapper: &Mapper<'s, T>, device: DeviceId, start: u64) {
+        let read = read_ahead(stack, mapper, device, start);
+        self.prefetched = self.prefetched.wrapping_add(read);
+    }
+}
+
+impl<T: Taken, W: Output, Q: Exchange<W>> ReadsFrom<Q> for RequestMapper<'_, '_, T, W> {
+    ghost asked = { Q.past };
+
+    ghost is_out = { λ h. Q.is_out h.join.writer.now };
+
+    fn before_read(&mut self) {
+        self.join.pass_on::<Q>();
+    }
+
+    fn read(&self, requests: &mut Q, buffer: &mut [u8]) -> Result<usize, InFault> {
+        requests.read(&*self.join.writer, buffer)
+    }
+}

@@ -1,0 +1,84 @@
+//! The status lines of snapshots: how much of each store is used.
+//!
+//! They come once a run, after its last answer, so each is put together in a room of its own and
+//! written by plain calls. What they say is in `specs/runs/StatusLines.antt`.
+
+ghost use Rattle.std.specs.Prelude.{◌≡◌, ◌++◌, ◌<◌, ◌≤◌, ◌∷◌, [], length};
+ghost use Rattle.dm_table.specs.io.Progress.{Wrote};
+ghost use Rattle.dm_table.specs.words.Bytes.{newline};
+ghost use Rattle.dm_stack.specs.Description.{device_len, name_at};
+ghost use Rattle.dm_map.specs.Mapper.{with_looked};
+ghost use Rattle.dm_stream.specs.runs.StatusLines.{after_name, status_text, usage_text};
+
+use arrayvec::ArrayVec;
+use dm_map::{Mapper, Taken, Usage};
+use dm_stack::{DeviceId, Stack};
+use dm_table::{OutFault, Output, append, append_number, write_all};
+
+/// The most bytes after the name: four numbers of 20 digits, and what stands around them.
+const ROOM: usize = 128;
+
+/// Writes the status line of each snapshot of a mapper's stack, in the order of the devices.
+///
+/// After a fault a beginning of the lines is written, and nothing is tried again. Cost: one look-up
+/// and two writes for each snapshot. No memory is taken.
+pub(crate) fn write_status<T: Taken, W: Output>(
+    stack: &Stack,
+    mapper: &mut Mapper<'_, T>,
+    output: &mut W,
+) -> Result<(), OutFault>
+    requires { mapper.old.stack ≡ stack.now }
+    ensures same { mapper.new ≡ with_looked mapper.old mapper.new.looked }
+    ensures wrote { Wrote (W.past output.old) (W.past output.new) result
+        (status_text stack.now mapper.old.state) }
+{
+    for device in stack.snapshots() {
+        let usage = mapper.usage(*device);
+        write_line(stack, *device, usage, &mut *output)?;
+    }
+    Ok(())
+}
+
+/// Writes the status line of a device of the stack with this usage.
+fn write_line<W: Output>(
+    stack: &Stack,
+    device: DeviceId,
+    usage: Usage,
+    output: &mut W,
+) -> Result<(), OutFault>
+    requires { device < length stack.now.devices }
+    ensures { Wrote (W.past output.old) (W.past output.new) result
+        (name_at stack.now device ++ after_name (device_len stack.now device) usage) }
+{
+    write_all(&mut *output, stack.name(device).as_bytes())?;
+    write_all(output, after_name(stack.len(device), usage).as_slice())
+}
+
+/// What stands after the name in the line of a snapshot of this length.
+fn after_name(len: u64, usage: Usage) -> ArrayVec<u8, ROOM>
+    ensures { result.items ≡ after_name len usage }
+{
+    let mut text = ArrayVec::new();
+    append(&mut text, b": 0 ");
+    append_number(&mut text, len);
+    append(&mut text, b" snapshot ");
+    put_usage(&mut text, usage);
+    text
+}
+
+/// Appends how much of a store is used, in sectors, or that its snapshot is not valid, and ends the line.
+fn put_usage(text: &mut ArrayVec<u8, ROOM>, usage: Usage)
+    requires { length text.old.items ≤ 40 }
+    ensures { text.new.items ≡ text.old.items ++ usage_text usage ++ newline ∷ [] }
+{
+    if usage.valid {
+        append_number(text, usage.allocated);
+        append(text, b"/");
+        append_number(text, usage.total);
+        append(text, b" ");
+        append_number(text, usage.metadata);
+    } else {
+        append(text, b"Invalid");
+    }
+    append(text, b"\n");
+}
