@@ -25,6 +25,7 @@ import backups
 import before
 import building
 import completions
+import crate_pages
 import documents
 import field_lengths
 import files
@@ -84,7 +85,7 @@ BUILT = os.path.join(TOP, "crates", "dmremap", "out", "dmremap")
 PARTS = (
     words, before, files, loads, backups, groups, records, printing, reports, request_lines, field_lengths, answers,
     ranges, snapshot_rows, snapshots, origins, kinds, replays, streams, limits, hostile, growths, help_texts,
-    launcher, building, trying, installs, documents, worked, manual, completions, reading_list, source_names, recipes,
+    launcher, building, trying, installs, documents, crate_pages, worked, manual, completions, reading_list, source_names, recipes,
     tool_requests, tool_answers, tool_documents, tool_streams, layouts, layers, used, volumes, pictures, trace_parts,
     sector_files, saves, machines, metadata_areas, lvm2_texts, walks, lookers, refusals, halts, power_cuts,
 )
