@@ -66,7 +66,7 @@ impl Model for Lines {
 impl Lines {
     ghost use Rattle.dm_stream.specs.requests.Lines.{line_parts, next_answer, answer_of, left_of, OnLine};
     ghost use Rattle.dm_stream.specs.requests.NextHeld.{held_answer, FitsIn, IsLook, OnHeldLine};
-    ghost use Rattle.dm_stream.specs.contracts.lines.Lines.{the_row};
+    ghost use Rattle.dm_stream.specs.contracts.requests.lines.Lines.{the_row};
 
     /// Lines of an input that was not read yet.
     pub fn new() -> Lines

@@ -1,7 +1,7 @@
 //! A run: from requests to their answers, line by line, in one pass and without taking memory.
 //!
 //! What is written depends on the bytes and ends that the requests delivered, and on the mapper's
-//! state: see `specs/runs/Outcome.antt`. `requests` reads the lines, `request_mapper` answers them.
+//! state: see `specs/runs/Outcome.antt`. `handling` reads the lines, `request_mapper` answers them.
 
 ghost use Rattle.std.specs.Prelude.{◌≡◌, ◌≢◌, List, None, false, OnOk};
 ghost use Rattle.dm_map.specs.Mapper.{with_looked};
