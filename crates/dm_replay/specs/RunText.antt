@@ -1,21 +1,21 @@
 -- How runs are written: a line each, under the number of their request.
 use Rattle.std.specs.Prelude.{ℕ, List, [], ◌∷◌, ◌++◌, codes, decimal}
 use Rattle.std.specs.List.{flat_map}
-use Rattle.dm_table.specs.words.Bytes.{newline, space}
+use Rattle.dm_table.specs.words.Bytes.{code}
 use Rattle.dm_stack.specs.Description.{Description, disk_name_at}
 use Rattle.dm_replay.specs.declared.value_run.ValueRun.{ValueRun}
 use Rattle.dm_replay.specs.declared.value_run.ValueRun.TheVariants as runs
 
 -- a run, after the number
 abbrev pub run_text : Description → ValueRun → List ℕ
-run_text stack (runs.Old disk start len) = codes "old " ++ disk_name_at stack disk ++ space ∷ decimal start ++ space ∷ decimal len
-run_text stack (runs.Wrote request start len) = codes "wrote " ++ decimal request ++ space ∷ decimal start ++ space ∷ decimal len
+run_text stack (runs.Old disk start len) = codes "old " ++ disk_name_at stack disk ++ code " " ∷ decimal start ++ code " " ∷ decimal len
+run_text stack (runs.Wrote request start len) = codes "wrote " ++ decimal request ++ code " " ∷ decimal start ++ code " " ∷ decimal len
 run_text stack (runs.Zero len) = codes "zero " ++ decimal len
 run_text stack (runs.Error len) = codes "error " ++ decimal len
 
 -- the line of a run under a request's number
 abbrev pub run_line : Description → ℕ → ValueRun → List ℕ
-run_line stack number run = decimal number ++ space ∷ run_text stack run ++ newline ∷ []
+run_line stack number run = decimal number ++ code " " ∷ run_text stack run ++ code "\n" ∷ []
 
 -- the lines of a request's runs
 abbrev pub runs_text : Description → ℕ → List ValueRun → List ℕ

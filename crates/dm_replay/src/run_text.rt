@@ -4,7 +4,7 @@ ghost use Rattle.std.specs.Prelude.{◌++◌, ◌+◌, ◌≤◌, ◌∷◌, len
 ghost use Rattle.std.specs.List.{AllByRecursion};
 ghost use Rattle.dm_table.specs.io.Block.{IsPut};
 ghost use Rattle.dm_table.specs.io.Progress.{Wrote};
-ghost use Rattle.dm_table.specs.words.Bytes.{space};
+ghost use Rattle.dm_table.specs.words.Bytes.{code};
 ghost use Rattle.dm_replay.specs.OfDisks.{IsRunOf};
 ghost use Rattle.dm_replay.specs.RunText.{run_line, run_text, runs_text};
 
@@ -80,7 +80,7 @@ fn put_run(block: &mut [u8], at: usize, stack: &Stack, run: &ValueRun) -> usize
 /// Puts a start and a length at an offset in a block, each after a space.
 fn put_range(block: &mut [u8], at: usize, start: u64, len: u64) -> usize
     requires room { at + 60 ≤ length block.old }
-    ensures put { IsPut (space ∷ decimal start ++ space ∷ decimal len) at block.old block.new result }
+    ensures put { IsPut (code " " ∷ decimal start ++ code " " ∷ decimal len) at block.old block.new result }
     ensures few { result ≤ at + 42 }
 {
     let at = put_bytes(block, at, b" ");

@@ -3,7 +3,7 @@ use Rattle.std.specs.Prelude.{◌≡◌, ℕ, List, [], ◌∷◌, ◌++◌, Opt
 use Rattle.dm_stack.specs.declared.claims.clash.Clash.{Clash}
 use Rattle.dm_stack.specs.declared.id.Lower.{Lower}
 use Rattle.dm_stack.specs.declared.id.Lower.TheVariants.{Device, Disk}
-use Rattle.dm_table.specs.words.Bytes.{newline, space}
+use Rattle.dm_table.specs.words.Bytes.{code}
 use Rattle.dm_stack.specs.claims.Claims.{IsFirstClash, claims}
 use Rattle.dm_stack.specs.Description.{Description, disk_name_at, name_at}
 use Rattle.dm_stack.specs.checks.Depth.{stack_depth}
@@ -16,14 +16,14 @@ lower_text stack (Disk id) = disk_name_at stack id
 abbrev pub tidiness_text : Description → Option Clash → List ℕ
 tidiness_text stack None = codes "tidy"
 tidiness_text stack (Some clash) =
-    codes "clash " ++ lower_text stack clash.lower ++ space ∷ decimal clash.sector ++ space ∷ name_at stack clash.first
-    ++ space ∷ name_at stack clash.second
+    codes "clash " ++ lower_text stack clash.lower ++ code " " ∷ decimal clash.sector ++ code " " ∷ name_at stack clash.first
+    ++ code " " ∷ name_at stack clash.second
 
 -- four lines: how many devices and disks there are, how deep they are, and the clash if there is one
 abbrev pub report_text : Description → Option Clash → List ℕ
 report_text stack found =
-    codes "devices " ++ decimal (length stack.devices) ++ newline ∷ codes "disks " ++ decimal (length stack.disks)
-    ++ newline ∷ codes "depth " ++ decimal (stack_depth stack) ++ newline ∷ tidiness_text stack found ++ newline ∷ []
+    codes "devices " ++ decimal (length stack.devices) ++ code "\n" ∷ codes "disks " ++ decimal (length stack.disks)
+    ++ code "\n" ∷ codes "depth " ++ decimal (stack_depth stack) ++ code "\n" ∷ tidiness_text stack found ++ code "\n" ∷ []
 
 -- the last line, by the clash of the stack
 pub record SaysTidiness (stack : Description) (text : List ℕ) : Type 0 where

@@ -5,7 +5,7 @@
 
 ghost use Rattle.std.specs.Prelude.{◌≡◌, ◌≢◌, ℕ, ◌+◌, ◌<◌, ◌≤◌, ◌^◌, ◌↔◌, IfErr, IfOk, IfSome, IsTrue, OnOk};
 ghost use Rattle.std.specs.Prelude.{◌∷◌, ◌++◌, List, Option, Some, drop, is_none, length, position, take, true};
-ghost use Rattle.dm_table.specs.words.Bytes.{space};
+ghost use Rattle.dm_table.specs.words.Bytes.{code};
 ghost use Rattle.dm_table.specs.words.Name.{is_device_name, is_disk_name};
 ghost use Rattle.dm_stack.specs.lines.Below.{found_lines, IsLineOf};
 ghost use Rattle.dm_stack.specs.claims.Claims.{AreTops, IsFirstClash, IsThere, IsTidy, IsTop, claims};
@@ -176,7 +176,7 @@ impl Stack {
             position (λ device. is_same device.name (take found.1 text.now)) self.now.devices ≡ Some found.0) }
         ensures name { IfSome result (λ found. is_device_name (take found.1 text.now) ≡ true) }
         ensures space { IfSome result
-            (λ found. text.now ≡ take found.1 text.now ++ space ∷ drop (found.1 + 1) text.now) }
+            (λ found. text.now ≡ take found.1 text.now ++ code " " ∷ drop (found.1 + 1) text.now) }
     {
         let room = text.first_chunk::<ROOM>()?;
         let Some(len) = first_space(room) else {
@@ -193,7 +193,7 @@ impl Stack {
             position (λ device. is_same device.name (take found.1 text.now)) self.now.devices ≡ Some found.0) }
         ensures name { IfSome result (λ found. is_device_name (take found.1 text.now) ≡ true) }
         ensures space { IfSome result
-            (λ found. text.now ≡ take found.1 text.now ++ space ∷ drop (found.1 + 1) text.now) }
+            (λ found. text.now ≡ take found.1 text.now ++ code " " ∷ drop (found.1 + 1) text.now) }
     {
         let (device, len) = self.fronts.find_long(text)?;
         let spec = self.devices.as_slice().get(device.index())?;

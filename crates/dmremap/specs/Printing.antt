@@ -4,7 +4,7 @@ use Rattle.dm_table.specs.declared.tables.table.DeviceSpec.{DeviceSpec}
 use Rattle.dm_table.specs.tables.CanonicalText.{concise_text, table_text}
 use Rattle.dm_table.specs.io.DeviceIo.{Delivery}
 use Rattle.dm_table.specs.io.WriteAll.{IsCutShort}
-use Rattle.dm_table.specs.words.Bytes.{newline}
+use Rattle.dm_table.specs.words.Bytes.{code}
 use Rattle.dm_stack.specs.Report.{IsReport}
 use Rattle.dm_stream.specs.declared.runs.ending.Ending.TheVariants as endings
 use Rattle.lvm_volume.specs.declared.fault.NameFault.{NameFault}
@@ -30,7 +30,7 @@ pub data Said : Type 0 where
 
 -- a line of its own
 abbrev pub line : List ℕ → List ℕ
-line text = text ++ newline ∷ []
+line text = text ++ code "\n" ∷ []
 
 -- the one text of some devices in a form
 abbrev pub written_as : TableForm → List DeviceSpec → List ℕ

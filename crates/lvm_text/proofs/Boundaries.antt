@@ -5,7 +5,7 @@ use Rattle.std.proofs.lemmas.Bool.{eqb-true}
 use Rattle.std.proofs.lemmas.Bool.Decides.{nat_tests}
 use Rattle.std.proofs.lemmas.Option.{MatchOption-at_some}
 use Rattle.std.proofs.lemmas.Str.{IsUtf8-drop, IsCharBoundary-start, IsCharBoundary-before_ascii, IsCharBoundary-after_ascii}
-use Rattle.lvm_text.specs.Bytes.{backslash, newline, quote}
+use Rattle.lvm_text.specs.Bytes.{code}
 use Rattle.lvm_text.specs.Spelling.{is_word_byte, is_escapable}
 use Rattle.lvm_text.specs.Scan.{line_length, word_length, raw_length}
 use Rattle.lvm_text.proofs.Cases.{cond_elim, mapped}
@@ -30,38 +30,38 @@ pub record Here (byte : ℕ) (bs : List ℕ) (n : ℕ) : Type 0 where
 later : (byte b : ℕ) (bs : List ℕ) (n : ℕ) → Here byte bs n → Here byte (b ∷ bs) (suc n)
 later byte b bs n h = let lt : n < length bs = h.within in record { within = omega arith; is = h.is }
 
-line_here : (bs : List ℕ) → MatchOption (line_length bs) (Unit {0}) (Here newline bs)
+line_here : (bs : List ℕ) → MatchOption (line_length bs) (Unit {0}) (Here (code "\n") bs)
 line_here [] = tt
 line_here (b ∷ bs) =
-    cond_elim (eqb b newline) (λ r. MatchOption r (Unit {0}) (Here newline (b ∷ bs))) (Some 0) (option_map suc (line_length bs))
-    (λ is. record { within = omega arith; is = eqb-true b newline is })
-    (λ none. mapped (line_length bs) suc (Here newline bs) (Here newline (b ∷ bs)) (later newline b bs) (line_here bs))
+    cond_elim (eqb b (code "\n")) (λ r. MatchOption r (Unit {0}) (Here (code "\n") (b ∷ bs))) (Some 0) (option_map suc (line_length bs))
+    (λ is. record { within = omega arith; is = eqb-true b (code "\n") is })
+    (λ none. mapped (line_length bs) suc (Here (code "\n") bs) (Here (code "\n") (b ∷ bs)) (later (code "\n") b bs) (line_here bs))
 
-pub line_at : (bs : List ℕ) (n : ℕ) → line_length bs ≡ Some n → Here newline bs n
-line_at bs n e = MatchOption-at_some (Unit {0}) (Here newline bs) n e (line_here bs)
+pub line_at : (bs : List ℕ) (n : ℕ) → line_length bs ≡ Some n → Here (code "\n") bs n
+line_at bs n e = MatchOption-at_some (Unit {0}) (Here (code "\n") bs) n e (line_here bs)
 
-raw_here : (bs : List ℕ) → MatchOption (raw_length bs) (Unit {0}) (Here quote bs)
+raw_here : (bs : List ℕ) → MatchOption (raw_length bs) (Unit {0}) (Here (code "\"") bs)
 raw_here [] = tt
 raw_here (b ∷ []) =
-    cond_elim (eqb b quote) (λ r. MatchOption r (Unit {0}) (Here quote (b ∷ []))) (Some 0) None
-    (λ is. record { within = omega arith; is = eqb-true b quote is })
+    cond_elim (eqb b (code "\"")) (λ r. MatchOption r (Unit {0}) (Here (code "\"") (b ∷ []))) (Some 0) None
+    (λ is. record { within = omega arith; is = eqb-true b (code "\"") is })
     (λ none. tt)
 raw_here (b ∷ c ∷ bs) =
-    let P : Option ℕ → Type 0 = λ r. MatchOption r (Unit {0}) (Here quote (b ∷ c ∷ bs)) in
+    let P : Option ℕ → Type 0 = λ r. MatchOption r (Unit {0}) (Here (code "\"") (b ∷ c ∷ bs)) in
     let plain : Option ℕ = option_map suc (raw_length (c ∷ bs)) in
     let escaped : Option ℕ = option_map (λ n. suc (suc n)) (raw_length bs) in
-    cond_elim (eqb b quote) P (Some 0) (cond (eqb b backslash) (cond (is_escapable c) escaped None) (cond (eqb b newline) None plain))
-    (λ is. record { within = omega arith; is = eqb-true b quote is })
-    (λ e1. cond_elim (eqb b backslash) P (cond (is_escapable c) escaped None) (cond (eqb b newline) None plain)
+    cond_elim (eqb b (code "\"")) P (Some 0) (cond (eqb b (code "\\")) (cond (is_escapable c) escaped None) (cond (eqb b (code "\n")) None plain))
+    (λ is. record { within = omega arith; is = eqb-true b (code "\"") is })
+    (λ e1. cond_elim (eqb b (code "\\")) P (cond (is_escapable c) escaped None) (cond (eqb b (code "\n")) None plain)
     (λ e2. cond_elim (is_escapable c) P escaped None
-    (λ e3. mapped (raw_length bs) (λ n. suc (suc n)) (Here quote bs) (Here quote (b ∷ c ∷ bs)) (λ n h. later quote b (c ∷ bs) (suc n) (later quote c bs n h)) (raw_here bs))
+    (λ e3. mapped (raw_length bs) (λ n. suc (suc n)) (Here (code "\"") bs) (Here (code "\"") (b ∷ c ∷ bs)) (λ n h. later (code "\"") b (c ∷ bs) (suc n) (later (code "\"") c bs n h)) (raw_here bs))
     (λ e3. tt))
-    (λ e2. cond_elim (eqb b newline) P None plain
+    (λ e2. cond_elim (eqb b (code "\n")) P None plain
     (λ e3. tt)
-    (λ e3. mapped (raw_length (c ∷ bs)) suc (Here quote (c ∷ bs)) (Here quote (b ∷ c ∷ bs)) (later quote b (c ∷ bs)) (raw_here (c ∷ bs)))))
+    (λ e3. mapped (raw_length (c ∷ bs)) suc (Here (code "\"") (c ∷ bs)) (Here (code "\"") (b ∷ c ∷ bs)) (later (code "\"") b (c ∷ bs)) (raw_here (c ∷ bs)))))
 
-pub raw_at : (bs : List ℕ) (n : ℕ) → raw_length bs ≡ Some n → Here quote bs n
-raw_at bs n e = MatchOption-at_some (Unit {0}) (Here quote bs) n e (raw_here bs)
+pub raw_at : (bs : List ℕ) (n : ℕ) → raw_length bs ≡ Some n → Here (code "\"") bs n
+raw_at bs n e = MatchOption-at_some (Unit {0}) (Here (code "\"") bs) n e (raw_here bs)
 
 -- the bytes of a word
 word_byte_ascii : (b : ℕ) → is_word_byte b ≡ true → b < 128

@@ -5,7 +5,7 @@ use Rattle.std.specs.List.{list_all}
 use Rattle.std.proofs.lemmas.Bool.{and_parts, eqb-true}
 use Rattle.std.proofs.lemmas.Bool.Decides.{nat_tests}
 use Rattle.std.proofs.lemmas.Option.{same_Some}
-use Rattle.lvm_text.specs.Bytes.{close_brace, close_bracket, comma, equals, hash, newline, open_brace, open_bracket, quote}
+use Rattle.lvm_text.specs.Bytes.{code}
 use Rattle.lvm_text.specs.Token.{Token, Word, Text, Open, Close, ListOpen, ListClose, Equals, Comma, TokenAtLine}
 use Rattle.lvm_text.specs.Spelling.{Element, White, Comment, Lexeme, spelling, token_spelling, IsWord, IsToken, IsElement, Begins, Cut, is_white, is_line, is_word_byte, is_end, line_after, tokens_from, put_token, newlines, Spells, IsBadToken}
 use Rattle.lvm_text.specs.Scan.{line_length, word_length, raw_length, sign_of, element_at}
@@ -27,8 +27,8 @@ sign_if b n t later e any h =
 
 sign_found : (b : ℕ) → MatchOption (sign_of b) (Unit {0}) (Sign b)
 sign_found b =
-    sign_if b open_brace Open _ refl (λ a. tt) (sign_if b close_brace Close _ refl (λ a. tt) (sign_if b open_bracket ListOpen _ refl (λ a. tt)
-    (sign_if b close_bracket ListClose _ refl (λ a. tt) (sign_if b equals Equals _ refl (λ a. tt) (sign_if b comma Comma None refl (λ a. tt) tt)))))
+    sign_if b (code "{") Open _ refl (λ a. tt) (sign_if b (code "}") Close _ refl (λ a. tt) (sign_if b (code "[") ListOpen _ refl (λ a. tt)
+    (sign_if b (code "]") ListClose _ refl (λ a. tt) (sign_if b (code "=") Equals _ refl (λ a. tt) (sign_if b (code ",") Comma None refl (λ a. tt) tt)))))
 
 -- a text that begins with an element, seen as a pair
 abbrev pub Found : List ℕ → Element × List ℕ → Type 0
@@ -51,14 +51,14 @@ element_found (b ∷ bs) =
     let text : Option (Element × List ℕ) = option_map (λ n. (Lexeme (Text (take n bs)), drop (suc n) bs)) (raw_length bs) in
     let word : Option (Element × List ℕ) = Some (Lexeme (Word (take (word_length (b ∷ bs)) (b ∷ bs))), drop (word_length (b ∷ bs)) (b ∷ bs)) in
     let sign : Option (Element × List ℕ) = option_map (λ t. (Lexeme t, bs)) (sign_of b) in
-    cond_elim (is_white b) P (Some (White b, bs)) (cond (eqb b hash) comment (cond (eqb b quote) text (cond (is_word_byte b) word sign)))
+    cond_elim (is_white b) P (Some (White b, bs)) (cond (eqb b (code "#")) comment (cond (eqb b (code "\"")) text (cond (is_word_byte b) word sign)))
     (λ is. (refl, is))
-    (λ no. cond_elim (eqb b hash) P comment (cond (eqb b quote) text (cond (is_word_byte b) word sign))
+    (λ no. cond_elim (eqb b (code "#")) P comment (cond (eqb b (code "\"")) text (cond (is_word_byte b) word sign))
     (λ is. mapped (line_length bs) (λ n. (Comment (take n bs), drop (suc n) bs)) (Line bs) (Found (b ∷ bs))
-    (λ n h. (ap (λ (x : ℕ). x ∷ bs) (eqb-true b hash is) ∙ ap (λ (xs : List ℕ). hash ∷ xs) (h.cut ∙ sym (append_assoc (take n bs) (newline ∷ []) (drop (suc n) bs))), h.line)) (line_found bs))
-    (λ no. cond_elim (eqb b quote) P text (cond (is_word_byte b) word sign)
+    (λ n h. (ap (λ (x : ℕ). x ∷ bs) (eqb-true b (code "#") is) ∙ ap (λ (xs : List ℕ). code "#" ∷ xs) (h.cut ∙ sym (append_assoc (take n bs) (code "\n" ∷ []) (drop (suc n) bs))), h.line)) (line_found bs))
+    (λ no. cond_elim (eqb b (code "\"")) P text (cond (is_word_byte b) word sign)
     (λ is. mapped (raw_length bs) (λ n. (Lexeme (Text (take n bs)), drop (suc n) bs)) (Raw bs) (Found (b ∷ bs))
-    (λ n h. (ap (λ (x : ℕ). x ∷ bs) (eqb-true b quote is) ∙ ap (λ (xs : List ℕ). quote ∷ xs) (h.cut ∙ sym (append_assoc (take n bs) (quote ∷ []) (drop (suc n) bs))), h.raw)) (raw_found bs))
+    (λ n h. (ap (λ (x : ℕ). x ∷ bs) (eqb-true b (code "\"") is) ∙ ap (λ (xs : List ℕ). code "\"" ∷ xs) (h.cut ∙ sym (append_assoc (take n bs) (code "\"" ∷ []) (drop (suc n) bs))), h.raw)) (raw_found bs))
     (λ no. cond_elim (is_word_byte b) P word sign
     (λ is. word_is b bs is)
     (λ no. mapped (sign_of b) (λ t. (Lexeme t, bs)) (Sign b) (Found (b ∷ bs)) (λ t h. (ap (λ (xs : List ℕ). xs ++ bs) h.spelled, h.any bs)) (sign_found b)))))
@@ -80,7 +80,7 @@ drop_past (b ∷ c) x r = drop_past c x r
 word_white : (b : ℕ) → is_word_byte b ≡ true → is_white b ≡ false
 word_white b h = grind (arith, nat_tests)
 
-word_sign : (b : ℕ) → is_word_byte b ≡ true → (eqb b hash ≡ false) × (eqb b quote ≡ false)
+word_sign : (b : ℕ) → is_word_byte b ≡ true → (eqb b (code "#") ≡ false) × (eqb b (code "\"") ≡ false)
 word_sign b h = (grind (arith, nat_tests), grind (arith, nat_tests))
 
 word_again' : (w after : List ℕ) → IsWord w after → element_at (w ++ after) ≡ Some (Lexeme (Word w), after)
@@ -91,13 +91,13 @@ word_again' (b ∷ w) after h =
     let s = word_sign b a.0 in
     rw (word_white b a.0, s.0, s.1, a.0, word_again w after a.1 h.longest, take_front w after, drop_front w after) refl
 
-comment_again : (c after : List ℕ) → is_line c ≡ true → element_at (hash ∷ (c ++ newline ∷ after)) ≡ Some (Comment c, after)
+comment_again : (c after : List ℕ) → is_line c ≡ true → element_at (code "#" ∷ (c ++ code "\n" ∷ after)) ≡ Some (Comment c, after)
 unfolding element_at
-comment_again c after h = rw (line_again c after h, take_front c (newline ∷ after), drop_past c newline after) refl
+comment_again c after h = rw (line_again c after h, take_front c (code "\n" ∷ after), drop_past c (code "\n") after) refl
 
-text_again : (t after : List ℕ) → IsToken (Text t) after → element_at (quote ∷ (t ++ quote ∷ after)) ≡ Some (Lexeme (Text t), after)
+text_again : (t after : List ℕ) → IsToken (Text t) after → element_at (code "\"" ∷ (t ++ code "\"" ∷ after)) ≡ Some (Lexeme (Text t), after)
 unfolding element_at
-text_again t after h = rw (raw_again t after h, take_front t (quote ∷ after), drop_past t quote after) refl
+text_again t after h = rw (raw_again t after h, take_front t (code "\"" ∷ after), drop_past t (code "\"") after) refl
 
 white_again : (b : ℕ) (after : List ℕ) → is_white b ≡ true → element_at (b ∷ after) ≡ Some (White b, after)
 unfolding element_at
@@ -106,12 +106,12 @@ white_again b after h = rw h refl
 token_again : (t : Token) (after : List ℕ) → IsToken t after → element_at (token_spelling t ++ after) ≡ Some (Lexeme t, after)
 unfolding element_at
 token_again (Word w) after h = word_again' w after h
-token_again (Text t) after h = rw (append_assoc t (quote ∷ []) after) (text_again t after h)
+token_again (Text t) after h = rw (append_assoc t (code "\"" ∷ []) after) (text_again t after h)
 token_again _ after h = refl
 
 spelled_again : (p : Element) (after : List ℕ) → IsElement p after → element_at (spelling p ++ after) ≡ Some (p, after)
 spelled_again (White b) after h = white_again b after h
-spelled_again (Comment c) after h = rw (append_assoc c (newline ∷ []) after) (comment_again c after h)
+spelled_again (Comment c) after h = rw (append_assoc c (code "\n" ∷ []) after) (comment_again c after h)
 spelled_again (Lexeme t) after h = token_again t after h
 
 pub element_again : (bs : List ℕ) (p : Element) (after : List ℕ) → Begins bs p after → element_at bs ≡ Some (p, after)
@@ -122,8 +122,8 @@ pub end_none : (bs : List ℕ) → is_end bs ≡ true → element_at bs ≡ None
 unfolding element_at
 end_none [] h = refl
 end_none (b ∷ bs) h =
-    let a = and_parts (eqb b hash) (is_line bs) h in
-    rw (eqb-true b hash a.0, line_none bs a.1) refl
+    let a = and_parts (eqb b (code "#")) (is_line bs) h in
+    rw (eqb-true b (code "#") a.0, line_none bs a.1) refl
 
 -- One cut
 

@@ -4,7 +4,7 @@ use Rattle.std.specs.List.{list_all}
 use Rattle.std.proofs.lemmas.Bool.{and_parts, or_cases, not-true, eqb-true}
 use Rattle.std.proofs.lemmas.Bool.Decides.{nat_tests}
 use Rattle.std.proofs.lemmas.Option.{MatchOption-at_some}
-use Rattle.lvm_text.specs.Bytes.{backslash, close_brace, close_bracket, comma, equals, hash, newline, open_brace, open_bracket, quote}
+use Rattle.lvm_text.specs.Bytes.{code}
 use Rattle.lvm_text.specs.Token.{Token, Word, Text, Open, Close, ListOpen, ListClose, Equals, Comma, TokenAtLine}
 use Rattle.lvm_text.specs.Spelling.{Element, White, Comment, Lexeme, spelling, token_spelling, IsToken, IsElement, Begins, is_white, is_line, is_word_byte, is_raw, is_plain, is_escapable, newlines, put_token}
 use Rattle.lvm_text.specs.Scan.{element_at, element_from}
@@ -20,10 +20,10 @@ unfolding element_at
 element_nil [] h = refl
 element_nil (b ∷ bs) h = let none : suc (length bs) ≡ 0 = eqb-true _ _ (sym h) in absurd (omega arith)
 
-beyond : (b : ℕ) → 128 ≤ b → (is_white b ≡ false) × (eqb b hash ≡ false) × (eqb b quote ≡ false) × (is_word_byte b ≡ false)
+beyond : (b : ℕ) → 128 ≤ b → (is_white b ≡ false) × (eqb b (code "#") ≡ false) × (eqb b (code "\"") ≡ false) × (is_word_byte b ≡ false)
 beyond b h = (grind (arith, nat_tests), grind (arith, nat_tests), grind (arith, nat_tests), grind (arith, nat_tests))
 
-beyond_sign : (b : ℕ) → 128 ≤ b → (eqb b open_brace ≡ false) × (eqb b close_brace ≡ false) × (eqb b open_bracket ≡ false) × (eqb b close_bracket ≡ false) × (eqb b equals ≡ false) × (eqb b comma ≡ false)
+beyond_sign : (b : ℕ) → 128 ≤ b → (eqb b (code "{") ≡ false) × (eqb b (code "}") ≡ false) × (eqb b (code "[") ≡ false) × (eqb b (code "]") ≡ false) × (eqb b (code "=") ≡ false) × (eqb b (code ",") ≡ false)
 beyond_sign b h = (grind (arith, nat_tests), grind (arith, nat_tests), grind (arith, nat_tests), grind (arith, nat_tests), grind (arith, nat_tests), grind (arith, nat_tests))
 
 pub element_beyond : (bs : List ℕ) → 128 ≤ get_or bs 0 0 → None ≡ element_at bs
@@ -67,17 +67,17 @@ more_lines false a b n h = h
 
 newlines-append : (a b : List ℕ) → newlines (a ++ b) ≡ newlines a + newlines b
 newlines-append [] b = omega arith
-newlines-append (x ∷ a) b = more_lines (eqb x newline) _ _ (newlines b) (newlines-append a b)
+newlines-append (x ∷ a) b = more_lines (eqb x (code "\n")) _ _ (newlines b) (newlines-append a b)
 
 -- The newlines
 
 line_newlines : (c : List ℕ) → is_line c ≡ true → newlines c ≡ 0
 line_newlines [] h = refl
 line_newlines (b ∷ c) h =
-    let a = and_parts (not (eqb b newline)) (is_line c) h in
+    let a = and_parts (not (eqb b (code "\n"))) (is_line c) h in
     rw (not-true _ a.0, line_newlines c a.1) refl
 
-word_byte : (b : ℕ) → is_word_byte b ≡ true → eqb b newline ≡ false
+word_byte : (b : ℕ) → is_word_byte b ≡ true → eqb b (code "\n") ≡ false
 word_byte b h = grind (arith, nat_tests)
 
 word_newlines : (w : List ℕ) → list_all is_word_byte w ≡ true → newlines w ≡ 0
@@ -86,37 +86,37 @@ word_newlines (b ∷ w) h =
     let a = and_parts (is_word_byte b) (list_all is_word_byte w) h in
     rw (word_byte b a.0, word_newlines w a.1) refl
 
-plain_byte : (b : ℕ) → is_plain b ≡ true → eqb b newline ≡ false
+plain_byte : (b : ℕ) → is_plain b ≡ true → eqb b (code "\n") ≡ false
 plain_byte b h = grind (arith, nat_tests)
 
-slash_byte : (b : ℕ) → eqb b backslash ≡ true → eqb b newline ≡ false
+slash_byte : (b : ℕ) → eqb b (code "\\") ≡ true → eqb b (code "\n") ≡ false
 slash_byte b h = grind (arith, nat_tests)
 
-escapable_byte : (b : ℕ) → is_escapable b ≡ true → eqb b newline ≡ false
+escapable_byte : (b : ℕ) → is_escapable b ≡ true → eqb b (code "\n") ≡ false
 escapable_byte b h = grind (arith, nat_tests)
 
 raw_newlines : (t : List ℕ) → is_raw t ≡ true → newlines t ≡ 0
 raw_newlines [] h = refl
 raw_newlines (b ∷ []) h = rw (plain_byte b h) refl
 raw_newlines (b ∷ c ∷ bs) h =
-    elim (or_cases (is_plain b && is_raw (c ∷ bs)) (eqb b backslash && (is_escapable c && is_raw bs)) h) [
+    elim (or_cases (is_plain b && is_raw (c ∷ bs)) (eqb b (code "\\") && (is_escapable c && is_raw bs)) h) [
       | inl plain ↦
           let a = and_parts (is_plain b) (is_raw (c ∷ bs)) plain in
           let rest : newlines (c ∷ bs) ≡ 0 = raw_newlines (c ∷ bs) a.1 in
-          let first : eqb b newline ≡ false = plain_byte b a.0 in
+          let first : eqb b (code "\n") ≡ false = plain_byte b a.0 in
           rw first rest
       | inr escaped ↦
-          let a = and_parts (eqb b backslash) (is_escapable c && is_raw bs) escaped in
+          let a = and_parts (eqb b (code "\\")) (is_escapable c && is_raw bs) escaped in
           let e = and_parts (is_escapable c) (is_raw bs) a.1 in
           rw (slash_byte b a.0, escapable_byte c e.0, raw_newlines bs e.1) refl
     ]
 
-pub comment_newlines : (c : List ℕ) → is_line c ≡ true → newlines (hash ∷ (c ++ newline ∷ [])) ≡ 1
-comment_newlines c h = omega (arith, newlines-append c (newline ∷ []), line_newlines c h)
+pub comment_newlines : (c : List ℕ) → is_line c ≡ true → newlines (code "#" ∷ (c ++ code "\n" ∷ [])) ≡ 1
+comment_newlines c h = omega (arith, newlines-append c (code "\n" ∷ []), line_newlines c h)
 
 pub token_newlines : (t : Token) (after : List ℕ) → IsToken t after → newlines (token_spelling t) ≡ 0
 token_newlines (Word w) after h = word_newlines w h.bytes
-token_newlines (Text t) after h = omega (arith, newlines-append t (quote ∷ []), raw_newlines t h)
+token_newlines (Text t) after h = omega (arith, newlines-append t (code "\"" ∷ []), raw_newlines t h)
 token_newlines _ after h = refl
 
 most_lines : (t : Bool) (a b : ℕ) → a ≤ b → cond t (suc a) a ≤ suc b
@@ -125,7 +125,7 @@ most_lines false a b h = omega arith
 
 newlines-le-length : (bs : List ℕ) → newlines bs ≤ length bs
 newlines-le-length [] = omega arith
-newlines-le-length (b ∷ bs) = most_lines (eqb b newline) _ _ (newlines-le-length bs)
+newlines-le-length (b ∷ bs) = most_lines (eqb b (code "\n")) _ _ (newlines-le-length bs)
 
 -- an element shortens the text by at least one byte, and by at least its newlines
 pub shorter : (bs : List ℕ) (p : Element) (after : List ℕ) → Begins bs p after → (length after < length bs) × (newlines (spelling p) + length after ≤ length bs)

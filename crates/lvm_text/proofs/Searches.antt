@@ -3,23 +3,23 @@ use Rattle.std.proofs.Common.{◌≡◌, ◌≢◌, ℕ, zero, suc, ◌+◌, ◌
 use Rattle.std.specs.Prelude.{option_map, is_some, is_none}
 use Rattle.std.proofs.lemmas.Bool.{and_parts, false_from_ne_true, eqb-true, ne_eqb}
 use Rattle.std.proofs.lemmas.List.{take_rest, drop-drop}
-use Rattle.lvm_text.specs.Bytes.{backslash, hash, newline, quote}
+use Rattle.lvm_text.specs.Bytes.{code}
 use Rattle.memchr.specs.Find.{is_byte, is_byte3, IsFirstByte}
 use Rattle.lvm_text.specs.Spelling.{is_line, is_end, is_escapable}
 use Rattle.lvm_text.specs.Scan.{line_length, raw_length, is_escape}
 use Rattle.lvm_text.proofs.Boundaries.{first_of_drop}
 
-pub line_first : (xs : List ℕ) (r : Option ℕ) → IsFirstByte (is_byte newline) xs r → r ≡ line_length xs
+pub line_first : (xs : List ℕ) (r : Option ℕ) → IsFirstByte (is_byte (code "\n")) xs r → r ≡ line_length xs
 line_first [] None h = refl
 line_first [] (Some k) h = absurd (omega (arith, h.0.high))
 line_first (b ∷ bs) None h =
-    let no : eqb b newline ≡ false = false_from_ne_true _ (h 0 (omega arith) (omega arith)) in
+    let no : eqb b (code "\n") ≡ false = false_from_ne_true _ (h 0 (omega arith) (omega arith)) in
     let rest = line_first bs None (λ k low high. h (suc k) (omega arith) (omega arith)) in
     rw (no, ← rest) refl
 line_first (b ∷ bs) (Some zero) h = rw h.1 refl
 line_first (b ∷ bs) (Some (suc k)) h =
     let lt : suc k < suc (length bs) = h.0.high in
-    let no : eqb b newline ≡ false = false_from_ne_true _ (h.0.before 0 (omega arith) (omega arith)) in
+    let no : eqb b (code "\n") ≡ false = false_from_ne_true _ (h.0.before 0 (omega arith) (omega arith)) in
     let rest = line_first bs (Some k) (record { low = omega arith; high = omega arith; before = λ j low high. h.0.before (suc j) (omega arith) (omega arith) }, h.1) in
     rw (no, ← rest) refl
 
@@ -33,7 +33,7 @@ line_byte false bs h = none_suc (line_length bs) ∙ h
 
 pub is_line-line_length : (xs : List ℕ) → is_none (line_length xs) ≡ is_line xs
 is_line-line_length [] = refl
-is_line-line_length (b ∷ bs) = line_byte (eqb b newline) bs (is_line-line_length bs)
+is_line-line_length (b ∷ bs) = line_byte (eqb b (code "\n")) bs (is_line-line_length bs)
 
 -- the number, if any, and k more
 abbrev pub plus : ℕ → Option ℕ → Option ℕ
@@ -56,9 +56,9 @@ two None = refl
 two (Some n) = ap Some (omega arith)
 
 -- a byte that is none of the three
-raw_plain : (b : ℕ) (bs : List ℕ) → is_byte3 quote backslash newline b ≡ false → raw_length (b ∷ bs) ≡ option_map suc (raw_length bs)
-raw_plain b bs h = by_tests (eqb b quote) (eqb b backslash) (eqb b newline) bs refl refl refl h where
-  by_tests : (x y z : Bool) (cs : List ℕ) → eqb b quote ≡ x → eqb b backslash ≡ y → eqb b newline ≡ z → (x || y || z) ≡ false → raw_length (b ∷ cs) ≡ option_map suc (raw_length cs)
+raw_plain : (b : ℕ) (bs : List ℕ) → is_byte3 (code "\"") (code "\\") (code "\n") b ≡ false → raw_length (b ∷ bs) ≡ option_map suc (raw_length bs)
+raw_plain b bs h = by_tests (eqb b (code "\"")) (eqb b (code "\\")) (eqb b (code "\n")) bs refl refl refl h where
+  by_tests : (x y z : Bool) (cs : List ℕ) → eqb b (code "\"") ≡ x → eqb b (code "\\") ≡ y → eqb b (code "\n") ≡ z → (x || y || z) ≡ false → raw_length (b ∷ cs) ≡ option_map suc (raw_length cs)
   by_tests true y z cs e f g h = absurd cc
   by_tests false true z cs e f g h = absurd cc
   by_tests false false true cs e f g h = absurd cc
@@ -66,23 +66,23 @@ raw_plain b bs h = by_tests (eqb b quote) (eqb b backslash) (eqb b newline) bs r
   by_tests false false false (c ∷ cs) e f g h = rw (e, f, g) refl
 
 -- the bytes before the first of the three
-pub raw_skip : (xs : List ℕ) (p : ℕ) → IsFirstByte (is_byte3 quote backslash newline) xs (Some p) → raw_length xs ≡ plus p (raw_length (drop p xs))
+pub raw_skip : (xs : List ℕ) (p : ℕ) → IsFirstByte (is_byte3 (code "\"") (code "\\") (code "\n")) xs (Some p) → raw_length xs ≡ plus p (raw_length (drop p xs))
 raw_skip [] p h = absurd (omega (arith, h.0.high))
 raw_skip (b ∷ bs) zero h = sym (plus_zero (raw_length (b ∷ bs)))
 raw_skip (b ∷ bs) (suc p) h =
     let lt : suc p < suc (length bs) = h.0.high in
-    let no : is_byte3 quote backslash newline b ≡ false = false_from_ne_true _ (h.0.before 0 (omega arith) (omega arith)) in
+    let no : is_byte3 (code "\"") (code "\\") (code "\n") b ≡ false = false_from_ne_true _ (h.0.before 0 (omega arith) (omega arith)) in
     let rest = raw_skip bs p (record { low = omega arith; high = omega arith; before = λ j low high. h.0.before (suc j) (omega arith) (omega arith) }, h.1) in
     raw_plain b bs no ∙ ap (option_map suc) rest ∙ plus_suc p (raw_length (drop p bs))
 
-pub raw_none : (xs : List ℕ) → IsFirstByte (is_byte3 quote backslash newline) xs None → raw_length xs ≡ None
+pub raw_none : (xs : List ℕ) → IsFirstByte (is_byte3 (code "\"") (code "\\") (code "\n")) xs None → raw_length xs ≡ None
 raw_none [] h = refl
 raw_none (b ∷ bs) h =
-    let no : is_byte3 quote backslash newline b ≡ false = false_from_ne_true _ (h 0 (omega arith) (omega arith)) in
+    let no : is_byte3 (code "\"") (code "\\") (code "\n") b ≡ false = false_from_ne_true _ (h 0 (omega arith) (omega arith)) in
     let rest = raw_none bs (λ k low high. h (suc k) (omega arith) (omega arith)) in
     raw_plain b bs no ∙ ap (option_map suc) rest
 
-pub raw_quote : (xs : List ℕ) → 0 < length xs → get_or xs 0 0 ≡ quote → raw_length xs ≡ Some 0
+pub raw_quote : (xs : List ℕ) → 0 < length xs → get_or xs 0 0 ≡ code "\"" → raw_length xs ≡ Some 0
 raw_quote [] lt h = absurd (omega arith)
 raw_quote (b ∷ []) lt h = rw h refl
 raw_quote (b ∷ c ∷ bs) lt h = rw h refl
@@ -91,13 +91,13 @@ pub raw_escape : (xs : List ℕ) → is_escape xs ≡ true → (raw_length xs �
 raw_escape [] h = absurd cc
 raw_escape (b ∷ []) h = absurd cc
 raw_escape (b ∷ c ∷ bs) h =
-    let a = and_parts (eqb b backslash) (is_escapable c) h in
-    (rw (eqb-true b backslash a.0, a.1) (two (raw_length bs)), omega arith)
+    let a = and_parts (eqb b (code "\\")) (is_escapable c) h in
+    (rw (eqb-true b (code "\\") a.0, a.1) (two (raw_length bs)), omega arith)
 
-pub raw_stop : (xs : List ℕ) → is_byte3 quote backslash newline (get_or xs 0 0) ≡ true → get_or xs 0 0 ≢ quote → is_escape xs ≡ false → raw_length xs ≡ None
+pub raw_stop : (xs : List ℕ) → is_byte3 (code "\"") (code "\\") (code "\n") (get_or xs 0 0) ≡ true → get_or xs 0 0 ≢ code "\"" → is_escape xs ≡ false → raw_length xs ≡ None
 raw_stop [] h n e = refl
-raw_stop (b ∷ bs) h n e = by_tests (eqb b backslash) (eqb b newline) bs refl refl (ne_eqb b quote n) h e where
-  by_tests : (y z : Bool) (cs : List ℕ) → eqb b backslash ≡ y → eqb b newline ≡ z → eqb b quote ≡ false → is_byte3 quote backslash newline b ≡ true → is_escape (b ∷ cs) ≡ false → raw_length (b ∷ cs) ≡ None
+raw_stop (b ∷ bs) h n e = by_tests (eqb b (code "\\")) (eqb b (code "\n")) bs refl refl (ne_eqb b (code "\"") n) h e where
+  by_tests : (y z : Bool) (cs : List ℕ) → eqb b (code "\\") ≡ y → eqb b (code "\n") ≡ z → eqb b (code "\"") ≡ false → is_byte3 (code "\"") (code "\\") (code "\n") b ≡ true → is_escape (b ∷ cs) ≡ false → raw_length (b ∷ cs) ≡ None
   by_tests y z [] f g none h e = rw none refl
   by_tests true z (c ∷ cs) f g none h e =
       let esc : is_escapable c ≡ false = rw f at e in
@@ -114,26 +114,26 @@ none_is (Some n) true h = absurd cc
 none_is (Some n) false h = refl
 
 -- the test of the end, at a first byte
-pub is_end_comment : (bs : List ℕ) (o : Option ℕ) (r : Bool) → false ≡ eqb (length bs) 0 → get_or bs 0 0 ≡ hash → o ≡ line_length (take (length bs - 1) (drop 1 bs)) → is_some o ≡ not r → r ≡ is_end bs
+pub is_end_comment : (bs : List ℕ) (o : Option ℕ) (r : Bool) → false ≡ eqb (length bs) 0 → get_or bs 0 0 ≡ code "#" → o ≡ line_length (take (length bs - 1) (drop 1 bs)) → is_some o ≡ not r → r ≡ is_end bs
 is_end_comment [] o r e b h n = absurd cc
 is_end_comment (x ∷ bs) o r e b h n = none_is o r n ∙ ap is_none (h ∙ ap line_length (take_rest (x ∷ bs) 1)) ∙ is_line-line_length bs ∙ rw b refl
 
 -- The search of a string's end, at position i of all its bytes
 
 abbrev pub Stop : List ℕ → ℕ → Option ℕ → Type 0
-Stop bs i r = IsFirstByte (is_byte3 quote backslash newline) (take (length bs - i) (drop i bs)) r
+Stop bs i r = IsFirstByte (is_byte3 (code "\"") (code "\\") (code "\n")) (take (length bs - i) (drop i bs)) r
 
 pub record At (bs : List ℕ) (k : ℕ) : Type 0 where
   pub same : plus k (raw_length (drop k bs)) ≡ raw_length bs
   pub within : k < length bs
-  pub stops : is_byte3 quote backslash newline (get_or bs k 0) ≡ true
+  pub stops : is_byte3 (code "\"") (code "\\") (code "\n") (get_or bs k 0) ≡ true
 
 pub stop_at : (bs : List ℕ) (i p : ℕ) → plus i (raw_length (drop i bs)) ≡ raw_length bs → Stop bs i (Some p) → At bs (i + p)
 stop_at bs i p inv h =
-    let k : IsFirstByte (is_byte3 quote backslash newline) (drop i bs) (Some p) = rw (← take_rest bs i) h in
+    let k : IsFirstByte (is_byte3 (code "\"") (code "\\") (code "\n")) (drop i bs) (Some p) = rw (← take_rest bs i) h in
     let lt : p < length (drop i bs) = k.0.high in
     let at : drop p (drop i bs) ≡ drop (i + p) bs = drop-drop p i bs in
-    let hit : is_byte3 quote backslash newline (get_or (drop p (drop i bs)) 0 0) ≡ true = rw (first_of_drop (drop i bs) p) k.1 in
+    let hit : is_byte3 (code "\"") (code "\\") (code "\n") (get_or (drop p (drop i bs)) 0 0) ≡ true = rw (first_of_drop (drop i bs) p) k.1 in
     record {
       same = sym (plus_plus i p (raw_length (drop (i + p) bs))) ∙ ap (λ (xs : List ℕ). plus i (plus p (raw_length xs))) (sym at) ∙ ap (plus i) (sym (raw_skip (drop i bs) p k)) ∙ inv;
       within = omega (arith, length-drop i bs);
@@ -143,10 +143,10 @@ stop_at bs i p inv h =
 rest_some : (bs : List ℕ) (k : ℕ) → k < length bs → 0 < length (drop k bs)
 rest_some bs k lt = omega (arith, length-drop k bs)
 
-pub quote_at : (bs : List ℕ) (k : ℕ) → At bs k → get_or bs k 0 ≡ quote → Some k ≡ raw_length bs
+pub quote_at : (bs : List ℕ) (k : ℕ) → At bs k → get_or bs k 0 ≡ code "\"" → Some k ≡ raw_length bs
 quote_at bs k h q = ap Some (omega arith) ∙ ap (plus k) (sym (raw_quote (drop k bs) (rest_some bs k h.within) (first_of_drop bs k ∙ q))) ∙ h.same
 
-pub stopped_at : (bs : List ℕ) (k : ℕ) → At bs k → get_or bs k 0 ≢ quote → is_escape (take (length bs - k) (drop k bs)) ≡ false → None ≡ raw_length bs
+pub stopped_at : (bs : List ℕ) (k : ℕ) → At bs k → get_or bs k 0 ≢ code "\"" → is_escape (take (length bs - k) (drop k bs)) ≡ false → None ≡ raw_length bs
 stopped_at bs k h ne e =
     ap (plus k) (sym (raw_stop (drop k bs) (rw (first_of_drop bs k) h.stops) (λ is. ne (sym (first_of_drop bs k) ∙ is)) (ap is_escape (sym (take_rest bs k)) ∙ e))) ∙ h.same
 
@@ -161,5 +161,5 @@ escape_at bs k h e =
 
 pub ended_at : (bs : List ℕ) (i : ℕ) → plus i (raw_length (drop i bs)) ≡ raw_length bs → Stop bs i None → None ≡ raw_length bs
 ended_at bs i inv h =
-    let k : IsFirstByte (is_byte3 quote backslash newline) (drop i bs) None = rw (← take_rest bs i) h in
+    let k : IsFirstByte (is_byte3 (code "\"") (code "\\") (code "\n")) (drop i bs) None = rw (← take_rest bs i) h in
     ap (plus i) (sym (raw_none (drop i bs) k)) ∙ inv

@@ -3,7 +3,7 @@ use Rattle.std.specs.Prelude.{◌≡◌, ℕ, ◌^◌, ◌⊎◌, Bool, true, fa
 use Rattle.std.specs.List.{list_all}
 use Rattle.std.specs.Char.{is_ascii_digit}
 use Rattle.std.specs.Str.Parse.{digits_value}
-use Rattle.lvm_text.specs.Bytes.{hyphen}
+use Rattle.lvm_text.specs.Bytes.{code}
 use Rattle.lvm_text.specs.Token.{Token, Word, Text, Open, Close, ListOpen, ListClose, Equals, Comma, TokenAtLine}
 use Rattle.lvm_text.specs.Tree as tree
 use Rattle.lvm_text.specs.Tree.{Values, Nothing, Section, Single, Several}
@@ -19,7 +19,7 @@ number_of word = if are_digits word && (nat_le (length word) 19 && nat_lt (digit
 -- a word that may be a key: one that begins with no hyphen
 abbrev pub is_key : List ℕ → Bool
 is_key [] = false
-is_key (b ∷ bs) = not (b == hyphen)
+is_key (b ∷ bs) = not (b == code "-")
 
 -- what a token is as a scalar: a word of digits alone, whose value has no limit, or a string
 abbrev pub scalar_of : Token → Option tree.Scalar

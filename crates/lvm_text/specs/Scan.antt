@@ -1,13 +1,13 @@
 -- How many bytes an element of a text takes.
 use Rattle.std.specs.Prelude.{ℕ, suc, Bool, false, ◌&&◌, ◌==◌, List, [], ◌∷◌, take, drop, Option, Some, None, option_map, if◌then◌else◌}
-use Rattle.lvm_text.specs.Bytes.{backslash, close_brace, close_bracket, comma, equals, hash, newline, open_brace, open_bracket, quote}
+use Rattle.lvm_text.specs.Bytes.{code}
 use Rattle.lvm_text.specs.Token.{Token, Word, Text, Open, Close, ListOpen, ListClose, Equals, Comma}
 use Rattle.lvm_text.specs.Spelling.{Element, White, Comment, Lexeme, is_white, is_word_byte, is_escapable}
 
 -- up to the newline
 abbrev pub line_length : List ℕ → Option ℕ
 line_length [] = None
-line_length (b ∷ bs) = if b == newline then Some 0 else option_map suc (line_length bs)
+line_length (b ∷ bs) = if b == code "\n" then Some 0 else option_map suc (line_length bs)
 
 -- up to a byte of no word
 abbrev pub word_length : List ℕ → ℕ
@@ -17,24 +17,24 @@ word_length (b ∷ bs) = if is_word_byte b then suc (word_length bs) else 0
 -- up to the closing quote
 abbrev pub raw_length : List ℕ → Option ℕ
 raw_length [] = None
-raw_length (b ∷ []) = if b == quote then Some 0 else None
+raw_length (b ∷ []) = if b == code "\"" then Some 0 else None
 raw_length (b ∷ c ∷ bs) =
-    if b == quote then Some 0
-    else if b == backslash then (if is_escapable c then option_map (λ n. suc (suc n)) (raw_length bs) else None)
-    else if b == newline then None
+    if b == code "\"" then Some 0
+    else if b == code "\\" then (if is_escapable c then option_map (λ n. suc (suc n)) (raw_length bs) else None)
+    else if b == code "\n" then None
     else option_map suc (raw_length (c ∷ bs))
 
 -- a backslash before a byte that may follow one
 abbrev pub is_escape : List ℕ → Bool
 is_escape [] = false
 is_escape (b ∷ []) = false
-is_escape (b ∷ c ∷ bs) = b == backslash && is_escapable c
+is_escape (b ∷ c ∷ bs) = b == code "\\" && is_escapable c
 
 -- a sign, and none for any other byte
 abbrev pub sign_of : ℕ → Option Token
 sign_of b =
-    if b == open_brace then Some Open else if b == close_brace then Some Close else if b == open_bracket then Some ListOpen
-    else if b == close_bracket then Some ListClose else if b == equals then Some Equals else if b == comma then Some Comma else None
+    if b == code "{" then Some Open else if b == code "}" then Some Close else if b == code "[" then Some ListOpen
+    else if b == code "]" then Some ListClose else if b == code "=" then Some Equals else if b == code "," then Some Comma else None
 
 -- a comment, from after its hash, and what comes after it
 abbrev pub comment_from : List ℕ → Option (Element × List ℕ)
@@ -52,8 +52,8 @@ word_from bs = (Lexeme (Word (take (word_length bs) bs)), drop (word_length bs) 
 abbrev pub element_from : ℕ → List ℕ → Option (Element × List ℕ)
 element_from b bs =
     if is_white b then Some (White b, bs)
-    else if b == hash then comment_from bs
-    else if b == quote then string_from bs
+    else if b == code "#" then comment_from bs
+    else if b == code "\"" then string_from bs
     else if is_word_byte b then Some (word_from (b ∷ bs))
     else option_map (λ t. (Lexeme t, bs)) (sign_of b)
 

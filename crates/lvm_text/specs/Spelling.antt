@@ -2,22 +2,22 @@
 use Rattle.std.specs.Prelude.{◌≡◌, ◌≢◌, ℕ, ◌+◌, Bool, true, false, ◌&&◌, ◌||◌, not, ◌==◌, List, [], ◌∷◌, ◌++◌, suc, if◌then◌else◌}
 use Rattle.std.specs.List.{list_all}
 use Rattle.std.specs.Char.{is_ascii_alphanumeric}
-use Rattle.lvm_text.specs.Bytes.{backslash, close_brace, close_bracket, comma, equals, full_stop, hash, hyphen, newline, open_brace, open_bracket, plus, quote, space, tab, underscore}
+use Rattle.lvm_text.specs.Bytes.{code}
 use Rattle.lvm_text.specs.Token.{Token, Word, Text, Open, Close, ListOpen, ListClose, Equals, Comma, TokenAtLine}
 
 -- The bytes
 
 -- a space, a tab or a newline
 abbrev pub is_white : ℕ → Bool
-is_white b = b == space || (b == tab || b == newline)
+is_white b = b == code " " || (b == code "\t" || b == code "\n")
 
 -- a letter, a digit or one of _ + . -
 abbrev pub is_word_byte : ℕ → Bool
-is_word_byte b = is_ascii_alphanumeric b || (b == underscore || (b == plus || (b == full_stop || b == hyphen)))
+is_word_byte b = is_ascii_alphanumeric b || (b == code "_" || (b == code "+" || (b == code "." || b == code "-")))
 
 -- a newline
 abbrev pub is_newline : ℕ → Bool
-is_newline b = b == newline
+is_newline b = b == code "\n"
 
 -- how many newlines there are
 abbrev pub newlines : List ℕ → ℕ
@@ -26,17 +26,17 @@ newlines (b ∷ bs) = if is_newline b then suc (newlines bs) else newlines bs
 
 -- a quote or a backslash, which a string has only after a backslash
 abbrev pub is_escapable : ℕ → Bool
-is_escapable b = b == quote || b == backslash
+is_escapable b = b == code "\"" || b == code "\\"
 
 -- any other byte of a string
 abbrev pub is_plain : ℕ → Bool
-is_plain b = not (b == quote || (b == backslash || b == newline))
+is_plain b = not (b == code "\"" || (b == code "\\" || b == code "\n"))
 
 -- the raw text of a string
 abbrev pub is_raw : List ℕ → Bool
 is_raw [] = true
 is_raw (b ∷ []) = is_plain b
-is_raw (b ∷ c ∷ bs) = (is_plain b && is_raw (c ∷ bs)) || (b == backslash && (is_escapable c && is_raw bs))
+is_raw (b ∷ c ∷ bs) = (is_plain b && is_raw (c ∷ bs)) || (b == code "\\" && (is_escapable c && is_raw bs))
 
 -- no newline
 abbrev pub is_line : List ℕ → Bool
@@ -58,18 +58,18 @@ pub data Element : Type 0 where
 -- the bytes of a token
 abbrev pub token_spelling : Token → List ℕ
 token_spelling (Word w) = w
-token_spelling (Text t) = quote ∷ (t ++ quote ∷ [])
-token_spelling Open = open_brace ∷ []
-token_spelling Close = close_brace ∷ []
-token_spelling ListOpen = open_bracket ∷ []
-token_spelling ListClose = close_bracket ∷ []
-token_spelling Equals = equals ∷ []
-token_spelling Comma = comma ∷ []
+token_spelling (Text t) = code "\"" ∷ (t ++ code "\"" ∷ [])
+token_spelling Open = code "{" ∷ []
+token_spelling Close = code "}" ∷ []
+token_spelling ListOpen = code "[" ∷ []
+token_spelling ListClose = code "]" ∷ []
+token_spelling Equals = code "=" ∷ []
+token_spelling Comma = code "," ∷ []
 
 -- the bytes of an element
 abbrev pub spelling : Element → List ℕ
 spelling (White b) = b ∷ []
-spelling (Comment c) = hash ∷ (c ++ newline ∷ [])
+spelling (Comment c) = code "#" ∷ (c ++ code "\n" ∷ [])
 spelling (Lexeme t) = token_spelling t
 
 -- a longest run of word bytes, before what comes after
@@ -106,7 +106,7 @@ Cut text (p ∷ ps) rest = (after : List ℕ) × Begins text p after × Cut afte
 -- nothing is left but a comment that the end of the text ends
 abbrev pub is_end : List ℕ → Bool
 is_end [] = true
-is_end (b ∷ bs) = b == hash && is_line bs
+is_end (b ∷ bs) = b == code "#" && is_line bs
 
 -- the line after the elements, from line n on
 abbrev pub line_after : ℕ → List Element → ℕ

@@ -2,20 +2,20 @@
 use Rattle.std.proofs.Common.{◌≡◌, ◌∙◌, ℕ, ◌+◌, ◌==◌, Bool, true, false, cond, List, [], ◌∷◌, ◌++◌, length, length-append, ap, arith, refl, sym}
 use Rattle.std.specs.Prelude.{count_by, option_map}
 use Rattle.std.proofs.lemmas.List.Sums.{sum_by-cons}
-use Rattle.dm_table.specs.words.Bytes.{hyphen}
+use Rattle.dm_table.specs.words.Bytes.{code}
 use Rattle.lvm_volume.specs.Names.{NameParts, doubled, joined, with_hyphen}
 
 -- each hyphen counts twice
-pub length_doubled : (part : List ℕ) → length (doubled part) ≡ length part + count_by (λ b. b == hyphen) part
+pub length_doubled : (part : List ℕ) → length (doubled part) ≡ length part + count_by (λ b. b == code "-") part
 length_doubled [] = refl
 length_doubled (b ∷ part) =
-    by_test (b == hyphen) refl (length_doubled part) ∙ ap (λ (n : ℕ). length (b ∷ part) + n) (sym (sum_by-cons (λ x. cond (x == hyphen) 1 0) b part)) where
-      by_test : (test : Bool) → (b == hyphen) ≡ test → length (doubled part) ≡ length part + count_by (λ b. b == hyphen) part
-          → length (doubled (b ∷ part)) ≡ length (b ∷ part) + (cond (b == hyphen) 1 0 + count_by (λ b. b == hyphen) part)
+    by_test (b == code "-") refl (length_doubled part) ∙ ap (λ (n : ℕ). length (b ∷ part) + n) (sym (sum_by-cons (λ x. cond (x == code "-") 1 0) b part)) where
+      by_test : (test : Bool) → (b == code "-") ≡ test → length (doubled part) ≡ length part + count_by (λ b. b == code "-") part
+          → length (doubled (b ∷ part)) ≡ length (b ∷ part) + (cond (b == code "-") 1 0 + count_by (λ b. b == code "-") part)
       by_test true is more = rw is (omega (arith, more))
       by_test false is more = rw is (omega (arith, more))
 
 pub length_joined : (p : NameParts) → length (joined p) ≡ length (doubled p.vg) + 1 + length (doubled p.lv) + length (with_hyphen (option_map doubled p.layer))
 length_joined p =
     let layer = with_hyphen (option_map doubled p.layer) in
-    omega (arith, length-append (doubled p.vg) (hyphen ∷ (doubled p.lv ++ layer)), length-append (doubled p.lv) layer)
+    omega (arith, length-append (doubled p.vg) (code "-" ∷ (doubled p.lv ++ layer)), length-append (doubled p.lv) layer)

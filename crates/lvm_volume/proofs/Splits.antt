@@ -8,7 +8,7 @@ use Rattle.std.proofs.lemmas.Bool.Decides.{nat_tests}
 use Rattle.std.proofs.lemmas.List.{append-nil, take_more, take-append-drop}
 use denote.Ref.{Bor}
 use Rattle.std.proofs.lemmas.Option.{same_Some}
-use Rattle.dm_table.specs.words.Bytes.{hyphen, underscore}
+use Rattle.dm_table.specs.words.Bytes.{code}
 use Rattle.lvm_volume.specs.Names.{NameParts, built, Returns, is_letter, begins_with, part_fault, layer_fault, or_later, doubled, undoubled, undoubled_parts, with_hyphen, joined, fault_of, Builds, IsSplit, doubled_parts}
 use Rattle.dm_table.specs.words.Name.{is_device_byte, is_device_name}
 use Rattle.lvm_volume.specs.Cuts.{slice_length, first_slice, after_hyphen, later_slices, with_layer, slices_of}
@@ -22,25 +22,25 @@ cond_elim false P x y f g = g refl
 
 -- Doubled parts
 
-plain_length : (b : ℕ) (bs : List ℕ) → eqb b hyphen ≡ false → slice_length (b ∷ bs) ≡ suc (slice_length bs)
+plain_length : (b : ℕ) (bs : List ℕ) → eqb b (code "-") ≡ false → slice_length (b ∷ bs) ≡ suc (slice_length bs)
 plain_length b [] e = rw e refl
 plain_length b (c ∷ bs) e = rw e refl
 
-plain_undoubled : (b : ℕ) (bs : List ℕ) → eqb b hyphen ≡ false → undoubled (b ∷ bs) ≡ b ∷ undoubled bs
+plain_undoubled : (b : ℕ) (bs : List ℕ) → eqb b (code "-") ≡ false → undoubled (b ∷ bs) ≡ b ∷ undoubled bs
 plain_undoubled b [] e = refl
 plain_undoubled b (c ∷ bs) e = rw e refl
 
 pub undoubled-doubled : (w : List ℕ) → undoubled (doubled w) ≡ w
 undoubled-doubled [] = refl
 undoubled-doubled (b ∷ w) =
-    cond_elim (eqb b hyphen) (λ xs. undoubled xs ≡ b ∷ w) (hyphen ∷ hyphen ∷ doubled w) (b ∷ doubled w)
-    (λ e. ap (λ (xs : List ℕ). hyphen ∷ xs) (undoubled-doubled w) ∙ ap (λ n. n ∷ w) (sym (eqb-true b hyphen e)))
+    cond_elim (eqb b (code "-")) (λ xs. undoubled xs ≡ b ∷ w) (code "-" ∷ code "-" ∷ doubled w) (b ∷ doubled w)
+    (λ e. ap (λ (xs : List ℕ). code "-" ∷ xs) (undoubled-doubled w) ∙ ap (λ n. n ∷ w) (sym (eqb-true b (code "-") e)))
     (λ e. plain_undoubled b (doubled w) e ∙ ap (λ (xs : List ℕ). b ∷ xs) (undoubled-doubled w))
 
 pub doubled-append : (xs ys : List ℕ) → doubled (xs ++ ys) ≡ doubled xs ++ doubled ys
 doubled-append [] ys = refl
 doubled-append (b ∷ xs) ys =
-    cond_elim (eqb b hyphen) (λ zs. cond (eqb b hyphen) (hyphen ∷ hyphen ∷ doubled (xs ++ ys)) (b ∷ doubled (xs ++ ys)) ≡ zs ++ doubled ys) (hyphen ∷ hyphen ∷ doubled xs) (b ∷ doubled xs)
+    cond_elim (eqb b (code "-")) (λ zs. cond (eqb b (code "-")) (code "-" ∷ code "-" ∷ doubled (xs ++ ys)) (b ∷ doubled (xs ++ ys)) ≡ zs ++ doubled ys) (code "-" ∷ code "-" ∷ doubled xs) (b ∷ doubled xs)
     (λ e. rw e (rw (doubled-append xs ys)))
     (λ e. rw e (rw (doubled-append xs ys)))
 
@@ -52,14 +52,14 @@ not_equal : (a b : ℕ) (x : Bool) → eqb a b ≡ x → (a ≡ b → ⊥) → x
 not_equal a b true e n = absurd (n (eqb-true a b e))
 not_equal a b false e n = refl
 
-pub push_hyphen : (xs : List ℕ) (i : ℕ) (old t one two e : List ℕ) → i < length xs → t ≡ old ++ doubled (take i xs) → one ≡ t ++ e → e ≡ get_or xs i 0 ∷ [] → get_or xs i 0 ≡ hyphen → two ≡ one ++ hyphen ∷ [] → two ≡ old ++ doubled (take (i + 1) xs)
+pub push_hyphen : (xs : List ℕ) (i : ℕ) (old t one two e : List ℕ) → i < length xs → t ≡ old ++ doubled (take i xs) → one ≡ t ++ e → e ≡ get_or xs i 0 ∷ [] → get_or xs i 0 ≡ code "-" → two ≡ one ++ code "-" ∷ [] → two ≡ old ++ doubled (take (i + 1) xs)
 push_hyphen xs i old t one two e lt at grown is is_hyphen last =
-    rw (doubled_more xs i lt, is_hyphen) (last ∙ ap (λ (z : List ℕ). z ++ hyphen ∷ []) (rw (← at, ← is_hyphen, ← is) grown) ∙ append_assoc (old ++ doubled (take i xs)) (hyphen ∷ []) (hyphen ∷ []) ∙ append_assoc old (doubled (take i xs)) (hyphen ∷ hyphen ∷ []))
+    rw (doubled_more xs i lt, is_hyphen) (last ∙ ap (λ (z : List ℕ). z ++ code "-" ∷ []) (rw (← at, ← is_hyphen, ← is) grown) ∙ append_assoc (old ++ doubled (take i xs)) (code "-" ∷ []) (code "-" ∷ []) ∙ append_assoc old (doubled (take i xs)) (code "-" ∷ code "-" ∷ []))
 
-pub push_plain : (xs : List ℕ) (i : ℕ) (old t one e : List ℕ) → i < length xs → t ≡ old ++ doubled (take i xs) → one ≡ t ++ e → e ≡ get_or xs i 0 ∷ [] → (get_or xs i 0 ≡ hyphen → ⊥) → one ≡ old ++ doubled (take (i + 1) xs)
+pub push_plain : (xs : List ℕ) (i : ℕ) (old t one e : List ℕ) → i < length xs → t ≡ old ++ doubled (take i xs) → one ≡ t ++ e → e ≡ get_or xs i 0 ∷ [] → (get_or xs i 0 ≡ code "-" → ⊥) → one ≡ old ++ doubled (take (i + 1) xs)
 push_plain xs i old t one e lt at grown is plain =
     let b = get_or xs i 0 in
-    let own : doubled (b ∷ []) ≡ b ∷ [] = rw (not_equal b hyphen (eqb b hyphen) refl plain) refl in
+    let own : doubled (b ∷ []) ≡ b ∷ [] = rw (not_equal b (code "-") (eqb b (code "-")) refl plain) refl in
     rw (doubled_more xs i lt, own) (grown ∙ ap (λ (z : List ℕ). t ++ z) is ∙ ap (λ (z : List ℕ). z ++ b ∷ []) at ∙ append_assoc old (doubled (take i xs)) (b ∷ []))
 
 letter_ascii : (b : ℕ) → is_letter b ≡ true → b < 128
@@ -73,10 +73,10 @@ letter_at (x ∷ xs) (suc i) h lt = letter_at xs i (and_parts (is_letter x) (lis
 drop_next : (bs : List ℕ) (i : ℕ) → i < length bs → drop i bs ≡ get_or bs i 0 ∷ drop (i + 1) bs
 drop_next bs i lt = rw add-one (drop-cons bs i 0 lt)
 
-pub length_plain : (bs : List ℕ) (i : ℕ) → i < length bs → (get_or bs i 0 ≡ hyphen → ⊥) → slice_length bs ≡ i + slice_length (drop i bs) → slice_length bs ≡ i + 1 + slice_length (drop (i + 1) bs)
+pub length_plain : (bs : List ℕ) (i : ℕ) → i < length bs → (get_or bs i 0 ≡ code "-" → ⊥) → slice_length bs ≡ i + slice_length (drop i bs) → slice_length bs ≡ i + 1 + slice_length (drop (i + 1) bs)
 length_plain bs i lt plain e =
     let b = get_or bs i 0 in
-    let step : slice_length (drop i bs) ≡ suc (slice_length (drop (i + 1) bs)) = ap slice_length (drop_next bs i lt) ∙ plain_length b (drop (i + 1) bs) (not_equal b hyphen (eqb b hyphen) refl plain) in
+    let step : slice_length (drop i bs) ≡ suc (slice_length (drop (i + 1) bs)) = ap slice_length (drop_next bs i lt) ∙ plain_length b (drop (i + 1) bs) (not_equal b (code "-") (eqb b (code "-")) refl plain) in
     omega (arith, e, step)
 
 -- What is wrong with a part is wrong with it doubled
@@ -87,21 +87,21 @@ not_zero n false e = refl
 
 begins-doubled : (c b : ℕ) (w more : List ℕ) → begins_with c (doubled (b ∷ w) ++ more) ≡ eqb b c
 begins-doubled c b w more =
-    cond_elim (eqb b hyphen) (λ xs. begins_with c (xs ++ more) ≡ eqb b c) (hyphen ∷ hyphen ∷ doubled w) (b ∷ doubled w)
-    (λ e. rw (← eqb-true b hyphen e))
+    cond_elim (eqb b (code "-")) (λ xs. begins_with c (xs ++ more) ≡ eqb b c) (code "-" ∷ code "-" ∷ doubled w) (b ∷ doubled w)
+    (λ e. rw (← eqb-true b (code "-") e))
     (λ e. refl)
 
 empty-doubled : (b : ℕ) (w : List ℕ) → eqb (length (doubled (b ∷ w))) 0 ≡ false
 empty-doubled b w =
-    cond_elim (eqb b hyphen) (λ xs. eqb (length xs) 0 ≡ false) (hyphen ∷ hyphen ∷ doubled w) (b ∷ doubled w)
-    (λ e. not_zero (length (hyphen ∷ doubled w)) _ refl)
+    cond_elim (eqb b (code "-")) (λ xs. eqb (length xs) 0 ≡ false) (code "-" ∷ code "-" ∷ doubled w) (b ∷ doubled w)
+    (λ e. not_zero (length (code "-" ∷ doubled w)) _ refl)
     (λ e. not_zero (length (doubled w)) _ refl)
 
 letters-doubled : (w : List ℕ) → list_all is_letter (doubled w) ≡ list_all is_letter w
 letters-doubled [] = refl
 letters-doubled (b ∷ w) =
-    cond_elim (eqb b hyphen) (λ xs. list_all is_letter xs ≡ (is_letter b && list_all is_letter w)) (hyphen ∷ hyphen ∷ doubled w) (b ∷ doubled w)
-    (λ e. rw (eqb-true b hyphen e) (letters-doubled w))
+    cond_elim (eqb b (code "-")) (λ xs. list_all is_letter xs ≡ (is_letter b && list_all is_letter w)) (code "-" ∷ code "-" ∷ doubled w) (b ∷ doubled w)
+    (λ e. rw (eqb-true b (code "-") e) (letters-doubled w))
     (λ e. rw (letters-doubled w))
 
 abbrev fault_by : Bool → Bool → Bool → Option NameFault
@@ -111,13 +111,13 @@ part-doubled : (w : List ℕ) → part_fault (doubled w) ≡ part_fault w
 part-doubled [] = refl
 part-doubled (b ∷ w) =
     let d = doubled (b ∷ w) in
-    rw ((empty-doubled b w ∙ sym (not_zero (length w) _ refl)), letters-doubled (b ∷ w), (ap (begins_with hyphen) (sym (append-nil d)) ∙ begins-doubled hyphen b w []))
+    rw ((empty-doubled b w ∙ sym (not_zero (length w) _ refl)), letters-doubled (b ∷ w), (ap (begins_with (code "-")) (sym (append-nil d)) ∙ begins-doubled (code "-") b w []))
 
 layer-doubled : (l : Option (List ℕ)) → layer_fault (option_map doubled l) ≡ layer_fault l
 layer-doubled None = refl
 layer-doubled (Some []) = refl
 layer-doubled (Some (b ∷ w)) =
-    rw ((ap (begins_with underscore) (sym (append-nil (doubled (b ∷ w)))) ∙ begins-doubled underscore b w []), part-doubled (b ∷ w))
+    rw ((ap (begins_with (code "_")) (sym (append-nil (doubled (b ∷ w)))) ∙ begins-doubled (code "_") b w []), part-doubled (b ∷ w))
 
 -- the faults of parts
 abbrev pub parts_faults : NameParts → Option NameFault
@@ -163,7 +163,7 @@ device_doubled : (w : List ℕ) → list_all is_letter w ≡ true → list_all i
 device_doubled [] h = refl
 device_doubled (b ∷ w) h =
     let a = and_parts (is_letter b) (list_all is_letter w) h in
-    cond_elim (eqb b hyphen) (λ (xs : List ℕ). list_all is_device_byte xs ≡ true) (hyphen ∷ hyphen ∷ doubled w) (b ∷ doubled w)
+    cond_elim (eqb b (code "-")) (λ (xs : List ℕ). list_all is_device_byte xs ≡ true) (code "-" ∷ code "-" ∷ doubled w) (b ∷ doubled w)
     (λ e. device_doubled w a.1)
     (λ e. and_from (is_device_byte b) (list_all is_device_byte (doubled w)) (letter_device b a.0) (device_doubled w a.1))
 
@@ -180,7 +180,7 @@ by_none false true false e = (refl, refl)
 by_none false false h e = absurd cc
 
 part_letters : (w : List ℕ) → part_fault w ≡ None → list_all is_letter w ≡ true
-part_letters w e = (by_none (eqb (length w) 0) (list_all is_letter w) (begins_with hyphen w) e).0
+part_letters w e = (by_none (eqb (length w) 0) (list_all is_letter w) (begins_with (code "-") w) e).0
 
 layer_none : (l : List ℕ) (b : Bool) → cond b (Some Letter) (part_fault l) ≡ None → part_fault l ≡ None
 layer_none l true e = absurd cc
@@ -188,7 +188,7 @@ layer_none l false e = e
 
 device_layer : (l : Option (List ℕ)) → layer_fault l ≡ None → list_all is_device_byte (with_hyphen (option_map doubled l)) ≡ true
 device_layer None e = refl
-device_layer (Some l) e = device_doubled l (part_letters l (layer_none l (begins_with underscore l) e))
+device_layer (Some l) e = device_doubled l (part_letters l (layer_none l (begins_with (code "_") l) e))
 
 or_none : (a b : Option NameFault) → or_later a b ≡ None → (a ≡ None) × (b ≡ None)
 or_none None b e = (refl, e)
@@ -198,7 +198,7 @@ joined_device : (p : NameParts) → parts_faults p ≡ None → list_all is_devi
 joined_device p e =
     let v = or_none (part_fault p.vg) (or_later (part_fault p.lv) (layer_fault p.layer)) e in
     let l = or_none (part_fault p.lv) (layer_fault p.layer) v.1 in
-    device_append (doubled p.vg) (hyphen ∷ (doubled p.lv ++ with_hyphen (option_map doubled p.layer))) (device_doubled p.vg (part_letters p.vg v.0))
+    device_append (doubled p.vg) (code "-" ∷ (doubled p.lv ++ with_hyphen (option_map doubled p.layer))) (device_doubled p.vg (part_letters p.vg v.0))
     (device_append (doubled p.lv) (with_hyphen (option_map doubled p.layer)) (device_doubled p.lv (part_letters p.lv l.0)) (device_layer p.layer l.1))
 
 pub layer_letters : (l : Option (Bor (List ℕ))) (vg lv : List ℕ) → None ≡ or_later (part_fault vg) (or_later (part_fault lv) (layer_fault (option_map (λ t. t.now) l))) → IfSome l (λ t. IsTrue (list_all is_letter t.now))
@@ -206,7 +206,7 @@ layer_letters None vg lv e = tt
 layer_letters (Some t) vg lv e =
     let v = or_none (part_fault vg) (or_later (part_fault lv) (layer_fault (Some t.now))) (sym e) in
     let l = or_none (part_fault lv) (layer_fault (Some t.now)) v.1 in
-    part_letters t.now (layer_none t.now (begins_with underscore t.now) l.1)
+    part_letters t.now (layer_none t.now (begins_with (code "_") t.now) l.1)
 
 long_joined : (n : ℕ) → 1 ≤ n → (b : Bool) → nat_le n 127 ≡ b → (nat_le 1 n && (b && true)) ≡ false → b ≡ false
 long_joined n some true e h = let wrong : true ≡ false = sym (rw (le-leb 1 n some)) ∙ h in absurd cc
@@ -215,7 +215,7 @@ long_joined n some false e h = refl
 pub form_is_long : (p : NameParts) (text : List ℕ) → None ≡ parts_faults p → text ≡ joined p → is_device_name text ≡ false → Err Long ≡ built p
 form_is_long p text e same refused =
     let n = length (joined p) in
-    let some : 1 ≤ n = omega (arith, length-append (doubled p.vg) (hyphen ∷ (doubled p.lv ++ with_hyphen (option_map doubled p.layer)))) in
+    let some : 1 ≤ n = omega (arith, length-append (doubled p.vg) (code "-" ∷ (doubled p.lv ++ with_hyphen (option_map doubled p.layer)))) in
     let told : (nat_le 1 n && (nat_le n 127 && true)) ≡ false = rw (← joined_device p (sym e)) (ap is_device_name (sym same) ∙ refused) in
     let long : nat_le n 127 ≡ false = long_joined n some (nat_le n 127) refl told in
     sym (rw (fault_parts p, ← e, long))
@@ -228,7 +228,7 @@ fault_built p f e = returns_fault f (built p) (rw (fault_parts p, ← e))
 -- nothing, or one hyphen that none follows
 abbrev IsEnd : List ℕ → Type 0
 IsEnd [] = Unit {0}
-IsEnd (b ∷ bs) = (b ≡ hyphen) × (begins_with hyphen bs ≡ false)
+IsEnd (b ∷ bs) = (b ≡ code "-") × (begins_with (code "-") bs ≡ false)
 
 end_length : (rest : List ℕ) → IsEnd rest → slice_length rest ≡ 0
 end_length [] h = refl
@@ -238,7 +238,7 @@ end_length (b ∷ c ∷ bs) h = rw h.0 (rw h.1 refl)
 length_doubled : (w rest : List ℕ) → IsEnd rest → slice_length (doubled w ++ rest) ≡ length (doubled w)
 length_doubled [] rest h = end_length rest h
 length_doubled (b ∷ w) rest h =
-    cond_elim (eqb b hyphen) (λ xs. slice_length (xs ++ rest) ≡ length xs) (hyphen ∷ hyphen ∷ doubled w) (b ∷ doubled w)
+    cond_elim (eqb b (code "-")) (λ xs. slice_length (xs ++ rest) ≡ length xs) (code "-" ∷ code "-" ∷ doubled w) (b ∷ doubled w)
     (λ e. rw (length_doubled w rest h))
     (λ e. rw (← length_doubled w rest h) (plain_length b (doubled w ++ rest) e))
 
@@ -263,14 +263,14 @@ record Front (bs : List ℕ) (n : ℕ) : Type 0 where
   pub is : bs ≡ doubled part ++ drop n bs
   pub end : IsEnd (drop n bs)
 
-front_pair : (b c : ℕ) (bs : List ℕ) → eqb b hyphen ≡ true → eqb c hyphen ≡ true → Front bs (slice_length bs) → Front (b ∷ c ∷ bs) (suc (suc (slice_length bs)))
+front_pair : (b c : ℕ) (bs : List ℕ) → eqb b (code "-") ≡ true → eqb c (code "-") ≡ true → Front bs (slice_length bs) → Front (b ∷ c ∷ bs) (suc (suc (slice_length bs)))
 front_pair b c bs e d f = record {
-  part = hyphen ∷ f.part;
-  is = ap (λ n. n ∷ c ∷ bs) (eqb-true b hyphen e) ∙ ap (λ n. hyphen ∷ n ∷ bs) (eqb-true c hyphen d) ∙ ap (λ (xs : List ℕ). hyphen ∷ hyphen ∷ xs) f.is;
+  part = code "-" ∷ f.part;
+  is = ap (λ n. n ∷ c ∷ bs) (eqb-true b (code "-") e) ∙ ap (λ n. code "-" ∷ n ∷ bs) (eqb-true c (code "-") d) ∙ ap (λ (xs : List ℕ). code "-" ∷ code "-" ∷ xs) f.is;
   end = f.end;
 }
 
-front_plain : (b : ℕ) (bs : List ℕ) → eqb b hyphen ≡ false → Front bs (slice_length bs) → Front (b ∷ bs) (suc (slice_length bs))
+front_plain : (b : ℕ) (bs : List ℕ) → eqb b (code "-") ≡ false → Front bs (slice_length bs) → Front (b ∷ bs) (suc (slice_length bs))
 front_plain b bs e f = record {
   part = b ∷ f.part;
   is = ap (λ (xs : List ℕ). b ∷ xs) f.is ∙ sym (rw e refl);
@@ -283,14 +283,14 @@ front_end bs h = record { part = []; is = refl; end = h }
 front : (bs : List ℕ) → Front bs (slice_length bs)
 front [] = front_end [] tt
 front (b ∷ []) =
-    cond_elim (eqb b hyphen) (Front (b ∷ [])) 0 1
-    (λ e. front_end (b ∷ []) (eqb-true b hyphen e, refl))
+    cond_elim (eqb b (code "-")) (Front (b ∷ [])) 0 1
+    (λ e. front_end (b ∷ []) (eqb-true b (code "-") e, refl))
     (λ e. front_plain b [] e (front_end [] tt))
 front (b ∷ c ∷ bs) =
-    cond_elim (eqb b hyphen) (Front (b ∷ c ∷ bs)) (cond (eqb c hyphen) (suc (suc (slice_length bs))) 0) (suc (slice_length (c ∷ bs)))
-    (λ e. cond_elim (eqb c hyphen) (Front (b ∷ c ∷ bs)) (suc (suc (slice_length bs))) 0
+    cond_elim (eqb b (code "-")) (Front (b ∷ c ∷ bs)) (cond (eqb c (code "-")) (suc (suc (slice_length bs))) 0) (suc (slice_length (c ∷ bs)))
+    (λ e. cond_elim (eqb c (code "-")) (Front (b ∷ c ∷ bs)) (suc (suc (slice_length bs))) 0
     (λ d. front_pair b c bs e d (front bs))
-    (λ d. front_end (b ∷ c ∷ bs) (eqb-true b hyphen e, d)))
+    (λ d. front_end (b ∷ c ∷ bs) (eqb-true b (code "-") e, d)))
     (λ e. front_plain b (c ∷ bs) e (front (c ∷ bs)))
 
 length_part : (bs : List ℕ) → slice_length bs ≡ length (doubled (front bs).part)
@@ -302,14 +302,14 @@ length_within bs =
     let whole : length bs ≡ length (doubled f.part) + length (drop (slice_length bs) bs) = ap length f.is ∙ length-append (doubled f.part) (drop (slice_length bs) bs) in
     omega (arith, whole, length_part bs)
 
-pub hyphen_at : (bs : List ℕ) → slice_length bs < length bs → get_or bs (slice_length bs) 0 ≡ hyphen
+pub hyphen_at : (bs : List ℕ) → slice_length bs < length bs → get_or bs (slice_length bs) 0 ≡ code "-"
 hyphen_at bs lt = (subst IsEnd (drop-cons bs (slice_length bs) 0 lt) (front bs).end).0
 
-pub after_is : (bs : List ℕ) (r : Option (Bor (List ℕ))) → MatchOption r ((rest : List ℕ) → bs ≢ hyphen ∷ rest) (λ x. bs ≡ hyphen ∷ x.now) → option_map (λ t. t.now) r ≡ after_hyphen bs
+pub after_is : (bs : List ℕ) (r : Option (Bor (List ℕ))) → MatchOption r ((rest : List ℕ) → bs ≢ code "-" ∷ rest) (λ x. bs ≡ code "-" ∷ x.now) → option_map (λ t. t.now) r ≡ after_hyphen bs
 after_is [] None m = refl
 after_is (b ∷ bs) None m =
-    cond_elim (eqb b hyphen) (λ (o : Option (List ℕ)). None ≡ o) (Some bs) None
-    (λ e. absurd (m bs (rw (eqb-true b hyphen e))))
+    cond_elim (eqb b (code "-")) (λ (o : Option (List ℕ)). None ≡ o) (Some bs) None
+    (λ e. absurd (m bs (rw (eqb-true b (code "-") e))))
     (λ e. refl)
 after_is bs (Some x) m = sym (ap after_hyphen m)
 
@@ -349,7 +349,7 @@ sliced_two name rest s h t g u e = record {
       ∙ ap (λ (x : List ℕ). let q : NameParts = record { vg = doubled h.part; lv = x; layer = None } in q) g.first;
   spell = h.whole
       ∙ ap (λ (x : Option (List ℕ)). doubled h.part ++ with_hyphen x) t
-      ∙ ap (λ (x : List ℕ). doubled h.part ++ hyphen ∷ x) (g.whole ∙ ap (λ (x : Option (List ℕ)). doubled g.part ++ with_hyphen x) u);
+      ∙ ap (λ (x : List ℕ). doubled h.part ++ code "-" ∷ x) (g.whole ∙ ap (λ (x : Option (List ℕ)). doubled g.part ++ with_hyphen x) u);
 }
 
 sliced_three : (name rest last : List ℕ) (s : NameParts) → FirstSlice name → later_slices name ≡ Some rest → FirstSlice rest → later_slices rest ≡ Some last → FirstSlice last → later_slices last ≡ None
@@ -364,7 +364,7 @@ sliced_three name rest last s h t g u k v e =
           ∙ ap (λ (x : List ℕ). let q : NameParts = record { vg = doubled h.part; lv = doubled g.part; layer = Some x } in q) k.first;
       spell = h.whole
           ∙ ap (λ (x : Option (List ℕ)). doubled h.part ++ with_hyphen x) t
-          ∙ ap (λ (x : List ℕ). doubled h.part ++ hyphen ∷ x) (g.whole ∙ ap (λ (x : Option (List ℕ)). doubled g.part ++ with_hyphen x) u ∙ ap (λ (x : List ℕ). doubled g.part ++ hyphen ∷ x) end);
+          ∙ ap (λ (x : List ℕ). doubled h.part ++ code "-" ∷ x) (g.whole ∙ ap (λ (x : Option (List ℕ)). doubled g.part ++ with_hyphen x) u ∙ ap (λ (x : List ℕ). doubled g.part ++ code "-" ∷ x) end);
     }
 
 sliced_last : (name rest last : List ℕ) (s : NameParts) (more : Option (List ℕ)) → later_slices name ≡ Some rest → later_slices rest ≡ Some last → later_slices last ≡ more
@@ -385,13 +385,13 @@ sliced name s e = sliced_at name s (later_slices name) refl e
 
 -- The parts that build a name are those of its slices
 
-no_hyphen : (w more : List ℕ) → part_fault w ≡ None → begins_with hyphen (doubled w ++ more) ≡ false
+no_hyphen : (w more : List ℕ) → part_fault w ≡ None → begins_with (code "-") (doubled w ++ more) ≡ false
 no_hyphen [] more e = absurd cc
-no_hyphen (b ∷ w) more e = begins-doubled hyphen b w more ∙ (by_none (eqb (length (b ∷ w)) 0) (list_all is_letter (b ∷ w)) (eqb b hyphen) e).1
+no_hyphen (b ∷ w) more e = begins-doubled (code "-") b w more ∙ (by_none (eqb (length (b ∷ w)) 0) (list_all is_letter (b ∷ w)) (eqb b (code "-")) e).1
 
 layer_end : (l : Option (List ℕ)) → layer_fault l ≡ None → IsEnd (with_hyphen (option_map doubled l))
 layer_end None e = tt
-layer_end (Some l) e = (refl, ap (begins_with hyphen) (sym (append-nil (doubled l))) ∙ no_hyphen l [] (layer_none l (begins_with underscore l) e))
+layer_end (Some l) e = (refl, ap (begins_with (code "-")) (sym (append-nil (doubled l))) ∙ no_hyphen l [] (layer_none l (begins_with (code "_") l) e))
 
 first_whole : (w : List ℕ) → first_slice (doubled w) ≡ doubled w
 first_whole w = ap first_slice (sym (append-nil (doubled w))) ∙ cut_first w [] tt
@@ -406,13 +406,13 @@ layer_slices vg lv (Some l) =
     ∙ ap (λ (x : List ℕ). Some (let q : NameParts = record { vg = vg; lv = lv; layer = Some x } in q)) (first_whole l)
 
 joined_slices : (vg lv : List ℕ) (l : Option (List ℕ)) → part_fault vg ≡ None → part_fault lv ≡ None → layer_fault l ≡ None
-    → slices_of (doubled vg ++ hyphen ∷ (doubled lv ++ with_hyphen (option_map doubled l))) ≡ Some (record { vg = doubled vg; lv = doubled lv; layer = option_map doubled l })
+    → slices_of (doubled vg ++ code "-" ∷ (doubled lv ++ with_hyphen (option_map doubled l))) ≡ Some (record { vg = doubled vg; lv = doubled lv; layer = option_map doubled l })
 joined_slices vg lv l a b c =
     let end = with_hyphen (option_map doubled l) in
     let rest = doubled lv ++ end in
-    let name = doubled vg ++ hyphen ∷ rest in
-    let first : IsEnd (hyphen ∷ rest) = (refl, no_hyphen lv end b) in
-    rw (cut_later vg (hyphen ∷ rest) first, cut_first vg (hyphen ∷ rest) first, cut_first lv end (layer_end l c), cut_later lv end (layer_end l c)) (layer_slices (doubled vg) (doubled lv) l)
+    let name = doubled vg ++ code "-" ∷ rest in
+    let first : IsEnd (code "-" ∷ rest) = (refl, no_hyphen lv end b) in
+    rw (cut_later vg (code "-" ∷ rest) first, cut_first vg (code "-" ∷ rest) first, cut_first lv end (layer_end l c), cut_later lv end (layer_end l c)) (layer_slices (doubled vg) (doubled lv) l)
 
 built_slices : (p : NameParts) (name : List ℕ) → Builds p name → slices_of name ≡ Some (doubled_parts p)
 built_slices p name h =
@@ -470,31 +470,31 @@ some_split name s None e is n le =
 
 -- Undoubling
 
-apart_undoubled : (x : ℕ) (zs : List ℕ) → ((rest : List ℕ) → x ∷ zs ≢ hyphen ∷ hyphen ∷ rest) → undoubled (x ∷ zs) ≡ x ∷ undoubled zs
+apart_undoubled : (x : ℕ) (zs : List ℕ) → ((rest : List ℕ) → x ∷ zs ≢ code "-" ∷ code "-" ∷ rest) → undoubled (x ∷ zs) ≡ x ∷ undoubled zs
 apart_undoubled x [] h = refl
 apart_undoubled x (y ∷ zs) h =
-    cond_elim (eqb x hyphen && eqb y hyphen) (λ (r : List ℕ). r ≡ x ∷ undoubled (y ∷ zs)) (hyphen ∷ undoubled zs) (x ∷ undoubled (y ∷ zs))
-    (λ e. let both = and_parts (eqb x hyphen) (eqb y hyphen) e in absurd (h zs (rw (eqb-true x hyphen both.0, eqb-true y hyphen both.1))))
+    cond_elim (eqb x (code "-") && eqb y (code "-")) (λ (r : List ℕ). r ≡ x ∷ undoubled (y ∷ zs)) (code "-" ∷ undoubled zs) (x ∷ undoubled (y ∷ zs))
+    (λ e. let both = and_parts (eqb x (code "-")) (eqb y (code "-")) e in absurd (h zs (rw (eqb-true x (code "-") both.0, eqb-true y (code "-") both.1))))
     (λ e. refl)
 
-undoubled_pair : (xs ys : List ℕ) → ((i : ℕ) → i < length xs → LacksTextAt (hyphen ∷ hyphen ∷ []) (xs ++ hyphen ∷ hyphen ∷ ys) i) → undoubled (xs ++ hyphen ∷ hyphen ∷ ys) ≡ xs ++ hyphen ∷ undoubled ys
+undoubled_pair : (xs ys : List ℕ) → ((i : ℕ) → i < length xs → LacksTextAt (code "-" ∷ code "-" ∷ []) (xs ++ code "-" ∷ code "-" ∷ ys) i) → undoubled (xs ++ code "-" ∷ code "-" ∷ ys) ≡ xs ++ code "-" ∷ undoubled ys
 undoubled_pair [] ys h = refl
 undoubled_pair (x ∷ xs) ys h =
-    apart_undoubled x (xs ++ hyphen ∷ hyphen ∷ ys) (h 0 (omega arith))
+    apart_undoubled x (xs ++ code "-" ∷ code "-" ∷ ys) (h 0 (omega arith))
     ∙ ap (λ (zs : List ℕ). x ∷ zs) (undoubled_pair xs ys (λ i lt. h (suc i) (omega (arith, lt))))
 
-pub undoubled_none : (bs : List ℕ) → ((i : ℕ) → i ≤ length bs → LacksTextAt (hyphen ∷ hyphen ∷ []) bs i) → undoubled bs ≡ bs
+pub undoubled_none : (bs : List ℕ) → ((i : ℕ) → i ≤ length bs → LacksTextAt (code "-" ∷ code "-" ∷ []) bs i) → undoubled bs ≡ bs
 undoubled_none [] h = refl
 undoubled_none (x ∷ bs) h =
     apart_undoubled x bs (h 0 (omega arith)) ∙ ap (λ (zs : List ℕ). x ∷ zs) (undoubled_none bs (λ i le. h (suc i) (omega (arith, le))))
 
-pub undoubled_step : (s before after : List ℕ) (i j : ℕ) → ((k : ℕ) → k < i → LacksTextAt (hyphen ∷ hyphen ∷ []) s k) → HasTextAt (hyphen ∷ hyphen ∷ []) s i j → before ≡ take i s → after ≡ drop j s → length before ≡ i → undoubled s ≡ before ++ hyphen ∷ undoubled after
+pub undoubled_step : (s before after : List ℕ) (i j : ℕ) → ((k : ℕ) → k < i → LacksTextAt (code "-" ∷ code "-" ∷ []) s k) → HasTextAt (code "-" ∷ code "-" ∷ []) s i j → before ≡ take i s → after ≡ drop j s → length before ≡ i → undoubled s ≡ before ++ code "-" ∷ undoubled after
 undoubled_step s before after i j lacks has b a n =
-    let whole : s ≡ before ++ hyphen ∷ hyphen ∷ after =
+    let whole : s ≡ before ++ code "-" ∷ code "-" ∷ after =
     rw (a, ← has.split, b) (sym (take-append-drop i s)) in
-    let clear : (k : ℕ) → k < length before → LacksTextAt (hyphen ∷ hyphen ∷ []) (before ++ hyphen ∷ hyphen ∷ after) k = λ k lt. rw (← whole) (lacks k (omega (arith, lt, n))) in
+    let clear : (k : ℕ) → k < length before → LacksTextAt (code "-" ∷ code "-" ∷ []) (before ++ code "-" ∷ code "-" ∷ after) k = λ k lt. rw (← whole) (lacks k (omega (arith, lt, n))) in
     ap undoubled whole ∙ undoubled_pair before after clear
 
-pub undoubled_joined : (all whole rest before after one two : List ℕ) → all ≡ whole ++ rest → rest ≡ before ++ hyphen ∷ after → one ≡ whole ++ before → two ≡ one ++ hyphen ∷ [] → all ≡ two ++ after
+pub undoubled_joined : (all whole rest before after one two : List ℕ) → all ≡ whole ++ rest → rest ≡ before ++ code "-" ∷ after → one ≡ whole ++ before → two ≡ one ++ code "-" ∷ [] → all ≡ two ++ after
 undoubled_joined all whole rest before after one two a r o t =
-    rw t (a ∙ ap (λ (z : List ℕ). whole ++ z) r ∙ sym (append_assoc whole before (hyphen ∷ after)) ∙ ap (λ (z : List ℕ). z ++ hyphen ∷ after) (sym o) ∙ sym (append_assoc one (hyphen ∷ []) after))
+    rw t (a ∙ ap (λ (z : List ℕ). whole ++ z) r ∙ sym (append_assoc whole before (code "-" ∷ after)) ∙ ap (λ (z : List ℕ). z ++ code "-" ∷ after) (sym o) ∙ sym (append_assoc one (code "-" ∷ []) after))

@@ -1,18 +1,18 @@
 -- Where a name is cut: at a hyphen that has no neighbour left to pair with.
 use Rattle.std.specs.Prelude.{ℕ, suc, ◌==◌, List, [], ◌∷◌, take, drop, Option, Some, None, is_none, option_and_then, if◌then◌else◌}
-use Rattle.dm_table.specs.words.Bytes.{hyphen}
+use Rattle.dm_table.specs.words.Bytes.{code}
 use Rattle.lvm_volume.specs.Names.{NameParts}
 
 -- up to a hyphen that no hyphen follows, where pairs of them are passed over
 abbrev pub slice_length : List ℕ → ℕ
 slice_length [] = 0
-slice_length (b ∷ []) = if b == hyphen then 0 else 1
-slice_length (b ∷ c ∷ bs) = if b == hyphen then (if c == hyphen then suc (suc (slice_length bs)) else 0) else suc (slice_length (c ∷ bs))
+slice_length (b ∷ []) = if b == code "-" then 0 else 1
+slice_length (b ∷ c ∷ bs) = if b == code "-" then (if c == code "-" then suc (suc (slice_length bs)) else 0) else suc (slice_length (c ∷ bs))
 
 -- what comes after a hyphen at the front
 abbrev pub after_hyphen : List ℕ → Option (List ℕ)
 after_hyphen [] = None
-after_hyphen (b ∷ bs) = if b == hyphen then Some bs else None
+after_hyphen (b ∷ bs) = if b == code "-" then Some bs else None
 
 -- the part at the front, and what comes after the hyphen that ends it, if there is one
 abbrev pub first_slice : List ℕ → List ℕ

@@ -2,7 +2,7 @@
 use Rattle.std.specs.Prelude.{◌≡◌, ℕ, Bool, false, ◌&&◌, ◌||◌, ◌==◌, nat_le, List, [], ◌∷◌, ◌++◌, length, Option, Some, None, option_map, Result, Ok, Err, if◌then◌else◌}
 use Rattle.std.specs.List.{list_all}
 use Rattle.std.specs.Char.{is_ascii_alphanumeric}
-use Rattle.dm_table.specs.words.Bytes.{full_stop, hyphen, plus, space, underscore}
+use Rattle.dm_table.specs.words.Bytes.{code}
 use Rattle.lvm_volume.specs.declared.fault.NameFault.{NameFault}
 use Rattle.lvm_volume.specs.declared.fault.NameFault.TheVariants.{Letter, HyphenFirst, Empty, Long, Memory}
 use Rattle.lvm_volume.specs.declared.names.Parts.{Parts}
@@ -22,7 +22,7 @@ name_parts vg lv layer = record { vg = vg; lv = lv; layer = option_map (λ l. l.
 
 -- a byte of a part: an ASCII letter, a digit or one of + _ . -
 abbrev pub is_letter : ℕ → Bool
-is_letter b = is_ascii_alphanumeric b || (b == plus || (b == underscore || (b == full_stop || b == hyphen)))
+is_letter b = is_ascii_alphanumeric b || (b == code "+" || (b == code "_" || (b == code "." || b == code "-")))
 
 -- the first byte is this one
 abbrev pub begins_with : ℕ → List ℕ → Bool
@@ -31,12 +31,12 @@ begins_with c (b ∷ bs) = b == c
 
 -- what is wrong with a group or a volume
 abbrev pub part_fault : List ℕ → Option NameFault
-part_fault part = if length part == 0 then Some Empty else (if list_all is_letter part then (if begins_with hyphen part then Some HyphenFirst else None) else Some Letter)
+part_fault part = if length part == 0 then Some Empty else (if list_all is_letter part then (if begins_with (code "-") part then Some HyphenFirst else None) else Some Letter)
 
 -- what is wrong with a layer, which may not begin with an underscore either
 abbrev pub layer_fault : Option (List ℕ) → Option NameFault
 layer_fault None = None
-layer_fault (Some layer) = if begins_with underscore layer then Some Letter else part_fault layer
+layer_fault (Some layer) = if begins_with (code "_") layer then Some Letter else part_fault layer
 
 -- the first fault, or else a later one
 abbrev pub or_later : Option NameFault → Option NameFault → Option NameFault
@@ -48,22 +48,22 @@ or_later (Some f) later = Some f
 -- each hyphen twice
 abbrev pub doubled : List ℕ → List ℕ
 doubled [] = []
-doubled (b ∷ bs) = if b == hyphen then hyphen ∷ hyphen ∷ doubled bs else b ∷ doubled bs
+doubled (b ∷ bs) = if b == code "-" then code "-" ∷ code "-" ∷ doubled bs else b ∷ doubled bs
 
 -- from the left, each two neighbouring hyphens as one
 abbrev pub undoubled : List ℕ → List ℕ
 undoubled [] = []
 undoubled (b ∷ []) = b ∷ []
-undoubled (b ∷ c ∷ bs) = if b == hyphen && c == hyphen then hyphen ∷ undoubled bs else b ∷ undoubled (c ∷ bs)
+undoubled (b ∷ c ∷ bs) = if b == code "-" && c == code "-" then code "-" ∷ undoubled bs else b ∷ undoubled (c ∷ bs)
 
 -- a hyphen and a part, if there is one
 abbrev pub with_hyphen : Option (List ℕ) → List ℕ
 with_hyphen None = []
-with_hyphen (Some part) = hyphen ∷ part
+with_hyphen (Some part) = code "-" ∷ part
 
 -- the parts with each hyphen twice, joined by one hyphen
 abbrev pub joined : NameParts → List ℕ
-joined p = doubled p.vg ++ hyphen ∷ (doubled p.lv ++ with_hyphen (option_map doubled p.layer))
+joined p = doubled p.vg ++ code "-" ∷ (doubled p.lv ++ with_hyphen (option_map doubled p.layer))
 
 -- the first fault of the parts in their order, and then that of the whole
 abbrev pub fault_of : NameParts → Option NameFault
@@ -108,11 +108,11 @@ undoubled_parts p = record { vg = undoubled p.vg; lv = undoubled p.lv; layer = o
 -- a space and a part, if there is one
 abbrev pub with_space : Option (List ℕ) → List ℕ
 with_space None = []
-with_space (Some part) = space ∷ part
+with_space (Some part) = code " " ∷ part
 
 -- the parts with single spaces between them
 abbrev pub spaced : NameParts → List ℕ
-spaced p = p.vg ++ space ∷ (p.lv ++ with_space p.layer)
+spaced p = p.vg ++ code " " ∷ (p.lv ++ with_space p.layer)
 
 -- the text is the parts of a name with single spaces between them
 abbrev pub IsSpaced : List ℕ → List ℕ → Type 0

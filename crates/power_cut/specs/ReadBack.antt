@@ -2,7 +2,7 @@
 use Rattle.std.specs.Prelude.{◌≡◌, ℕ, List, [], ◌∷◌, ◌++◌, length, map, string_bytes}
 use Rattle.std.specs.List.{AllByRecursion, flat_map}
 use Rattle.dm_table.specs.requests.RequestLine.{request_text}
-use Rattle.dm_table.specs.words.Bytes.{newline}
+use Rattle.dm_table.specs.words.Bytes.{code}
 use Rattle.dm_stack.specs.Description.{Description}
 use Rattle.dm_stream.specs.requests.Requests.{NumberedRequest}
 use Rattle.dm_replay.specs.Histories.{Asked, asked_answers, world_after}
@@ -18,7 +18,7 @@ IsOnDisks disks back = AllByRecursion (IsRunOf disks) back.runs.items
 
 -- the line of a read is how the read is written; its runs are the maximal ones of what it answers after these requests
 pub record IsReadBack (stack : Description) (asked : List Asked) (write : NumberedRequest) (back : ReadBack) : Type 0 where
-  pub line : string_bytes back.line ≡ request_text (read_of write).values ++ newline ∷ []
+  pub line : string_bytes back.line ≡ request_text (read_of write).values ++ code "\n" ∷ []
   pub number : back.number ≡ write.number
   pub maximal : AreMaximal back.runs.items
   pub answers : flat back.runs.items ≡ asked_answers stack (world_after stack asked) (asked_of stack (read_of write))

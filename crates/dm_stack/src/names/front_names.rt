@@ -7,7 +7,7 @@
 ghost use Rattle.std.specs.Prelude.{◌≡◌, ◌<◌, ◌≤◌, IfOk, IfSome, List, get_or, length, take};
 ghost use Rattle.std.specs.List.{Contains};
 ghost use Rattle.dm_table.specs.declared.tables.table.DeviceSpec.{DeviceSpec};
-ghost use Rattle.dm_table.specs.words.Bytes.{space};
+ghost use Rattle.dm_table.specs.words.Bytes.{code};
 ghost use Rattle.dm_stack.specs.names.FrontNames.{AreApart, ArePlaces, IsKeyOf, IsPlaceOf};
 ghost use Rattle.dm_stack.specs.declared.names.front_names.Place.{Place};
 ghost use Rattle.dm_stack.specs.declared.names.name_key.NameKey.{NameKey};
@@ -92,7 +92,7 @@ impl FrontNames {
     #[inline(never)]
     pub(crate) fn find_long(&self, text: &[u8]) -> Option<(DeviceId, usize)>
         ensures within { IfSome result (λ found. found.1 < length text.now) }
-        ensures space { IfSome result (λ found. get_or text.now found.1 0 ≡ space) }
+        ensures space { IfSome result (λ found. get_or text.now found.1 0 ≡ code " ") }
     {
         let len = space_ahead(text)?;
         if len < ROOM {
@@ -182,7 +182,7 @@ fn put(places: &mut Vec<Place>, from: usize, place: Place)
 /// How many bytes of a text stand before its first space, where a name may be as long.
 fn space_ahead(text: &[u8]) -> Option<usize>
     ensures within { IfSome result (λ len. len < length text.now) }
-    ensures space { IfSome result (λ len. get_or text.now len 0 ≡ space) }
+    ensures space { IfSome result (λ len. get_or text.now len 0 ≡ code " ") }
 {
     let mut from = 0;
     'rooms: while from < LONGEST {

@@ -6,7 +6,7 @@
 
 ghost use Rattle.std.specs.Prelude.{◌≡◌, ◌-◌, ◌<◌, ◌≤◌, ◌++◌, ◌↔◌, IfSome, IsTrue, get_or, length, replicate, take};
 ghost use Rattle.std.specs.Int.{to_le_bytes, w64};
-ghost use Rattle.dm_table.specs.words.Bytes.{space};
+ghost use Rattle.dm_table.specs.words.Bytes.{code};
 ghost use Rattle.dm_stack.specs.names.FrontNames.{IsKeyOf};
 ghost use Rattle.dm_stack.specs.declared.names.name_key.TheConstants.{ROOM};
 
@@ -101,7 +101,7 @@ fn word_of(bytes: &[u8]) -> u64
 #[inline(always)]
 pub(crate) fn first_space(room: &[u8; ROOM]) -> Option<usize>
     ensures within { IfSome result (λ at. at < ROOM) }
-    ensures space { IfSome result (λ at. get_or room.now at 0 ≡ space) }
+    ensures space { IfSome result (λ at. get_or room.now at 0 ≡ code " ") }
 {
     let spaces = u8x16::from_array(*room)
         .simd_eq(u8x16::splat(b' '))

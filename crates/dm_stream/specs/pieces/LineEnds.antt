@@ -1,10 +1,10 @@
 -- The ends of lines, as they are kept.
 use Rattle.std.specs.Prelude.{◌≡◌, ◌<◌, ◌≤◌, ℕ, List, [], ◌∷◌, ◌++◌, get_or, length, take, decimal}
-use Rattle.dm_table.specs.words.Bytes.{newline}
+use Rattle.dm_table.specs.words.Bytes.{code}
 
 -- a length and a newline
 abbrev pub line_end : ℕ → List ℕ
-line_end len = decimal len ++ newline ∷ []
+line_end len = decimal len ++ code "\n" ∷ []
 
 -- a room of eight bytes begins with that, and says as the last of them how many bytes it is
 abbrev pub IsLineEnd : ℕ → List ℕ → Type 0

@@ -1,15 +1,15 @@
 -- How pieces are written: a line each, under the number of their request.
 use Rattle.std.specs.Prelude.{ℕ, Bool, true, false, List, [], ◌∷◌, ◌++◌, codes, decimal}
 use Rattle.std.specs.List.{flat_map}
-use Rattle.dm_table.specs.words.Bytes.{newline, space}
+use Rattle.dm_table.specs.words.Bytes.{code}
 use Rattle.dm_stack.specs.Description.{Description, disk_name_at}
 use Rattle.dm_map.specs.pieces.Units.{BlockUnit, ReadOf, WriteOf, Zeros, Drops, Fails, CopyOf, FillOf}
-use Rattle.dm_map.specs.declared.pieces.piece.Piece as code
+use Rattle.dm_map.specs.declared.pieces.piece.Piece as coded
 use Rattle.dm_stream.specs.pieces.Pieces.{UnitRun}
 
 -- a place on a disk: its name and a sector
 abbrev pub sector_text : Description → ℕ → ℕ → List ℕ
-sector_text stack disk sector = disk_name_at stack disk ++ space ∷ decimal sector
+sector_text stack disk sector = disk_name_at stack disk ++ code " " ∷ decimal sector
 
 -- the letter of a write, and else that of a read
 abbrev pub letter_for : (is_write : Bool) → ℕ
@@ -18,19 +18,19 @@ letter_for false = 82
 
 -- the line of a piece, after the number
 abbrev pub unit_text : Description → BlockUnit → ℕ → List ℕ
-unit_text stack (ReadOf disk sector) len = codes "R " ++ sector_text stack disk sector ++ space ∷ decimal len
-unit_text stack (WriteOf disk sector) len = codes "W " ++ sector_text stack disk sector ++ space ∷ decimal len
+unit_text stack (ReadOf disk sector) len = codes "R " ++ sector_text stack disk sector ++ code " " ∷ decimal len
+unit_text stack (WriteOf disk sector) len = codes "W " ++ sector_text stack disk sector ++ code " " ∷ decimal len
 unit_text stack Zeros len = codes "zero " ++ decimal len
 unit_text stack Drops len = codes "drop " ++ decimal len
 unit_text stack Fails len = codes "error " ++ decimal len
-unit_text stack (CopyOf disk sector to to_sector) len = codes "copy " ++ sector_text stack disk sector ++ space ∷ decimal len ++ space ∷ sector_text stack to to_sector
-unit_text stack (FillOf disk sector) len = codes "fill " ++ decimal len ++ space ∷ sector_text stack disk sector
+unit_text stack (CopyOf disk sector to to_sector) len = codes "copy " ++ sector_text stack disk sector ++ code " " ∷ decimal len ++ code " " ∷ sector_text stack to to_sector
+unit_text stack (FillOf disk sector) len = codes "fill " ++ decimal len ++ code " " ∷ sector_text stack disk sector
 
 -- a piece without a disk
-abbrev pub IsPlain : code.Piece → Type 0
-IsPlain (code.TheVariants.Zero len) = Unit {0}
-IsPlain (code.TheVariants.Drop len) = Unit {0}
-IsPlain (code.TheVariants.Error len) = Unit {0}
+abbrev pub IsPlain : coded.Piece → Type 0
+IsPlain (coded.TheVariants.Zero len) = Unit {0}
+IsPlain (coded.TheVariants.Drop len) = Unit {0}
+IsPlain (coded.TheVariants.Error len) = Unit {0}
 IsPlain _ = ⊥
 
 -- what its line begins with after the number
@@ -40,22 +40,22 @@ plain_word Drops = codes "drop "
 plain_word unit = codes "error "
 
 -- a piece that is a copy or a fill
-abbrev pub IsOther : code.Piece → Type 0
-IsOther (code.TheVariants.Copy disk start len to to_start) = Unit {0}
-IsOther (code.TheVariants.Fill len disk start) = Unit {0}
+abbrev pub IsOther : coded.Piece → Type 0
+IsOther (coded.TheVariants.Copy disk start len to to_start) = Unit {0}
+IsOther (coded.TheVariants.Fill len disk start) = Unit {0}
 IsOther _ = ⊥
 
 -- the line of a piece under a request's number
 abbrev pub piece_text : Description → ℕ → UnitRun → List ℕ
-piece_text stack number piece = decimal number ++ space ∷ unit_text stack piece.first piece.len ++ newline ∷ []
+piece_text stack number piece = decimal number ++ code " " ∷ unit_text stack piece.first piece.len ++ code "\n" ∷ []
 
 -- the line of a letter and a range of a disk under a request's number: that of a read or a write
 abbrev pub range_line : Description → (number letter disk start len : ℕ) → List ℕ
-range_line stack number letter disk start len = decimal number ++ space ∷ (letter ∷ space ∷ sector_text stack disk start ++ space ∷ decimal len) ++ newline ∷ []
+range_line stack number letter disk start len = decimal number ++ code " " ∷ (letter ∷ code " " ∷ sector_text stack disk start ++ code " " ∷ decimal len) ++ code "\n" ∷ []
 
 -- the line of a word and a length under a request's number: that of a piece without a disk
 abbrev pub plain_line : (number : ℕ) → (word : List ℕ) → (len : ℕ) → List ℕ
-plain_line number word len = decimal number ++ space ∷ (word ++ decimal len) ++ newline ∷ []
+plain_line number word len = decimal number ++ code " " ∷ (word ++ decimal len) ++ code "\n" ∷ []
 
 -- the lines of a request's pieces
 abbrev pub pieces_text : Description → ℕ → List UnitRun → List ℕ

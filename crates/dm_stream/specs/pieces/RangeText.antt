@@ -1,10 +1,10 @@
 -- The range that a line ends with.
 use Rattle.std.specs.Prelude.{◌≡◌, ◌<◌, ℕ, List, [], ◌∷◌, ◌++◌, length, decimal}
-use Rattle.dm_table.specs.words.Bytes.{newline, space}
+use Rattle.dm_table.specs.words.Bytes.{code}
 
 -- its start, its length and a newline
 abbrev pub range_text : ℕ → ℕ → List ℕ
-range_text start len = decimal start ++ space ∷ decimal len ++ newline ∷ []
+range_text start len = decimal start ++ code " " ∷ decimal len ++ code "\n" ∷ []
 
 -- what is kept, if anything, is this range
 abbrev pub IsKept : List ℕ → ℕ → ℕ → Type 0

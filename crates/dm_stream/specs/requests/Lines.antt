@@ -2,13 +2,13 @@
 use Rattle.std.specs.Prelude.{ℕ, ◌+◌, List, [], ◌∷◌, length, drop, nat_lt, if◌then◌else◌}
 use Rattle.dm_table.specs.words.Fields.{parts_at}
 use Rattle.dm_table.specs.io.DeviceIo.{Stand, Clean, Failed, Open}
-use Rattle.dm_table.specs.words.Bytes.{newline}
+use Rattle.dm_table.specs.words.Bytes.{code}
 use Rattle.dm_stream.specs.declared.requests.lines.TheConstants.{MOST_LINE_BYTES}
 use Rattle.dm_stream.specs.declared.requests.lines.Next as next
 
 -- what stands between newlines: each part but the last is a line, and the last is the rest
 abbrev pub line_parts : List ℕ → List (List ℕ)
-line_parts bytes = parts_at newline bytes
+line_parts bytes = parts_at (code "\n") bytes
 
 -- what comes next; Waits says that the bytes so far do not settle it
 pub data Answer : Type 0 where

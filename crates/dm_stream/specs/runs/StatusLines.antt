@@ -1,7 +1,7 @@
 -- The status lines of snapshots (the kernel's admin guide, device-mapper/snapshot, status; dmsetup(8), the command status).
 use Rattle.std.specs.Prelude.{ℕ, List, [], ◌∷◌, ◌++◌, Option, None, Some, codes, decimal, if◌then◌else◌}
 use Rattle.std.specs.List.{flat_map}
-use Rattle.dm_table.specs.words.Bytes.{newline, slash, space}
+use Rattle.dm_table.specs.words.Bytes.{code}
 use Rattle.dm_stack.specs.Description.{Description, device_len, name_at}
 use Rattle.dm_stack.specs.checks.Snapshots.{snapshots}
 use Rattle.dm_stack.specs.declared.lines.found_line.FoundSnapshot.{FoundSnapshot}
@@ -13,11 +13,11 @@ use Rattle.dm_map.specs.state.Usage.{usage_of}
 -- how much of a store is used, in sectors, or that its snapshot is not valid
 abbrev pub usage_text : Usage → List ℕ
 usage_text usage =
-    if usage.valid then decimal usage.allocated ++ slash ∷ decimal usage.total ++ space ∷ decimal usage.metadata else codes "Invalid"
+    if usage.valid then decimal usage.allocated ++ code "/" ∷ decimal usage.total ++ code " " ∷ decimal usage.metadata else codes "Invalid"
 
 -- what stands after the name in the line of a snapshot of this length: its table has one line, from 0 on
 abbrev pub after_name : (len : ℕ) → Usage → List ℕ
-after_name len usage = codes ": 0 " ++ decimal len ++ codes " snapshot " ++ usage_text usage ++ newline ∷ []
+after_name len usage = codes ": 0 " ++ decimal len ++ codes " snapshot " ++ usage_text usage ++ code "\n" ∷ []
 
 abbrev pub snapshot_line : Description → State → (device : ℕ) → FoundSnapshot → List ℕ
 snapshot_line stack state device snapshot =

@@ -12,7 +12,7 @@ ghost use Rattle.dm_map.specs.pieces.Units.{CopyOf, FillOf, IsOnDisks, first_uni
 ghost use Rattle.dm_stream.specs.pieces.Pending.{IsNoRange, piece_of, piece_view};
 ghost use Rattle.dm_stream.specs.pieces.PieceText.{IsOther, piece_text, sector_text, unit_text};
 ghost use Rattle.dm_table.specs.io.Progress.{Wrote};
-ghost use Rattle.dm_table.specs.words.Bytes.{newline};
+ghost use Rattle.dm_table.specs.words.Bytes.{code};
 
 use crate::pieces::disk_range::DiskRange;
 use crate::pieces::line_ends::LineEnds;
@@ -251,7 +251,7 @@ fn put_rare(block: &mut [u8], at: usize, stack: &Stack, piece: &Piece) -> usize
     requires room { at + 800 ≤ length block.old }
     requires lies { IsOnDisks stack.now piece.now }
     requires other { IsOther piece.now }
-    ensures put { IsPut (unit_text stack.now (first_unit piece.now) (piece_len piece.now) ++ newline ∷ []) at
+    ensures put { IsPut (unit_text stack.now (first_unit piece.now) (piece_len piece.now) ++ code "\n" ∷ []) at
         block.old block.new result }
     ensures few { result ≤ at + 800 }
 {
@@ -282,7 +282,7 @@ fn put_copy(
     requires room { at + 800 ≤ length block.old }
     requires there { disk < length stack.now.disks }
     requires target { to < length stack.now.disks }
-    ensures put { IsPut (unit_text stack.now (CopyOf disk start to to_start) len ++ newline ∷ []) at block.old
+    ensures put { IsPut (unit_text stack.now (CopyOf disk start to to_start) len ++ code "\n" ∷ []) at block.old
         block.new result }
     ensures few { result ≤ at + 800 }
 {
@@ -299,7 +299,7 @@ fn put_copy(
 fn put_fill(block: &mut [u8], at: usize, stack: &Stack, disk: DiskId, start: u64, len: u64) -> usize
     requires room { at + 800 ≤ length block.old }
     requires there { disk < length stack.now.disks }
-    ensures put { IsPut (unit_text stack.now (FillOf disk start) len ++ newline ∷ []) at block.old block.new
+    ensures put { IsPut (unit_text stack.now (FillOf disk start) len ++ code "\n" ∷ []) at block.old block.new
         result }
     ensures few { result ≤ at + 400 }
 {

@@ -5,7 +5,7 @@ ghost use Rattle.std.specs.Prelude.{◌≡◌, ◌+◌, ◌-◌, ◌<◌, ◌≤
 ghost use Rattle.dm_table.specs.io.DeviceIo.{given};
 ghost use Rattle.dm_table.specs.words.Fields.{parts_at};
 ghost use Rattle.dm_table.specs.io.Progress.{HasRead};
-ghost use Rattle.dm_table.specs.words.Bytes.{newline};
+ghost use Rattle.dm_table.specs.words.Bytes.{code};
 
 use crate::requests::handler::ReadsFrom;
 use dm_table::InFault;
@@ -15,11 +15,11 @@ use memchr::memchr;
 /// and are not searched again.
 pub(crate) fn line_len(held: &[u8], searched: usize) -> Option<usize>
     requires within { searched ≤ length held.now }
-    requires clear { parts_at newline (take searched held.now) ≡ take searched held.now ∷ [] }
+    requires clear { parts_at (code "\n") (take searched held.now) ≡ take searched held.now ∷ [] }
     ensures { MatchOption result
-        (parts_at newline held.now ≡ held.now ∷ [])
+        (parts_at (code "\n") held.now ≡ held.now ∷ [])
         (λ n. (n < length held.now)
-        × (parts_at newline held.now ≡ take n held.now ∷ parts_at newline (drop (n + 1) held.now))) }
+        × (parts_at (code "\n") held.now ≡ take n held.now ∷ parts_at (code "\n") (drop (n + 1) held.now))) }
 {
     let n = memchr(b'\n', &held[searched..])?;
     Some(searched + n)

@@ -5,7 +5,7 @@
 
 ghost use Rattle.std.specs.Prelude.{◌≡◌, ◌++◌, ◌<◌, ◌≤◌, ◌∷◌, [], length};
 ghost use Rattle.dm_table.specs.io.Progress.{Wrote};
-ghost use Rattle.dm_table.specs.words.Bytes.{newline};
+ghost use Rattle.dm_table.specs.words.Bytes.{code};
 ghost use Rattle.dm_stack.specs.Description.{device_len, name_at};
 ghost use Rattle.dm_map.specs.Mapper.{with_looked};
 ghost use Rattle.dm_stream.specs.runs.StatusLines.{after_name, status_text, usage_text};
@@ -69,7 +69,7 @@ fn after_name(len: u64, usage: Usage) -> ArrayVec<u8, ROOM>
 /// Appends how much of a store is used, in sectors, or that its snapshot is not valid, and ends the line.
 fn put_usage(text: &mut ArrayVec<u8, ROOM>, usage: Usage)
     requires { length text.old.items ≤ 40 }
-    ensures { text.new.items ≡ text.old.items ++ usage_text usage ++ newline ∷ [] }
+    ensures { text.new.items ≡ text.old.items ++ usage_text usage ++ code "\n" ∷ [] }
 {
     if usage.valid {
         append_number(text, usage.allocated);

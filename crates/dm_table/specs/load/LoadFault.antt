@@ -6,7 +6,7 @@ use Rattle.dm_table.specs.declared.load.place.Place.{Place}
 use Rattle.dm_table.specs.declared.load.load_fault.LoadKind.{LoadKind}
 use Rattle.dm_table.specs.declared.load.load_fault.LoadKind.TheVariants.{Memory, NotText, Syntax, Field, Name}
 use Rattle.dm_table.specs.declared.load.load_fault.LoadFault.{LoadFault}
-use Rattle.dm_table.specs.words.Bytes.{newline}
+use Rattle.dm_table.specs.words.Bytes.{code}
 
 -- a fault of a kind at a place
 abbrev pub fault : LoadKind → Place → LoadFault
@@ -55,7 +55,7 @@ Answers part view (Err fault) reading = (fault.kind ≡ Memory → IsMemoryFault
 
 -- bytes from 0x20 to 0x7E, and newlines
 abbrev pub is_printable : List ℕ → Bool
-is_printable text = list_all (λ b. b == newline || (nat_le 32 b && nat_le b 126)) text
+is_printable text = list_all (λ b. b == code "\n" || (nat_le 32 b && nat_le b 126)) text
 
 -- the pieces of a text, such as its lines, that have any other byte
 abbrev pub not_text : Part → List (List ℕ) → List LoadFault

@@ -11,7 +11,7 @@ use Rattle.dm_table.specs.words.Name.{is_device_name}
 use Rattle.dm_table.specs.words.Number.{number_of}
 use Rattle.dm_table.specs.words.Fields.{fields, parts_at}
 use Rattle.dm_table.specs.tables.LineBody.{if_both}
-use Rattle.dm_table.specs.words.Bytes.{newline, space}
+use Rattle.dm_table.specs.words.Bytes.{code}
 
 -- the four values of a request
 pub record RequestValues : Type 0 where
@@ -31,7 +31,7 @@ op_text Write = 87
 
 -- how a request is written
 abbrev pub request_text : RequestValues → List ℕ
-request_text values = op_text values.op ∷ space ∷ values.device ++ space ∷ decimal values.start ++ space ∷ decimal values.len
+request_text values = op_text values.op ∷ code " " ∷ values.device ++ code " " ∷ decimal values.start ++ code " " ∷ decimal values.len
 
 -- the fields of a line in the form of a request
 abbrev pub row_of : Op → List ℕ → List ℕ → List ℕ → List (List ℕ)
@@ -48,7 +48,7 @@ pub record DescribesRequest (line : List ℕ) (values : RequestValues) : Type 0 
 -- the line of a request at the front of a text, up to a newline
 pub record IsFront (text : List ℕ) (values : RequestValues) (end : ℕ) : Type 0 where
   pub described : DescribesRequest (take end text) values
-  pub line : parts_at newline text ≡ take end text ∷ parts_at newline (drop (end + 1) text)
+  pub line : parts_at (code "\n") text ≡ take end text ∷ parts_at (code "\n") (drop (end + 1) text)
   pub within : end < length text
   pub short : end ≤ 200
 

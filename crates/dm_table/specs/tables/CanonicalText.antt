@@ -8,11 +8,11 @@ use Rattle.dm_table.specs.declared.load.place.Part.TheVariants.{Source}
 use Rattle.dm_table.specs.tables.LineBody.{body_text}
 use Rattle.dm_table.specs.tables.TableText.{line_text}
 use Rattle.dm_table.specs.tables.ConciseText.{place_of}
-use Rattle.dm_table.specs.words.Bytes.{comma, newline, semicolon}
+use Rattle.dm_table.specs.words.Bytes.{code}
 
 -- the lines of a device, each with its name and a newline
 abbrev pub lines_text : List ℕ → List Line → List ℕ
-lines_text name lines = flat_map (λ line. line_text (record { name = name; line = line }) ++ newline ∷ []) lines
+lines_text name lines = flat_map (λ line. line_text (record { name = name; line = line }) ++ code "\n" ∷ []) lines
 
 -- a line for each line of each device, in order
 abbrev pub table_text : List DeviceSpec → List ℕ
@@ -24,11 +24,11 @@ flag_text ro = if ro then codes ",,,ro," else codes ",,,rw,"
 
 -- a device with its lines
 abbrev pub concise_device : DeviceSpec → List ℕ
-concise_device device = device.name ++ flag_text device.ro ++ join_with_byte comma (map body_text device.lines)
+concise_device device = device.name ++ flag_text device.ro ++ join_with_byte (code ",") (map body_text device.lines)
 
 -- the devices with semicolons between them, and a newline
 abbrev pub concise_text : List DeviceSpec → List ℕ
-concise_text devices = join_with_byte semicolon (map concise_device devices) ++ newline ∷ []
+concise_text devices = join_with_byte (code ";") (map concise_device devices) ++ code "\n" ∷ []
 
 -- What table text says of devices
 

@@ -12,7 +12,7 @@ use Rattle.dm_table.specs.words.Number.{number_of}
 use Rattle.dm_table.specs.words.Fields.{parts_at, all_but_last, last_or, row_fields}
 use Rattle.dm_table.specs.load.LoadFault.{not_text, row_checks}
 use Rattle.dm_table.specs.tables.LineBody.{body_text, IsBody, is_body_row, is_body, has_body_names}
-use Rattle.dm_table.specs.words.Bytes.{comma, newline, semicolon, space}
+use Rattle.dm_table.specs.words.Bytes.{code}
 
 -- Labels
 
@@ -41,8 +41,8 @@ place_of n = record { part = Source; number = n }
 -- one space before a body and one after it have no meaning
 abbrev pub WritesBody : List ℕ → Line → Type 0
 WritesBody text line =
-    ((text ≡ body_text line) ⊎ (text ≡ body_text line ++ space ∷ []))
-    ⊎ ((text ≡ space ∷ body_text line) ⊎ (text ≡ space ∷ body_text line ++ space ∷ []))
+    ((text ≡ body_text line) ⊎ (text ≡ body_text line ++ code " " ∷ []))
+    ⊎ ((text ≡ code " " ∷ body_text line) ⊎ (text ≡ code " " ∷ body_text line ++ code " " ∷ []))
 
 -- the texts say these lines, of device number n
 abbrev pub SaysLines : ℕ → List (List ℕ) → List Line → Type 0
@@ -57,7 +57,7 @@ pub record SaysDevice (n : ℕ) (text : List ℕ) (device : DeviceSpec) : Type 0
   pub minor : List ℕ
   pub flags : List ℕ
   pub bodies : List (List ℕ)
-  pub spelled : text ≡ join_with_byte comma (device.name ∷ uuid ∷ minor ∷ flags ∷ bodies)
+  pub spelled : text ≡ join_with_byte (code ",") (device.name ∷ uuid ∷ minor ∷ flags ∷ bodies)
   pub named : is_device_name device.name ≡ true
   pub with_uuid : is_uuid uuid ≡ true
   pub with_minor : is_minor minor ≡ true
@@ -77,7 +77,7 @@ SaysDevices n (text ∷ texts) (device ∷ devices) = SaysDevice n text device �
 -- the text says these devices; one newline at its end has no meaning
 pub record DescribesConcise (text : List ℕ) (devices : List DeviceSpec) : Type 0 where
   pub parts : List (List ℕ)
-  pub spelled : (text ≡ join_with_byte semicolon parts) ⊎ (text ≡ join_with_byte semicolon parts ++ newline ∷ [])
+  pub spelled : (text ≡ join_with_byte (code ";") parts) ⊎ (text ≡ join_with_byte (code ";") parts ++ code "\n" ∷ [])
   pub said : SaysDevices 1 parts devices
 
 -- Its checks
@@ -88,19 +88,19 @@ lacks c text = list_all (λ b. not (b == c)) text
 
 -- a text without the newline at its end
 abbrev pub without_newline : List ℕ → List ℕ
-without_newline text = if last_or 0 text == newline then all_but_last text else text
+without_newline text = if last_or 0 text == code "\n" then all_but_last text else text
 
 -- its parts between semicolons; where it is empty there are none
 abbrev pub parts_of : List ℕ → List (List ℕ)
 parts_of [] = []
-parts_of (byte ∷ bytes) = parts_at semicolon (byte ∷ bytes)
+parts_of (byte ∷ bytes) = parts_at (code ";") (byte ∷ bytes)
 
 abbrev pub devices_of : List ℕ → List (List ℕ)
 devices_of text = parts_of (without_newline text)
 
 -- what a device's text has between its commas
 abbrev pub entries : List ℕ → List (List ℕ)
-entries = parts_at comma
+entries = parts_at (code ",")
 
 -- fields without an empty one at the front, which a space there leaves
 abbrev pub without_first_space : List (List ℕ) → List (List ℕ)
@@ -113,7 +113,7 @@ body_fields text = without_first_space (row_fields text)
 
 -- four entries without a space, and at least one more
 abbrev pub is_label : List (List ℕ) → Bool
-is_label (name ∷ uuid ∷ minor ∷ flags ∷ body ∷ bodies) = lacks space name && (lacks space uuid && (lacks space minor && lacks space flags))
+is_label (name ∷ uuid ∷ minor ∷ flags ∷ body ∷ bodies) = lacks (code " ") name && (lacks (code " ") uuid && (lacks (code " ") minor && lacks (code " ") flags))
 is_label _ = false
 
 -- a label whose minor number and flags are valid
@@ -132,7 +132,7 @@ bodies_of text = drop 4 (entries text)
 
 -- a device on one line, with a label, and bodies that have the fields of bodies
 abbrev pub is_device : List ℕ → Bool
-is_device text = (lacks newline text && is_label (entries text)) && list_all (λ body. is_body_row (body_fields body)) (bodies_of text)
+is_device text = (lacks (code "\n") text && is_label (entries text)) && list_all (λ body. is_body_row (body_fields body)) (bodies_of text)
 
 -- whose values are valid
 abbrev pub has_values : List ℕ → Bool

@@ -14,13 +14,13 @@ use Rattle.dm_table.specs.load.RowFaults.{row_fault}
 use Rattle.dm_table.specs.load.LoadFault.{first_fault, unless}
 use Rattle.dm_table.specs.tables.LineReading.{reading_of}
 use Rattle.dm_table.specs.load.Reading.{line_checks}
-use Rattle.dm_table.specs.words.Bytes.{newline, space}
+use Rattle.dm_table.specs.words.Bytes.{code}
 
 -- What a list says
 
 -- the line that says a disk
 abbrev pub disk_line : Disk → List ℕ
-disk_line disk = disk.name ++ space ∷ decimal disk.len
+disk_line disk = disk.name ++ code " " ∷ decimal disk.len
 
 -- a disk that line number n may say
 pub record IsListed (n : ℕ) (disk : Disk) : Type 0 where
@@ -35,7 +35,7 @@ AreListed n (disk ∷ disks) = IsListed n disk × AreListed (suc n) disks
 
 -- the text says these disks, each by a line
 pub record DescribesDisks (text : List ℕ) (disks : List Disk) : Type 0 where
-  pub spelled : text ≡ flat_map (λ disk. disk_line disk ++ newline ∷ []) disks
+  pub spelled : text ≡ flat_map (λ disk. disk_line disk ++ code "\n" ∷ []) disks
   pub listed : AreListed 1 disks
 
 -- Its checks

@@ -14,7 +14,7 @@ use Rattle.dm_table.specs.declared.tables.table.Line.{Line}
 use Rattle.dm_table.specs.words.Name.{is_device_name, is_disk_name, names_device, mapper}
 use Rattle.dm_table.specs.words.Number.{number_of, number_in}
 use Rattle.dm_table.specs.tables.Span.{target_spans}
-use Rattle.dm_table.specs.words.Bytes.{space}
+use Rattle.dm_table.specs.words.Bytes.{code}
 
 -- What a body says
 
@@ -25,7 +25,7 @@ dev_text (Disk name) = name
 
 -- how a column is written, after what stands before it
 abbrev pub column_text : Column → List ℕ
-column_text column = space ∷ dev_text column.to ++ space ∷ decimal column.offset
+column_text column = code " " ∷ dev_text column.to ++ code " " ∷ decimal column.offset
 
 -- how the kind of a store is written
 abbrev pub kind_text : StoreKind → List ℕ
@@ -35,16 +35,16 @@ kind_text Keeping = codes "K"
 
 -- how a target and its arguments are written
 abbrev pub target_text : Target → List ℕ
-target_text (Linear to offset) = codes "linear " ++ dev_text to ++ space ∷ decimal offset
-target_text (Striped chunk columns) = codes "striped " ++ decimal (length columns) ++ space ∷ decimal chunk ++ flat_map column_text columns
+target_text (Linear to offset) = codes "linear " ++ dev_text to ++ code " " ∷ decimal offset
+target_text (Striped chunk columns) = codes "striped " ++ decimal (length columns) ++ code " " ∷ decimal chunk ++ flat_map column_text columns
 target_text Zero = codes "zero"
 target_text Error = codes "error"
-target_text (Snapshot origin store kind chunk) = codes "snapshot " ++ dev_text origin ++ space ∷ dev_text store ++ space ∷ kind_text kind ++ space ∷ decimal chunk
+target_text (Snapshot origin store kind chunk) = codes "snapshot " ++ dev_text origin ++ code " " ∷ dev_text store ++ code " " ∷ kind_text kind ++ code " " ∷ decimal chunk
 target_text (Origin origin) = codes "snapshot-origin " ++ dev_text origin
 
 -- how the body of a line is written
 abbrev pub body_text : Line → List ℕ
-body_text line = decimal line.start ++ space ∷ decimal line.len ++ space ∷ target_text line.target
+body_text line = decimal line.start ++ code " " ∷ decimal line.len ++ code " " ∷ target_text line.target
 
 -- the name of a device or of a disk is valid
 abbrev pub is_dev_ref : DevRef → Bool

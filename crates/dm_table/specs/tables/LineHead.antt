@@ -5,11 +5,11 @@ use Rattle.dm_table.specs.declared.tables.table.Line.{Line}
 use Rattle.dm_table.specs.declared.tables.table.Target.{Target}
 use Rattle.dm_table.specs.declared.tables.table.Target.TheVariants.{Striped}
 use Rattle.dm_table.specs.tables.LineBody.{target_text}
-use Rattle.dm_table.specs.words.Bytes.{space}
+use Rattle.dm_table.specs.words.Bytes.{code}
 
 -- a target without its columns
 abbrev pub target_head : Target → List ℕ
-target_head (Striped chunk columns) = codes "striped " ++ decimal (length columns) ++ space ∷ decimal chunk
+target_head (Striped chunk columns) = codes "striped " ++ decimal (length columns) ++ code " " ∷ decimal chunk
 target_head target = target_text target
 
 -- the columns, which only a striped line has
@@ -19,4 +19,4 @@ columns_of _ = []
 
 -- a body without its columns
 abbrev pub body_head : Line → List ℕ
-body_head line = decimal line.start ++ space ∷ decimal line.len ++ space ∷ target_head line.target
+body_head line = decimal line.start ++ code " " ∷ decimal line.len ++ code " " ∷ target_head line.target

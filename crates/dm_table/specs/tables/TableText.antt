@@ -10,7 +10,7 @@ use Rattle.dm_table.specs.words.Name.{is_device_name}
 use Rattle.dm_table.specs.words.Fields.{row_fields, all_but_last, last_or}
 use Rattle.dm_table.specs.load.Reading.{line_checks}
 use Rattle.dm_table.specs.tables.LineBody.{body_text, IsBody, is_body_row, is_body, has_body_names}
-use Rattle.dm_table.specs.words.Bytes.{colon, newline, space}
+use Rattle.dm_table.specs.words.Bytes.{code}
 
 -- What a text says
 
@@ -21,11 +21,11 @@ pub record NamedLine : Type 0 where
 
 -- how a named line is written
 abbrev pub line_text : NamedLine → List ℕ
-line_text named = named.name ++ colon ∷ space ∷ body_text named.line
+line_text named = named.name ++ code ":" ∷ code " " ∷ body_text named.line
 
 -- one space at the end of a line has no meaning
 abbrev pub Writes : List ℕ → NamedLine → Type 0
-Writes text named = (text ≡ line_text named) ⊎ (text ≡ line_text named ++ space ∷ [])
+Writes text named = (text ≡ line_text named) ⊎ (text ≡ line_text named ++ code " " ∷ [])
 
 -- text line number n may say this line
 pub record IsSaid (n : ℕ) (named : NamedLine) : Type 0 where
@@ -62,7 +62,7 @@ DifferInName (device ∷ next ∷ devices) = (device.name ≢ next.name) × Diff
 -- the text says these devices
 pub record DescribesTable (text : List ℕ) (devices : List DeviceSpec) : Type 0 where
   pub lines : List (List ℕ)
-  pub ended : text ≡ flat_map (λ line. line ++ newline ∷ []) lines
+  pub ended : text ≡ flat_map (λ line. line ++ code "\n" ∷ []) lines
   pub said : Says 1 lines (named_lines devices)
   pub each : AllByRecursion IsDescribed devices
   pub apart : DifferInName devices
@@ -71,7 +71,7 @@ pub record DescribesTable (text : List ℕ) (devices : List DeviceSpec) : Type 0
 
 -- a name and a colon after it
 abbrev pub is_label : List ℕ → Bool
-is_label field = nat_lt 1 (length field) && last_or 0 field == colon
+is_label field = nat_lt 1 (length field) && last_or 0 field == code ":"
 
 -- the name in a label: all before its last colon
 abbrev pub name_in : List ℕ → List ℕ

@@ -1,7 +1,7 @@
 -- Texts cut at a byte: lines at newlines, fields at spaces.
 use Rattle.std.specs.Prelude.{ℕ, ◌==◌, Bool, true, false, List, [], ◌∷◌, map}
 use Rattle.std.specs.List.{slice_split}
-use Rattle.dm_table.specs.words.Bytes.{newline, space}
+use Rattle.dm_table.specs.words.Bytes.{code}
 use denote.Ref.{Bor}
 
 -- what slices point to
@@ -26,15 +26,15 @@ last_or d (x ∷ y ∷ ys) = last_or d (y ∷ ys)
 
 -- the lines that a newline ends
 abbrev pub lines_of : List ℕ → List (List ℕ)
-lines_of text = all_but_last (parts_at newline text)
+lines_of text = all_but_last (parts_at (code "\n") text)
 
 -- what stands after the last newline
 abbrev pub rest_of : List ℕ → List ℕ
-rest_of text = last_or [] (parts_at newline text)
+rest_of text = last_or [] (parts_at (code "\n") text)
 
 -- the fields of a line, at single spaces
 abbrev pub fields : List ℕ → List (List ℕ)
-fields = parts_at space
+fields = parts_at (code " ")
 
 -- fields without an empty one at the end, as a space there leaves it
 abbrev pub without_last_space : List (List ℕ) → List (List ℕ)

@@ -2,13 +2,13 @@
 use Rattle.std.specs.Prelude.{ℕ, ◌==◌, Bool, ◌&&◌, ◌||◌, not, List, length, nat_le, nat_eq, codes}
 use Rattle.std.specs.List.{list_all, starts_with}
 use Rattle.std.specs.Char.{is_ascii_digit}
-use Rattle.dm_table.specs.words.Bytes.{at_sign, backslash, colon, comma, equals, full_stop, hash, hyphen, plus, semicolon, underscore}
+use Rattle.dm_table.specs.words.Bytes.{code}
 
 -- an ASCII letter, a digit, or one of # + - . : = @ _
 abbrev pub is_device_byte : ℕ → Bool
 is_device_byte b =
     (nat_le 97 b && nat_le b 122) || ((nat_le 65 b && nat_le b 90) || (is_ascii_digit b
-    || (b == hash || (b == plus || (b == hyphen || (b == full_stop || (b == colon || (b == equals || (b == at_sign || b == underscore)))))))))
+    || (b == code "#" || (b == code "+" || (b == code "-" || (b == code "." || (b == code ":" || (b == code "=" || (b == code "@" || b == code "_")))))))))
 
 -- 1 to 127 of these
 abbrev pub is_device_name : List ℕ → Bool
@@ -16,7 +16,7 @@ is_device_name text = nat_le 1 (length text) && (nat_le (length text) 127 && lis
 
 -- a byte from 0x21 to 0x7E but the comma, the semicolon and the backslash
 abbrev pub is_disk_byte : ℕ → Bool
-is_disk_byte b = nat_le 33 b && (nat_le b 126 && not (b == comma || (b == semicolon || b == backslash)))
+is_disk_byte b = nat_le 33 b && (nat_le b 126 && not (b == code "," || (b == code ";" || b == code "\\")))
 
 -- how the text of a device of the stack begins
 abbrev pub mapper : List ℕ

@@ -3,7 +3,7 @@ use Rattle.std.specs.Prelude.{◌≡◌, ℕ, ◌^◌, ◌<◌, ◌≤◌, ◌==
 use Rattle.std.specs.List.{list_all}
 use Rattle.std.specs.Char.{is_ascii_digit}
 use Rattle.std.specs.Str.Parse.{digits_value}
-use Rattle.dm_table.specs.words.Bytes.{digit_zero}
+use Rattle.dm_table.specs.words.Bytes.{code}
 
 -- the text spells the number: its digits without a leading zero, at most 19 of them
 pub record Spells (text : List ℕ) (number : ℕ) : Type 0 where
@@ -12,7 +12,7 @@ pub record Spells (text : List ℕ) (number : ℕ) : Type 0 where
 
 -- the test: 1 to 19 digits, the first of them 0 only where it stands alone
 abbrev pub is_number : List ℕ → Bool
-is_number text = nat_le 1 (length text) && (nat_le (length text) 19 && ((not (slice_index text 0 == digit_zero) || length text == 1) && list_all is_ascii_digit text))
+is_number text = nat_le 1 (length text) && (nat_le (length text) 19 && ((not (slice_index text 0 == code "0") || length text == 1) && list_all is_ascii_digit text))
 
 -- the number that a text spells, if it spells one
 unfoldable pub number_of : List ℕ → Option ℕ

@@ -11,7 +11,7 @@ ghost use Rattle.dm_table.specs.words.Name.{is_device_name};
 ghost use Rattle.dm_table.specs.words.Number.{number_of};
 ghost use Rattle.dm_table.specs.words.Fields.{fields};
 ghost use Rattle.dm_table.specs.requests.RequestLine.{RequestValues, DescribesRequest, IsFront, AreNumbers, values_of, op_text, has_form, are_two, request_reading};
-ghost use Rattle.dm_table.specs.words.Bytes.{newline, space};
+ghost use Rattle.dm_table.specs.words.Bytes.{code};
 
 use crate::requests::request::{MOST_SECTORS, Op, Request, RequestFault};
 use crate::words::device_name::leading_name;
@@ -28,8 +28,8 @@ const NUMBERS_ROOM: usize = 2 * FRONT;
 #[inline(always)]
 fn after_space<'a>(text: &'a [u8], len: usize) -> Option<&'a [u8]>
     requires { len ≤ length text.now }
-    ensures cut { IfSome result (λ rest. text.now ≡ take len text.now ++ space ∷ rest.now) }
-    ensures other { IfNone result ((rest : List ℕ) → drop len text.now ≢ space ∷ rest) }
+    ensures cut { IfSome result (λ rest. text.now ≡ take len text.now ++ code " " ∷ rest.now) }
+    ensures other { IfNone result ((rest : List ℕ) → drop len text.now ≢ code " " ∷ rest) }
 {
     match &text[len..] {
         [b' ', rest @ ..] => Some(rest),
@@ -56,7 +56,7 @@ fn op_of(letter: u8) -> Option<Op>
 #[inline(always)]
 pub fn first_op<'a>(line: &'a [u8]) -> Option<(Op, &'a [u8])>
     ensures cut { IfSome result (λ cut. fields line.now ≡ (op_text cut.0 ∷ []) ∷ fields cut.1.now) }
-    ensures text { IfSome result (λ cut. line.now ≡ op_text cut.0 ∷ space ∷ cut.1.now) }
+    ensures text { IfSome result (λ cut. line.now ≡ op_text cut.0 ∷ code " " ∷ cut.1.now) }
     ensures other { IfNone result (has_form (fields line.now) ≡ false) }
 {
     if line.len() < 2 {
@@ -71,7 +71,7 @@ pub fn first_op<'a>(line: &'a [u8]) -> Option<(Op, &'a [u8])>
 #[inline(always)]
 fn first_name<'a>(text: &'a [u8]) -> Option<(&'a str, &'a [u8])>
     ensures cut { IfSome result (λ cut. fields text.now ≡ cut.0.now ∷ fields cut.1.now) }
-    ensures text { IfSome result (λ cut. text.now ≡ cut.0.now ++ space ∷ cut.1.now) }
+    ensures text { IfSome result (λ cut. text.now ≡ cut.0.now ++ code " " ∷ cut.1.now) }
     ensures named { IfSome result (λ cut. is_device_name cut.0.now ≡ true) }
     ensures other { IfNone result ((name next : List ℕ) (more : List (List ℕ))
         → fields text.now ≡ name ∷ next ∷ more → is_device_name name ≢ true) }
@@ -86,7 +86,7 @@ fn first_name<'a>(text: &'a [u8]) -> Option<(&'a str, &'a [u8])>
 fn first_number<'a>(text: &'a [u8]) -> Option<(u64, &'a [u8])>
     ensures cut { IfSome result (λ cut. (field : List ℕ) × (fields text.now ≡ field ∷ fields cut.1.now)
         × (number_of field ≡ Some cut.0)) }
-    ensures text { IfSome result (λ cut. (field : List ℕ) × (text.now ≡ field ++ space ∷ cut.1.now)
+    ensures text { IfSome result (λ cut. (field : List ℕ) × (text.now ≡ field ++ code " " ∷ cut.1.now)
         × (number_of field ≡ Some cut.0)) }
     ensures other { IfNone result ((field next : List ℕ) (more : List (List ℕ)) (n : ℕ)
         → fields text.now ≡ field ∷ next ∷ more → number_of field ≢ Some n) }
@@ -102,7 +102,7 @@ fn head<'a>(line: &'a [u8]) -> Option<(Op, &'a str, &'a [u8])>
     ensures cut { IfSome result
         (λ cut. fields line.now ≡ (op_text cut.0 ∷ []) ∷ cut.1.now ∷ fields cut.2.now) }
     ensures text { IfSome result
-        (λ cut. line.now ≡ op_text cut.0 ∷ space ∷ (cut.1.now ++ space ∷ cut.2.now)) }
+        (λ cut. line.now ≡ op_text cut.0 ∷ code " " ∷ (cut.1.now ++ code " " ∷ cut.2.now)) }
     ensures named { IfSome result (λ cut. is_device_name cut.1.now ≡ true) }
     ensures other { IfNone result (has_form (fields line.now) ≡ false) }
 {
@@ -184,7 +184,7 @@ pub fn parse_request<'a>(line: &'a [u8], number: u64) -> Result<Request<'a>, Req
 #[inline(always)]
 fn front_number<'a>(text: &'a [u8]) -> Option<(u64, &'a [u8])>
     requires { FRONT ≤ length text.now }
-    ensures text { IfSome result (λ cut. (field : List ℕ) × (text.now ≡ field ++ space ∷ cut.1.now)
+    ensures text { IfSome result (λ cut. (field : List ℕ) × (text.now ≡ field ++ code " " ∷ cut.1.now)
         × (number_of field ≡ Some cut.0)) }
     ensures short { IfSome result (λ cut. length text.now ≤ length cut.1.now + FRONT) }
 {
@@ -202,7 +202,7 @@ fn last_number(text: &[u8]) -> Option<(u64, usize)>
     requires { FRONT ≤ length text.now }
     ensures within { IfSome result (λ read. read.1 < length text.now) }
     ensures newline { IfSome result
-        (λ read. text.now ≡ take read.1 text.now ++ newline ∷ drop (read.1 + 1) text.now) }
+        (λ read. text.now ≡ take read.1 text.now ++ code "\n" ∷ drop (read.1 + 1) text.now) }
     ensures number { IfSome result (λ read. number_of (take read.1 text.now) ≡ Some read.0) }
 {
     let (number, len) = read_front(text)?;
@@ -229,7 +229,7 @@ pub fn front_request<'a>(
     rest: &[u8],
     number: u64,
 ) -> Option<(Request<'a>, usize)>
-    requires text { text.now ≡ op_text op ∷ space ∷ (device.now ++ space ∷ rest.now) }
+    requires text { text.now ≡ op_text op ∷ code " " ∷ (device.now ++ code " " ∷ rest.now) }
     requires named { is_device_name device.now ≡ true }
     // The line says the request, and ends there.
     ensures front { IfSome result (λ front. IsFront text.now (values_of front.0) front.1) }

@@ -14,7 +14,7 @@ ghost use Rattle.dm_table.specs.tables.TableText.{DescribesTable};
 ghost use Rattle.dm_table.specs.tables.ConciseText.{DescribesConcise};
 ghost use Rattle.dm_table.specs.tables.CanonicalText.{ReadsBack, as_table, lines_text, table_text, flag_text, concise_device, concise_text, as_concise};
 ghost use Rattle.dm_table.specs.io.Progress.{Wrote};
-ghost use Rattle.dm_table.specs.words.Bytes.{comma, semicolon};
+ghost use Rattle.dm_table.specs.words.Bytes.{code};
 
 use crate::io::device_io::{OutFault, Output};
 use crate::io::writing::write_all;
@@ -101,7 +101,7 @@ fn write_every_line<W: Output>(writer: &mut W, devices: &[DeviceSpec]) -> Result
 /// Writes bodies, each after a comma.
 fn write_more_bodies<W: Output>(writer: &mut W, lines: &[Line]) -> Result<(), OutFault>
     ensures { Wrote (W.past writer.old) (W.past writer.new) result
-        (flat_map (λ line. comma ∷ body_text line) lines.now) }
+        (flat_map (λ line. code "," ∷ body_text line) lines.now) }
 {
     for line in lines {
         write_body(&mut *writer, b"", b",", line)?;
@@ -112,7 +112,7 @@ fn write_more_bodies<W: Output>(writer: &mut W, lines: &[Line]) -> Result<(), Ou
 /// Writes bodies with commas between them.
 fn write_bodies<W: Output>(writer: &mut W, lines: &[Line]) -> Result<(), OutFault>
     ensures { Wrote (W.past writer.old) (W.past writer.new) result
-        (join_with_byte comma (map body_text lines.now)) }
+        (join_with_byte (code ",") (map body_text lines.now)) }
 {
     match lines {
         [first, rest @ ..] => {
@@ -151,7 +151,7 @@ fn flag_text(ro: bool) -> &'static [u8]
 /// Writes devices, each after a semicolon.
 fn write_more_devices<W: Output>(writer: &mut W, devices: &[DeviceSpec]) -> Result<(), OutFault>
     ensures { Wrote (W.past writer.old) (W.past writer.new) result
-        (flat_map (λ device. semicolon ∷ concise_device device) devices.now) }
+        (flat_map (λ device. code ";" ∷ concise_device device) devices.now) }
 {
     for device in devices {
         write_device(&mut *writer, b";", device)?;
@@ -162,7 +162,7 @@ fn write_more_devices<W: Output>(writer: &mut W, devices: &[DeviceSpec]) -> Resu
 /// Writes devices with semicolons between them.
 fn write_devices<W: Output>(writer: &mut W, devices: &[DeviceSpec]) -> Result<(), OutFault>
     ensures { Wrote (W.past writer.old) (W.past writer.new) result
-        (join_with_byte semicolon (map concise_device devices.now)) }
+        (join_with_byte (code ";") (map concise_device devices.now)) }
 {
     match devices {
         [first, rest @ ..] => {

@@ -1,7 +1,7 @@
 -- What a group's metadata says: the group, its physical volumes, and its volumes with their segments.
 use Rattle.std.specs.Prelude.{ℕ, Bool, false, not, ◌&&◌, ◌||◌, ◌==◌, List, [], ◌∷◌, nat_lt, bytes_eq, codes, count_by, map, if◌then◌else◌}
 use Rattle.std.specs.List.{list_any, position_or_len}
-use Rattle.dm_table.specs.words.Bytes.{slash}
+use Rattle.dm_table.specs.words.Bytes.{code}
 use Rattle.lvm_text.specs.Tree.{Tree, Scalar, Int, Text, Nothing, sections_of}
 use Rattle.dm_table.specs.words.Name.{is_disk_name}
 use Rattle.lvm_volume.specs.declared.group.positions.GroupPositions.{GroupPositions}
@@ -34,7 +34,7 @@ device_of physical = text_at (codes "device") physical.1
 
 abbrev pub begins_with_slash : List ℕ → Bool
 begins_with_slash [] = false
-begins_with_slash (b ∷ bs) = b == slash
+begins_with_slash (b ∷ bs) = b == code "/"
 
 -- the device of two physical volumes or more
 abbrev pub is_shared : List (List ℕ) → List ℕ → Bool
