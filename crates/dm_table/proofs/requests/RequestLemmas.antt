@@ -1,6 +1,7 @@
 -- A line that says a request, and its fields: the one gives the other, so a line says one request at most.
 use Rattle.std.proofs.Common.{◌≡◌, ◌≢◌, ℕ, ◌^◌, ◌<◌, ◌≤◌, ◌⊎◌, inl, inr, Bool, true, false, cond, eqb, nat_le, ◌||◌, List, [], ◌∷◌, ◌++◌, length, get_or, take, Option, Some, None, refl, sym, ap, ◌∙◌, append_assoc, arith}
-use Rattle.std.specs.Prelude.{decimal, ◌==◌, Result, Ok, Err}
+use Rattle.std.specs.Prelude.{decimal, ◌==◌, nat_eq, Result, Ok, Err}
+use Rattle.std.specs.Cmp.Lexicographic.{pointwise}
 use Rattle.std.specs.List.{join_with_byte, list_all}
 use Rattle.std.specs.Char.{is_ascii_digit}
 use Rattle.std.proofs.lemmas.Bool.{and_parts, and_from, le-leb, or_cases, and_right, eqb-true, leb-true, false_from_ne_true}
@@ -14,7 +15,7 @@ use Rattle.dm_table.specs.declared.requests.request.RequestFault.TheVariants.{Fo
 use Rattle.dm_table.specs.words.Name.{is_device_name, is_device_byte}
 use Rattle.dm_table.specs.words.Number.{number_of}
 use Rattle.dm_table.specs.words.Fields.{fields}
-use Rattle.dm_table.specs.requests.RequestLine.{RequestValues, AreNumbers, are_two, is_length, DescribesRequest, request_text, row_of, op_text, is_op, has_form, op_in, values_in, values_reading, request_reading}
+use Rattle.dm_table.specs.requests.RequestLine.{RequestValues, AreNumbers, are_two, is_length, DescribesRequest, request_text, row_of, op_text, is_op, has_form, values_in, values_reading, request_reading}
 use Rattle.dm_table.specs.tables.LineBody.{if_both}
 use Rattle.dm_table.specs.laws.NameLaws.{All-list_all}
 use Rattle.dm_table.proofs.words.ByteLemmas.{StandsFirst, stands_first, device_name_parts, digits-clear, plain-device_name}
@@ -111,7 +112,7 @@ op_passes : (op : Op) → is_op (op_text op ∷ []) ≡ true
 op_passes Read = refl
 op_passes Write = refl
 
-op_is : (op : Op) → op_in (op_text op ∷ []) ≡ op
+op_is : (op : Op) → cond (pointwise nat_eq (op_text op ∷ []) (82 ∷ [])) Read Write ≡ op
 op_is Read = refl
 op_is Write = refl
 

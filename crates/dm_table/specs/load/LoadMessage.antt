@@ -38,11 +38,7 @@ kind_word kinds.Memory = codes "memory"
 abbrev pub part_message : Part → LoadKind → List ℕ
 part_message part kind = codes "dmremap: " ++ part_word part ++ codes ": " ++ kind_word kind ++ codes "\n"
 
--- a message about a place of a part
-abbrev pub place_message : Part → LoadKind → ℕ → List ℕ
-place_message part kind number =
-    codes "dmremap: " ++ part_word part ++ codes ": " ++ kind_word kind ++ codes " at " ++ decimal number ++ codes "\n"
-
+-- the message where memory runs out
 abbrev pub memory_message : List ℕ
 memory_message = codes "dmremap: memory\n"
 
@@ -51,7 +47,9 @@ abbrev pub kind_message : Part → LoadKind → ℕ → List ℕ
 kind_message part kinds.Read number = part_message part kinds.Read
 kind_message part kinds.Long number = part_message part kinds.Long
 kind_message part kinds.Memory number = memory_message
-kind_message part kind number = place_message part kind number
+kind_message part kind number =
+    codes "dmremap: " ++ part_word part ++ codes ": " ++ kind_word kind ++ codes " at " ++ decimal number ++ codes "\n"
 
+-- the message of a refused load
 abbrev pub load_message : LoadFault → List ℕ
 load_message fault = kind_message fault.at.part fault.kind fault.at.number

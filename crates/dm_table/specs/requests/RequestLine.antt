@@ -1,5 +1,5 @@
 -- Request lines: R DEV START LEN and W DEV START LEN, without the newline.
-use Rattle.std.specs.Prelude.{◌≡◌, ℕ, ◌+◌, ◌^◌, ◌<◌, ◌≤◌, ◌==◌, Bool, true, false, ◌&&◌, ◌||◌, List, [], ◌∷◌, ◌++◌, length, take, drop, decimal, Option, Some, None, Result, Ok, Err, nat_le, if◌then◌else◌, nat_eq}
+use Rattle.std.specs.Prelude.{◌≡◌, ℕ, ◌+◌, ◌^◌, ◌<◌, ◌≤◌, ◌==◌, Bool, true, false, ◌&&◌, ◌||◌, List, [], ◌∷◌, ◌++◌, length, take, drop, decimal, Option, Some, None, Result, Ok, Err, nat_le, if◌then◌else◌, nat_eq, codes}
 use Rattle.std.specs.Cmp.Lexicographic.{pointwise}
 use Rattle.dm_table.specs.declared.requests.request.TheConstants.{MOST_SECTORS}
 use Rattle.dm_table.specs.declared.requests.request.Op.{Op}
@@ -26,8 +26,8 @@ values_of request = record { op = request.op; device = request.device.now; start
 
 -- how an operation is written
 abbrev pub op_text : Op → ℕ
-op_text Read = 82
-op_text Write = 87
+op_text Read = code "R"
+op_text Write = code "W"
 
 -- how a request is written
 abbrev pub request_text : RequestValues → List ℕ
@@ -56,7 +56,7 @@ pub record IsFront (text : List ℕ) (values : RequestValues) (end : ℕ) : Type
 
 -- one of the two letters
 abbrev pub is_op : List ℕ → Bool
-is_op (letter ∷ []) = letter == 82 || letter == 87
+is_op (letter ∷ []) = letter == code "R" || letter == code "W"
 is_op _ = false
 
 -- a length in its limits
@@ -83,13 +83,9 @@ pub record AreNumbers (texts : List (List ℕ)) (m n : ℕ) : Type 0 where
 
 -- What is read of a line: its values, or the fault of the first test that it fails
 
--- a letter's operation
-abbrev pub op_in : List ℕ → Op
-op_in letter = if pointwise nat_eq letter (82 ∷ []) then Read else Write
-
 -- the values in four fields, if the last two are numbers
 abbrev pub values_in : List (List ℕ) → Option RequestValues
-values_in (op ∷ device ∷ start ∷ len ∷ []) = if_both (λ start len. record { op = op_in op; device = device; start = start; len = len }) (number_of start) (number_of len)
+values_in (op ∷ device ∷ start ∷ len ∷ []) = if_both (λ start len. record { op = if pointwise nat_eq op (codes "R") then Read else Write; device = device; start = start; len = len }) (number_of start) (number_of len)
 values_in _ = None
 
 -- those values, if there are any and their length is in its limits
@@ -97,5 +93,6 @@ abbrev pub values_reading : Option RequestValues → Result RequestValues Reques
 values_reading None = Err Number
 values_reading (Some values) = if is_length values.len then Ok values else Err Length
 
+-- the values that a line says, or its fault: Form before Number before Length
 abbrev pub request_reading : List ℕ → Result RequestValues RequestFault
 request_reading line = if has_form (fields line) then values_reading (values_in (fields line)) else Err Form

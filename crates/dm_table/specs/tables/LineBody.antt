@@ -95,10 +95,6 @@ abbrev pub pair_in : (DevRef → ℕ → Target) → List (List ℕ) → Option 
 pair_in make (to ∷ number ∷ []) = option_map (λ n. make (dev_in to) n) (number_of number)
 pair_in make _ = None
 
--- a text and a number
-abbrev pub linear_in : List (List ℕ) → Option Target
-linear_in fields = pair_in Linear fields
-
 -- two fields for each column: a text and a number
 abbrev pub columns_in : List (List ℕ) → Option (List Column)
 columns_in [] = Some []
@@ -140,7 +136,7 @@ bare_in type _ = None
 abbrev pub target_in : List (List ℕ) → Option Target
 target_in [] = None
 target_in (type ∷ arguments) =
-    if pointwise nat_eq type (codes "linear") then linear_in arguments
+    if pointwise nat_eq type (codes "linear") then pair_in Linear arguments
     else (if pointwise nat_eq type (codes "striped") then striped_in arguments
     else (if pointwise nat_eq type (codes "snapshot") then snapshot_in arguments
     else (if pointwise nat_eq type (codes "snapshot-origin") then origin_in arguments

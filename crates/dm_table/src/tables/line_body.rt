@@ -10,7 +10,8 @@ ghost use Rattle.std.specs.Prelude.{◌≡◌, ℕ, true, false, length, drop, i
 ghost use Rattle.std.specs.List.{list_all};
 ghost use Rattle.dm_table.specs.words.Fields.{texts};
 ghost use Rattle.dm_table.specs.words.Name.{names_device, mapper};
-ghost use Rattle.dm_table.specs.tables.LineBody.{is_body_row, columns_in, is_half, linear_in, striped_in, snapshot_in, origin_in, has_target_names, kind_in};
+ghost use Rattle.dm_table.specs.declared.tables.table.Target.TheVariants.{Linear};
+ghost use Rattle.dm_table.specs.tables.LineBody.{is_body_row, columns_in, is_half, pair_in, striped_in, snapshot_in, origin_in, has_target_names, kind_in};
 ghost use Rattle.dm_table.specs.tables.LineReading.{dev_reading, reading_of, columns_reading, fault_before, target_reading, body_reading};
 ghost use Rattle.dm_table.specs.load.RowFaults.{Reads};
 
@@ -93,7 +94,7 @@ fn read_target(alloc: Global, target: &[&[u8]]) -> Result<Target, RowFault>
 /// The target that the arguments of a linear line say.
 fn read_linear(alloc: Global, arguments: &[&[u8]]) -> Result<Target, RowFault>
     ensures { (len : ℕ) → Reads (λ target. target) result
-        (reading_of (has_target_names len) (linear_in (texts arguments.now))) }
+        (reading_of (has_target_names len) (pair_in Linear (texts arguments.now))) }
 {
     let [to, offset] = arguments else {
         return Err(RowFault::Field);
