@@ -27,9 +27,11 @@ since-same (x ∷ xs) = since-same xs
 pub grows-same : (xs ys : List ℕ) → ys ≡ ys ++ since xs xs
 grows-same xs ys = sym (append-nil ys) ∙ ap (λ (zs : List ℕ). ys ++ zs) (sym (since-same xs))
 
+-- what an input did, from its parts
 abbrev input_as : (handed : List ℕ) (faults ends : ℕ) → InputPast
 input_as handed faults ends = record { handed = handed; faults = faults; ends = ends }
 
+-- what an output did, from its parts
 abbrev output_as : (written waiting : List ℕ) (faults flushes : ℕ) → OutputPast
 output_as written waiting faults flushes = record { written = written; waiting = waiting; faults = faults; flushes = flushes }
 

@@ -6,6 +6,7 @@ use Rattle.dm_table.specs.declared.load.load_fault.LoadKind.TheVariants.{Memory}
 use Rattle.dm_table.specs.declared.load.load_fault.LoadFault.{LoadFault}
 use Rattle.dm_table.specs.load.LoadFault.{Answers, IsMemoryFault, first_fault}
 
+-- the answer of a reader of a part, where texts describe values in this sense and have to pass these checks in this order
 pub record IsParsed {X : Type 0} (part : Part) (describes : List X → Type 0) (checks : List (List LoadFault)) (answer : Result (Vec X) LoadFault) : Type 0 where
   -- what is accepted describes these values, and what describes values is read as them, unless memory runs out
   pub accepted : IfOk answer (λ v. describes v.items)

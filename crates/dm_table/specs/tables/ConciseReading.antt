@@ -26,6 +26,7 @@ earlier_of (Some fault) other = Some fault
 abbrev pub fault_of_body : List ℕ → Option RowFault
 fault_of_body text = row_fault is_body_row is_body has_body_names (body_fields text)
 
+-- of the faults of bodies, the one whose check runs first
 abbrev pub fault_of_bodies : List (List ℕ) → Option RowFault
 fault_of_bodies [] = None
 fault_of_bodies (text ∷ texts) = earlier_of (fault_of_body text) (fault_of_bodies texts)
@@ -54,6 +55,7 @@ device_in n _ = None
 
 -- What is read
 
+-- the lines of one device, all at its place, or the earliest of a fault found before and those of the bodies
 abbrev pub bodies_reading : Place → Option RowFault → List (List ℕ) → Result (List Line) RowFault
 bodies_reading at before texts = unless (earlier_of before (fault_of_bodies texts)) (lines_in at texts)
 
@@ -62,9 +64,11 @@ abbrev pub device_unless : Option RowFault → Option DeviceSpec → Result Devi
 device_unless None device = ok_or device Syntax
 device_unless (Some fault) device = Err fault
 
+-- device number n, or the fault of its entries; the flag says that no newline stands in them
 abbrev pub entries_reading : ℕ → Bool → List (List ℕ) → Result DeviceSpec RowFault
 entries_reading n on_a_line entries = device_unless (fault_of_entries on_a_line entries) (device_in n entries)
 
+-- device number n, or the fault of its text
 abbrev pub device_reading : ℕ → List ℕ → Result DeviceSpec RowFault
 device_reading n text = device_unless (fault_of_device text) (device_in n (entries text))
 

@@ -95,6 +95,7 @@ abbrev pub parts_of : List ℕ → List (List ℕ)
 parts_of [] = []
 parts_of (byte ∷ bytes) = parts_at (code ";") (byte ∷ bytes)
 
+-- the texts of the devices
 abbrev pub devices_of : List ℕ → List (List ℕ)
 devices_of text = parts_of (without_newline text)
 

@@ -21,6 +21,7 @@ line_in at fields = option_map (line_at at) (body_in fields)
 
 -- What is read: the value, or the fault of the first test that it fails
 
+-- what a text names, if a name like that may be given
 abbrev pub dev_reading : List ℕ → Result DevRef RowFault
 dev_reading text = if is_dev_ref (dev_in text) then Ok (dev_in text) else Err Name
 
@@ -33,6 +34,7 @@ reading_of has_names (Some x) = if has_names x then Ok x else Err Name
 abbrev pub has_column_names : List Column → Bool
 has_column_names columns = list_all (λ column. is_dev_ref column.to) columns
 
+-- the columns that fields say, or what is wrong with them: Field before Name
 abbrev pub columns_reading : List (List ℕ) → Result (List Column) RowFault
 columns_reading fields = reading_of has_column_names (columns_in fields)
 
@@ -47,5 +49,6 @@ fault_before Memory fields = Memory
 abbrev pub target_reading : (len : ℕ) → List (List ℕ) → Result Target RowFault
 target_reading len fields = reading_of (has_target_names len) (target_in fields)
 
+-- the line at this place that fields say, or what is wrong with them: Field before Name
 abbrev pub body_reading : Place → List (List ℕ) → Result Line RowFault
 body_reading at fields = reading_of (λ line. has_target_names line.len line.target) (line_in at fields)

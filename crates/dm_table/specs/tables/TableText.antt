@@ -49,6 +49,7 @@ abbrev pub HasPlaceOf : List Line → Place → Type 0
 HasPlaceOf [] at = ⊥
 HasPlaceOf (line ∷ lines) at = at ≡ line.at
 
+-- what a device of table text can be: its text has no flag for read-only, and its place is that of its first line
 pub record IsDescribed (device : DeviceSpec) : Type 0 where
   pub writable : device.ro ≡ false
   pub at : HasPlaceOf device.lines device.at
