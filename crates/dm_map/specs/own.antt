@@ -2,5 +2,6 @@
 pub mod Contents
 pub mod Rows
 pub mod Halts
+pub mod Requests
 pub mod Tops
 pub mod Ways

@@ -6,6 +6,7 @@ use Rattle.dm_stack.specs.declared.id.Lower.TheVariants.{Device}
 use Rattle.dm_stack.specs.claims.Claims.{IsTidy, IsTop}
 use Rattle.dm_stack.specs.Description.{Description, device_len}
 use Rattle.dm_map.specs.own.Contents.{Stays, content, value_read}
+use Rattle.dm_map.specs.own.Requests.{AreAlone}
 use Rattle.dm_map.specs.own.Rows.{Rows}
 use Rattle.dm_map.specs.walk.Mapping.{request_step, sector_step}
 use Rattle.dm_map.specs.walk.SnapshotWrites.{read}
@@ -19,7 +20,7 @@ use Rattle.dm_replay.specs.Histories.{Asked, World, asked_answers, world_after}
 use Rattle.dm_replay.specs.Replay.{AreOfTops}
 use Rattle.dm_replay.specs.Rows.{AreOfRow, answer_of, rows_after}
 use Rattle.dm_replay.specs.Values.{Answer, Gives, Failed, Values, played_answers}
-use Rattle.dm_replay.proofs.OwnWorlds.{AreAlone, IsOwn, own_after}
+use Rattle.dm_replay.proofs.OwnWorlds.{IsOwn, own_after}
 
 -- what the unit of a read answers
 abbrev read_answer : BlockUnit → Values → Answer
@@ -86,7 +87,7 @@ request_of_row stack state number device start len values rows each = by_end (na
     by_end true = errors_of_row number device start len values rows
     by_end false = reads_of_row stack state number device start len values rows each
 
-pub own_answers : (stack : Description) (all : List Asked) (asked : Asked) → AreAlone stack → IsTidy stack → AreOfTops stack all → IsTop stack asked.device → asked.halted_after ≡ None → asked.op ≡ ops.Read
+pub own_answers : (stack : Description) (all : List Asked) (asked : Asked) → AreAlone Value stack → IsTidy stack → AreOfTops stack all → IsTop stack asked.device → asked.halted_after ≡ None → asked.op ≡ ops.Read
     → AreOfRow (rows_after stack all) asked.device asked.start (asked_answers stack (world_after stack all) asked)
 own_answers stack all asked law tidy each top whole reads =
     let world = world_after stack all in let rows = rows_after stack all in

@@ -12,8 +12,10 @@ use Rattle.dm_map.specs.walk.Mapping.{request_step, step_for}
 use Rattle.dm_map.specs.state.State.{State, start_state}
 use Rattle.dm_map.specs.own.Contents.{sector_past}
 use Rattle.dm_map.specs.own.Halts.{halted_units}
+use Rattle.dm_map.specs.own.Requests.{AreAlone}
 use Rattle.dm_replay.specs.declared.kept_write.KeptWrite.{KeptWrite}
 use Rattle.dm_replay.specs.declared.range_values.RangeValues.{RangeValues}
+use Rattle.dm_replay.specs.declared.value.Value.{Value}
 use Rattle.dm_replay.specs.declared.value_run.ValueRun.{ValueRun}
 use Rattle.dm_replay.specs.Histories.{Asked, World, asked_answers, first_world, left_state, next_world, played_of, world_after, world_from}
 use Rattle.dm_replay.specs.OfDisks.{AreValuesOf}
@@ -24,7 +26,7 @@ use Rattle.dm_replay.specs.Reruns.{kept_request, rerun_from, with_request}
 use Rattle.dm_replay.specs.Runs.{flat}
 use Rattle.dm_replay.specs.Values.{old_values, played, played_answers}
 use Rattle.dm_replay.proofs.OfDiskLemmas.{old_of, same_of}
-use Rattle.dm_replay.proofs.OwnWorlds.{AreAlone, own_after}
+use Rattle.dm_replay.proofs.OwnWorlds.{own_after}
 use Rattle.dm_replay.proofs.Playbacks.{units_asked}
 use Rattle.dm_replay.proofs.RerunLemmas.{next_inside, rerun_halted, rerun_more, whole_few}
 use Rattle.dm_replay.proofs.StoredLemmas.{nothing_held}
@@ -113,7 +115,7 @@ going_whole stack disks later_disks mapper later ranges newer all writes request
     (rerun_more stack request.op write writes before.state (step_for stack request device before.state).state was.rerun_is refl)
 
 -- no more sectors of a halted request are whole than it has
-pub few_whole : (stack : Description) (mapper : MapperView) (all : List Asked) (request : Request) (device units : ℕ) → AreAlone stack → IsTidy stack → AreOfTops stack all → IsTop stack device
+pub few_whole : (stack : Description) (mapper : MapperView) (all : List Asked) (request : Request) (device units : ℕ) → AreAlone Value stack → IsTidy stack → AreOfTops stack all → IsTop stack device
     → mapper.stack ≡ stack → mapper.state ≡ (world_after stack all).state
     → sector_past (halted_units mapper.stack request.op device request.start request.len units mapper.state) 0 ≤ request.len
 few_whole stack mapper all request device units law tidy each top of state_is =

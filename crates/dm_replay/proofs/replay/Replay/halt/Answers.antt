@@ -28,8 +28,8 @@ whole_sectors-whole-requires-clause-next g c =
 pub rerun-requires : goal.rerun-requires
 rerun-requires g c =
     let inside = c.self.inside in let request = c.args.request.now in let device = c.in-Some.device in let going = c.self.invariant.going c.if-failed.false in
-    let law = c.requests_are_alone.ensures in let size = c.whole_sectors-whole.result in
-    let few = few_whole inside.stack.now inside.mapper inside.asked request device c.args.units (record { begins = law.start; stays = law.request; stops = law.halted; few = law.few })
+    let size = c.whole_sectors-whole.result in
+    let few = few_whole inside.stack.now inside.mapper inside.asked request device c.args.units c.requests_are_alone.ensures
     c.self.invariant.tidy going.asked_are c.in-Some.ensures.some.1 going.mapper_stack going.state_is in
     let whole = are_whole inside.stack.now inside.mapper request device c.args.units c.in-Ok.player.playing.next size going.mapper_stack c.in-Ok.ensures.next few c.whole_sectors-whole.ensures in
     let one = is_kept inside.stack.now request device size (named_there inside.stack.now request.device.now device c.in-Some.ensures.some.0) c.in-Some.ensures.some.1 whole.few in
@@ -38,8 +38,8 @@ rerun-requires g c =
 pub invariant_of-result : goal.invariant_of-result
 invariant_of-result g c =
     let inside = c.self.inside in let request = c.args.request.now in let device = c.in-Some.device in let did = c.in-Ok.ensures in let going = c.self.invariant.going c.if-failed.false in
-    let law = c.requests_are_alone.ensures in let size = c.whole_sectors-whole.result in let player = c.in-Ok.player in let again = c.in-Ok-rerun.ensures in
-    let few = few_whole inside.stack.now inside.mapper inside.asked request device c.args.units (record { begins = law.start; stays = law.request; stops = law.halted; few = law.few })
+    let size = c.whole_sectors-whole.result in let player = c.in-Ok.player in let again = c.in-Ok-rerun.ensures in
+    let few = few_whole inside.stack.now inside.mapper inside.asked request device c.args.units c.requests_are_alone.ensures
     c.self.invariant.tidy going.asked_are c.in-Some.ensures.some.1 going.mapper_stack going.state_is in
     let whole = are_whole inside.stack.now inside.mapper request device c.args.units player.playing.next size going.mapper_stack did.next few c.whole_sectors-whole.ensures in
     let one = is_kept inside.stack.now request device size (named_there inside.stack.now request.device.now device c.in-Some.ensures.some.0) c.in-Some.ensures.some.1 whole.few in

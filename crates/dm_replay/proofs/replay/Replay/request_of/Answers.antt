@@ -52,12 +52,11 @@ returns-clause-asked g c =
 pub returns-clause-own : goal.returns-clause-own
 returns-clause-own g c reads =
     let inside = c.self.inside in let request = c.args.request.now in let did = c.in-Ok.ensures in let going = c.self.invariant.going c.if-self.false in
-    let law = c.requests_are_alone.ensures in
     let device = c.args.device in
     let within = subst (λ (r : Replaying). c.args.device < length r.stack.devices) (sym c.self.view_is) c.requires in
     let top = noted_top c.self.inside.stack.now c.self.inside.tops.items c.args.device c.index.result c.index-2.result.now c.self.invariant.tops_are within c.index.ensures
     (get_or_read c.self.inside.tops.items c.index.result c.index-2.result.now (omega (arith, within, c.index.ensures, c.self.invariant.tops_are.all)) c.index-2.ensures false) c.if-not-index.false in
-    rw (← c.self.view_is, answers_after inside.stack.now inside.player.stack.now inside.mapper inside.player.playing.values.disks.items inside.asked inside.writes.items request device c.in-Ok.runs.items going did.answers) (own_answers inside.stack.now inside.asked (whole_request request device) (record { begins = law.start; stays = law.request; stops = law.halted; few = law.few }) c.self.invariant.tidy going.asked_are top refl reads)
+    rw (← c.self.view_is, answers_after inside.stack.now inside.player.stack.now inside.mapper inside.player.playing.values.disks.items inside.asked inside.writes.items request device c.in-Ok.runs.items going did.answers) (own_answers inside.stack.now inside.asked (whole_request request device) c.requests_are_alone.ensures c.self.invariant.tidy going.asked_are top refl reads)
 
 pub returns-clause-one : goal.returns-clause-one
 returns-clause-one g c = λ others are same. one_runs others c.in-Ok.runs.items are c.in-Ok.ensures.maximal same

@@ -1,0 +1,24 @@
+-- Requests of top devices, as all top devices see them.
+use Rattle.std.specs.Prelude.{ℕ, ◌≤◌}
+use Rattle.dm_table.specs.declared.requests.request.Op.{Op}
+use Rattle.dm_stack.specs.claims.Claims.{IsTidy, IsTop}
+use Rattle.dm_stack.specs.Description.{Description}
+use Rattle.dm_map.specs.own.Contents.{Values, played, sector_past}
+use Rattle.dm_map.specs.own.Halts.{halted_state, halted_units}
+use Rattle.dm_map.specs.own.Rows.{AreOwn, Rows, first_rows, rows_played}
+use Rattle.dm_map.specs.state.State.{State, start_state}
+use Rattle.dm_map.specs.walk.Mapping.{request_step}
+
+-- each top device has its row, or errors, whatever is asked of top devices, where no claims meet: at the start, after a request, and after the first units of one, of which no more sectors are whole than it has
+pub record AreAlone (V : Type 0) (stack : Description) : Type 0 where
+  pub start : (zeros : V) (values : Values V) → AreOwn zeros stack (start_state stack) values (first_rows zeros stack values)
+  pub request : (zeros : V) (written : ℕ → V) (op : Op) (state : State) (top start len : ℕ) (values : Values V) (rows : Rows V) → IsTidy stack → IsTop stack top → AreOwn zeros stack state values rows
+      → AreOwn zeros stack (request_step stack op top start len state).state
+      (played zeros written start (request_step stack op top start len state).units values)
+      (rows_played written top start (request_step stack op top start len state).units rows)
+  pub halted : (zeros : V) (written : ℕ → V) (op : Op) (state : State) (top start len count : ℕ) (values : Values V) (rows : Rows V) → IsTidy stack → IsTop stack top → AreOwn zeros stack state values rows
+      → AreOwn zeros stack (halted_state stack op top start len count state)
+      (played zeros written start (halted_units stack op top start len count state) values)
+      (rows_played written top start (halted_units stack op top start len count state) rows)
+  pub few : (zeros : V) (op : Op) (state : State) (top start len count : ℕ) (values : Values V) (rows : Rows V) → IsTidy stack → IsTop stack top → AreOwn zeros stack state values rows
+      → sector_past (halted_units stack op top start len count state) 0 ≤ len
