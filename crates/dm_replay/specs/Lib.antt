@@ -2,6 +2,7 @@ pub mod Halting
 pub mod Histories
 pub mod OfDisks
 pub mod Patches
+pub mod Playback
 pub mod Player
 pub mod Ranges
 pub mod Replay

@@ -1,11 +1,12 @@
 -- Units, values and answers that name only disks of a stack, which has the given number of them.
-use Rattle.std.specs.Prelude.{ℕ, ◌<◌, List}
+use Rattle.std.specs.Prelude.{◌≡◌, ℕ, ◌<◌, List}
 use Rattle.std.specs.List.{AllByRecursion}
 use Rattle.dm_map.specs.pieces.Units.{BlockUnit, ReadOf, CopyOf}
 use Rattle.dm_replay.specs.declared.value.Value.{Value}
 use Rattle.dm_replay.specs.declared.value.Value.TheVariants as value
 use Rattle.dm_replay.specs.declared.value_run.ValueRun.{ValueRun}
 use Rattle.dm_replay.specs.declared.value_run.ValueRun.TheVariants as runs
+use Rattle.dm_replay.specs.Runs.{AreMaximal, flat}
 use Rattle.dm_replay.specs.Values.{Answer, Gives, Failed, Values}
 
 abbrev pub IsValueOf : (disks : ℕ) → Value → Type 0
@@ -31,3 +32,10 @@ AreUnitsOf disks units = AllByRecursion (IsUnitOf disks) units
 
 abbrev pub AreValuesOf : (disks : ℕ) → Values → Type 0
 AreValuesOf disks values = (disk sector : ℕ) → disk < disks → IsValueOf disks (values disk sector)
+
+-- the maximal runs of these answers, which are the only ones; they name only such disks
+pub record AreRunsOf (disks : ℕ) (answers : List Answer) (runs : List ValueRun) : Type 0 where
+  pub are : flat runs ≡ answers
+  pub maximal : AreMaximal runs
+  pub one : (others : List ValueRun) → AreMaximal others → flat others ≡ answers → others ≡ runs
+  pub on : AllByRecursion (IsRunOf disks) runs

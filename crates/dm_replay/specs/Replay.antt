@@ -1,6 +1,7 @@
 -- A replay, and what its results say.
-use Rattle.std.specs.Prelude.{◌≡◌, ℕ, ◌<◌, ◌≤◌, Bool, true, false, List, [], None, Some, length, position}
+use Rattle.std.specs.Prelude.{◌≡◌, ℕ, ◌<◌, ◌≤◌, Bool, true, false, List, [], ◌∷◌, ◌++◌, None, Some, length, position}
 use Rattle.std.specs.List.{AllByRecursion}
+use Rattle.dm_table.specs.declared.requests.request.Op.TheVariants.{Read}
 use Rattle.dm_table.specs.declared.requests.request.Request.{Request}
 use Rattle.dm_table.specs.declared.requests.request.TheConstants.{MOST_SECTORS}
 use Rattle.dm_stack.specs.declared.claims.clash.Clash.{Clash}
@@ -12,10 +13,13 @@ use Rattle.dm_replay.specs.declared.kept_write.KeptWrite.{KeptWrite}
 use Rattle.dm_replay.specs.declared.range_values.RangeValues.{RangeValues}
 use Rattle.dm_replay.specs.declared.replay_fault.ReplayFault.{ReplayFault}
 use Rattle.dm_replay.specs.declared.replay_fault.ReplayFault.TheVariants as faults
-use Rattle.dm_replay.specs.Histories.{Asked, world_after}
-use Rattle.dm_replay.specs.OfDisks.{AreValuesOf}
-use Rattle.dm_replay.specs.Stored.{values_of}
+use Rattle.dm_replay.specs.declared.value_run.ValueRun.{ValueRun}
+use Rattle.dm_replay.specs.Histories.{Asked, asked_answers, world_after}
+use Rattle.dm_replay.specs.OfDisks.{AreRunsOf, AreValuesOf}
 use Rattle.dm_replay.specs.Reruns.{kept_request, rerun_from}
+use Rattle.dm_replay.specs.Rows.{AreOfRow, rows_after}
+use Rattle.dm_replay.specs.Runs.{flat}
+use Rattle.dm_replay.specs.Stored.{values_of}
 
 -- a replay: its stack, the requests that it accepted, and whether it failed: it was out of memory
 pub record Replaying : Type 0 where
@@ -50,6 +54,14 @@ IsNotBegun faults.Untidy of = (clash : Clash) × IsClash (claims of) clash
 IsNotBegun faults.Memory of = Unit {0}
 IsNotBegun faults.NotTop of = ⊥
 IsNotBegun faults.Stopped of = ⊥
+
+-- a request was answered by these runs after those before it: a read by its device's row, or errors. It is one of the requests then
+pub record IsAnswered (old new : Replaying) (request : Asked) (runs : List ValueRun) : Type 0 where
+  pub answers : AreRunsOf (length old.stack.disks) (asked_answers old.stack (world_after old.stack old.asked) request) runs
+  pub own : request.op ≡ Read → AreOfRow (rows_after old.stack old.asked) request.device request.start (flat runs)
+  pub asked : new.asked ≡ old.asked ++ request ∷ []
+  pub going : old.failed ≡ false
+  pub goes_on : new.failed ≡ false
 
 -- why a request was not answered, where this says that it is of a top device, and what the replay is then
 abbrev pub IsUnanswered : ReplayFault → (IsOfTop : Type 0) → (old new : Replaying) → Type 0

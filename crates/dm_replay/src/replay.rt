@@ -3,17 +3,11 @@
 //! `specs/Histories.antt` says what the disks hold after the requests that were accepted, and what a
 //! request answers then; `specs/Rows.antt` says what each device would hold if it were alone.
 
-ghost use Rattle.std.specs.Prelude.{◌≡◌, ◌∷◌, ◌+◌, ◌++◌, ◌-◌, ◌<◌, ◌≤◌, [], IfErr, IfOk, IfSome, List, None, OnOk, Option, Some, false, if◌then◌else◌, length, nat_lt, position};
-ghost use Rattle.std.specs.List.{AllByRecursion};
-ghost use Rattle.dm_table.specs.declared.requests.request.Op.TheVariants.{Read};
+ghost use Rattle.std.specs.Prelude.{◌≡◌, ◌∷◌, ◌+◌, ◌++◌, ◌-◌, ◌<◌, ◌≤◌, [], IfErr, IfOk, IfSome, None, OnOk, Option, Some, false, if◌then◌else◌, length, nat_lt, position};
 ghost use Rattle.dm_stack.specs.claims.Claims.{AreTops, IsTidy, IsTop};
-ghost use Rattle.dm_stack.specs.Description.{device_id, device_len, is_same};
-ghost use Rattle.dm_replay.specs.declared.value_run.ValueRun.{ValueRun};
-ghost use Rattle.dm_replay.specs.Histories.{asked_answers, world_after};
-ghost use Rattle.dm_replay.specs.OfDisks.{IsRunOf};
-ghost use Rattle.dm_replay.specs.Replay.{HasTop, IsNotAnswered, IsNotBegun, IsNotHalted, IsUnanswered, asked_request, halted_request, new_replay, whole_request};
-ghost use Rattle.dm_replay.specs.Rows.{AreOfRow, rows_after};
-ghost use Rattle.dm_replay.specs.Runs.{AreMaximal, flat};
+ghost use Rattle.dm_stack.specs.Description.{device_len, is_same};
+ghost use Rattle.dm_replay.specs.Replay.{HasTop, IsAnswered, IsNotAnswered, IsNotBegun, IsNotHalted, IsUnanswered};
+ghost use Rattle.dm_replay.specs.Replay.{asked_request, halted_request, new_replay, whole_request};
 
 #[cfg(test)]
 mod tests;
@@ -109,22 +103,9 @@ impl<'s, T: Taken> Replay<'s, T> {
         request: &Request<'_>,
     ) -> Result<Vec<ValueRun>, ReplayFault>
         ensures stack { self.new.stack ≡ self.old.stack }
-        ensures answers { IfOk result
-            (λ runs. flat runs.items
-            ≡ asked_answers self.old.stack (world_after self.old.stack self.old.asked)
-            (asked_request self.old.stack request.now)) }
-        ensures own { IfOk result (λ runs. request.now.op ≡ Read
-            → AreOfRow (rows_after self.old.stack self.old.asked)
-            (device_id self.old.stack request.now.device.now) request.now.start (flat runs.items)) }
-        ensures runs { IfOk result (λ runs. AreMaximal runs.items) }
-        ensures one { IfOk result (λ runs. (others : List ValueRun) → AreMaximal others
-            → flat others ≡ flat runs.items → others ≡ runs.items) }
-        ensures disks { IfOk result
-            (λ runs. AllByRecursion (IsRunOf (length self.old.stack.disks)) runs.items) }
+        ensures answered { IfOk result
+            (λ runs. IsAnswered self.old self.new (asked_request self.old.stack request.now) runs.items) }
         ensures top { OnOk result (HasTop self.old.stack request.now.device.now) }
-        ensures asked { OnOk result
-            (self.new.asked ≡ self.old.asked ++ asked_request self.old.stack request.now ∷ []) }
-        ensures going { OnOk result ((self.old.failed ≡ false) × (self.new.failed ≡ false)) }
         ensures fault { IfErr result (λ fault. IsNotAnswered fault request.now.device.now self.old self.new) }
     {
         match self.stack.device(request.device) {
@@ -148,22 +129,9 @@ impl<'s, T: Taken> Replay<'s, T> {
     ) -> Result<Vec<ValueRun>, ReplayFault>
         requires { device < length self.old.stack.devices }
         ensures stack { self.new.stack ≡ self.old.stack }
-        ensures answers { IfOk result
-            (λ runs. flat runs.items
-            ≡ asked_answers self.old.stack (world_after self.old.stack self.old.asked)
-            (whole_request request.now device)) }
-        ensures own { IfOk result (λ runs. request.now.op ≡ Read
-            → AreOfRow (rows_after self.old.stack self.old.asked) device request.now.start
-            (flat runs.items)) }
-        ensures runs { IfOk result (λ runs. AreMaximal runs.items) }
-        ensures one { IfOk result (λ runs. (others : List ValueRun) → AreMaximal others
-            → flat others ≡ flat runs.items → others ≡ runs.items) }
-        ensures disks { IfOk result
-            (λ runs. AllByRecursion (IsRunOf (length self.old.stack.disks)) runs.items) }
+        ensures answered { IfOk result
+            (λ runs. IsAnswered self.old self.new (whole_request request.now device) runs.items) }
         ensures top { OnOk result (IsTop self.old.stack device) }
-        ensures asked { OnOk result
-            (self.new.asked ≡ self.old.asked ++ whole_request request.now device ∷ []) }
-        ensures going { OnOk result ((self.old.failed ≡ false) × (self.new.failed ≡ false)) }
         ensures fault { IfErr result
             (λ fault. IsUnanswered fault (IsTop self.old.stack device) self.old self.new) }
     {

@@ -11,7 +11,7 @@ returns-in-Ok g c =
     let f = front_played mapper.stack request device c.args.units c.min-first.result mapper.state c.args.player.playing c.begin.new.self c.into_player.result before after first c.begin.ensures.playing
     (ap (λ s. s.now) c.begin.ensures.stack ∙ c.requires.stack) c.new-halting.ensures.player c.new-halting.ensures.left c.requires.disks
     (front_all before after (units_asked mapper.stack request device mapper.state) c.in-Ok.ensures.took) c.into_player.ensures in
-    record { stack = f.stack_is ∙ sym c.requires.stack; next = f.next; values = f.values; disks = f.disks }
+    record { next = f.next; played = record { stack = f.stack_is ∙ sym c.requires.stack; values = f.values; disks = f.disks } }
 
 pub returns-in-Err-Sink : goal.returns-in-Err-Sink
 returns-in-Err-Sink g c =
@@ -20,4 +20,4 @@ returns-in-Err-Sink g c =
     let f = front_played mapper.stack request device c.args.units c.min-first.result mapper.state c.args.player.playing c.begin.new.self c.into_player-in-Err-Sink.result before after first c.begin.ensures.playing
     (ap (λ s. s.now) c.begin.ensures.stack ∙ c.requires.stack) c.new-halting.ensures.player c.new-halting.ensures.left c.requires.disks
     (front_halted before after (units_asked mapper.stack request device mapper.state) (rw c.in-Err-Sink.field-0-is at c.in-Err-Sink.ensures.left) c.new-halting.ensures.going c.if-halting.true) c.into_player-in-Err-Sink.ensures in
-    record { stack = f.stack_is ∙ sym c.requires.stack; next = f.next; values = f.values; disks = f.disks }
+    record { next = f.next; played = record { stack = f.stack_is ∙ sym c.requires.stack; values = f.values; disks = f.disks } }

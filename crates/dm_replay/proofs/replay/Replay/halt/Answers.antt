@@ -47,8 +47,8 @@ invariant_of-result g c =
       tidy = c.self.invariant.tidy;
       tops_are = c.self.invariant.tops_are;
       going = λ _. rw (c.add.ensures, c.in-Ok-keep.ensures) (going_halted inside.stack.now inside.player.stack.now player.stack.now inside.mapper c.in-Ok-rerun.mapper inside.player.playing.values.disks.items player.playing.values.disks.items inside.asked inside.writes.items request device c.args.units size
-          one going again.going again.stack did.stack
-          (again.state ∙ ap (rerun_from inside.stack.now (start_state inside.stack.now)) (c.deref.ensures.value ∙ c.in-Ok-keep.ensures)) did.values did.disks whole);
+          one going again.going again.stack did.played.stack
+          (again.state ∙ ap (rerun_from inside.stack.now (start_state inside.stack.now)) (c.deref.ensures.value ∙ c.in-Ok-keep.ensures)) did.played.values did.played.disks whole);
     }
 
 pub returns-clause-asked : goal.returns-clause-asked

@@ -6,17 +6,11 @@ use Rattle.dm_replay.specs.Replay.{HasTop, Replaying}
 use Rattle.dm_replay.proofs.NamedLemmas.{answered_top, named_id, named_top, top_named, unanswered_result}
 use Rattle.dm_replay.proofs.replay.Replay.request.Goals as goal
 
-pub returns-in-Some-clause-answers : goal.returns-in-Some-clause-answers
-returns-in-Some-clause-answers g c =
+pub returns-in-Some-clause-answered : goal.returns-in-Some-clause-answered
+returns-in-Some-clause-answered g c =
     let old = c.args.self.now in let request = c.args.request.now in
     let named = subst (λ (r : Replaying). position (λ device. is_same device.name request.device.now) r.stack.devices ≡ Some c.in-Some.device) c.self.view_is (sym c.device.ensures ∙ c.in-Some.is) in
-    rw (← named_id old.stack request.device.now c.in-Some.device named) c.request_of.ensures.answers
-
-pub returns-in-Some-clause-own : goal.returns-in-Some-clause-own
-returns-in-Some-clause-own g c =
-    let old = c.args.self.now in let request = c.args.request.now in
-    let named = subst (λ (r : Replaying). position (λ device. is_same device.name request.device.now) r.stack.devices ≡ Some c.in-Some.device) c.self.view_is (sym c.device.ensures ∙ c.in-Some.is) in
-    rw (← named_id old.stack request.device.now c.in-Some.device named) c.request_of.ensures.own
+    rw (← named_id old.stack request.device.now c.in-Some.device named) c.request_of.ensures.answered
 
 pub returns-in-Some-clause-top : goal.returns-in-Some-clause-top
 returns-in-Some-clause-top g c =

@@ -29,7 +29,7 @@ returns-in-Ok-write_runs-clause-answered g c =
     let wrote = c.in-Ok-write_runs.ensures in
     let same : c.deref.result.now ≡ c.in-Ok.runs.items = search rules in (
       played_by_name c.args.stack.now replay.stack replay.asked c.request_of.new.self.asked request c.in-Some.device c.in-Ok.runs.items (g.W.Output.past c.args.self.now.output.now).written (g.W.Output.past c.write_runs.new.writer).written
-          c.requires.ready.0 (c.requires.found ∙ c.in-Some.is) did.top did.runs did.answers did.asked
+          c.requires.ready.0 (c.requires.found ∙ c.in-Some.is) did.top did.answered.answers.maximal did.answered.answers.are did.answered.asked
           (wrote.ok ∙ ap (runs_text c.args.stack.now request.number) same),
       record { moved = wrote.moved; same_reference = refl },
     )
@@ -42,7 +42,7 @@ returns-in-Ok-clause-stopped g c =
     let wrote = c.in-Err.ensures in
     let text = written_since (g.W.Output.past c.args.self.now.output.now) (g.W.Output.past c.write_runs.new.writer) in
     let same : c.deref.result.now ≡ c.in-Ok.runs.items = search rules in (
-      cut_by_name c.args.stack.now replay.stack replay.asked request c.in-Some.device c.in-Ok.runs.items text c.requires.ready.0 (c.requires.found ∙ c.in-Some.is) did.top did.runs did.answers
+      cut_by_name c.args.stack.now replay.stack replay.asked request c.in-Some.device c.in-Ok.runs.items text c.requires.ready.0 (c.requires.found ∙ c.in-Some.is) did.top did.answered.answers.maximal did.answered.answers.are
           (subst (λ items. IsCutShort (runs_text c.args.stack.now request.number items) text) same wrote.left),
       record { moved = wrote.moved; same_reference = refl },
     )

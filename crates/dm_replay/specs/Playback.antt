@@ -1,0 +1,23 @@
+-- The playback of a request: who can play it, and what comes of it.
+use Rattle.std.specs.Prelude.{◌≡◌, ℕ, ◌<◌, false, List, length}
+use Rattle.dm_table.specs.declared.requests.request.Request.{Request}
+use Rattle.dm_stack.specs.Description.{Description}
+use Rattle.dm_map.specs.Mapper.{MapperView}
+use Rattle.dm_map.specs.pieces.Units.{BlockUnit}
+use Rattle.dm_replay.specs.declared.player.Player.{Player}
+use Rattle.dm_replay.specs.OfDisks.{AreValuesOf}
+use Rattle.dm_replay.specs.Stored.{values_of}
+use Rattle.dm_replay.specs.Values.{played}
+
+-- a mapper that has not failed, and a player, of one stack: it has the device, and the disks that the values of the player name
+pub record CanPlay (mapper : MapperView) (player : Player) (device : ℕ) : Type 0 where
+  pub going : mapper.failed ≡ false
+  pub stack : player.stack.now ≡ mapper.stack
+  pub device : device < length mapper.stack.devices
+  pub disks : AreValuesOf (length mapper.stack.disks) (values_of player.playing.values.disks.items)
+
+-- a player of this stack played these units of a request
+pub record HasPlayedOf (of : Description) (request : Request) (units : List BlockUnit) (old new : Player) : Type 0 where
+  pub stack : new.stack.now ≡ old.stack.now
+  pub values : (disk sector : ℕ) → values_of new.playing.values.disks.items disk sector ≡ played request.number request.start units (values_of old.playing.values.disks.items) disk sector
+  pub disks : AreValuesOf (length of.disks) (values_of new.playing.values.disks.items)
