@@ -86,7 +86,7 @@ def check_full(tally, program, top):
     got = full("W a 0 1\n", "a: 0 8 zero\n", "")
     tally.same("no store", got, 1, "", "dmremap-tools store-full: %s: the command knows no snapshot\n" % program.file("full/requests", ""))
     got = tool_calls.call(top, ["store-full", "/dev/null", "table", "none", "none", "--program", os.path.join(program.room, "none")])
-    tally.same("stores by no program", got, 1, "", "dmremap-tools store-full: /dev/null: not a file of requests\n")
+    tally.same("stores of no table", got, 1, "", "dmremap-tools store-full: none: No such file or directory\n")
     got = tool_calls.call(top, ["store-full", program.file("full/requests", ""), "lvm", "none", "none"])
     tally.same("stores with words too many", got, 2, "", "usage: REQUESTS FORMAT FILE [DISKS]\ndmremap-tools store-full: give DISKS, or leave it out with lvm\n")
     got = tool_calls.call(top, ["store-full", program.file("full/requests", ""), "table", program.file("full/table", table), program.file("full/disks", disks), "--program", "no/where"])

@@ -79,6 +79,10 @@ def check_missing(tally, program, top):
     tally.same("DISKS that can't be written", got, 5, "refused\n", TOOL + " machine: no/where: No such file or directory\n")
 
 
+# What lsblk says of the devices that have tables.
+DEVICES = "253:0 8192 dm-0 \n253:1 32768 dm-1 \n253:2 8192 dm-2 \n253:3 8192 dm-3 \n"
+
+
 def check_images(tally, program, top):
     """Lengths of images, in whole sectors."""
     for name, size in (("one", 1100), ("two", 512)):
@@ -101,21 +105,47 @@ def check_images(tally, program, top):
     got = tool_calls.call(top, ["machine", "--disks", "disks", "ls", "status", "table"], folder=folder)
     tally.same("a machine without lengths", got, 2, "refused\n", TOOL + " machine: give LSBLK or --paths PATHS\n")
     program.file("machines/sda.img", physical_volumes.gpt((64, 1999)).ljust(2048 * 512, b"\0"))
-    for number, output, said in (
-            ("8:1", "refused\n", TOOL + " machine: sda.img: the image of a whole disk (GPT), and 8:1 is a partition: give that, cut out with dd\n"),
-            ("8:16", None, "")):
-        program.file("machines/paths", number + " sda.img\n")
+    program.file("machines/mbr.img", physical_volumes.mbr((0x83, 8, 100)).ljust(2048 * 512, b"\0"))
+    sda, small = "sda.img: the image of a whole disk (GPT), and %s a partition: give the partition that it is, as IMAGE?offset=BYTES", DEVICES + "8:1 512000 sda1 sda\n"
+    for number, image, words, length, said in (
+            ("8:1", "sda.img", [], None, sda % "8:1 is"), ("8:16", "sda.img", [], 2048, ""),
+            ("259:1", "sda.img", [], None, sda % "259:1 may be"), ("259:1", "sda.img?offset=32768", [], 1936, ""),
+            ("8:1", "sda.img?offset=32768", [], 1936, ""),
+            ("8:1", "sda.img?offset=512", [], None, "sda.img: neither a partition nor a physical volume begins at byte 512"),
+            ("8:1", "sda.img", [DEVICES + "8:1 991232 sda1 sda\n"], 1936, ""), ("8:1", "sda.img", [DEVICES + "8:1 1048576 sda1 sda\n"], 2048, ""),
+            ("8:1", "sda.img", [small], None, sda % "8:1 is"),
+            ("8:1", "sda.img?offset=32768", [small], None, "sda.img?offset=32768: lsblk says that 8:1 has 1000 sectors, and there it has 1936"),
+            ("8:1", "mbr.img?offset=4096", [], 100, ""), ("8:1", "mbr.img?offset=32768", ["--sector-size", "4096"], 800, "")):
+        program.file("machines/paths", "%s %s\n" % (number, image))
         program.file("machines/table", machine_rows.ALL.replace("8:1 ", number + " "))
-        got = tool_calls.call(top, ["machine", "--disks", "disks", "--paths", "paths", "ls", "status", "table"], folder=folder)
-        wanted = machine_rows.ALL.replace("253:0", "/dev/mapper/base").replace("253:1", "/dev/mapper/cow").replace("8:1 ", number + " ")
-        tally.same("a machine with the image of a disk for " + number, got, 0 if output is None else 1, wanted if output is None else output, said)
+        if words and words[0].startswith(DEVICES):
+            words = [os.path.basename(program.file("machines/lsblk", words[0]))]
+        got = tool_calls.call(top, ["machine", "--disks", "disks", "--paths", "paths", "ls", "status", *words, "table"], folder=folder)
+        disk = "/dev/sda1" if words == ["lsblk"] else number
+        wanted = machine_rows.ALL.replace("253:0", "/dev/mapper/base").replace("253:1", "/dev/mapper/cow").replace("8:1 ", disk + " ")
+        tally.same("a machine with %s at %s %s" % (number, image, words), got, 1 if said else 0, "refused\n" if said else wanted,
+                   "%s machine: %s\n" % (TOOL, said) if said else "")
+        found = read(os.path.join(folder, "disks")).decode()
+        tally.holds("DISKS with %s at %s %s" % (number, image, words), found == ("refused\n" if said else "%s %d\n" % (disk, length)), "it is %r" % found)
+    for size in ("100", "0", str(1 << 31)):
+        for command in (["machine", "--paths", "paths", "--disks", "disks", "ls", "status", "table"], ["partitions", "--image", "/dev/sda=sda.img", "table"],
+                        ["owner", "table"], ["files", "home", "table", "table"]):
+            got = tool_calls.call(top, [*command, "--sector-size", size], folder=folder)
+            tally.same("%s with sectors of %s bytes" % (command[0], size), got, 2, "refused\n" * (command[0] != "files"),
+                       "%s %s: --sector-size is a multiple of 512, up to 2^30: %s\n" % (TOOL, command[0], size))
+
+
+WHOLE = "%s: the image of a whole disk (GPT), whose %s read\n"
 
 
 def check_bound_images(tally, program, top):
     """Which physical volume an image is, by the id in its label."""
     first, second, other = (physical_volumes.volume(identity=it.ljust(32, b"x")) for it in (b"first", b"second", b"other"))
-    images = {"a": first, "b": physical_volumes.md_member(second, 16), "c": other, "d": bytes(4096),
-              "e": physical_volumes.gpt((64, 127)).ljust(64 * 512, b"\0") + first}
+    images = {"a": first, "b": physical_volumes.md_member(second, 16, level=1), "f": physical_volumes.md_member(second, 16), "c": other, "d": bytes(4096),
+              "e": physical_volumes.gpt((64, 127)).ljust(64 * 512, b"\0") + first,
+              "g": physical_volumes.gpt((8, 8 + len(second) // 4096 - 1), (64, 64 + len(other) // 4096 - 1), sector=4096).ljust(1 << 15, b"\0")
+              + second.ljust(7 << 15, b"\0") + other,
+              "h": physical_volumes.gpt((64, 127)).ljust(64 * 512, b"\0") + other}
     for name, image in images.items():
         program.file("machines/" + name, image)
     identity = "%s-xxxx-xxxx-xxxx-xxxx-xxxx-xxxxxx"
@@ -125,15 +155,38 @@ def check_bound_images(tally, program, top):
     array = "b: a member of an md array, whose data begins at sector 16: that is read as the physical volume\n"
     missing = "missing: pv0, with the id " + identity % "second" + "\n"
     for names, output, message, status in [
-        ("ab", "/dev/sdb a\npv0 b\n", array, 0),
+        ("ab", "/dev/sdb a\npv0 b?offset=8192\n", array, 0),
         ("a", "/dev/sdb a\n", missing, 0),
         ("ac", "/dev/sdb a\nrefused\n", "c: its id is " + identity % "otherx" + ", which the text has not", 1),
         ("aa", "/dev/sdb a\nrefused\n", "a: its id is " + identity % "firstx" + ", as that of a", 1),
-        ("e", "refused\n", "e: it is the image of a whole disk: `partitions --group` finds the physical volumes on it", 1),
+        ("ae", "/dev/sdb a\nrefused\n", (WHOLE % ("e", "partition 1 is a physical volume: that is")) + "e: its id is " + identity % "firstx" + ", as that of a", 1),
+        ("eg", "/dev/sdb e?offset=32768\npv0 g?offset=32768\n",
+         WHOLE % ("e", "partition 1 is a physical volume: that is") + WHOLE % ("g", "partitions 1, 2 are physical volumes: these are"), 0),
+        ("h", "refused\n", WHOLE % ("h", "partition 1 is a physical volume: that is") + "h: its id is " + identity % "otherx" + ", which the text has not", 1),
+        ("f", "refused\n", "f: a member of an md array that isn't raid1, so that no member has all of a physical volume: `md` makes a table of the "
+         "array, and `under` puts it below those of the group", 1),
         ("d", "refused\n", "d: there is no label in the first four sectors: it is no physical volume", 1),
     ]:
         got = tool_calls.call(top, ["disks", "text", *("--image=" + it for it in names)], folder=folder)
-        tally.same("the images " + names, got, status, output, "%s disks: %s\n" % (TOOL, message) if status else message)
+        told, _, reason = message.rpartition("\n")
+        tally.same("the images " + names, got, status, output, "%s%s disks: %s\n" % (told + "\n" * bool(told), TOOL, reason) if status else message)
+    got = tool_calls.call(top, ["disks", "text", "--image", "-"], folder=folder)
+    tally.same("an image without a name", got, 2, "refused\n", TOOL + " disks: a line names each image, and standard input has no name\n")
+    check_lengths(tally, program, top, folder)
+
+
+def check_lengths(tally, program, top, folder):
+    """Lengths of what begins at a place in an image: a partition by the table, a physical volume in a member of an array by its
+    label, of which nothing else says it."""
+    for listed, output, message in [
+            ("/dev/sda1 e?offset=32768\npv0 b?offset=8192\nsda e\ng1 g?offset=32768\n", "/dev/sda1 64\npv0 131072\nsda 72\ng1 8\n", ""),
+            ("/dev/sda1 e\n", "refused\n", "e: the image of a whole disk (GPT), and /dev/sda1 is a partition: give the partition that it is, as IMAGE?offset=BYTES"),
+            ("8:17 e\n", "refused\n", "e: the image of a whole disk (GPT), and 8:17 is a partition: give the partition that it is, as IMAGE?offset=BYTES"),
+            ("8:16 e\n/dev/sda1 a\n", "8:16 72\n/dev/sda1 8\n", ""),
+            ("/dev/sda1 e?offset=512\n", "refused\n", "e: neither a partition nor a physical volume begins at byte 512")]:
+        program.file("machines/listed", listed)
+        got = tool_calls.call(top, ["disks", "--paths", "listed"], folder=folder)
+        tally.same("the lengths of %r" % listed, got, 1 if message else 0, output, "%s disks: %s\n" % (TOOL, message) if message else "")
 
 
 def check_containers(tally, program, top):

@@ -168,7 +168,7 @@ def check_gaps(tally, program, top):
     tally.holds("its last map", read(disks.target("map")).decode() == MAP % (SECTOR * 48, "+") + text, read(disks.target("map")))
 
 
-WHOLE = "dmremap-tools save: %s: the image of a whole disk (%s), and p has %d sectors: give the partition that it is, cut out with dd\n"
+WHOLE = "dmremap-tools save: %s: the image of a whole disk (%s), and p has %d sectors: give the partition that it is, as IMAGE?offset=BYTES\n"
 
 
 def check_whole_disks(tally, program, top):

@@ -261,13 +261,13 @@ def check_places(case):
               "whole.img: the image of a whole disk (GPT), whose partition 1 is a physical volume: that is read\nvg0-snap: used, with 2 of its chunks in the store\n",
               ["--paths", "group.paths"], ("lvm", "group.ids"), "R vg0-snap 8000 16\n")
     case.refused("a group without ids on a partition", "whole.img: the image of a whole disk (GPT), and /dev/sda1 has 1050624 sectors: give the "
-                 "partition that it is, cut out with dd", ["--paths", "group.paths"], ("lvm", "group"), "R vg0-snap 8000 16\n")
+                 "partition that it is, as IMAGE?offset=BYTES", ["--paths", "group.paths"], ("lvm", "group"), "R vg0-snap 8000 16\n")
     case.put("paths", "cows image\n")
     case.refused("a path of no disk", "paths: no disk is called cows", ["--paths", "paths"])
     case.put("cow.img", gpt((64, 223)).ljust(64 * SECTOR, b"\0") + content)
     case.put("paths", "cow cow.img\n")
     case.refused("a whole disk for a partition", "cow.img: the image of a whole disk (GPT), and cow has 160 sectors: give the partition "
-                 "that it is, cut out with dd", ["--paths", "paths"])
+                 "that it is, as IMAGE?offset=BYTES", ["--paths", "paths"])
     case.put("hole.img", store(PAIRS)[:8 * SECTOR])
     case.put("hole", "c: 0 8 linear z 0\nc: 8 152 linear z 8\ns: 0 64 snapshot base /dev/mapper/c P 8\n")
     case.put("hole.disks", "base 64\nz 160\n")

@@ -210,7 +210,7 @@ def check_refusals(case):
             ("an image that isn't there", plain + ["image=c=nothing"], os.path.join(case.folder, "nothing") + ": No such file or directory"),
             ("an image of no disk", plain[:4] + ["image=w=c.img"], "image: no disk is called w"),
             ("a whole disk for a partition", plain[:4] + ["image=c=whole.img"],
-             "%s: the image of a whole disk (GPT), and c has %d sectors: give the partition that it is, cut out with dd"
+             "%s: the image of a whole disk (GPT), and c has %d sectors: give the partition that it is, as IMAGE?offset=BYTES"
              % (os.path.join(case.folder, "whole.img"), SIZE // SECTOR // 2)),
             ("a source that isn't there", [it.replace("striped", "nothing") for it in plain], os.path.join(case.folder, "nothing") + ": No such file or directory"),
             ("a store that is none", ["format=lvm", "source=group", "device=vg0-snap", "image=/dev/sda1=sda1.img", "store=vg0-snap=root/file"],

@@ -19,6 +19,8 @@ REFUSED, WRONG_WORDS, OUTPUT_FAILED, OWN_FAULT, INTERRUPTED, READER_GONE = 1, 2,
 class Parser(argparse.ArgumentParser):
     """Reads the words of a command. Help goes to standard output, as everything else that is asked for."""
 
+    words: List[str] = []
+
     def print_help(self, file: object = None) -> None:
         """Prints the help."""
         streams.out.write(self.format_help())
@@ -28,7 +30,10 @@ class Parser(argparse.ArgumentParser):
         raise SystemExit(status)
 
     def error(self, message: str) -> NoReturn:
-        """Refuses words."""
+        """Refuses words. What is quoted of them is cut where it is long."""
+        for each in self.words:
+            for quoted in (each, each.partition("=")[2]):
+                message = message.replace(repr(quoted), "'%s'" % quoting.shown(quoted))
         raise WrongWords(message, self.format_usage().rstrip())
 
 
@@ -88,10 +93,14 @@ def _run(command: "commands.Command | None", name: str, words: List[str]) -> int
 
 def _parsed(parser: Parser, words: List[str]) -> argparse.Namespace:
     """The words of a command, with options in any place, unless they end in those of another program."""
+    parser.words = words
     try:
-        return parser.parse_intermixed_args(words)
+        typed, others = parser.parse_known_intermixed_args(words)
     except TypeError:
-        return parser.parse_args(words)
+        typed, others = parser.parse_known_args(words)
+    if others:
+        parser.error("unrecognized arguments: " + quoting.some([quoting.shown(it) for it in others], " "))
+    return typed
 
 
 def parser_of(command: "commands.Command", module: ModuleType, name: str) -> Parser:

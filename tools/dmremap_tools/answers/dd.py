@@ -9,8 +9,10 @@ The lines count in sectors, so any `dd` will do. They write to disks only where 
 """
 
 from argparse import ArgumentParser, Namespace
+from typing import Tuple
 
-from dmremap_tools.base import paths, pieces, quoting, streams
+from dmremap_tools.base import numbers, paths, pieces, quoting, streams
+from dmremap_tools.base.refusal import Refusal
 
 EXAMPLE = "echo 'R vg0-lv0 8000 16' | dmremap map lvm vg0.backup | dmremap-tools dd | sh | cmp -n 8192 - /mnt/report.odt"
 
@@ -24,7 +26,7 @@ def add_words(parser: ArgumentParser) -> None:
 
 def run(words: Namespace) -> None:
     """Prints a line for each piece as it comes."""
-    writer = Writer(pieces.Answers(words.file), words.image, paths.read(words.paths) if words.paths is not None else {})
+    writer = Writer(pieces.Answers(words.file), words.image, paths.places(words.paths))
     streams.out.write("set -e\n")
     for piece in writer.source:
         writer.take(piece)
@@ -34,7 +36,7 @@ def run(words: Namespace) -> None:
 class Writer:
     """Writes the lines; `at` is the place in the image, in sectors."""
 
-    def __init__(self, source: pieces.Answers, image: "str | None", here: "dict[str, str]") -> None:
+    def __init__(self, source: pieces.Answers, image: "str | None", here: "dict[str, paths.Place]") -> None:
         self.source, self.image, self.here = source, image, here
         self.at = 0
 
@@ -43,14 +45,14 @@ class Writer:
         if piece.what == "error" or (piece.what in ("W", "drop") and self.image is None):
             self.source.refuse_line("no sectors" if piece.what == "error" else "a write, and no --image")
         if piece.what == "copy":
-            self._line(piece.count, self._disk(piece.disk), piece.start, self._disk(piece.to), piece.to_start)
+            self._line(piece.count, *self._place(piece.disk, piece.start), *self._place(piece.to, piece.to_start))
         elif piece.what == "fill":
-            self._line(piece.count, "/dev/zero", 0, self._disk(piece.to), piece.to_start)
+            self._line(piece.count, "/dev/zero", 0, *self._place(piece.to, piece.to_start))
         else:
             if piece.what == "W":
-                self._line(piece.count, self.image, self.at, self._disk(piece.disk), piece.start)
+                self._line(piece.count, self.image, self.at, *self._place(piece.disk, piece.start))
             elif piece.what != "drop":
-                self._line(piece.count, self._disk(piece.disk) if piece.disk else "/dev/zero", piece.start, self.image, self.at)
+                self._line(piece.count, *self._place(piece.disk or "/dev/zero", piece.start), self.image, self.at)
             self.at += piece.count
 
     def _line(self, count: int, source: str, skip: int, to: "str | None", seek: int) -> None:
@@ -59,5 +61,8 @@ class Writer:
             line += " of=%s seek=%d conv=notrunc" % (quoting.for_shell(to), seek)
         streams.out.write(line + "\n")
 
-    def _disk(self, name: str) -> str:
-        return self.here.get(name, name)
+    def _place(self, name: str, start: int) -> Tuple[str, int]:
+        place = self.here.get(name) or paths.Place(name)
+        if place.start % numbers.SECTOR:
+            raise Refusal("--paths", "%s begins at byte %d, within a sector" % (quoting.shown(name), place.start))
+        return place.path, place.start // numbers.SECTOR + start

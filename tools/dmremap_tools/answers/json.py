@@ -1,7 +1,7 @@
 """Answers as JSON: a line with an object for each piece.
 
 `request` is its number and `what` is done; `disk` and `start` say where, `len` how many sectors, and `to` and `to_start`
-where a copy or a fill goes. Refuses lines that are no pieces.
+where a copy or a fill goes. A byte of a name that is no UTF-8 stands there as `\\xNN`. Refuses lines that are no pieces.
 """
 
 from argparse import ArgumentParser, Namespace
@@ -15,7 +15,12 @@ EXAMPLE = "dmremap map lvm vg0.backup < requests | dmremap-tools json"
 
 add_words = pieces.add_words
 Number = Union[int, str]
-quoted = lru_cache(maxsize=1024)(dumps)
+
+
+@lru_cache(maxsize=1024)
+def quoted(name: str) -> str:
+    """A name as a string of JSON."""
+    return dumps(name.encode("utf-8", "surrogateescape").decode("utf-8", "backslashreplace"))
 
 
 def run(words: Namespace) -> None:

@@ -1,11 +1,13 @@
 """dmremap map, with the requests of a generator."""
 
+import os
+import select
 import subprocess
 import threading
 from types import TracebackType
 from typing import Iterable, List, Optional, Sequence, Type
 
-from dmremap_tools.base import pieces, program, streams
+from dmremap_tools.base import pieces, program, quoting, streams
 from dmremap_tools.base.refusal import Refusal
 
 
@@ -18,7 +20,7 @@ class Mapped:
         try:
             self._child = subprocess.Popen(command, stdin=subprocess.PIPE, stdout=subprocess.PIPE)
         except OSError as fault:
-            raise Refusal(command[0], streams.why(fault))
+            raise Refusal(quoting.shown(command[0]), streams.why(fault))
         self._faults: List[BaseException] = []
         self._feeder = threading.Thread(target=self._feed, args=(requests,))
         self._feeder.start()
@@ -29,7 +31,8 @@ class Mapped:
         return self
 
     def __exit__(self, kind: "Optional[Type[BaseException]]", fault: Optional[BaseException], trace: Optional[TracebackType]) -> None:
-        if kind:
+        is_ended = kind is None or self._is_at_end()
+        if not is_ended:
             self._child.kill()
         self._child.stdout.close()
         self._feeder.join()
@@ -37,8 +40,13 @@ class Mapped:
         if kind is None or kind is Refusal:
             if self._faults:
                 raise self._faults[0]
-            if status > 0:
+            if status > 0 or status and is_ended:
                 program.fail(self._name, status)
+
+    def _is_at_end(self) -> bool:
+        """Whether nothing comes any more, as dmremap ended."""
+        answers = self._child.stdout
+        return bool(select.select([answers], [], [], 0)[0]) and not os.read(answers.fileno(), 1)
 
     def _feed(self, requests: Iterable[str]) -> None:
         """Writes the requests. If dmremap ends early, its status says why."""

@@ -106,7 +106,7 @@ def whole(command: List[str], volume: str, name: str) -> Tuple[int, List[Extent]
     printed = program.ask([command[0], "table", *command[2:]])
     lines = [row.split(" ") for row in printed.split("\n") if row.startswith(volume + ": ")]
     if not lines:
-        raise Refusal(quoting.shown(name), "no device " + volume)
+        raise Refusal(streams.name_of(name), "no device " + volume)
     length = int(lines[-1][1]) + int(lines[-1][2])
     return length * numbers.SECTOR, [Extent(0, 0, length)]
 

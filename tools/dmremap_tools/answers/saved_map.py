@@ -18,7 +18,7 @@ class SavedMap:
     """The areas of a file of so many bytes, of which only some, given by begin and end, have to be put together."""
 
     def __init__(self, path: Optional[str], size: int, wanted: Iterable[Tuple[int, int]]) -> None:
-        self._path, self._size = path, size
+        self._path, self._size = None if path is None else streams.file_of(path), size
         self.is_begun = path is not None and os.path.lexists(path)
         self._areas = self._read() if self.is_begun else list(joined(first_areas(size, wanted)))
         self._ends = [it.end for it in self._areas]

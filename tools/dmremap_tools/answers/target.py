@@ -18,7 +18,7 @@ class Target:
         self._path, self._size, self._is_begun = path, size, is_begun
         flags = 0 if is_begun else os.O_CREAT | os.O_EXCL
         try:
-            self._descriptor = os.open(path, os.O_RDWR | os.O_NOFOLLOW | flags, 0o666)
+            self._descriptor = os.open(streams.file_of(path), os.O_RDWR | os.O_NOFOLLOW | flags, 0o666)
             found = os.fstat(self._descriptor)
             if is_begun and (found.st_size != size or not stat.S_ISREG(found.st_mode)):
                 raise Refusal(quoting.shown(path), "it isn't the file that was begun: it has %d bytes and not %d" % (found.st_size, size))

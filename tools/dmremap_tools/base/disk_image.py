@@ -8,6 +8,7 @@ from typing import BinaryIO, Optional, Tuple
 
 from dmremap_tools.base import plain_text, streams
 from dmremap_tools.base.numbers import SECTOR
+from dmremap_tools.base.paths import Place
 from dmremap_tools.base.refusal import Refusal
 
 # What the images of virtual machines begin with that aren't the bytes of a disk in their order.
@@ -70,9 +71,9 @@ def length_of(file: BinaryIO, path: str) -> int:
 
 def open_image(path: str) -> Image:
     """The image of this path, which isn't empty; of standard input for `-`."""
-    name = "standard input" if path == "-" else path
+    name = streams.name_of(path)
     try:
-        file = open(0 if path == "-" else path, "rb", buffering=0, closefd=path != "-", opener=_open)
+        file = open(streams.take_input() if path == "-" else path, "rb", buffering=0, closefd=path != "-", opener=_open)
     except OSError as fault:
         raise Unreadable(name, streams.why(fault))
     image = Image(file, name)
@@ -86,6 +87,12 @@ def raw_image(path: str) -> Image:
     image = open_image(path)
     check_form(image.file.fileno(), image.path)
     return image
+
+
+def image_at(place: Place) -> Image:
+    """The image from a place on."""
+    image = raw_image(place.path)
+    return image.part(place.start, image.size) if place.start else image
 
 
 def check_form(descriptor: int, path: str) -> None:

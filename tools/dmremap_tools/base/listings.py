@@ -35,8 +35,8 @@ def rows_of(path: str, rows: List[str], form: Pattern[str], command: str) -> Lis
     """Those lines of a file that have a form, in its groups. Others are told; without any, the file is refused."""
     found = [(number, row, form.fullmatch(row)) for number, row in enumerate(rows, 1)]
     if not any(match for _, _, match in found):
-        raise Refusal(path, "not what `%s` prints of devices" % command)
+        raise Refusal(streams.name_of(path), "not what `%s` prints of devices" % command)
     for number, row, match in found:
         if not match:
-            streams.tell("left out: line %d of %s: %s" % (number, path, quoting.shown(row)))
+            streams.tell("left out: line %d of %s: %s" % (number, streams.name_of(path), quoting.shown(row)))
     return [match.groups() for _, _, match in found if match]

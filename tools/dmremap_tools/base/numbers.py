@@ -5,8 +5,9 @@ import re
 from typing import Optional
 
 from dmremap_tools.base import quoting
+from dmremap_tools.base.refusal import WrongWords
 
-SECTOR = 512
+SECTOR, LARGEST_SECTOR = 512, 1 << 30
 LIMIT = 1 << 64
 # As dmremap reads numbers: without a sign and without zeros in front. Longer ones are none, whatever they say.
 LONGEST = 20
@@ -29,6 +30,17 @@ def word(text: str) -> int:
     if value is None:
         raise argparse.ArgumentTypeError("not a whole number below 2^64: '%s'" % quoting.shown(text))
     return value
+
+
+def add_sector_size(parser: "argparse._ActionsContainer", said: str) -> None:
+    """Adds --sector-size."""
+    parser.add_argument("--sector-size", type=word, metavar="BYTES", help=said)
+
+
+def check_sector_size(size: Optional[int]) -> None:
+    """Refuses a size that no sector or block has."""
+    if size is not None and (size % SECTOR or not 0 < size <= LARGEST_SECTOR):
+        raise WrongWords("--sector-size is a multiple of 512, up to 2^30: %d" % size)
 
 
 def sectors_touched(begin: int, count: int) -> "tuple[int, int]":

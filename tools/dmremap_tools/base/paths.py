@@ -1,10 +1,14 @@
 """Where disks are on this machine: lines `NAME PATH`, for --paths."""
 
+import re
 from argparse import ArgumentParser
 from typing import Container, Dict, Iterable, NamedTuple, Optional, Pattern
 
 from dmremap_tools.base import quoting, streams
 from dmremap_tools.base.refusal import Refusal
+
+
+PLACED = re.compile(r"(.*)\?offset=([0-9]{1,19})", re.S)
 
 
 class Place(NamedTuple):
@@ -14,10 +18,17 @@ class Place(NamedTuple):
     start: int = 0
 
 
+def place_of(path: str) -> Place:
+    """The place that a path is, or PATH?offset=BYTES."""
+    match = PLACED.fullmatch(path)
+    return Place(match[1], int(match[2])) if match else Place(path)
+
+
 def add_words(parser: ArgumentParser, is_needed: bool = False) -> None:
     """Adds --paths."""
     parser.add_argument("--paths", metavar="PATHS", required=is_needed,
-                        help="lines NAME PATH: a disk of the tables, and its path on this machine")
+                        help="lines NAME PATH: a disk of the tables, and its path on this machine; PATH?offset=BYTES is a partition "
+                             "of a whole disk, which begins there")
 
 
 def read(path: str, form: "Pattern[str] | None" = None) -> Dict[str, str]:
@@ -38,7 +49,7 @@ def read(path: str, form: "Pattern[str] | None" = None) -> Dict[str, str]:
 
 def places(path: Optional[str]) -> Dict[str, Place]:
     """The place of each name, of a file that may not be given."""
-    return {name: Place(it) for name, it in read(path).items()} if path is not None else {}
+    return {name: place_of(it) for name, it in read(path).items()} if path is not None else {}
 
 
 def check_known(where: Optional[str], named: Iterable[str], disks: Container[str]) -> None:

@@ -5,12 +5,14 @@ import shutil
 import subprocess
 import sys
 from argparse import ArgumentParser
-from typing import IO, Optional, Sequence, Tuple
+from typing import IO, NoReturn, Optional, Sequence, Tuple
 
-from dmremap_tools.base import streams
+from dmremap_tools.base import quoting, streams
 from dmremap_tools.base.refusal import Refusal
 
 OUTPUT_FAILED = 5
+# The statuses with which dmremap refuses words, texts or requests, or is out of memory.
+REFUSALS = (1, 2, 3, 4, 6)
 ADMINISTRATION = "/usr/local/sbin:/usr/sbin:/sbin"
 
 
@@ -59,11 +61,11 @@ def _asked(words: Sequence[str], most: int, given: Optional[int], said: Optional
         child = subprocess.Popen([it.encode("utf-8", "surrogateescape") for it in words], stdout=subprocess.PIPE, stderr=said,
                                  stdin=subprocess.DEVNULL if given is None else given, env=dict(os.environ, LC_ALL="C"))
     except OSError as fault:
-        raise Refusal(words[0], streams.why(fault))
+        raise Refusal(quoting.shown(words[0]), streams.why(fault))
     try:
         printed = child.stdout.read(most + 1)
         if len(printed) > most:
-            raise Refusal(words[0], "it printed more than %d bytes" % most)
+            raise Refusal(quoting.shown(words[0]), "it printed more than %d bytes" % most)
         status = child.wait()
     finally:
         if child.poll() is None:
@@ -72,8 +74,9 @@ def _asked(words: Sequence[str], most: int, given: Optional[int], said: Optional
     return printed.decode("utf-8", "surrogateescape"), status
 
 
-def fail(name: str, status: int) -> None:
-    """Refuses since a program ended with this status."""
-    if status == OUTPUT_FAILED:
-        raise streams.OutputFailed("%s: its output failed" % name)
-    raise Refusal(name, "it was ended by signal %d" % -status if status < 0 else "it ends with status %d" % status)
+def fail(name: str, status: int) -> NoReturn:
+    """Refuses what a program refused, as it ended with this status. Other ways to end are a failure of its output."""
+    why = "its output failed" if status == OUTPUT_FAILED else "it ends with status %d" % status
+    if status in REFUSALS:
+        raise Refusal(quoting.shown(name), why)
+    raise streams.OutputFailed("%s: %s" % (quoting.shown(name), why if status >= 0 else "it was ended by signal %d" % -status))

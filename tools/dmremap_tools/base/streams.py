@@ -191,7 +191,7 @@ class Lines:
 
 def name_of(path: str) -> str:
     """What an input is called in messages."""
-    return "standard input" if path == "-" else path
+    return "standard input" if path == "-" else quoting.shown(path)
 
 
 def whole(where: str, text: str) -> int:
@@ -237,11 +237,18 @@ def rows(path: str, most: int = MOST_TEXT) -> List[str]:
 def beside(path: str) -> Output:
     """A file that is written beside standard output. It is spoiled where the command fails."""
     try:
-        made = Output(os.open(path, os.O_WRONLY | os.O_CREAT | os.O_TRUNC, 0o666), path)
+        made = Output(os.open(file_of(path), os.O_WRONLY | os.O_CREAT | os.O_TRUNC, 0o666), name_of(path))
     except OSError as fault:
-        raise OutputFailed("%s: %s" % (path, why(fault)))
+        raise OutputFailed("%s: %s" % (name_of(path), why(fault)))
     _besides.append(made)
     return made
+
+
+def file_of(path: str) -> str:
+    """The path of a file that is written, which standard output can't be."""
+    if path == "-":
+        raise WrongWords("'-' is no file to write: give it a name")
+    return path
 
 
 def tell(text: str) -> None:
@@ -319,17 +326,22 @@ def hold_descriptors() -> None:
             os.open(os.devnull, os.O_RDONLY if descriptor else os.O_WRONLY)
 
 
-def _open(path: str) -> int:
+def take_input() -> int:
+    """The descriptor of standard input, which only one can read."""
     global _is_input_taken
-    if path != "-":
-        try:
-            return os.open(path, os.O_RDONLY)
-        except OSError as fault:
-            raise Refusal(path, why(fault))
     if _is_input_taken:
         raise WrongWords("standard input can't be two files")
     _is_input_taken = True
     return 0
+
+
+def _open(path: str) -> int:
+    if path == "-":
+        return take_input()
+    try:
+        return os.open(path, os.O_RDONLY)
+    except OSError as fault:
+        raise Refusal(name_of(path), why(fault))
 
 
 def _read_some(descriptor: int, name: str) -> bytes:

@@ -95,10 +95,10 @@ def run(words: Namespace) -> None:
     disks = {number: parts.disk_in(disk, "--device") for number, disk in words.device}
     chunks = sorted(read(words.chunks), key=lambda it: it.start)
     if not chunks:
-        raise Refusal(quoting.shown(words.chunks), "no chunks of a btrfs file system")
+        raise Refusal(streams.name_of(words.chunks), "no chunks of a btrfs file system")
     device = parts.device_of(words.name, "", lines_of(chunks, disks, words.copy), parts.part_of(words))
     if words.copy >= max(1, *(it.copies() for it in chunks)):
-        raise Refusal(quoting.shown(words.chunks), "no chunk has a copy %d, counted from 0" % words.copy)
+        raise Refusal(streams.name_of(words.chunks), "no chunk has a copy %d, counted from 0" % words.copy)
     streams.out.write(tables.text_of([device], False))
 
 

@@ -99,7 +99,7 @@ class Member:
         if others or any(it in self.fields for it in CHANGING):
             self.refuse("it is being reshaped or rebuilt, or has features that aren't known: feature map " + quoting.shown(self.fields.get("Feature Map", "0x0")))
         if features and int(features[1], 16) & BAD_BLOCKS:
-            streams.tell("%s has bad blocks: a kernel reads another copy there" % self.path)
+            streams.tell("%s has bad blocks: a kernel reads another copy there" % quoting.shown(self.path))
 
 
 def read(path: str) -> List[Member]:
@@ -108,15 +108,15 @@ def read(path: str) -> List[Member]:
     for number, row in enumerate(streams.rows(path), 1):
         head, field, device = HEAD.fullmatch(row), FIELD.fullmatch(row), DEVICE.fullmatch(row)
         if head:
-            found.append(Member("%s:%d" % (path, number), head[1]))
+            found.append(Member("%s:%d" % (streams.name_of(path), number), head[1]))
         elif found and field:
             found[-1].fields.setdefault(field[1], field[2].strip())
         elif found and device:
             found[-1].states[device[1]] = int(device[2]), device[3]
         elif row.strip() and not DEVICE_HEAD.fullmatch(row):
-            raise Refusal("%s:%d" % (path, number), "not a line of `mdadm --examine`: " + quoting.shown(row))
+            raise Refusal("%s:%d" % (streams.name_of(path), number), "not a line of `mdadm --examine`: " + quoting.shown(row))
     if not found:
-        raise Refusal(path, "no member of an array")
+        raise Refusal(streams.name_of(path), "no member of an array")
     return found
 
 
@@ -143,9 +143,9 @@ def by_role(members: Sequence[Member]) -> Tuple[Dict[int, Member], int]:
         it.check()
         role = it.role()
         if role is None or role >= count:
-            streams.tell("left out: %s, which is no active device" % it.path)
+            streams.tell("left out: %s, which is no active device" % quoting.shown(it.path))
         elif it.events() != newest:
-            streams.tell("left out: %s, which was away when others changed" % it.path)
+            streams.tell("left out: %s, which was away when others changed" % quoting.shown(it.path))
         elif role in found:
             it.refuse("%s is device %d as well" % (quoting.shown(found[role].path), role))
         else:
@@ -158,7 +158,7 @@ def _without_dropped(found: Dict[int, Member]) -> Dict[int, Member]:
     kept = {}
     for role, it in found.items():
         if any(other.is_dropped(role) for other in found.values()):
-            streams.tell("left out: %s, which the array has dropped" % it.path)
+            streams.tell("left out: %s, which the array has dropped" % quoting.shown(it.path))
         else:
             kept[role] = it
     return kept

@@ -5,7 +5,7 @@ import itertools
 import subprocess
 from typing import Iterable, Iterator, List, NamedTuple, Sequence, Tuple
 
-from dmremap_tools.base import program, streams
+from dmremap_tools.base import program, quoting, streams
 from dmremap_tools.base.refusal import Refusal
 
 READ, ZERO, ERROR = "R", "zero", "error"
@@ -30,7 +30,7 @@ class Mapper:
         try:
             self._child = subprocess.Popen(words, stdin=subprocess.PIPE, stdout=subprocess.PIPE)
         except OSError as fault:
-            raise Refusal(words[0], streams.why(fault))
+            raise Refusal(quoting.shown(words[0]), streams.why(fault))
 
     def read(self, device: str, spans: Iterable[Tuple[int, int]]) -> Iterator[List[Part]]:
         """The parts of each span of a device, which is given by its first sector and their number, up to 1,048,576."""

@@ -49,10 +49,10 @@ def _concise(asked: str, copy: Given, name: str) -> str:
     with tempfile.TemporaryFile() as said:
         try:
             return program.ask([asked, "concise", *copy.words()], said=said)
-        except Refusal:
+        except (Refusal, streams.OutputFailed):
             said.seek(0)
             message = said.read().decode("utf-8", "surrogateescape")
-            where, why = refused.told(quoting.shown(name), copy.form, streams.read(copy.file), lambda: sizes_of(copy), message)
+            where, why = refused.told(streams.name_of(name), copy.form, streams.read(copy.file), lambda: sizes_of(copy), message)
             if why:
                 raise Refusal(where, why)
             if message:

@@ -72,7 +72,7 @@ def run(words: Namespace) -> None:
     made = []
     for number, name, sectors in wanted:
         if number not in found:
-            raise Refusal(quoting.shown(words.dump), "it has no device %d" % number)
+            raise Refusal(streams.name_of(words.dump), "it has no device %d" % number)
         lines = lines_of(name, found[number], block, sectors, data, external.get(number))
         made.append(parts.device_of(name, "ro", lines, parts.part_of(words)))
     streams.out.write(tables.text_of(made, True))

@@ -31,13 +31,13 @@ def run(words: Namespace) -> None:
     lower, is_lower_concise = tables.read(words.lower)
     both = {it.name for it in upper} & {it.name for it in lower}
     if both:
-        raise Refusal(quoting.shown(words.lower), "%s has a device %s, too"
-                      % (quoting.shown(words.upper), quoting.shown(min(both))))
+        raise Refusal(streams.name_of(words.lower), "%s has a device %s, too"
+                      % (streams.name_of(words.upper), quoting.shown(min(both))))
     devices = {it.name: it for it in lower}
     for disk, word in words.disk:
         name = names.Names().device(word, names.Word("DEVICE"))
         if name not in devices:
-            raise Refusal(quoting.shown(words.lower), "it has no device " + name)
+            raise Refusal(streams.name_of(words.lower), "it has no device " + name)
         _put_under(words.upper, upper, disk, devices[name])
     streams.out.write(tables.text_of(lower + upper, is_upper_concise or is_lower_concise))
 
@@ -47,10 +47,10 @@ def _put_under(path: str, upper: List[tables.Device], given: str, device: tables
     named = {lower for it in upper for lower in it.lowers()}
     disk = next((it for it in tables.names_in(given) if it in named), None)
     if disk is None:
-        raise Refusal(quoting.shown(path), "it names no disk " + quoting.shown(given))
+        raise Refusal(streams.name_of(path), "it names no disk " + quoting.shown(given))
     renamed: Dict[str, str] = {disk: names.MAPPER + device.name}
     for it in upper:
         for line in it.lines:
             if any(on == disk and count is not None and first + count > device.end() for on, first, count in line.spans()):
-                raise Refusal(quoting.shown(path), "%s reaches past the %d sectors of %s" % (it.name, device.end(), device.name))
+                raise Refusal(streams.name_of(path), "%s reaches past the %d sectors of %s" % (it.name, device.end(), device.name))
         it.lines = [line.with_lowers(lambda on: renamed.get(on, on)) for line in it.lines]

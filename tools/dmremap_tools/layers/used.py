@@ -23,7 +23,7 @@ import subprocess
 import tempfile
 from typing import BinaryIO, Dict
 
-from dmremap_tools.base import given, paths, program, streams
+from dmremap_tools.base import given, paths, program, quoting, streams
 from dmremap_tools.layers import stack, state
 from dmremap_tools.machines.placed import by_ids
 
@@ -44,6 +44,8 @@ def add_words(parser: argparse.ArgumentParser) -> None:
 def run(words: argparse.Namespace) -> None:
     """Maps from the state of the stores."""
     source = given.given_in(words, "map FORMAT FILE [DISKS] [--status]")
+    # The requests.
+    streams.take_input()
     wanted, asked = state.wanted_in(words), program.dmremap(words.program)
     with tempfile.TemporaryDirectory(prefix="dmremap-tools-") as room:
         loaded = stack.load(asked, source, room)
@@ -57,7 +59,7 @@ def _folder(path: str) -> str:
     try:
         os.makedirs(path, exist_ok=True)
     except OSError as fault:
-        raise streams.OutputFailed("%s: %s" % (path, streams.why(fault)))
+        raise streams.OutputFailed("%s: %s" % (quoting.shown(path), streams.why(fault)))
     return os.path.abspath(path)
 
 

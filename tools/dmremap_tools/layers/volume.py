@@ -176,7 +176,7 @@ def _places(group: Optional[str], sizes: Dict[str, int]) -> Dict[str, Place]:
     listed = paths.places(_given.get("paths"))
     paths.check_known(_given.get("paths"), listed, sizes)
     paths.check_known("image", named, sizes)
-    found = {**listed, **{name: Place(os.path.abspath(path)) for name, path in named.items()}}
+    found = {**listed, **{name: paths.place_of(os.path.abspath(path)) for name, path in named.items()}}
     if not found and not bare:
         raise Refusal("image", "no disk to read from: image=NAME=PATH, or paths=PATHS")
     return by_ids(group, found, sizes, bare)

@@ -54,7 +54,7 @@ def run(words: argparse.Namespace) -> None:
         for way, count in itertools.islice(ways, MOST_WAYS):
             streams.out.write(text_of(way, count if query.count else None))
         if next(ways, None):
-            raise Refusal(words.sectors, "too many ways up from %s %d" % query[:2])
+            raise Refusal(streams.name_of(words.sectors), "too many ways up from %s %d" % query[:2])
 
 
 def queries(words: argparse.Namespace, uses: Uses) -> Iterator[sectors_asked.Query]:
@@ -65,7 +65,7 @@ def queries(words: argparse.Namespace, uses: Uses) -> Iterator[sectors_asked.Que
     if words.disk is None:
         return sectors_asked.queries_in(words.sectors, unit)
     if not uses.named(words.disk):
-        raise Refusal(words.file, "no line names " + quoting.shown(words.disk))
+        raise Refusal(streams.name_of(words.file), "no line names " + quoting.shown(words.disk))
     return sectors_asked.lost_in(words.sectors, words.disk, words.areas, unit)
 
 

@@ -5,7 +5,6 @@ import re
 from typing import Dict, Iterator, List, NamedTuple, Optional
 
 from dmremap_tools.base import numbers, quoting, streams
-from dmremap_tools.base.refusal import WrongWords
 from dmremap_tools.layouts import rescue_map
 from dmremap_tools.requests import trace
 
@@ -14,7 +13,6 @@ QUERY = re.compile(r"([!-~]{1,255}) ([0-9]+)(?: ([0-9]+))?")
 # A kernel's block layer counts in 512 bytes, whatever sectors the disk itself has.
 KERNEL_SECTOR = re.compile(r"\bdev ([!-+\--~]{1,255}), sector ([0-9]+)\b.*")
 KERNEL_LINE = re.compile(r"(?:<\d+>)?\[ *\d+\.\d+\].*|.*\bkernel: .*")
-LARGEST = 1 << 30
 BLOCK = re.compile(r"[0-9]+")
 BIOSNOOP = re.compile(r"TIME\(s\) +COMM +PID +DISK +T +SECTOR +BYTES +LAT\(ms\)")
 
@@ -43,15 +41,14 @@ def add_words(parser: argparse.ArgumentParser) -> None:
     """Adds --bytes and --sector-size."""
     group = parser.add_mutually_exclusive_group()
     group.add_argument("--bytes", action="store_true", help="places and lengths are bytes")
-    group.add_argument("--sector-size", type=numbers.word, metavar="BYTES", help="places and lengths count in sectors or blocks "
-                       "of so many bytes, as smartctl's in those of the disk, and badblocks' in 1024; 512 if nothing is given")
+    numbers.add_sector_size(group, "places and lengths count in sectors or blocks of so many bytes, as smartctl's in those of the "
+                            "disk, and badblocks' in 1024; 512 if nothing is given")
 
 
 def unit_of(words: argparse.Namespace) -> Unit:
     """What the numbers count in."""
     size = words.sector_size
-    if size is not None and (size % numbers.SECTOR or not 0 < size <= LARGEST):
-        raise WrongWords("--sector-size is a multiple of 512, up to 2^30: %d" % size)
+    numbers.check_sector_size(size)
     return Unit(1 if words.bytes else size or numbers.SECTOR, words.bytes or size is not None)
 
 
@@ -103,8 +100,7 @@ def traced_in(path: str, paths: Dict[str, str]) -> Iterator[Query]:
         reader.take_line(fields)
         yield from reader.queries
         reader.queries.clear()
-    if not reader.events:
-        reader.source.refuse("no request in the trace")
+    reader.end()
 
 
 class DiskTrace(trace.Reader):

@@ -42,8 +42,8 @@ def run(words: Namespace) -> None:
     spans = Spans(disks.read(words.disks), devices)
     if not devices and not spans.disks:
         streams.tell("no disk and no device came")
-    found = paths.read(words.paths) if words.paths is not None else {}
-    images = {disk: disk_image.raw_image(found[disk]) for disk in spans.disks if disk in found}
+    found = paths.places(words.paths)
+    images = {disk: disk_image.image_at(found[disk]) for disk in spans.disks if disk in found}
     beginnings = list(images_in(images, devices))
     known = {label.identity: on for on, image in beginnings for label in label_of(image)[:1] if label}
     for path in words.metadata:

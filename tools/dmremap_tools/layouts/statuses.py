@@ -6,7 +6,7 @@ import subprocess
 import threading
 from typing import BinaryIO, Dict, List, Sequence
 
-from dmremap_tools.base import program, streams
+from dmremap_tools.base import program, quoting, streams
 from dmremap_tools.base.refusal import Refusal
 
 STATUS = re.compile(r"([^ ]+): 0 [0-9]+ snapshot (.*)")
@@ -20,7 +20,7 @@ def statuses_after(command: Sequence[str], requests: BinaryIO, size: int) -> Dic
     try:
         child = subprocess.Popen(command, stdin=subprocess.PIPE, stdout=subprocess.PIPE)
     except OSError as fault:
-        raise Refusal(command[0], streams.why(fault))
+        raise Refusal(quoting.shown(command[0]), streams.why(fault))
     faults: List[OSError] = []
     with child:
         feeder = threading.Thread(target=_feed, args=(requests.fileno(), child.stdin, size, faults))
@@ -33,7 +33,7 @@ def statuses_after(command: Sequence[str], requests: BinaryIO, size: int) -> Dic
             child.stdout.close()
             feeder.join()
     if faults:
-        raise Refusal(requests.name, streams.why(faults[0]))
+        raise Refusal(quoting.shown(str(requests.name)), streams.why(faults[0]))
     if child.returncode:
         program.fail(command[0], child.returncode)
     rows = (before + last).decode("utf-8", "surrogateescape").split("\n")

@@ -1,6 +1,6 @@
 """When the stores of snapshots are full: the request that makes each of them invalid.
 
-Has REQUESTS, a file, and what maps them: FORMAT, FILE and DISKS, as `dmremap map` takes them. Gets a line for each
+Has REQUESTS, and what maps them: FORMAT, FILE and DISKS, as `dmremap map` takes them. Gets a line for each
 snapshot: the request that makes it invalid, and how full its store was before that, as `--status` prints it. Refuses
 what dmremap refuses, and a FILE without snapshots.
 
@@ -36,7 +36,7 @@ def run(words: Namespace) -> None:
     """Prints a line for each snapshot."""
     requests = opened(words.requests)
     with given.plain(words, "REQUESTS FORMAT FILE [DISKS]") as source:
-        tell(words.requests, Runs(requests, [program.dmremap(words.program), "map", *source.words(), "--status"]))
+        tell(streams.name_of(words.requests), Runs(requests, [program.dmremap(words.program), "map", *source.words(), "--status"]))
 
 
 def tell(name: str, runs: "Runs") -> None:
@@ -52,22 +52,28 @@ def tell(name: str, runs: "Runs") -> None:
 
 
 def opened(path: str) -> BinaryIO:
-    """A file of requests, or a copy of it without a byte order mark and carriage returns."""
-    try:
-        file: BinaryIO = open(path, "rb")
-        is_file = stat.S_ISREG(os.fstat(file.fileno()).st_mode)
-    except OSError as fault:
-        raise Refusal(path, streams.why(fault))
-    if not is_file:
-        raise Refusal(path, "not a file of requests")
-    beginning = file.read(LONGEST)
-    if plain_text.with_plain_ends(plain_text.begun(path, beginning)) == beginning:
+    """A file of requests, or a copy of what is no such file, or has a byte order mark or carriage returns."""
+    file = None if path == "-" else _plain_file(path)
+    if file:
         return file
     copy = tempfile.NamedTemporaryFile()
     for line in streams.Lines(path):
         copy.write(line.encode("utf-8", "surrogateescape") + b"\n")
     copy.flush()
     return copy  # type: ignore
+
+
+def _plain_file(path: str) -> Optional[BinaryIO]:
+    """A file of requests, or None where it has to be copied."""
+    name = streams.name_of(path)
+    try:
+        if not stat.S_ISREG(os.stat(path).st_mode):
+            return None
+        file = open(path, "rb")
+    except OSError as fault:
+        raise Refusal(name, streams.why(fault))
+    beginning = file.read(LONGEST)
+    return file if plain_text.with_plain_ends(plain_text.begun(name, beginning)) == beginning else None
 
 
 class Runs:

@@ -1,23 +1,23 @@
 """The kind of a file system, by what stands at its beginning."""
 
 import os
-import re
 
 from dmremap_tools.answers.sources import opened
-from dmremap_tools.base import quoting
-from dmremap_tools.base.refusal import Refusal
+from dmremap_tools.base import paths, program, quoting
+from dmremap_tools.base.refusal import Refusal, WrongWords
 from dmremap_tools.layouts import ext_system
 from dmremap_tools.layouts.asked_runs import AskedRuns
 from dmremap_tools.layouts.xfs_system import XfsSystem
 
-PLACED = re.compile(r"(.*)\?offset=([0-9]{1,19})", re.S)
+XFS_DB = "xfs_db"
 XFS, BTRFS, BTRFS_AT = b"XFSB", b"_BHRfS_M", 65536 + 64
 
 
 def system_in(image: str, asked: AskedRuns, is_damaged: bool, superblock: "int | None") -> "ext_system.ExtSystem | XfsSystem":
     """The file system in an image, with what is asked for looked up."""
-    placed = PLACED.fullmatch(image)
-    path, at = (placed[1], int(placed[2])) if placed else (image, 0)
+    if image == "-":
+        raise WrongWords("IMAGE is read by another program, and can't be standard input")
+    path, at = paths.place_of(image)
     descriptor = opened(path)
     is_btrfs, is_xfs = read_at(descriptor, at + BTRFS_AT, len(BTRFS)) == BTRFS, read_at(descriptor, at, len(XFS)) == XFS
     os.close(descriptor)
@@ -25,6 +25,8 @@ def system_in(image: str, asked: AskedRuns, is_damaged: bool, superblock: "int |
         raise Refusal(quoting.shown(image), "it is btrfs, whose files have no places on a device that debugfs or xfs_db tells")
     if not is_xfs:
         return ext_system.ExtSystem(image, asked, list(ext_system.tries(is_damaged, superblock)))
+    if program.found(XFS_DB) == XFS_DB:
+        raise Refusal(quoting.shown(image), "it is XFS, which xfs_db of xfsprogs reads, and that isn't here")
     if at:
         raise Refusal(quoting.shown(image), "it is XFS, and xfs_db reads no file system within a file: `losetup -r -o %d`" % at)
     return XfsSystem(path, asked)

@@ -40,7 +40,7 @@ def run(words: argparse.Namespace) -> None:
         lowers.setdefault(name, []).extend([lower] if lower else [])
     listed = list(disks.each(words.disks))
     if not kernel or not listed:
-        raise Refusal(words.disks if kernel else words.lsblk, "lsblk's text and DISKS are needed, neither of them empty")
+        raise Refusal(streams.name_of(words.disks if kernel else words.lsblk), "lsblk's text and DISKS are needed, neither of them empty")
     relations = Relations(lowers, [kernel[name] for name, _ in listed if name in kernel])
     for number, (name, _) in enumerate(listed, 1):
         if name not in kernel:
@@ -49,7 +49,7 @@ def run(words: argparse.Namespace) -> None:
         try:
             streams.out.write("".join(relations.add(name, kernel[name])))
         except LiesOnItself as loop:
-            raise Refusal("%s:%d" % (words.disks, number), "devices lie on themselves: %s" % quoting.shown(str(loop)))
+            raise Refusal("%s:%d" % (streams.name_of(words.disks), number), "devices lie on themselves: %s" % quoting.shown(str(loop)))
 
 
 class LiesOnItself(Exception):

@@ -2,22 +2,26 @@
 
 Have: TEXT, the metadata of a group, for tables that were printed from it; or PATHS, lines NAME PATH. Get: a line for
 each physical volume or path, with its name as dmremap has it and its length in sectors. With --image, which may be given
-several times, a line NAME PATH for each image, as --paths takes it: the id in an image's label says which physical volume
-it is, whatever its path was. Physical volumes without an image are told.
+several times, a line NAME PATH for each physical volume in an image, as --paths takes it: the id in its label says which it
+is, whatever its path was. One on a partition of the image of a whole disk, or in a member of an md array, has
+PATH?offset=BYTES. Physical volumes without an image are told.
 
-Refuses a text that is no metadata of a group, physical volumes of which it has no length, and images of others.
+Refuses a text that is no metadata of a group, physical volumes of which it has no length, images of others, and that of a
+whole disk at PATHS for a partition.
 """
 
 import argparse
 from typing import Dict, Iterator, List, Tuple
 
-from dmremap_tools.base import disk_image, numbers, paths, streams
+from dmremap_tools.base import disk_image, paths, quoting, streams
 from dmremap_tools.base.config_text import Document, Node, shown
 from dmremap_tools.base.refusal import Refusal, WrongWords
-from dmremap_tools.metadata.chosen_part import table_in
+from dmremap_tools.machines import pictured
+from dmremap_tools.machines.kernel_names import is_partition
+from dmremap_tools.metadata.chosen_part import chosen_parts, table_in
 from dmremap_tools.metadata.physical_volume import label_of
 from dmremap_tools.metadata.volume_group import disk_names, sections_in
-from dmremap_tools.metadata.volumes_within import taken_from_array
+from dmremap_tools.metadata.volumes_within import check_mirrored, taken_from_array
 
 EXAMPLE = "dmremap table lvm vg0.backup > vg0.table && dmremap-tools disks vg0.backup > vg0.disks"
 
@@ -26,7 +30,7 @@ def add_words(parser: argparse.ArgumentParser) -> None:
     """Adds TEXT and --paths."""
     parser.add_argument("text", metavar="TEXT", nargs="?", help="the metadata of a group")
     parser.add_argument("--image", action="append", default=[], metavar="IMAGE",
-                        help="a physical volume, or an image of its head, to be told which it is")
+                        help="a physical volume, an image of its head, or a whole disk, to be told which it is")
     paths.add_words(parser)
 
 
@@ -41,8 +45,17 @@ def run(words: argparse.Namespace) -> None:
         for row in of_group(words.text):
             streams.out.write("%s %d\n" % row)
     else:
-        for name, path in paths.read(words.paths).items():
-            streams.out.write("%s %d\n" % (name, disk_image.raw_image(path).size // numbers.SECTOR))
+        for name, place in paths.places(words.paths).items():
+            streams.out.write("%s %d\n" % (name, length_of(name, place)))
+
+
+def length_of(name: str, place: paths.Place) -> int:
+    """The sectors of a disk. The image of a whole disk isn't as long as a partition of it, by its name, and is refused."""
+    length = pictured.sectors_at(place)
+    table = table_in(disk_image.raw_image(place.path)) if not place.start and is_partition(name) else None
+    if table:
+        raise Refusal(quoting.shown(place.path), "the image of a whole disk (%s), and %s is a partition: %s" % (table.kind, quoting.shown(name), pictured.GIVE))
+    return length
 
 
 def of_group(path: str) -> Iterator[Tuple[str, int]]:
@@ -56,24 +69,35 @@ def of_group(path: str) -> Iterator[Tuple[str, int]]:
 
 
 def found_images(text: str, images: List[str]) -> Iterator[Tuple[str, str]]:
-    """The name of the physical volume that each image is, and its path. Those without an image are told."""
+    """The name of each physical volume in the images, and its path. Those without an image are told."""
     of = names_by_id(text)
     found: Dict[str, str] = {}
     for path in images:
-        image = taken_from_array(disk_image.raw_image(path))
-        label, _ = label_of(image)
-        if label is None and table_in(image):
-            raise Refusal(image.path, "it is the image of a whole disk: `partitions --group` finds the physical volumes on it")
-        if label is None:
-            raise Refusal(image.path, "there is no label in the first four sectors: it is no physical volume")
-        name = of.get(label.identity)
-        if name is None or name in found:
-            raise Refusal(image.path, "its id is %s, %s" % (shown(label.identity), "as that of " + found[name] if name else "which the text has not"))
-        found[name] = image.path
-        yield name, image.path
+        if path == "-":
+            raise WrongWords("a line names each image, and standard input has no name")
+        begun = begun_in(disk_image.raw_image(path))
+        if not begun:
+            raise Refusal(quoting.shown(path), "there is no label in the first four sectors: it is no physical volume")
+        known = {identity: start for identity, start in begun.items() if identity in of}
+        if not known:
+            raise Refusal(quoting.shown(path), "its id is %s, which the text has not" % " or ".join(map(shown, begun)))
+        for identity, start in known.items():
+            name = of[identity]
+            if name in found:
+                raise Refusal(quoting.shown(path), "its id is %s, as that of %s" % (shown(identity), quoting.shown(found[name])))
+            found[name] = path
+            yield name, "%s?offset=%d" % (path, start) if start else path
     for identity, name in of.items():
         if name not in found:
             streams.tell("missing: %s, with the id %s" % (name, shown(identity)))
+
+
+def begun_in(disk: disk_image.Image) -> Dict[bytes, int]:
+    """The ids of the physical volumes in a disk, and the bytes at which they begin."""
+    members = chosen_parts(disk, None)
+    for each in members:
+        check_mirrored(each)
+    return {label.identity: it.base for it in map(taken_from_array, members) for label in label_of(it)[:1] if label}
 
 
 def names_by_id(text: str) -> Dict[bytes, str]:
@@ -84,7 +108,7 @@ def names_by_id(text: str) -> Dict[bytes, str]:
 
 def _read(path: str) -> Tuple[Document, List[Tuple[str, Node]]]:
     """A text, and the physical volumes of its group by their names."""
-    document = Document("standard input" if path == "-" else path, streams.read_bytes(path))
+    document = Document(streams.name_of(path), streams.read_bytes(path))
     group = next(iter(document.top.sections()), None)
     physicals = sections_in(group, b"physical_volumes") if group else []
     if not physicals:

@@ -23,7 +23,7 @@ from dmremap_tools.machines import missing
 from dmremap_tools.machines.missing import StandIns
 
 EXAMPLE = "dmremap concise lvm vg0.backup | dmremap-tools elsewhere --paths paths.txt > here.concise"
-PATH = re.compile(r"/[^,;\\\s]*")
+PATH = re.compile(r"(?!.*\?offset=)/[^,;\\\s]*")
 
 
 def add_words(parser: argparse.ArgumentParser) -> None:
@@ -42,7 +42,7 @@ def run(words: argparse.Namespace) -> None:
         raise WrongWords("the following arguments are required: --paths")
     path_of = paths.read(words.paths, PATH) if words.paths is not None else None
     devices, is_concise = tables.read(words.file)
-    name = "standard input" if words.file == "-" else words.file
+    name = streams.name_of(words.file)
     if not devices:
         raise Refusal(name, "no text")
     if not is_concise and not words.losetup:

@@ -79,7 +79,7 @@ def _read_concise(path: str, text: str, devices: Dict[str, Found]) -> None:
         match = DEVICE.fullmatch(row)
         device = of.get((re.sub(r"\\([,;\\])", r"\1", match[1]), match[2])) if match else None
         if not match or not device:
-            streams.tell("left out: device %d of %s, which `dmsetup ls` has not: %s" % (place, path, quoting.shown(row)))
+            streams.tell("left out: device %d of %s, which `dmsetup ls` has not: %s" % (place, streams.name_of(path), quoting.shown(row)))
             continue
         device.flags, device.is_described = match[3], True
         for line in filter(None, re.split(r",(?=\d+ \d+ \S)", match[4] or "")):

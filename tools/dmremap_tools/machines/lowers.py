@@ -2,7 +2,7 @@
 
 from typing import Dict, Iterator, List, Optional, Tuple
 
-from dmremap_tools.base import names, tables
+from dmremap_tools.base import names, quoting, streams, tables
 from dmremap_tools.base.refusal import Refusal
 from dmremap_tools.machines.sfdisk_text import Partition, path_of
 
@@ -24,20 +24,20 @@ class Lowers:
     def measure(self, image: str, length: int) -> None:
         """Knows how long an image is."""
         if self._lengths.get(image) not in (None, length):
-            raise Refusal(image, "lsblk and the image differ in its length")
+            raise Refusal(quoting.shown(image), "lsblk and the image differ in its length")
         self._lengths[image] = length
 
     def bind(self, name: str, path: str) -> None:
         """Knows that a physical volume is this image, or this partition of one."""
         if self._bound.setdefault(name, path) != path:
-            raise Refusal(path, "%s is the same physical volume, %s" % (self._bound[name], name))
+            raise Refusal(quoting.shown(path), "%s is the same physical volume, %s" % (quoting.shown(self._bound[name]), quoting.shown(name)))
 
     def add(self, partition: Partition, name: str) -> None:
         """Knows a partition by its own path, and by that on the disk that it is the image of."""
         paths = [partition.path] + [path_of(disk, partition.number) for disk, image in self._images.items() if image == partition.disk]
         for path in paths:
             if self._lengths.get(path) not in (None, partition.length):
-                raise Refusal(path, "lsblk and sfdisk differ in its length")
+                raise Refusal(quoting.shown(path), "lsblk and sfdisk differ in its length")
             self._named[path] = names.MAPPER + name
 
     def new(self, lower: str) -> str:
@@ -55,5 +55,5 @@ class Lowers:
         for disk in dict.fromkeys(lowers):
             length = self._lengths.get(disk)
             if not length:
-                raise Refusal(lsblk or "--disks", "no length of %s%s" % (disk, "" if lsblk else NO_LENGTH))
+                raise Refusal(streams.name_of(lsblk or "--disks"), "no length of %s%s" % (quoting.shown(disk), "" if lsblk else NO_LENGTH))
             yield disk, length

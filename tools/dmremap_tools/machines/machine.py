@@ -7,7 +7,8 @@ Have: four texts, which root can make on that machine:
     lsblk -brno MAJ:MIN,SIZE,KNAME,PKNAME > lsblk.txt
     dmsetup table --concise > concise.txt
 
-Without LSBLK the lengths are those of the disks or images in PATHS, whose lines begin with numbers, as `8:1 sda1.img`.
+Without LSBLK the lengths are those of the disks or images in PATHS, whose lines begin with numbers, as `8:1 sda1.img`, or
+`8:1 sda.img?offset=1048576` for a partition that begins there in the image of a whole disk, which has its length.
 
 Get: FILE in the form of the last text, which may be what `dmsetup table` prints instead, and DISKS with the disks that
 FILE names. Numbers of devices become their names, numbers of disks their paths, and lines of `crypt` linear ones: what
@@ -37,13 +38,12 @@ from typing import Dict, List, Optional, Tuple
 from dmremap_tools.base import disk_image, listings, numbers, paths, quoting, streams, tables
 from dmremap_tools.base.refusal import Refusal, WrongWords
 from dmremap_tools.machines.found import NOT_ASKED, Found, leave_others, leave_unknown, read_status, read_tables
+from dmremap_tools.machines.kernel_names import is_disk, is_partition
+from dmremap_tools.machines.pictured import GIVE, sectors_at
 from dmremap_tools.machines.placed import partitioned
 from dmremap_tools.machines.stack import Stack
 
 EXAMPLE = "dmremap-tools machine --disks disks ls.txt status.txt lsblk.txt concise.txt > tables"
-# The numbers of disks called sd: each has a minor that is a multiple of 16, and its partitions have those after it.
-SD_MAJORS = [str(it) for it in (8, *range(65, 72), *range(128, 136))]
-SD_MINORS = 16
 
 
 def add_words(parser: argparse.ArgumentParser) -> None:
@@ -52,6 +52,7 @@ def add_words(parser: argparse.ArgumentParser) -> None:
     parser.add_argument("--only", metavar="NAME", action="append", default=[], help="a device that is asked for, with all that it stands on")
     parser.add_argument("--store", metavar="SNAPSHOT=IMAGE", action="append", default=[], help="a snapshot whose store `used` will read")
     paths.add_words(parser)
+    numbers.add_sector_size(parser, "with --paths, how many bytes a sector has where an image has an MBR, which doesn't say so")
     for name, command in (("ls", "dmsetup ls"), ("status", "dmsetup status"), ("lsblk", listings.LSBLK_COMMAND),
                           ("table", "dmsetup table --concise")):
         parser.add_argument(name, metavar=name.upper(), nargs="?" if name == "lsblk" else None, help="what `%s` prints" % command)
@@ -59,6 +60,7 @@ def add_words(parser: argparse.ArgumentParser) -> None:
 
 def run(words: argparse.Namespace) -> None:
     """Reads the four texts, leaves out what dmremap would refuse, and writes the rest."""
+    numbers.check_sector_size(words.sector_size)
     beside = streams.beside(words.disks)
     devices = {number: Found(name, number) for name, number in listings.read_ls(words.ls)}
     is_known = {**read_status(words.status), **{it.partition("=")[0]: True for it in words.store}}
@@ -72,7 +74,7 @@ def run(words: argparse.Namespace) -> None:
     kept, disks = stack.with_names()
     say_left_out(stack, disks)
     if not kept:
-        raise Refusal(words.table, "no device is left that dmremap can follow")
+        raise Refusal(streams.name_of(words.table), "no device is left that dmremap can follow")
     beside.write("".join("%s %d\n" % it for it in disks.items()))
     streams.out.write(tables.text_of(kept, is_concise))
 
@@ -92,26 +94,27 @@ def lengths_of(words: argparse.Namespace) -> Tuple[Dict[str, Optional[int]], Dic
     numbers_of = {path: number for number, path in of.items()}
     for name, path in (paths.read(words.paths) if words.paths is not None else {}).items():
         number = numbers_of.get(name, name)
-        sizes[number] = length_in(path, number, sizes.get(number))
+        sizes[number] = length_in(path, number, sizes.get(number), words.sector_size or numbers.SECTOR)
     return sizes, of
 
 
-def length_in(path: str, number: str, known: Optional[int]) -> int:
-    """The sectors of the image of a disk. That of a whole disk isn't as long as a partition of it, by its number, and is
-    refused, unless it is as long as lsblk says."""
-    image = disk_image.raw_image(path)
-    length = image.size // numbers.SECTOR
-    kind, _ = partitioned(image) if length != known and is_partition(number) else ("", 0)
-    if kind:
-        raise Refusal(image.path, "the image of a whole disk (%s), and %s is a partition: give that, cut out with dd"
-                      % (kind, quoting.shown(number)))
+def length_in(path: str, number: str, known: Optional[int], sector: int) -> int:
+    """The sectors of the image of a disk, or of the partition that begins at a place in it. The image of a whole disk is
+    refused where its number is that of a partition, or lsblk says nothing of it, unless one of its partitions is as long as
+    lsblk says."""
+    place = paths.place_of(path)
+    length = sectors_at(place, sector)
+    if place.start or length == known:
+        if known not in (None, length):
+            raise Refusal(quoting.shown(path), "lsblk says that %s has %d sectors, and there it has %d" % (quoting.shown(number), known, length))
+        return length
+    kind, partitions = partitioned(disk_image.raw_image(place.path), sector)
+    if known is not None and known in (it.size // numbers.SECTOR for it in partitions):
+        return known
+    if kind and (is_partition(number) or known is None and not is_disk(number)):
+        raise Refusal(quoting.shown(path), "the image of a whole disk (%s), and %s %s a partition: %s"
+                      % (kind, quoting.shown(number), "is" if is_partition(number) else "may be", GIVE))
     return length
-
-
-def is_partition(number: str) -> bool:
-    """Whether a number is that of a partition of a disk that the kernel calls sd."""
-    major, _, minor = number.partition(":")
-    return major in SD_MAJORS and minor.isdecimal() and int(minor) % SD_MINORS != 0
 
 
 def say_left_out(stack: Stack, disks: Dict[str, int]) -> None:

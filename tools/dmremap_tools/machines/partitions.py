@@ -36,15 +36,15 @@ def add_words(parser: argparse.ArgumentParser) -> None:
     parser.add_argument("--image", action="append", default=[], metavar="[DISK=]IMAGE", help="an image, and the disk that FILE names")
     parser.add_argument("--group", metavar="TEXT", help="the metadata of the group, for images without DISK")
     missing.add_words(parser)
-    parser.add_argument("--sector-size", type=numbers.word, metavar="BYTES",
-                        help="how many bytes a sector has, for texts of an old sfdisk, and an MBR in an image")
+    numbers.add_sector_size(parser, "how many bytes a sector has, for texts of an old sfdisk, and an MBR in an image")
     parser.add_argument("sfdisk", nargs="*", metavar="SFDISK", help="what `sfdisk -d` prints of a disk")
     parser.add_argument("file", metavar="FILE", help="table text or concise text")
 
 
 def run(words: argparse.Namespace) -> None:
     """Puts the devices of the partitions before those of FILE, which then name these and the disks."""
-    beside = streams.beside(words.disks) if words.disks else None
+    numbers.check_sector_size(words.sector_size)
+    beside = streams.beside(words.disks) if words.disks is not None else None
     images, bare = images_in(words.image, words.group)
     lowers = Lowers(*(listings.read_lsblk(words.lsblk) if words.lsblk else ({}, {})), images)
     partitions = [it for path in words.sfdisk for it in partitions_in(path, words.sector_size)]
@@ -62,7 +62,7 @@ def run(words: argparse.Namespace) -> None:
     above = [it for it, volume in made if volume is not None]
     named = {lower for device in devices for lower in device.lowers()}
     if not above and not named & {*(names.MAPPER + it.name for it in below), *images.values(), *bare}:
-        raise Refusal(words.file, NO_LINE)
+        raise Refusal(streams.name_of(words.file), NO_LINE)
     if beside:
         beside.write("".join("%s %d\n" % it for it in lowers.disks_of(below + devices, words.lsblk)))
     streams.out.write(tables.text_of(lost + below + devices + above, is_concise))
@@ -72,7 +72,7 @@ def stand_ins_of(words: argparse.Namespace, made: List[tables.Device], devices: 
                  is_concise: bool) -> List[tables.Device]:
     """Puts devices in the place of the disks of which nothing says how long they are."""
     taken = {it.name for it in made + devices}
-    lost = StandIns(words.file, words.missing, "rw" if is_concise else "", "", taken)
+    lost = StandIns(streams.name_of(words.file), words.missing, "rw" if is_concise else "", "", taken)
     for device in devices:
         for line in device.lines:
             lost.add(line, lambda disk: not lowers.is_known(disk))
@@ -85,6 +85,8 @@ def images_in(words: List[str], group: Optional[str]) -> Tuple[Dict[str, str], L
     for word in words:
         if not names.DISK.fullmatch(word.rpartition("=")[2]) or ("=" not in word and group is None):
             raise WrongWords("--image has no DISK=IMAGE: " + quoting.shown(word))
+        if word.rpartition("=")[2] == "-":
+            raise WrongWords("answers name an image, and standard input has no name")
     return {disk: image for disk, _, image in (it.partition("=") for it in words if "=" in it)}, [it for it in words if "=" not in it]
 
 
@@ -98,7 +100,7 @@ def partitions_of(path: str, lowers: Lowers, sector: int, names_of: Dict[bytes, 
     if is_bare and not bound:
         array = "; %s is a member of an md array: `md` makes its table, and `under` puts that below those of the group" % image.members[0] \
             if image.members else ""
-        raise Refusal(path, "no physical volume of the group is in it: none of its labels has such an id" + array)
+        raise Refusal(quoting.shown(path), "no physical volume of the group is in it: none of its labels has such an id" + array)
     return image.partitions
 
 
@@ -111,7 +113,7 @@ def devices_of(partitions: List[Partition], devices: List[tables.Device], lowers
     for partition in partitions:
         volume = of.get(names.of_path(partition.disk)) or volumes.get(partition.disk)
         if not volume and not names.DISK.fullmatch(partition.disk):
-            raise Refusal(partition.path, "%s is neither a disk nor a device of FILE" % quoting.shown(partition.disk))
+            raise Refusal(quoting.shown(partition.path), "%s is neither a disk nor a device of FILE" % quoting.shown(partition.disk))
         name = path_of(volume.name, partition.number) if volume else partition.path.rpartition("/")[2]
         if name in taken or not names.FORM.fullmatch(name):
             raise Refusal(quoting.shown(partition.path), "its name is taken, or none of a device")

@@ -3,10 +3,15 @@
 from typing import Dict, List, NamedTuple
 
 from dmremap_tools.base import disk_image, numbers
+from dmremap_tools.base.paths import Place
+from dmremap_tools.base.refusal import Refusal
 from dmremap_tools.machines.sfdisk_text import Partition, path_of
 from dmremap_tools.metadata.chosen_part import part_of, table_in
 from dmremap_tools.metadata.physical_volume import label_of
 from dmremap_tools.metadata.volumes_within import superblocks
+
+# What is said where the image of a whole disk is given for a partition.
+GIVE = "give the partition that it is, as IMAGE?offset=BYTES"
 
 
 class Pictured(NamedTuple):
@@ -29,3 +34,16 @@ def pictured(path: str, sector: int) -> Pictured:
                     [Partition(path, name, it.start // numbers.SECTOR, it.size // numbers.SECTOR) for name, it in parts.items()],
                     {name: label.identity for name, it in places.items() for label in label_of(it)[:1] if label},
                     [name for name, it in places.items() if any(superblocks(it))])
+
+
+def sectors_at(place: Place, sector: int = numbers.SECTOR) -> int:
+    """The sectors of an image, or of the partition or the physical volume in it that begins at this place."""
+    image = disk_image.raw_image(place.path)
+    if not place.start:
+        return image.size // numbers.SECTOR
+    table, label = table_in(image, sector), label_of(image.part(place.start, image.size))[0]
+    sizes = [it.size for it in table.partitions if it.start == place.start] if table else []
+    sizes += [label.size] if label else []
+    if not sizes:
+        raise Refusal(image.path, "neither a partition nor a physical volume begins at byte %d" % place.start)
+    return sizes[0] // numbers.SECTOR

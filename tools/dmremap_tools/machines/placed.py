@@ -1,17 +1,17 @@
 """Where the physical volumes of a group begin in disks or images of them, as the ids in their labels say."""
 
 import os
-from typing import Dict, Optional, Sequence
+from typing import Dict, List, Optional, Sequence, Tuple
 
 from dmremap_tools.base import disk_image, quoting, streams
 from dmremap_tools.base.config_text import shown
 from dmremap_tools.base.numbers import SECTOR
+from dmremap_tools.base.partition_table import Partition
 from dmremap_tools.base.paths import Place
 from dmremap_tools.base.refusal import Refusal
-from dmremap_tools.machines.disks import names_by_id
-from dmremap_tools.metadata.chosen_part import chosen_parts, table_in
-from dmremap_tools.metadata.physical_volume import label_of
-from dmremap_tools.metadata.volumes_within import check_mirrored, taken_from_array
+from dmremap_tools.machines.disks import begun_in, names_by_id
+from dmremap_tools.machines.pictured import GIVE
+from dmremap_tools.metadata.chosen_part import table_in
 
 
 def by_ids(text: Optional[str], places: Dict[str, Place], sizes: Dict[str, int], images: Sequence[str] = ()) -> Dict[str, Place]:
@@ -24,7 +24,7 @@ def by_ids(text: Optional[str], places: Dict[str, Place], sizes: Dict[str, int],
         wanted = {name for name, place in places.items() if place.path == path}
         lost = [identity for identity, name in named.items() if volumes and name in wanted and identity not in volumes]
         if lost:
-            raise Refusal(path, "it isn't %s, whose id is %s: its own is %s"
+            raise Refusal(quoting.shown(path), "it isn't %s, whose id is %s: its own is %s"
                           % (named[lost[0]], shown(lost[0]), " or ".join(map(shown, volumes))))
         for identity in volumes:
             name = named.get(identity)
@@ -32,9 +32,9 @@ def by_ids(text: Optional[str], places: Dict[str, Place], sizes: Dict[str, int],
                 found[name] = Place(path, volumes[identity])
                 decided.add(name)
         if path in images and path not in (it.path for it in found.values()):
-            raise Refusal(path, "no physical volume of the group is in it that isn't elsewhere: none of its labels has such an id")
+            raise Refusal(quoting.shown(path), "no physical volume of the group is in it that isn't elsewhere: none of its labels has such an id")
     for name in places:
-        if name in sizes and name not in decided:
+        if name in sizes and name not in decided and not places[name].start:
             check_partition(name, places[name].path, sizes[name])
     return found
 
@@ -49,32 +49,27 @@ def check_partition(name: str, path: str, size: int) -> None:
         return
     if image.size // SECTOR == size:
         return
-    kind, end = partitioned(image)
-    if kind and max(image.size, end) > size * SECTOR:
-        raise Refusal(image.path, "the image of a whole disk (%s), and %s has %d sectors: give the partition that it is, cut out with dd"
-                      % (kind, quoting.shown(name), size))
+    kind, partitions = partitioned(image)
+    if kind and max([image.size] + [it.start + it.size for it in partitions]) > size * SECTOR:
+        raise Refusal(image.path, "the image of a whole disk (%s), and %s has %d sectors: %s" % (kind, quoting.shown(name), size, GIVE))
 
 
-def partitioned(image: disk_image.Image) -> "tuple[str, int]":
-    """What the partition table of an image is called, or nothing, and the byte where the last of its partitions ends."""
+def partitioned(image: disk_image.Image, sector: int = SECTOR) -> Tuple[str, List[Partition]]:
+    """What the partition table of an image is called, or nothing, and its partitions, as far as they can be read."""
     try:
-        table = table_in(image)
+        table = table_in(image, sector)
     except disk_image.Unreadable:
-        return "", 0
+        return "", []
     except Refusal:
         # It is damaged, or goes on after the end of the image.
-        return "GPT", 0
-    return (table.kind, max((it.start + it.size for it in table.partitions), default=0)) if table else ("", 0)
+        return "GPT", []
+    return (table.kind, table.partitions) if table else ("", [])
 
 
 def volumes_in(path: str) -> Dict[bytes, int]:
     """The ids of the physical volumes in a disk, and the bytes at which they begin. Where they can't be read, it is taken as it is."""
     try:
-        members = chosen_parts(disk_image.raw_image(path), None)
-        for each in members:
-            check_mirrored(each)
-        parts = [taken_from_array(it) for it in members]
-        return {label.identity: it.base for it in parts for label in label_of(it)[:1] if label}
+        return begun_in(disk_image.raw_image(path))
     except disk_image.Unreadable as fault:
         streams.tell("nothing says which disk it is: %s" % fault)
         return {}

@@ -43,7 +43,7 @@ def partitions_in(path: str, given: Optional[int]) -> List[Partition]:
     where they don't say it."""
     disk, size, found = "", given, []
     for number, row in enumerate(streams.rows(path), 1):
-        place, match = "%s:%d" % (path, number), PARTITION.fullmatch(row)
+        place, match = "%s:%d" % (streams.name_of(path), number), PARTITION.fullmatch(row)
         key, _, value = row.partition(": ")
         if match:
             found += _partition_in(place, match, disk, size)

@@ -67,7 +67,7 @@ def add_words(parser: argparse.ArgumentParser) -> None:
 def run(words: argparse.Namespace) -> None:
     """Prints the copy."""
     content = streams.read_bytes(words.text)
-    name = "standard input" if words.text == "-" else words.text
+    name = streams.name_of(words.text)
     copy = Mending(Document(name, content[len(MARK):] if content.startswith(MARK) else content))
     drop_twice(copy)
     group = Group(group_of(copy))

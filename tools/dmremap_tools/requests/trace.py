@@ -2,8 +2,8 @@
 
 Has what `dmsetup ls` prints (LS), the tables that will be asked (TABLES, table text or concise text), and a trace: that
 of `blkparse` or `btrace`, or the event block_bio_queue as trace_pipe, `trace-cmd report` and `perf script` print it. Gets
-the reads and writes, as they come, and with --times the time of each. Discards, flushes, and requests to devices that the
-tables have not, are left out and counted. Refuses a trace that says that events were lost, and zone appends and other
+the reads and writes, as they come, and with --times the time of each. Discards, flushes, requests to devices that the tables
+have not, and lines that tell of no request, are left out and counted. Refuses a trace that says that events were lost, and zone appends and other
 requests whose sectors are not the trace's.
 
 Trace top devices only: a request to a device on another one shows up at both, and would count twice.
@@ -36,6 +36,8 @@ EVENTS = re.compile(r"^(?! *[0-9]+,|CPU| *Skips:)[^:\]\n]*(?::(?<!{0})[0-9][^:\]
 ANY_QUEUED = re.compile(PARSED + r"Q (.*)")
 LOST = re.compile(r"CPU:? ?[0-9]+ \[.*(?:LOST|DROPPED).*| *Skips: +0*[1-9].*")
 TIME = re.compile(r"[0-9.]+:?")
+# What stands beside the lines of a trace: empty lines, comments, and the sums of blkparse.
+BESIDE = re.compile(r"\s*(?:#.*)?|(?:CPU|Total \(|Throughput|Events \(|Skips:|Input file|cpus=).*| +[A-Z][A-Za-z ]*: +[0-9].*")
 DEVICE = re.compile(r"[0-9]+,[0-9]+")
 # Discards and flushes alone, and reads and writes, with what else a kernel says of them.
 NEITHER = re.compile(r"F?[DN][A-Z]*")
@@ -63,7 +65,7 @@ class Reader:
     """Reads the events of a trace. What takes its requests has a method `take`."""
 
     def __init__(self, source: streams.Lines) -> None:
-        self.source, self.events = source, 0
+        self.source, self.events, self._passed = source, 0, 0
 
     def take(self, number: str, what: str, first: int, count: int, time: str) -> None:
         """Takes a request: the device's number, what is done, and with which sectors."""
@@ -87,13 +89,22 @@ class Reader:
             self._take_event(*line.split(EVENT, 1))
             return
         queued = ANY_QUEUED.fullmatch(line)
-        if queued:
+        if not queued:
+            self._passed += not BESIDE.fullmatch(line)
+        else:
             self.events += 1
             fields = queued[3].split()
             if len(fields) > 3 and fields[2] == "+":
                 self.take(queued[1], fields[0], self.source.whole(fields[1]), self.source.whole(fields[3]), queued[2])
             elif len(fields) < 2 or not fields[1].startswith("["):
                 self.source.refuse_line("not a form of the event")
+
+    def end(self) -> None:
+        """Refuses a text without events, and tells how many lines were passed over."""
+        if not self.events:
+            self.source.refuse("no request in the trace")
+        if self._passed:
+            streams.tell("left out: %d lines that tell of no request" % self._passed)
 
     def _take_event(self, head: str, rest: str) -> None:
         self.events += 1
@@ -178,9 +189,8 @@ class RequestMaker(Reader):
             self.dropped += count
 
     def end(self) -> None:
-        """Refuses a text without events, and tells what was left out."""
-        if not self.events:
-            self.source.refuse("no request in the trace")
+        """The same, and tells what else was left out."""
+        super().end()
         self.kept.tell()
         if self.dropped:
             streams.tell("left out: %d requests that are neither reads nor writes" % self.dropped)
