@@ -15,7 +15,7 @@ _dmremap_tools() {
             fio) offered="--help --ls" ;;
             cut) offered="--help --ls" ;;
             whole) offered="--help --ls" ;;
-            machine) offered="--help --disks --only --store --paths" ;;
+            machine) offered="--help --disks --only --store --paths --sector-size" ;;
             partitions) offered="--help --lsblk --disks --image --group --missing --sector-size" ;;
             disks) offered="--help --image --paths" ;;
             elsewhere) offered="--help --paths --prefix --missing --losetup" ;;

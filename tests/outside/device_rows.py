@@ -40,6 +40,10 @@ def thin(words, output, text=None):
     return good("thin", words, [text or pool()], output)
 
 
+def wrong(command, words, text, message):
+    return command, words + ["1"], [text], "refused\n", "dmremap-tools %s: %s\n" % (command, message), 2
+
+
 def no_thin(words, message, text=None):
     return bad("thin", words, [text or pool()], message)
 
@@ -54,8 +58,10 @@ POOLS = [
     thin(THIN + ["4000", "--part", "1600", "100"], "t,,,ro,0 1664 linear d 12800,1664 896 zero,2560 1440 error\n"),
     thin(THIN + ["4000", "--part", "2687", "2"], "t,,,ro,0 2560 error,2560 128 linear d 1536,2688 1312 zero\n"),
     no_thin(["--data", "d", "--device", "3", "t", "8"], "1: it has no device 3"),
-    no_thin(THIN + ["x"], "--device: not a whole number below 2^64: 'x'"),
-    no_thin(THIN + ["0"], "t: it has no sectors"),
+    wrong("thin", THIN + ["x"], pool(), "--device: not a whole number below 2^64: 'x'"),
+    wrong("thin", THIN + ["0"], pool(), "--device: a device has from 1 to 2^50 sectors, and not 0"),
+    wrong("thin", THIN + ["4000", "--part", "4000", "8"], pool(), "--part: t has 4000 sectors, and the part begins at sector 4000"),
+    wrong("thin", THIN + ["4000", "--part", "0", "0"], pool(), "--part: a device has from 1 to 2^50 sectors, and not 0"),
     no_thin(["--data", "d,e", "--device", "1", "t", "8"], "--data: no name of a disk: 'd,e'"),
     no_thin(["--data", "d", "--device", "1", "a b", "8"], "NAME: no name of a device: 'a b'"),
     no_thin(THIN + ["8"], "1:9: it has 14 blocks and not 13, as it says", pool(mapped="13")),
@@ -87,6 +93,7 @@ CACHED = ["--cache", "c", "--origin", "o", "--name", "d", "--sectors"]
 CACHES = [
     good("cache", CACHED + ["1000"], [CACHE % 64], "d,,,ro,0 128 linear c 1152,128 256 linear o 128,384 256 linear c 0,640 360 linear o 640\n"),
     good("cache", CACHED + ["700", "--all"], [CACHE % 64], "d,,,ro,0 128 linear c 1152,128 256 linear o 128,384 316 linear c 0\n"),
+    wrong("cache", CACHED + ["1125899906842625"], CACHE % 64, "--sectors: a device has from 1 to 2^50 sectors, and not 1125899906842625"),
     good("cache", CACHED + ["400", "--part", "0", "1"], [CACHE % 64], "d,,,ro,0 128 linear c 1152,128 272 error\n"),
     bad("cache", CACHED + ["1000"], [CACHE % 9], "1:6: past the end of the cache, of 9 blocks:     <mapping cache_block=\"9\" origin_block=\"0\" dirty=\"true\"/>"),
     bad("cache", CACHED + ["1000"], [(CACHE % 64).replace('origin_block="4"', 'origin_block="3"')], "d: block 3 of the origin is there twice"),

@@ -402,11 +402,20 @@ ROWS = VOLUMES + SNAPSHOTS + PLACES + DISKS + RAID_PARTS + LANGUAGE + BYTES
 
 # Texts of which some volumes are asked for: these, the text, the changes, the messages and the table.
 
+PV0 = GROUP[GROUP.index("\n\t\tpv0"):GROUP.index("\t}\n\n\tlogical")]
+PV1 = PV0.replace("pv0", "pv1").replace("sda", "sdb").replace("pe_count = 200", "pe_count = 100").replace("\t# Hint only", "")
+NOTHING = other("empty", "zero")
 ONLY = [
     (["home"], GROUP % (HOME + APART), [gone(APART)], (), LINES),
     (["snap"], GROUP % (HOME + APART + SNAP + GOOD), [gone(APART)], (), "".join(SHOWN)),
     (["home"], GROUP % (HOME + SNAP + GOOD), [gone(SNAP + GOOD)], [("home {", KEPT % ("home", "snap"))], LINES),
     (["home", "apart"], GROUP % (HOME + RAID + APART), [gone(RAID)], (), LINES + APART_LINES),
+    # A physical volume that nothing needs is left out, unless its path is that of one that is needed.
+    (["home"], (GROUP % (HOME + APART)).replace(PV0, PV0 + PV1), [gone(APART), gone(PV1)], (), LINES),
+    (["home"], (GROUP % (HOME + APART)).replace(PV0, PV1.replace("pe_count = 100", "pe_count = 900") + PV0),
+     [gone(APART), gone(PV1.replace("pe_count = 100", "pe_count = 900"))], (), LINES),
+    (["home"], (GROUP % (HOME + APART)).replace(PV0, PV0 + PV1.replace("sdb", "sda")), [gone(APART)], (), LINES.replace(DISK, "pv0")),
+    (["empty"], (GROUP % (HOME + NOTHING)).replace(PV0, PV0 + PV1), [gone(HOME)], (), "g-empty: 0 32 zero\n"),
     (["two"], GROUP % (HOME + SNAP + GOOD + SECOND + OF_SECOND), [gone(SNAP + GOOD)], [("home {", KEPT % ("home", "snap"))],
      "".join(snapshot("home", "two", 4, 0, 2, 23))),
 ]

@@ -236,7 +236,8 @@ def check_containers(tally, program, top):
         ("a disk without one", whole[:128 * 512], [], "the image of a whole disk (GPT), of which no partition has a header of LUKS: give --partition N"),
         ("a disk with two", two, [], "the image of a whole disk (GPT), of which the partitions 1, 2 have one: give --partition N"),
         ("a partition that isn't there", two, ["--partition", "3"], "there is no partition 3: there are 1, 2"),
-        ("a partition after the disk", whole, ["--length", "128"], "partition 2 begins at sector 128, and the disk ends at sector 128"),
+        ("a partition after the disk", physical_volumes.gpt((64, 127), (256, 4223)), ["--length", "256", "--partition", "2"],
+         "partition 2 begins after the end of this image: fetch its head, and take that as HEAD: dd if=DISK of=head.img bs=512 skip=256 count=2048"),
         ("a partition of no disk", second, ["--partition", "1"], "there is no partition table: leave --partition out"),
         ("an image that is compressed", b"\x1f\x8b\x08\0", [], "it is compressed (gzip)"),
         ("an image of another form", b"KDMV" + second[4:], [], "it is an image of VMDK: convert it with qemu-img convert -O raw"),
@@ -246,6 +247,13 @@ def check_containers(tally, program, top):
         tally.same("a container of " + name, got, 1, "refused\n", "%s luks: %s: %s\n" % (TOOL, os.path.join(program.room, "machines", "container"), message))
     got = device("container", containers.DUMP_1, "--partition", "1")
     tally.same("a partition of a text", got, 2, "refused\n", TOOL + " luks: --partition is of an image, and luksDump tells of one container\n")
+    for content, length, why in [
+            (first, "100", "the disk has 100 sectors, and HEADER alone has 8192"), (whole, "128", "the disk has 128 sectors, and HEADER alone has 192"),
+            (containers.DUMP_1, "4096", "the disk has 4096 sectors, and its data begins at sector 4096"),
+            (containers.version_2(), "256", "the disk has 256 sectors, and its data begins at sector 256"),
+            (first, "0", "a device has from 1 to 2^50 sectors, and not 0"), (first, str(1 << 51), "a device has from 1 to 2^50 sectors, and not %d" % (1 << 51))]:
+        got = device("container", content, "--length", length)
+        tally.same("a container on a disk of %s sectors" % length, got, 2, "refused\n", "%s luks: --length: %s\n" % (TOOL, why))
     check_real_containers(tally, device)
     got = device("container", second, "--name", "a b")
     tally.same("a container with such a name", got, 1, "refused\n", TOOL + " luks: NAME: no name of a device: 'a b'\n")

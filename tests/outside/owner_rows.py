@@ -110,6 +110,7 @@ DISK_TRACES = [
     traced("  fio-1 [002] ..... 12.5: block_bio_queue: 8,0 WS 7 + 1 [x]\n", "/dev/sda 7 1 = a 3\n"),
     traced(QUEUED % ("8,16", "R", 4, 2), "/dev/sdb 4 2\n", "no line names /dev/sdb, so nothing is said of its sectors\n"),
     traced(QUEUED % ("9,0", "R", 4, 2), "9:0 4 2\n", "no line names 9:0, so nothing is said of its sectors\n"),
+    traced("hello\n" + QUEUED % ("8,0", "R", 4, 2), "/dev/sda 4 2 = a 0\n", "left out: 1 lines that tell of no request\n"),
     bad("owner", ["--trace", "1"], [DISKS, LINEAR, "hello\n"], "3:1: no request in the trace"),
     bad("owner", ["--trace", "1"], [DISKS, LINEAR, "CPU:3 [LOST 12 EVENTS]\n"], "3:1: events were lost: CPU:3 [LOST 12 EVENTS]"),
 ]

@@ -228,6 +228,10 @@ def check_xfs(tally, program, top):
     tally.same("files of btrfs", got, 1, "", "dmremap-tools files: %s: it is btrfs, whose files have no places on a device that debugfs "
                "or xfs_db tells\n" % image)
     lost = [it for it in ("mkfs.xfs", "xfs_db") if not found(it)]
+    if not found("xfs_db"):
+        image = program.file("xfs.head", b"XFSB".ljust(4096, b"\0"))
+        tally.same("files of XFS without xfs_db", files(program, top, "v 0 1\n", "v", image), 1, "",
+                   "dmremap-tools files: %s: it is XFS, which xfs_db of xfsprogs reads, and that isn't here\n" % image)
     if lost:
         tally.skip("files of XFS", "there is no " + lost[0])
         return

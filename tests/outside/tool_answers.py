@@ -34,6 +34,8 @@ ANSWERED = [
         '{"request":4,"what":"fill","len":2,"to":"sdb","to_start":3}',
         '{"request":5,"what":"drop","len":1}',
         '{"request":6,"what":"error","len":9}'))),
+    good("json", [], [b"1 copy \xffa\xe4 0 8 \xc3\xa4\xed\xa0\x80 16\n"], '{"request":1,"what":"copy","disk":"\\\\xffa\\\\xe4","start":0,"len":8,'
+         '"to":"\\u00e4\\\\xed\\\\xa0\\\\x80","to_start":16}\n'),
     good("json", [], ['1 R a"\\ 18446744073709551614 1\n'], '{"request":1,"what":"R","disk":"a\\"\\\\","start":18446744073709551614,"len":1}\n'),
     good("times", ["1"], ["0.5\n1.25\n", "1 R a 0 1\n1 R b 0 1\n2 copy a 0 1 b 7\n"], "0.5 R a 0 1\n0.5 R b 0 1\n1.25 copy a 0 1 b 7\n"),
     lost("times", ["1"], ["0.5\n", "1 R a 0 1\n2 R b 0 1\n"], "2:2: no time of the request: 2 R b 0 1", "0.5 R a 0 1\n"),
@@ -42,6 +44,8 @@ ANSWERED = [
          "dd if='/dev/zero' bs=512 skip=0 count=4 status=none\n"),
     good("dd", ["--paths", "1"], ["a /dev/sdx\n", "1 R a 2 3\n2 R b 0 1\n"], "set -e\ndd if='/dev/sdx' bs=512 skip=2 count=3 status=none\n"
          "dd if='b' bs=512 skip=0 count=1 status=none\n"),
+    good("dd", ["--paths", "1"], ["a /dev/sdx?offset=1024\n", "1 R a 2 3\n"], "set -e\ndd if='/dev/sdx' bs=512 skip=4 count=3 status=none\n"),
+    bad("dd", ["--paths", "1"], ["a /dev/sdx?offset=100\n", "1 R a 2 3\n"], "--paths: a begins at byte 100, within a sector", "set -e\n"),
     bad("dd", [], ["1 W a 2 3\n"], "1:1: a write, and no --image: 1 W a 2 3", "set -e\n"),
     bad("dd", ["--image", "i"], ["1 error 3\n"], "1:1: no sectors: 1 error 3", "set -e\n"),
     bad("dd", ["--paths", "1"], ["a b\na c\n", "1 R a 2 3\n"], "1:2: named before: a c"),

@@ -87,6 +87,8 @@ def check_packed(tally, program, top):
     tally.same("totals by the packed file", run([packed[0], *words], folder="/"), 0, wanted.out)
     for it in (run([os.path.join(top, "tools", "pack")]), run([os.path.join(top, "tools", "pack"), "a", "b"])):
         tally.same("tools/pack with wrong words", it, 1, "", "usage: pack OUT\n")
+    for path, why in (("/dev/full", "No space left on device"), ("no/wh\x1bere", "No such file or directory")):
+        tally.same("tools/pack to " + path, run([os.path.join(top, "tools", "pack"), path]), 5, "", "pack: %s: %s\n" % (ascii(path)[1:-1], why))
 
 
 def check_started(tally, program, top):

@@ -134,7 +134,8 @@ DEBUGFS = [
     bad("debugfs", V, [SUPER % 4096, ""], "2: no list of extents: only files with extents have one"),
     bad("debugfs", V, ["Fragment size:  4096\n", TREE + LEAF], "1:1: no line 'Block size' of dumpe2fs"),
     bad("debugfs", V, [SUPER % 4096, TREE + LEAF + TREE + LEAF], "2:3: more than one file", "R v 16560 17584\n"),
-    bad("debugfs", V + ["--places", "places", "--size", ""], [SUPER % 4096, TREE + LEAF], "--size: not a whole number below 2^64: ''"),
+    ("debugfs", V + ["--places", "places", "--size", ""], [SUPER % 4096, TREE + LEAF], "refused\n",
+     "dmremap-tools debugfs: --size: not a whole number below 2^64: ''\n", 2),
 ]
 
 # Requests of traces, logs and bytes.
@@ -194,6 +195,10 @@ TRACE = [
     traced(QUEUED % "  R 8 + 16", "R vg0-lv0 8 16\n", tables="vg0-lv0,,,rw,0 8 zero\n"),
     no_trace("12.5: block_bio_queue: 253,1 R 8 [x]\n", "3:1: not a form of the event: 12.5: block_bio_queue: 253,1 R 8 [x]"),
     no_trace("hello\n", "3:1: no request in the trace"),
+    # Lines that tell of no request are counted, but not what a tracer prints beside its lines.
+    traced("# tracer: nop\n\nhello\n" + QUEUED % "  R 8 + 16" + "a-1 [002] ..... 12.5: sched_switch: prev_comm=a\nTotal (253,0):\n Reads Queued:   1,  8KiB\n"
+           "Throughput (R/W): 1KiB/s / 0KiB/s\nEvents (253,0): 2 entries\n" + (QUEUED % "  R 8 + 16").replace("Q", "X Q"), "R vg0-lv0 8 16\n",
+           "left out: 2 lines that tell of no request\n"),
     no_trace("", "3: no request in the trace"),
     # A line that is refused among others.
     no_trace(QUEUED % "  R 8 + 16" + QUEUED % "  W 8 + 0" + QUEUED % "  R 8 + 8", "3:2: no sectors: " + (QUEUED % "  W 8 + 0")[:-1], "R vg0-lv0 8 16\n"),

@@ -94,6 +94,10 @@ NO_INPUTS = ("beside", "image", "./dmremap")
 NEEDED = {"files": "debugfs"}
 CUTS, MUTATIONS, MEMORY, MANY = 8, 500, 1 << 30, 3000
 FULL, GONE, INTERRUPTED = 5, 141, 130
+NO_FILE = "'-' is no file to write: give it a name"
+# Words that are too long, and what of them is too much in a message.
+LONG = ["x" * 300, "\x1b" * 300, "a=" + "x" * 300]
+TOO_LONG = re.compile(r"x{101}|(?:\\x1b){101}")
 ANSWERED, REFUSED, INCOMPLETE = 0, 1, 4
 # What is put into a text in place of something else.
 BITS = [b"0", b"18446744073709551615", b"18446744073709551616", b"9" * 40, b"-1", b"\0", b"\x1b[2J", b"\xff", b"\n", b" ", b":",
@@ -109,12 +113,15 @@ def check(tally, program, top):
     for command in tried:
         check_ends(tally, top, folder, command)
         check_cuts(tally, top, folder, command)
+        check_standard_input(tally, top, folder, command)
     check_terminal(tally, top, folder)
     check_live(tally, top, folder)
     check_many(tally, top, folder)
     check_interrupt(tally, top, folder)
     check_unsaid(tally, top, folder)
     check_rooms(tally, top, folder)
+    check_killed(tally, top, folder)
+    check_long(tally, top, folder, tried)
     check_words(tally, top)
     check_mutations(tally, top, folder, tried, MUTATIONS)
 
@@ -175,6 +182,27 @@ def check_cuts(tally, top, folder, command):
             got = with_input(top, folder, command, place, content[:length])
             why = fault_of(command, got)
             tally.holds("%s with %s cut at %d" % (command.name, name, length), not why, why)
+
+
+def check_standard_input(tally, top, folder, command):
+    """Each input from standard input gives the same, and what is said of it calls it that."""
+    for place, name in inputs_of(command.name, folder):
+        words = list(CALLS[command.name])
+        plain = call(top, [command.name, *words], folder=folder)
+        words[place] = "-"
+        title = "%s of standard input for %s" % (command.name, name)
+        if (command.name, name) == ("files", "home.img"):
+            tally.same(title, call(top, [command.name, *words], given=bytes_of(os.path.join(folder, name)), folder=folder), 2, "",
+                       TOOL + " files: IMAGE is read by another program, and can't be standard input\n")
+            continue
+        got = call(top, [command.name, *words], given=bytes_of(os.path.join(folder, name)), folder=folder)
+        tally.same(title, got, ANSWERED, plain.out, plain.err.replace(name.encode(), b"standard input"))
+        got = call(top, [command.name, *words], given="\1 nonsense\n", folder=folder)
+        is_told = b" -: " not in got.err and b" -:1: " not in got.err
+        tally.holds(title + " that makes no sense", is_told and got.status in (ANSWERED, REFUSED), "status %s, %r" % (got.status, got.err))
+    if "beside" in CALLS[command.name]:
+        got = call(top, [command.name, *(it if it != "beside" else "-" for it in CALLS[command.name])], folder=folder)
+        tally.same("%s with standard output beside" % command.name, got, 2, "refused\n", "%s %s: %s\n" % (TOOL, command.name, NO_FILE))
 
 
 def inputs_of(name, folder):
@@ -295,7 +323,8 @@ def check_many(tally, top, folder):
         many = call(top, words, given="".join(lines), folder=folder)
         beside = bytes_of(os.path.join(folder, "beside")) if "beside" in words else b""
         single = call(top, words, given=other.join(lines), folder=folder)
-        tally.same("%s of many lines, and of each by itself" % words[0], single, 0, many.out, many.err)
+        passed = b"left out: %d lines that tell of no request\n" % (len(lines) - 1) if words[0] == "trace" else b""
+        tally.same("%s of many lines, and of each by itself" % words[0], single, 0, many.out, passed + many.err)
         tally.holds("%s of many lines" % words[0], many.out, "nothing is printed")
         if "beside" in words:
             tally.holds("the times of many lines", beside and bytes_of(os.path.join(folder, "beside")) == beside, "they differ")
@@ -345,6 +374,48 @@ def check_rooms(tally, top, folder):
         tally.holds("%s without room" % command, is_so, "status %s, %r" % (got.status, got.err))
 
 
+def check_killed(tally, top, folder):
+    """A dmremap that is killed is an output that failed."""
+    with open(os.path.join(folder, "dies"), "w") as it:
+        it.write('#!/bin/sh\n[ "$1" = "$DIES_AT" ] && kill -9 $$\nexec ./dmremap "$@"\n')
+    os.chmod(os.path.join(folder, "dies"), 0o755)
+    stack = ["table", "snap.table", "snap.disks"]
+    for command, at, words in (("store-full", "map", ["writes", *stack]), ("used", "concise", ["--fresh", "snap", "map", *stack]),
+                               ("used", "map", ["--fresh", "snap", "map", *stack]), ("used", "map", ["--store", "snap=snap.store", "map", *stack]),
+                               ("save", "table", ["snap", "saved", *stack]), ("save", "map", ["snap", "saved", *stack])):
+        got = run(tool(top) + [command, "--program", "./dies", *words], given="R snap 0 8\n", folder=folder, env=dict(os.environ, DIES_AT=at))
+        said = "%s %s: ./dies: it was ended by signal 9\n" % (TOOL, command)
+        is_so = (got.status, got.out) == (FULL, b"") and got.err.decode().endswith(said)
+        tally.holds("%s by a dmremap that dies at %s, %s" % (command, at, words[0]), is_so, "%s, %r, %r" % (got.status, got.out, got.err))
+        tally.holds("what a save leaves", not os.path.exists(os.path.join(folder, "saved")), "it is there")
+    for name in ("-", "./-"):
+        got = run(tool(top) + ["save", "--program", "./dmremap", "snap", name, *stack], folder=folder)
+        tally.holds("a save to " + name, got.status == (2 if name == "-" else INCOMPLETE) and os.path.exists(os.path.join(folder, "-")) == (name != "-"),
+                    "status %s, %r" % (got.status, got.err))
+        tally.holds("what is said of it", name != "-" or got.err.decode() == "%s save: %s\n" % (TOOL, NO_FILE), got.err)
+    tally.same("requests and tables from one input", call(top, ["used", "--program", "./dmremap", "map", "table", "-", "snap.disks"], folder=folder),
+               2, "", TOOL + " used: standard input can't be two files\n")
+    got = call(top, ["read-back", "file.places", "pieces.txt", "-"], given="", folder=folder)
+    tally.holds("a file that is put together as -", got.status in (1, 2) and not got.out, "%s, %r" % (got.status, got.err))
+
+
+def check_long(tally, top, folder, commands):
+    """Of a word of the command line a message shows at most 100 characters, and nothing that a terminal obeys."""
+    main = importlib.import_module("dmremap_tools.main")
+    for command in commands:
+        parser = main.parser_of(command, importlib.import_module("dmremap_tools." + command.module), command.name)
+        plain, options = CALLS[command.name], [it for it in parser._actions if it.option_strings]
+        tried = [[*plain[:place], LONG[place % 3], *plain[place + 1:]] for place in range(len(plain)) if not plain[place].startswith("-")]
+        tried += [[it.option_strings[-1], *LONG[:it.nargs], *plain] if isinstance(it.nargs, int) and it.nargs else
+                  [it.option_strings[-1] + "=" + LONG[place % 3], *plain] for place, it in enumerate(options)]
+        tried += [[*plain, LONG[0]], [*plain, "--" + LONG[1]]]
+        for words in tried:
+            got = call(top, [command.name, *words], folder=folder)
+            said = got.err.decode("utf-8", "replace")
+            is_so = said.replace("\n", "").isprintable() and "Traceback" not in said and not TOO_LONG.search(said)
+            tally.holds("long words of %s: %s" % (command.name, [it[:20] for it in words]), is_so, said[:500])
+
+
 def check_words(tally, top):
     """Words that make no sense."""
     usage = "usage: %s COMMAND ..\n%s: " % (TOOL, TOOL)
@@ -353,6 +424,7 @@ def check_words(tally, top):
     tally.same("a command of two lines", call(top, ["x\ny"]), 2, "", usage + "no command 'x\\ny'; --help lists them\n")
     for words, reason in ((["cut", "--nothing"], "unrecognized arguments: --nothing"),
                           (["cut", "a", "b"], "unrecognized arguments: b"),
+                          (["cut", "a", *"bcdefghijklmnopqrs"], "unrecognized arguments: b c d e f g h i j k l m n o p q .."),
                           (["whole"], "the following arguments are required: VOLUME")):
         got = call(top, words)
         is_so = (got.status, got.out) == (2, b"refused\n") and got.err.decode().endswith("\n%s %s: %s\n" % (TOOL, words[0], reason))

@@ -8,6 +8,8 @@ from dmremap_tools.base import quoting
 from dmremap_tools.base.refusal import WrongWords
 
 SECTOR, LARGEST_SECTOR = 512, 1 << 30
+# The greatest sector that dmremap takes the end of a device for.
+LONGEST_DEVICE = 1 << 50
 LIMIT = 1 << 64
 # As dmremap reads numbers: without a sign and without zeros in front. Longer ones are none, whatever they say.
 LONGEST = 20
@@ -41,6 +43,13 @@ def check_sector_size(size: Optional[int]) -> None:
     """Refuses a size that no sector or block has."""
     if size is not None and (size % SECTOR or not 0 < size <= LARGEST_SECTOR):
         raise WrongWords("--sector-size is a multiple of 512, up to 2^30: %d" % size)
+
+
+def check_length(option: str, sectors: int) -> int:
+    """Refuses the length of a device that an option says, if none is as long."""
+    if not 0 < sectors <= LONGEST_DEVICE:
+        raise WrongWords("%s: a device has from 1 to 2^50 sectors, and not %d" % (option, sectors))
+    return sectors
 
 
 def sectors_touched(begin: int, count: int) -> "tuple[int, int]":

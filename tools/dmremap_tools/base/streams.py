@@ -194,11 +194,11 @@ def name_of(path: str) -> str:
     return "standard input" if path == "-" else quoting.shown(path)
 
 
-def whole(where: str, text: str) -> int:
-    """The whole number below 2^64 that a text is."""
+def whole(option: str, text: str) -> int:
+    """The whole number below 2^64 that a word of an option is."""
     value = numbers.read(text)
     if value is None:
-        raise Refusal(where, NO_NUMBER % quoting.shown(text))
+        raise WrongWords("%s: %s" % (option, NO_NUMBER % quoting.shown(text)))
     return value
 
 

@@ -35,7 +35,7 @@ def run(words: Namespace) -> None:
     """Prints the device."""
     cache, origin = parts.disk_in(words.cache, "--cache"), parts.disk_in(words.origin, "--origin")
     block, pairs = read(words.dump, words.all)
-    lines = lines_of(words.name, sorted(pairs), block, words.sectors, cache, origin)
+    lines = lines_of(words.name, sorted(pairs), block, numbers.check_length("--sectors", words.sectors), cache, origin)
     streams.out.write(tables.text_of([parts.device_of(words.name, "ro", lines, parts.part_of(words))], True))
 
 

@@ -42,7 +42,7 @@ def add_words(parser: argparse.ArgumentParser) -> None:
 
 def run(words: argparse.Namespace) -> None:
     """Prints a table, or answers."""
-    sizes = {path: streams.whole("--size", size) for path, size in _pairs(words.size, "--size MEMBER=SECTORS").items()}
+    sizes = {path: numbers.check_length("--size", streams.whole("--size", size)) for path, size in _pairs(words.size, "--size MEMBER=SECTORS").items()}
     array = arrays.Array(examine.read(words.examined), _pairs(words.path, "--path MEMBER=DISK"), sizes)
     if words.name is not None:
         name = names.Names().device(words.name, names.Word("--name"))

@@ -5,7 +5,7 @@ from argparse import ArgumentParser, Namespace
 from typing import Iterable, Iterator, List, Optional, Tuple
 
 from dmremap_tools.base import names, numbers, quoting, tables
-from dmremap_tools.base.refusal import Refusal
+from dmremap_tools.base.refusal import Refusal, WrongWords
 
 MOST_LINES, MOST_TEXT = 1 << 16, 1 << 20
 
@@ -18,7 +18,7 @@ def add_words(parser: ArgumentParser) -> None:
 
 def part_of(words: Namespace) -> Optional[Tuple[int, int]]:
     """The first sector that is asked for, and the one after the last; None for all."""
-    return (words.part[0], words.part[0] + words.part[1]) if words.part is not None else None
+    return (words.part[0], words.part[0] + numbers.check_length("--part", words.part[1])) if words.part is not None else None
 
 
 def disk_in(word: str, option: str) -> str:
@@ -39,6 +39,8 @@ def device_of(name: str, flags: str, lines: Iterable[tables.Line], part: Optiona
         device.lines.append(line)
     if not device.lines:
         raise Refusal(device.name, "it has no sectors")
+    if part is not None and part[0] >= device.end():
+        raise WrongWords("--part: %s has %d sectors, and the part begins at sector %d" % (device.name, device.end(), part[0]))
     return device
 
 

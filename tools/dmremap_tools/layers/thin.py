@@ -13,7 +13,7 @@ isn't active, or of `thin_dump --metadata-snap`.
 from argparse import ArgumentParser, Namespace
 from typing import Dict, Iterator, List, Optional, Tuple
 
-from dmremap_tools.base import quoting, streams, tables
+from dmremap_tools.base import numbers, quoting, streams, tables
 from dmremap_tools.base.refusal import Refusal
 from dmremap_tools.layers import dumps, parts
 
@@ -65,7 +65,7 @@ def add_words(parser: ArgumentParser) -> None:
 def run(words: Namespace) -> None:
     """Prints the devices."""
     data = parts.disk_in(words.data, "--data")
-    wanted = [(streams.whole("--device", number), name, streams.whole("--device", sectors))
+    wanted = [(streams.whole("--device", number), name, numbers.check_length("--device", streams.whole("--device", sectors)))
               for number, name, sectors in words.device]
     external = {streams.whole("--external", number): parts.disk_in(disk, "--external") for number, disk in words.external}
     block, found = read(words.dump, {number for number, _, _ in wanted})

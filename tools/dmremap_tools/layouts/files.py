@@ -25,6 +25,7 @@ import itertools
 from argparse import ArgumentParser, Namespace
 
 from dmremap_tools.base import numbers, streams
+from dmremap_tools.base.refusal import WrongWords
 from dmremap_tools.layouts import asked_runs, systems
 
 EXAMPLE = "dmremap-tools files home owners home.img"
@@ -40,6 +41,8 @@ def add_words(parser: ArgumentParser) -> None:
 
 def run(words: Namespace) -> None:
     """Prints, for each run that is asked for, the runs of its sectors that the same files have."""
+    if words.image == "-":
+        raise WrongWords("IMAGE is read by another program, and can't be standard input")
     asked = asked_runs.AskedRuns(words)
     system = systems.system_in(words.image, asked, words.damaged, words.superblock)
     for each in asked.runs:

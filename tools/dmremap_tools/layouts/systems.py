@@ -4,7 +4,7 @@ import os
 
 from dmremap_tools.answers.sources import opened
 from dmremap_tools.base import paths, program, quoting
-from dmremap_tools.base.refusal import Refusal, WrongWords
+from dmremap_tools.base.refusal import Refusal
 from dmremap_tools.layouts import ext_system
 from dmremap_tools.layouts.asked_runs import AskedRuns
 from dmremap_tools.layouts.xfs_system import XfsSystem
@@ -15,8 +15,6 @@ XFS, BTRFS, BTRFS_AT = b"XFSB", b"_BHRfS_M", 65536 + 64
 
 def system_in(image: str, asked: AskedRuns, is_damaged: bool, superblock: "int | None") -> "ext_system.ExtSystem | XfsSystem":
     """The file system in an image, with what is asked for looked up."""
-    if image == "-":
-        raise WrongWords("IMAGE is read by another program, and can't be standard input")
     path, at = paths.place_of(image)
     descriptor = opened(path)
     is_btrfs, is_xfs = read_at(descriptor, at + BTRFS_AT, len(BTRFS)) == BTRFS, read_at(descriptor, at, len(XFS)) == XFS

@@ -14,8 +14,6 @@ IS_CONCISE = re.compile(r",\d+,r[ow](?:[,;]|$)")
 MAJOR_MINOR = re.compile(r"\d+:\d+")
 # Why a device is left out that isn't asked for, which is not told.
 NOT_ASKED = "not asked for"
-# The greatest sector that dmremap takes the end of a device for.
-LONGEST = 1 << 50
 
 
 class Found(tables.Device):
@@ -53,7 +51,7 @@ class Found(tables.Device):
         self.lines.append(line)
         if target not in tables.TARGETS:
             self.leave(quoting.shown(target))
-        elif line.fault() or not 0 < line.length <= LONGEST - line.start or not all(MAJOR_MINOR.fullmatch(it) for it in line.lowers()):
+        elif line.fault() or not 0 < line.length <= numbers.LONGEST_DEVICE - line.start or not all(MAJOR_MINOR.fullmatch(it) for it in line.lowers()):
             self.leave(quoting.shown(text))
 
     def has(self, *targets: str) -> bool:

@@ -2,9 +2,9 @@
 
 from typing import Dict, List, Optional, Set, Tuple
 
-from dmremap_tools.base import names, tables
+from dmremap_tools.base import names, numbers, tables
 from dmremap_tools.base.store_places import MOST, MOST_IN_CHUNK, places
-from dmremap_tools.machines.found import LONGEST, Found
+from dmremap_tools.machines.found import Found
 
 # How many devices stand on each other at most.
 DEEPEST = 32
@@ -86,7 +86,7 @@ class Stack:
         length = self.length(lower)
         if not length:
             return "lsblk has no length of " + lower
-        if length > LONGEST:
+        if length > numbers.LONGEST_DEVICE:
             return "dmremap takes no disk as long as " + lower
         return "it goes past the end of " + self.lower(lower) if end > length else None
 

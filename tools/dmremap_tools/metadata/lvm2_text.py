@@ -20,7 +20,8 @@ The parts of a volume that is left out stay, under the names that they have in t
 mirror `r1`, and `pool_tdata` has the data of a thin pool. For a cached volume, the cache may have newer data than
 `home_corig`. Of a snapshot that is being merged, what isn't merged yet is read from its store, which answers don't show.
 
-With --only, which may be given several times, the copy has that volume, and its origin if it is a snapshot.
+With --only, which may be given several times, the copy has that volume, its origin if it is a snapshot, and the disks that
+they lie on.
 
 Refuses a text of which no volume would be left, one that is no metadata of a group, and forms that lvm2 never writes.
 Nothing about the copy is proved. The text can't say whether it is the newest, and a machine's devices are those of the text
@@ -60,7 +61,7 @@ WRITE, WRITE_LOCKED = b"WRITE", b"WRITE_LOCKED"
 
 def add_words(parser: argparse.ArgumentParser) -> None:
     """Adds TEXT and --only."""
-    parser.add_argument("--only", metavar="NAME", action="append", default=[], help="a volume that is asked for, with its origin")
+    parser.add_argument("--only", metavar="NAME", action="append", default=[], help="a volume that is asked for, with its origin and its disks")
     parser.add_argument("text", metavar="TEXT", help="the metadata, as vgcfgbackup writes it")
 
 
@@ -77,6 +78,8 @@ def run(words: argparse.Namespace) -> None:
     if words.only:
         leave_others(group, [os.fsencode(it) for it in words.only])
     drop_volumes(copy, group)
+    if words.only:
+        leave_physicals(copy, group)
     mend_group(copy, group)
     mend_bytes(copy, content)
     copy.tell()
@@ -135,6 +138,18 @@ def drop_volumes(copy: Mending, group: Group) -> None:
     if group.volumes and all(it.why for it in group.volumes.values()):
         copy.tell()
         raise Refusal(copy.document.path, "nothing is left: dmremap can follow none of its volumes")
+
+
+def leave_physicals(copy: Mending, group: Group) -> None:
+    """Leaves out the physical volumes that nothing lies on which stays. One stays whose disk has the path of another that does,
+    as dmremap names both by their keys; and one of a group of which all volumes need none."""
+    needed = {name for volume in group.volumes.values() if not volume.why for segment in volume.segments for name, _ in segment.stripes}
+    paths = {tuple(group.physicals[it].values(b"device")) for it in needed if it in group.physicals}
+    kept = {key: node for key, node in group.physicals.items() if key in needed or tuple(node.values(b"device")) in paths}
+    for key, node in group.physicals.items():
+        if kept and key not in kept:
+            copy.leave_out(node)
+    group.physicals = kept or group.physicals
 
 
 def say_kept(copy: Mending, group: Group) -> None:
