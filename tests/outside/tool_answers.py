@@ -39,6 +39,7 @@ ANSWERED = [
     good("json", [], ['1 R a"\\ 18446744073709551614 1\n'], '{"request":1,"what":"R","disk":"a\\"\\\\","start":18446744073709551614,"len":1}\n'),
     good("times", ["1"], ["0.5\n1.25\n", "1 R a 0 1\n1 R b 0 1\n2 copy a 0 1 b 7\n"], "0.5 R a 0 1\n0.5 R b 0 1\n1.25 copy a 0 1 b 7\n"),
     lost("times", ["1"], ["0.5\n", "1 R a 0 1\n2 R b 0 1\n"], "2:2: no time of the request: 2 R b 0 1", "0.5 R a 0 1\n"),
+    lost("times", ["1"], ["0.5\nrefused\n", "1 R a 0 1\n2 R b 0 1\n"], "2:2: no time of the request: 2 R b 0 1", "0.5 R a 0 1\n"),
     lost("times", ["1"], ["0.5\n1.0\n", "2 R a 0 1\n1 R b 0 1\n"], "2:2: out of order: 1 R b 0 1", "1.0 R a 0 1\n"),
     good("dd", [], ["1 R it's 2 3\n2 zero 4\n"], "set -e\ndd if='it'\\''s' bs=512 skip=2 count=3 status=none\n"
          "dd if='/dev/zero' bs=512 skip=0 count=4 status=none\n"),
@@ -47,6 +48,7 @@ ANSWERED = [
     good("dd", ["--paths", "1"], ["a /dev/sdx?offset=1024\n", "1 R a 2 3\n"], "set -e\ndd if='/dev/sdx' bs=512 skip=4 count=3 status=none\n"),
     bad("dd", ["--paths", "1"], ["a /dev/sdx?offset=100\n", "1 R a 2 3\n"], "--paths: a begins at byte 100, within a sector", "set -e\n"),
     bad("dd", [], ["1 W a 2 3\n"], "1:1: a write, and no --image: 1 W a 2 3", "set -e\n"),
+    ("dd", ["--image", "-"], ["1 R a 0 1\n"], "refused\n", "dmremap-tools dd: '-' is no file to write: give it a name\n", 2),
     bad("dd", ["--image", "i"], ["1 error 3\n"], "1:1: no sectors: 1 error 3", "set -e\n"),
     bad("dd", ["--paths", "1"], ["a b\na c\n", "1 R a 2 3\n"], "1:2: named before: a c"),
     bad("dd", ["--paths", "1"], ["a\n", "1 R a 2 3\n"], "1:1: not NAME PATH: a"),

@@ -26,7 +26,8 @@ def add_words(parser: ArgumentParser) -> None:
 
 def run(words: Namespace) -> None:
     """Prints a line for each piece as it comes."""
-    writer = Writer(pieces.Answers(words.file), words.image, paths.places(words.paths))
+    image = streams.file_of(words.image) if words.image is not None else None
+    writer = Writer(pieces.Answers(words.file), image, paths.places(words.paths))
     streams.out.write("set -e\n")
     for piece in writer.source:
         writer.take(piece)

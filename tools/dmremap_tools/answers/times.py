@@ -4,11 +4,13 @@ Has TIMES, which `trace --times` writes, and the answers to the requests of that
 pieces out of order, and requests that TIMES has not.
 """
 
+import re
 from argparse import ArgumentParser, Namespace
 
 from dmremap_tools.base import pieces, streams
 
 EXAMPLE = "dmremap-tools times times pieces"
+TIME = re.compile("[0-9.]+")
 
 
 def add_words(parser: ArgumentParser) -> None:
@@ -24,7 +26,7 @@ def run(words: Namespace) -> None:
     for request, rest in source.by_request():
         while times.number < request:
             time = next(coming, "")
-            if not time:
+            if not TIME.fullmatch(time):
                 source.refuse_line("no time of the request")
         streams.out.write(f"{time} {rest}\n")
     source.tell_if_none()

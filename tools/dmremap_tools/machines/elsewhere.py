@@ -23,7 +23,7 @@ from dmremap_tools.machines import missing
 from dmremap_tools.machines.missing import StandIns
 
 EXAMPLE = "dmremap concise lvm vg0.backup | dmremap-tools elsewhere --paths paths.txt > here.concise"
-PATH = re.compile(r"(?!.*\?offset=)/[^,;\\\s]*")
+PATH = re.compile(r"/[^,;\\\s]*")
 
 
 def add_words(parser: argparse.ArgumentParser) -> None:
@@ -53,6 +53,10 @@ def run(words: argparse.Namespace) -> None:
     if words.losetup:
         streams.out.write("".join(losetup(name, it, path_of) for it in devices))
     else:
+        for it in map(paths.place_of, (path_of or {}).values()):
+            if it.start:
+                raise Refusal(streams.name_of(words.paths), "a device needs a path of its own: make one by losetup -r -o %d %s"
+                              % (it.start, quoting.shown(it.path)))
         moved = Moved(name + ":1", path_of or {}, words.prefix, words.missing)
         streams.out.write(tables.text_of(moved.devices_of(devices), True))
 
@@ -96,6 +100,7 @@ def losetup(source: str, device: tables.Device, path_of: Optional[Dict[str, str]
     disk = line.words[0]
     if not names.DISK.fullmatch(disk) or (path_of is not None and disk not in path_of):
         raise Refusal(source + ":1", "no path of the disk " + quoting.shown(disk))
-    image = "IMAGE" if path_of is None else quoting.for_shell(path_of[disk])
+    place = paths.place_of("IMAGE" if path_of is None else path_of[disk])
+    image = "IMAGE" if path_of is None else quoting.for_shell(place.path)
     return "losetup -r -o %d --sizelimit %d -f --show %s # %s: %s\n" % (
-        int(line.words[1]) * numbers.SECTOR, line.length * numbers.SECTOR, image, device.name, disk)
+        place.start + int(line.words[1]) * numbers.SECTOR, line.length * numbers.SECTOR, image, device.name, disk)
