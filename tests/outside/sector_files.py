@@ -5,6 +5,7 @@ import os
 import random
 import re
 import shutil
+import sys
 
 import tool_calls
 from harness import run
@@ -25,6 +26,7 @@ def check(tally, program, top):
     check_whole(tally, program, top)
     check_lost(tally, program, top)
     check_lost_inodes(tally, program, top)
+    check_killed(tally, program, top)
     check_xfs(tally, program, top)
 
 
@@ -88,6 +90,21 @@ def check_refusals(tally, program, top):
     for image, why in ((os.path.join(program.room, "nowhere"), "No such file or directory"), (pipe, "neither a file nor a disk"),
                        (packed, "it is compressed (bzip2)")):
         tally.same("files of " + image, files(program, top, "home 0\n", "home", image), 1, "", "dmremap-tools files: %s: %s\n" % (image, why))
+
+
+def check_killed(tally, program, top):
+    """A debugfs that is killed: where it is asked for something besides, that is no answer; and where other options help, it is."""
+    sample, real = os.path.join(tool_calls.samples(top), "home.img"), found("debugfs")
+    owners = program.file("killed/owners", "home 0 64\n")
+    folder = os.path.dirname(owners)
+    plain = files(program, top, "home 0 64\n", "home", sample, "--damaged")
+    for at, pattern, status, out in (("many", '*" -f "*', 5, b""), ("first", '*" -R stats "*', 5, b""), ("plain", '"plain -R"*', 0, plain.out)):
+        script = program.file("killed/debugfs", '#!/bin/sh\ncase "$DIES_AT $*" in %s) kill -9 $$ ;; esac\nexec %s "$@"\n' % (pattern, real))
+        os.chmod(script, 0o755)
+        env = dict(os.environ, DIES_AT=at, PATH=folder + os.pathsep + os.environ["PATH"])
+        got = run([sys.executable, os.path.join(top, tool_calls.TOOL), "files", "home", owners, sample], env=env)
+        is_told = (script + ": it was ended by signal 9\n").encode() in got.err
+        tally.holds("files by a debugfs that is killed, " + at, (got.status, got.out) == (status, out) and is_told, "%s, %r, %r" % (got.status, got.out, got.err))
 
 
 def made(tally, program, name, contents, *words, size="8M"):

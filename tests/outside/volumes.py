@@ -4,7 +4,10 @@ has to be what was put there, byte for byte."""
 import errno
 import os
 import random
+import re
 import shutil
+import signal
+import time
 
 import used
 import walks
@@ -38,6 +41,7 @@ def check(tally, program, top):
     check_group(case)
     check_labelled(case)
     check_holes(case)
+    check_background(case)
     check_refusals(case)
 
 
@@ -192,6 +196,29 @@ def check_holes(case):
         got = case.serve(words, 'qemu-io -r -f raw -c "read %d %d" "$uri"' % (at * SECTOR, count * SECTOR))
         is_so = (b"read %d/%d" % (count * SECTOR, count * SECTOR) in got.out) == is_read and (os.strerror(errno.EIO).encode() in got.out + got.err) != is_read
         case.tally.holds("a read of " + name, is_so, "status %s, %r, %r" % (got.status, got.out, got.err))
+
+
+def check_background(case):
+    """A server that goes on in the background, with the words and the address that RECIPES has, of a partition by its place."""
+    with open(os.path.join(case.top, "docs", "RECIPES.md"), encoding="utf-8") as it:
+        shown = re.search(r"With `(-U [^`]+)` and no `--run`[^`]*`(nbd[^`]+)`", it.read())
+    if not case.tally.holds("a server in the background in RECIPES", shown, "it has none"):
+        return
+    case.put("parted.img", gpt((64, 99)).ljust(64 * SECTOR, b"\0") + case.content[:64 * SECTOR])
+    case.put("parted", "v: 0 64 linear d 0\n")
+    case.put("parted.disks", "d 64\n")
+    words = ["format=table", "source=parted", "disks=parted.disks", "device=v", "image=d=parted.img?offset=%d" % (64 * SECTOR)]
+    server = ["nbdkit", *shown[1].split(), "-P", "pid", "python", case.plugin, "program=" + case.program.path, *words]
+    case.tally.same("a server in the background", run(server, folder=case.folder, env=case.env))
+    got = run(["nbdcopy", shown[2], "copy"], folder=case.folder, env=case.env)
+    if case.tally.holds("a copy from it", got.status == 0, got.err.decode("utf-8", "replace")):
+        case.tally.holds("the bytes of that", case.bytes("copy") == case.content[:64 * SECTOR], "they differ")
+    pid = int(case.bytes("pid"))
+    os.kill(pid, signal.SIGTERM)
+    for _ in range(200):
+        if not os.path.exists("/proc/%d" % pid):
+            break
+        time.sleep(0.05)
 
 
 def check_refusals(case):

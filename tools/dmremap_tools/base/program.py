@@ -47,10 +47,12 @@ def found(name: str) -> str:
 
 
 def ask_quietly(words: Sequence[str], most: int = streams.MOST_TEXT, given: Optional[int] = None) -> "tuple[str, str]":
-    """What a program prints on its two outputs, whatever its status is, in English."""
+    """What a program prints on its two outputs, whatever its status is, in English, unless it is killed."""
     import tempfile
     with tempfile.TemporaryFile() as said:
-        printed, _ = _asked(words, most, given, said)
+        printed, status = _asked(words, most, given, said)
+        if status < 0:
+            fail(words[0], status)
         said.seek(0)
         return printed, said.read(most).decode("utf-8", "surrogateescape")
 

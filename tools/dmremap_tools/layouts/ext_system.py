@@ -58,17 +58,24 @@ class ExtSystem:
     def _opened(self, image: str, asked: AskedRuns, tries: Sequence[List[str]]) -> Tuple[Debugfs, ExtLayout]:
         """debugfs with the first options by which it answers for all blocks."""
         complaints: List[str] = []
+        failed: Optional[streams.OutputFailed] = None
         for options in tries:
             debugfs = Debugfs(image, options)
-            printed, said = debugfs.ask("stats")
-            layout = layout_in(printed)
-            is_answered = layout is not None and self._find_inodes(debugfs, asked.blocks(layout.sectors, layout.end), said)
+            try:
+                printed, said = debugfs.ask("stats")
+                layout = layout_in(printed)
+                is_answered = layout is not None and self._find_inodes(debugfs, asked.blocks(layout.sectors, layout.end), said)
+            except streams.OutputFailed as fault:
+                failed = fault
+                continue
             complaints = complaints or said
             if layout and is_answered:
-                tell(complaints)
+                tell([str(failed)] * bool(failed) + complaints)
                 if options != tries[0]:
                     streams.tell("read by debugfs with " + " ".join(options))
                 return debugfs, layout
+        if failed:
+            raise failed
         reason = "; ".join(map(quoting.shown, complaints[:MOST_COMPLAINTS])) or "not enough"
         raise Refusal(quoting.shown(image), "debugfs says: " + reason)
 
