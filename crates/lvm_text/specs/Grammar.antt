@@ -53,9 +53,11 @@ ReadsBy scalar ts (Several k n ss rest) more =
 abbrev pub ReadsMore : List TokenAtLine → List tree.Scalar → List TokenAtLine → Type 0
 ReadsMore = ReadsMoreBy scalar_of
 
+-- the same of a list
 abbrev pub ReadsList : List TokenAtLine → List tree.Scalar → List TokenAtLine → Type 0
 ReadsList = ReadsListBy scalar_of
 
+-- the same of values
 abbrev pub Reads : List TokenAtLine → Values → List TokenAtLine → Type 0
 Reads = ReadsBy scalar_of
 
