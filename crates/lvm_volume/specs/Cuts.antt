@@ -18,6 +18,7 @@ after_hyphen (b ∷ bs) = if b == code "-" then Some bs else None
 abbrev pub first_slice : List ℕ → List ℕ
 first_slice bs = take (slice_length bs) bs
 
+-- what comes after that part and its hyphen, or none where no hyphen ends it
 abbrev pub later_slices : List ℕ → Option (List ℕ)
 later_slices bs = after_hyphen (drop (slice_length bs) bs)
 

@@ -48,44 +48,53 @@ abbrev pub least_line_of : ((alone : Bool) → Segment → Bool) → List Volume
 least_line_of test [] = None
 least_line_of test (volume ∷ volumes) = least_line (test (length volume.segments == 1)) volume.segments (least_line_of test volumes)
 
+-- the fault at a line of the source, if there is one
 abbrev pub at_line : LoadKind → Option ℕ → List LoadFault
 at_line kind None = []
 at_line kind (Some line) = source_faults kind line
 
 -- Unknown: a stripe that names no physical volume, or a snapshot that names no volume
 
+-- the stripes of a segment: none but for a striped one
 abbrev pub stripes_of : SegmentType → List Stripe
 stripes_of (Striped stripe_size stripes) = stripes
 stripes_of Zero = []
 stripes_of Error = []
 stripes_of (Snapshot chunk_size origin store) = []
 
+-- the positions of the volumes that a segment names: only that of a record names any
 abbrev pub volumes_named : SegmentType → List ℕ
 volumes_named (Snapshot chunk_size origin store) = origin ∷ store ∷ []
 volumes_named (Striped stripe_size stripes) = []
 volumes_named Zero = []
 volumes_named Error = []
 
+-- a segment that names a physical volume or a volume that is not there, where there are this many of each
 abbrev pub is_unknown : (physicals volumes : ℕ) → Segment → Bool
 is_unknown physicals volumes segment =
     list_any (λ stripe. not (nat_lt stripe.physical physicals)) (stripes_of segment.target) || list_any (λ position. not (nat_lt position volumes)) (volumes_named segment.target)
 
+-- the least line of such a segment
 abbrev pub unknown_faults : Group → List LoadFault
 unknown_faults group = at_line Unknown (least_line_of (λ alone. is_unknown (length group.physicals) (length group.volumes)) group.volumes)
 
 -- Snapshot: a snapshot that its group can't have
 
+-- the least line of a segment that makes no snapshot
 abbrev pub snapshot_faults_in : List Volume → List LoadFault
 snapshot_faults_in volumes = at_line loads.Snapshot (least_line_of (is_bad_snapshot volumes (roles_of volumes)) volumes)
 
+-- the same of a group
 abbrev pub snapshot_faults : Group → List LoadFault
 snapshot_faults group = snapshot_faults_in group.volumes
 
 -- Extents: physical volumes that are longer than their device
 
+-- a physical volume whose extents end after its size, in sectors
 abbrev pub is_too_long : ℕ → Physical → Bool
 is_too_long extent_size physical = nat_lt physical.size (physical.start + physical.count * extent_size)
 
+-- the physical volumes whose extents do
 abbrev pub size_faults : ℕ → List Physical → List LoadFault
 size_faults extent_size physicals = faults_by Extents (λ physical. source_line physical.line) (is_too_long extent_size) physicals
 
@@ -97,6 +106,7 @@ pub record Claim : Type 0 where
   pub first : ℕ
   pub end : ℕ
 
+-- the extents of a physical volume from the first one up to an end
 abbrev pub claim_on : (physical first end : ℕ) → Claim
 claim_on physical first end = record { physical = physical; first = first; end = end }
 
@@ -146,10 +156,12 @@ segment_faults physicals used end (segment ∷ segments) =
     hit (is_misplaced physicals used end segment) Extents segment.line
     ++ segment_faults physicals (used_by used (claims_of segment)) (segment.start + segment.count) segments
 
+-- what is used after these segments
 abbrev pub used_after : List Claim → List Segment → List Claim
 used_after used [] = used
 used_after used (segment ∷ segments) = used_after (used_by used (claims_of segment)) segments
 
+-- the faults of the segments of volumes, where what those before use is used
 abbrev pub volume_faults : List Physical → List Claim → List Volume → List LoadFault
 volume_faults physicals used [] = []
 volume_faults physicals used (volume ∷ volumes) =

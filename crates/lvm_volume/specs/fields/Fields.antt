@@ -22,15 +22,19 @@ pub record Field : Type 0 where
   pub kind : Kind
   pub when : Condition
 
+-- a field: its key, what it has to hold, and when it is asked for
 abbrev pub field : List ℕ → Kind → Condition → Field
 field key kind when = record { key = key; kind = kind; when = when }
 
+-- a field that is always asked for
 abbrev pub always : List ℕ → Kind → Field
 always key kind = field key kind Always
 
+-- the fields of the whole text
 abbrev pub top_fields : List Field
 top_fields = always (codes "contents") kinds.Title ∷ always (codes "version") kinds.Version ∷ []
 
+-- the fields of a volume group's section
 abbrev pub group_fields : List Field
 group_fields =
     always (codes "extent_size") kinds.Positive
@@ -38,6 +42,7 @@ group_fields =
     ∷ field (codes "logical_volumes") kinds.Section Given
     ∷ []
 
+-- the fields of a physical volume's section
 abbrev pub physical_fields : List Field
 physical_fields =
     always (codes "device") kinds.Text
@@ -46,6 +51,7 @@ physical_fields =
     ∷ always (codes "pe_count") kinds.Extents
     ∷ []
 
+-- the fields of a volume's section, apart from its segments
 abbrev pub volume_fields : List Field
 volume_fields = always (codes "status") kinds.Texts ∷ always (codes "segment_count") kinds.Number ∷ []
 
@@ -53,6 +59,7 @@ volume_fields = always (codes "status") kinds.Texts ∷ always (codes "segment_c
 abbrev pub segment_field : ℕ → Field
 segment_field i = always (codes "segment" ++ decimal i) kinds.Section
 
+-- the fields of a segment's section, in the order in which they are checked
 abbrev pub segment_fields : List Field
 segment_fields =
     always (codes "start_extent") kinds.Extents
@@ -68,22 +75,27 @@ segment_fields =
 
 -- What a section holds under a key
 
+-- the integer, or 0
 abbrev pub number_in : Content → ℕ
 number_in (Whole (Int n)) = n
 number_in _ = 0
 
+-- the string, or an empty one
 abbrev pub text_in : Content → List ℕ
 text_in (Whole (Text text)) = text
 text_in _ = []
 
+-- the elements of the list, or none
 abbrev pub items_in : Content → List Scalar
 items_in (Items items) = items
 items_in _ = []
 
+-- the sections in the section, by their keys, or none
 abbrev pub sections_in : Content → List (List ℕ × Tree)
 sections_in (Inner tree) = sections_of tree.values
 sections_in _ = []
 
+-- the section, or none
 abbrev pub section_in : Content → List Tree
 section_in (Inner tree) = tree ∷ []
 section_in _ = []
@@ -97,12 +109,15 @@ held other view (Some shown) = view shown.content
 abbrev pub number_at : List ℕ → Tree → ℕ
 number_at key tree = held 0 number_in (node_of key tree.values)
 
+-- the string of a key, or an empty one
 abbrev pub text_at : List ℕ → Tree → List ℕ
 text_at key tree = held [] text_in (node_of key tree.values)
 
+-- the elements of the list of a key, or none
 abbrev pub items_at : List ℕ → Tree → List Scalar
 items_at key tree = held [] items_in (node_of key tree.values)
 
+-- the sections in the section of a key, or none
 abbrev pub sections_at : List ℕ → Tree → List (List ℕ × Tree)
 sections_at key tree = held [] sections_in (node_of key tree.values)
 
@@ -116,12 +131,15 @@ segments_of volume = flat_map (λ i. section_at (codes "segment" ++ decimal i) v
 
 -- Where a field is asked for
 
+-- a segment of type striped
 abbrev pub is_striped : Tree → Bool
 is_striped segment = bytes_eq (text_at (codes "type") segment) (codes "striped")
 
+-- a segment of type snapshot
 abbrev pub is_snapshot : Tree → Bool
 is_snapshot segment = bytes_eq (text_at (codes "type") segment) (codes "snapshot")
 
+-- whether a field is asked for in a section
 abbrev pub is_asked : Condition → List ℕ → Tree → Bool
 is_asked Always key tree = true
 is_asked Given key tree = is_some (node_of key tree.values)
@@ -131,22 +149,27 @@ is_asked Snapshot key tree = is_snapshot tree
 
 -- What a field may hold
 
+-- a string that passes a test
 abbrev pub is_text_with : (List ℕ → Bool) → Content → Bool
 is_text_with test (Whole (Text text)) = test text
 is_text_with test _ = false
 
+-- an integer that passes a test
 abbrev pub is_number_with : (ℕ → Bool) → Content → Bool
 is_number_with test (Whole (Int n)) = test n
 is_number_with test _ = false
 
+-- a list whose elements pass a test
 abbrev pub is_list_with : (List Scalar → Bool) → Content → Bool
 is_list_with test (Items items) = test items
 is_list_with test _ = false
 
+-- a section
 abbrev pub is_section : Content → Bool
 is_section (Inner tree) = true
 is_section _ = false
 
+-- a string
 abbrev pub is_text : Scalar → Bool
 is_text (Text text) = true
 is_text (Int n) = false
@@ -161,6 +184,7 @@ are_pairs [] = true
 are_pairs (Text name ∷ Int extent ∷ items) = are_pairs items
 are_pairs _ = false
 
+-- what a field of a kind may hold in a section
 abbrev pub fits : Kind → Tree → Content → Bool
 fits kinds.Title tree content = is_text_with (λ text. bytes_eq text (codes "Text Format Volume Group")) content
 fits kinds.Version tree content = is_number_with (λ n. n == 1) content
@@ -175,17 +199,21 @@ fits kinds.Section tree content = is_section content
 
 -- What is in the limits: 2^50, for numbers of extents also in sectors
 
+-- the greatest number of sectors or extents: 2^50
 abbrev pub most : ℕ
 most = 1125899906842624
 
+-- a field that counts extents, so that it is limited in sectors too
 abbrev pub counts_extents : Kind → Bool
 counts_extents kinds.Extents = true
 counts_extents _ = false
 
+-- an integer over the limit
 abbrev pub is_far_scalar : Scalar → Bool
 is_far_scalar (Text text) = false
 is_far_scalar (Int n) = nat_lt most n
 
+-- a number over the limit, or, of extents of this many sectors, one over it in sectors
 abbrev pub is_far : ℕ → Kind → Content → Bool
 is_far extent_size kind (Whole (Int n)) = nat_lt most n || (counts_extents kind && nat_lt most (n * extent_size))
 is_far extent_size kind (Whole (Text text)) = false
@@ -207,10 +235,12 @@ IsChecked (Err fault) found = (found ≡ Some fault) ⊎ IsMemoryFault Source fa
 abbrev pub source_faults : LoadKind → ℕ → List LoadFault
 source_faults kind line = fault_at Source kind line ∷ []
 
+-- the kind of the fault that a check finds
 abbrev pub load_kind : Check → LoadKind
 load_kind Fields = loads.Field
 load_kind (Limits extent_size) = loads.Limit
 
+-- what a check finds wrong at a field
 abbrev pub is_wrong : Check → Kind → Tree → Content → Bool
 is_wrong Fields kind tree content = not (fits kind tree content)
 is_wrong (Limits extent_size) kind tree content = is_far extent_size kind content
@@ -225,11 +255,13 @@ abbrev pub node_faults : Check → Kind → Tree → Option Shown → List LoadF
 node_faults check kind tree None = missing check tree.line
 node_faults check kind tree (Some shown) = if is_wrong check kind tree shown.content then source_faults (load_kind check) shown.line else []
 
+-- what a check finds at a field of a section
 unfoldable pub field_faults : Check → Tree → Field → List LoadFault
 field_faults check tree f = if is_asked f.when f.key tree then node_faults check f.kind tree (node_of f.key tree.values) else []
 
 -- The order of the fields
 
+-- the same at fields, in their order
 abbrev pub fields_faults : Check → Tree → List Field → List LoadFault
 fields_faults check tree fields = flat_map (field_faults check tree) fields
 
@@ -244,9 +276,11 @@ volume_faults check volume =
     fields_faults check volume volume_fields
     ++ (keys_faults check volume ++ flat_map (λ segment. fields_faults check segment segment_fields) (segments_of volume))
 
+-- the same at the fields of all physical volumes
 abbrev pub physicals_faults : Check → List (List ℕ × Tree) → List LoadFault
 physicals_faults check physicals = flat_map (λ physical. fields_faults check physical.1 physical_fields) physicals
 
+-- the same at the fields of all volumes and their segments
 abbrev pub volumes_faults : Check → List (List ℕ × Tree) → List LoadFault
 volumes_faults check volumes = flat_map (λ volume. volume_faults check volume.1) volumes
 
@@ -274,6 +308,7 @@ abbrev pub inner_sections : Option (Bor Tree) → List (List ℕ × Tree)
 inner_sections None = []
 inner_sections (Some section) = sections_of section.now.values
 
+-- the section that a reference shows
 abbrev pub section_view : Bor Tree → Tree
 section_view section = section.now
 

@@ -44,6 +44,7 @@ number_kind numbers.Extents = kinds.Extents
 
 -- the fields of a segment from its type on, and those that its type asks for
 
+-- the fields of a segment that depend on its type
 abbrev pub later_fields : List Field
 later_fields =
     field (codes "stripe_count") kinds.Positive kinds.Striped
@@ -54,13 +55,16 @@ later_fields =
     ∷ field (codes "cow_store") kinds.Text kinds.Snapshot
     ∷ []
 
+-- the type of a segment, and the fields that depend on it
 abbrev pub type_fields : List Field
 type_fields = always (codes "type") kinds.TypeWord ∷ later_fields
 
 -- what is found in segments, and at their keys in a volume of this many
 
+-- what a check finds at the fields of segments
 abbrev pub segments_faults : List Tree → Check → List LoadFault
 segments_faults segments check = flat_map (λ segment. fields_faults check segment segment_fields) segments
 
+-- what a check finds at the fields of a volume that hold its segments, where there are this many
 abbrev pub numbers_faults : Tree → ℕ → Check → List LoadFault
 numbers_faults volume count check = flat_map (λ i. field_faults check volume (segment_field i)) (range_with_len 1 count)

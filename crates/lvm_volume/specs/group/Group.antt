@@ -20,6 +20,7 @@ pub record Group : Type 0 where
   pub physicals : List Physical
   pub volumes : List Volume
 
+-- a group of these parts
 abbrev pub group_with : (name : List ℕ) → (extent_size : ℕ) → List Physical → List Volume → Group
 group_with name extent_size physicals volumes = record { name = name; extent_size = extent_size; physicals = physicals; volumes = volumes }
 
@@ -29,9 +30,11 @@ group_with name extent_size physicals volumes = record { name = name; extent_siz
 abbrev pub Keyed : Type 0
 Keyed = List ℕ × Tree
 
+-- the device of a physical volume, as its section has it
 abbrev pub device_of : Keyed → List ℕ
 device_of physical = text_at (codes "device") physical.1
 
+-- the text is a path from the root
 abbrev pub begins_with_slash : List ℕ → Bool
 begins_with_slash [] = false
 begins_with_slash (b ∷ bs) = b == code "/"
@@ -48,6 +51,7 @@ chosen shared key device = if begins_with_slash device && (not shared && is_disk
 abbrev pub disk_name : List (List ℕ) → Keyed → List ℕ
 disk_name devices physical = chosen (is_shared devices (device_of physical)) physical.0 (device_of physical)
 
+-- a physical volume, among those of these devices
 unfoldable pub physical_of : List (List ℕ) → Keyed → Physical
 physical_of devices physical = record {
   disk = disk_name devices physical;
@@ -71,23 +75,28 @@ keys_in = map (λ section. section.0)
 abbrev pub position_of : List (List ℕ) → List ℕ → ℕ
 position_of keys key = position_or_len (bytes_eq key) keys
 
+-- the pairs of a list: a physical volume's key, and the first extent there
 abbrev pub stripes_in : List (List ℕ) → List Scalar → List Stripe
 stripes_in keys (Text key ∷ Int extent ∷ items) = record { physical = position_of keys key; extent = extent } ∷ stripes_in keys items
 stripes_in keys _ = []
 
+-- a striped segment, where these are the keys of the physical volumes
 abbrev pub striped_in : List (List ℕ) → Tree → SegmentType
 striped_in keys segment = Striped (number_at (codes "stripe_size") segment) (stripes_in keys (items_at (codes "stripes") segment))
 
+-- the segment of a record, where these are the keys of the volumes
 abbrev pub snapshot_in : List (List ℕ) → Tree → SegmentType
 snapshot_in keys segment =
     Snapshot (number_at (codes "chunk_size") segment) (position_of keys (text_at (codes "origin") segment)) (position_of keys (text_at (codes "cow_store") segment))
 
+-- the type of a segment and what it needs
 abbrev pub target_of : GroupPositions → Tree → SegmentType
 target_of keys segment =
     if is_striped segment then striped_in keys.physicals segment
     else (if is_snapshot segment then snapshot_in keys.volumes segment
     else (if bytes_eq (text_at (codes "type") segment) (codes "zero") then Zero else Error))
 
+-- a segment, as its section has it
 unfoldable pub segment_of : GroupPositions → Tree → Segment
 segment_of keys segment = record {
   start = number_at (codes "start_extent") segment;
@@ -96,6 +105,7 @@ segment_of keys segment = record {
   line = segment.line;
 }
 
+-- an element of a list that is this word
 abbrev pub is_text_of : List ℕ → Scalar → Bool
 is_text_of word (Text text) = bytes_eq text word
 is_text_of word (Int n) = false
@@ -111,6 +121,7 @@ is_writable volume =
     || (lists (codes "status") (codes "WRITE_LOCKED") volume
     || lists (codes "flags") (codes "WRITE_LOCKED") volume)
 
+-- a volume, as its section has it
 unfoldable pub volume_of : GroupPositions → Keyed → Volume
 volume_of keys volume = record {
   name = volume.0;
@@ -132,6 +143,7 @@ positions_in group = record {
 abbrev pub volumes_in : Tree → List Volume
 volumes_in group = map (volume_of (positions_in group)) (sections_at (codes "logical_volumes") group)
 
+-- a group, as its section has it
 abbrev pub group_in : Keyed → Group
 group_in group = record {
   name = group.0;

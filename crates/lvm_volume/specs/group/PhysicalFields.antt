@@ -5,6 +5,7 @@ use Rattle.lvm_volume.specs.declared.group.physical.PhysicalFields as code
 use Rattle.lvm_volume.specs.fields.Fields.{number_at}
 use Rattle.lvm_volume.specs.group.Group.{Keyed, chosen, device_of, is_shared}
 
+-- what is read of a physical volume, before its disk has a name
 pub record Fields : Type 0 where
   pub key : List ℕ
   pub device : List ℕ
@@ -32,6 +33,7 @@ fields_view fields = record { key = fields.key.now; device = fields.device.now; 
 abbrev pub named : List (List ℕ) → Fields → Physical
 named devices fields = record { disk = chosen (is_shared devices fields.device) fields.key fields.device; size = fields.size; start = fields.start; count = fields.count; line = fields.line }
 
+-- their devices, in their order
 abbrev pub devices_in : List Fields → List (List ℕ)
 devices_in = map (λ fields. fields.device)
 

@@ -4,12 +4,14 @@ use Rattle.lvm_volume.specs.declared.group.roles.Record.{Record}
 use Rattle.lvm_volume.specs.declared.group.roles.Role.{Role}
 use Rattle.lvm_volume.specs.declared.group.roles.Role.TheVariants as roles
 
+-- the record, if there is one
 abbrev pub record_list : Option Record → List Record
 record_list None = []
 record_list (Some snapshot) = snapshot ∷ []
 
 -- a role with one more snapshot that has the volume as its origin, or as its store
 
+-- the role where one more snapshot is taken of the volume
 abbrev pub with_origin : Role → Role
 with_origin roles.Plain = roles.Origin
 with_origin roles.Origin = roles.Origin
@@ -17,6 +19,7 @@ with_origin (roles.Store snapshot) = roles.Clashing
 with_origin roles.Record = roles.Record
 with_origin roles.Clashing = roles.Clashing
 
+-- the role where one more snapshot keeps its chunks in the volume
 abbrev pub with_store : Record → Role → Role
 with_store snapshot roles.Plain = roles.Store snapshot
 with_store snapshot roles.Origin = roles.Clashing

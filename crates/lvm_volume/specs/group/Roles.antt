@@ -11,6 +11,7 @@ use Rattle.lvm_volume.specs.declared.group.roles.Role.TheVariants as roles
 
 -- Records: volumes whose only segment is a snapshot
 
+-- the record in a segment, if it is of that type
 abbrev pub snapshot_of : (line : ℕ) → SegmentType → List Record
 snapshot_of line (Snapshot chunk_size origin store) = record { chunk_size = chunk_size; origin = origin; store = store; line = line } ∷ []
 snapshot_of line (Striped stripe_size stripes) = []
@@ -23,6 +24,7 @@ recorded [] = []
 recorded (segment ∷ []) = snapshot_of segment.line segment.target
 recorded (segment ∷ second ∷ more) = []
 
+-- all records of volumes, in their order
 abbrev pub records_of : List Volume → List Record
 records_of volumes = flat_map (λ volume. recorded volume.segments) volumes
 
@@ -46,6 +48,7 @@ abbrev pub role_of : List Record → ℕ × Volume → Role
 role_of snapshots at =
     unless_recorded (recorded at.1.segments) (role_by (list_any (λ snapshot. snapshot.origin == at.0) snapshots) (filter (λ snapshot. snapshot.store == at.0) snapshots))
 
+-- the roles of volumes, in their order, among all these snapshots
 abbrev pub roles_among : List Record → List Volume → List Role
 roles_among snapshots volumes = map (role_of snapshots) (enumerate_from 0 volumes)
 
@@ -55,19 +58,24 @@ roles_of volumes = roles_among (records_of volumes) volumes
 
 -- What a check and tables ask of a position
 
+-- the role of the volume at a position: Plain past the end
 abbrev pub role_at : List Role → ℕ → Role
 role_at all position = slice_index_or all position roles.Plain
 
+-- the segments of the volume at a position: none past the end
 abbrev pub segments_at : List Volume → ℕ → List Segment
 segments_at volumes position = slice_index_or (map (λ volume. volume.segments) volumes) position []
 
+-- the name of the volume at a position: empty past the end
 abbrev pub name_at : List Volume → ℕ → List ℕ
 name_at volumes position = slice_index_or (map (λ volume. volume.name) volumes) position []
 
+-- the volume only says how others make a snapshot
 abbrev pub is_record : Role → Bool
 is_record roles.Record = true
 is_record _ = false
 
+-- the volume keeps the chunks of a snapshot
 abbrev pub is_store : Role → Bool
 is_store (roles.Store snapshot) = true
 is_store _ = false
@@ -77,6 +85,7 @@ abbrev pub end_of : Option Segment → ℕ
 end_of None = 0
 end_of (Some segment) = segment.start + segment.count
 
+-- where the last segment of a volume ends, in extents
 abbrev pub extents_of : List Segment → ℕ
 extents_of segments = end_of (slice_get segments (length segments - 1))
 
@@ -91,5 +100,6 @@ is_bad_target volumes all alone count (Striped stripe_size stripes) = false
 is_bad_target volumes all alone count Zero = false
 is_bad_target volumes all alone count Error = false
 
+-- the segment of a record that makes no snapshot; the flag says that it is the only one of its volume
 abbrev pub is_bad_snapshot : List Volume → List Role → (alone : Bool) → Segment → Bool
 is_bad_snapshot volumes all alone segment = is_bad_target volumes all alone segment.count segment.target

@@ -3,6 +3,7 @@ use Rattle.std.specs.Prelude.{ℕ, List, Option, Some, None, bytes_eq, codes, if
 use Rattle.lvm_volume.specs.declared.group.segment.TypeName.{TypeName}
 use Rattle.lvm_volume.specs.declared.group.segment.TypeName.TheVariants.{Striped, Zero, Error, Snapshot}
 
+-- the word of a segment type
 abbrev pub type_text : TypeName → List ℕ
 type_text Striped = codes "striped"
 type_text Zero = codes "zero"

@@ -40,9 +40,11 @@ use Rattle.lvm_volume.specs.checks.Extents.{hit, name_faults, size_faults, snaps
 abbrev pub extent_faults : Group → List LoadFault
 extent_faults group = size_faults group.extent_size group.physicals ++ volume_faults group.physicals [] group.volumes
 
+-- the checks of what volumes name, of how extents lie, and of snapshots
 abbrev pub checks_of_parts : Group → List (List LoadFault)
 checks_of_parts group = unknown_faults group ∷ extent_faults group ∷ snapshot_faults group ∷ []
 
+-- the checks after the one for fields, in their order
 abbrev pub later_checks : Tree → List (List LoadFault)
 later_checks top =
     let group = group_of top in
@@ -69,6 +71,7 @@ abbrev pub columns_target : ℕ → List Column → Target
 columns_target stripe_size (column ∷ []) = targets.Linear column.to column.offset
 columns_target stripe_size columns = targets.Striped stripe_size columns
 
+-- the target of a segment
 abbrev pub line_target : ℕ → List Physical → SegmentType → Target
 line_target extent_size physicals (Striped stripe_size stripes) = columns_target stripe_size (map (column_of extent_size physicals) stripes)
 line_target extent_size physicals Zero = targets.Zero
@@ -85,6 +88,7 @@ line_of extent_size physicals segment = record {
   at = source_line segment.line;
 }
 
+-- the lines of segments, in sectors
 abbrev pub lines_of : Group → List Segment → List Line
 lines_of group segments = map (line_of group.extent_size group.physicals) segments
 
@@ -99,6 +103,7 @@ layer_text Cow = codes "cow"
 abbrev pub device_parts : List ℕ → List ℕ → Option Layer → NameParts
 device_parts group volume layer = record { vg = group; lv = volume; layer = option_map layer_text layer }
 
+-- the name of the device of a volume, or of its layer
 abbrev pub device_name : List ℕ → List ℕ → Option Layer → List ℕ
 device_name group volume layer = joined (device_parts group volume layer)
 
@@ -132,6 +137,7 @@ over_device group volume line = record {
 abbrev pub length_of : Group → List Segment → ℕ
 length_of group segments = extents_of segments * group.extent_size
 
+-- the one line of an origin's device, which serves its snapshots from the layer below
 abbrev pub origin_line : Group → Volume → Line
 origin_line group volume = record {
   start = 0;
@@ -140,6 +146,7 @@ origin_line group volume = record {
   at = source_line volume.line;
 }
 
+-- the one line of a snapshot's device, over the layers of its origin and of its store
 abbrev pub snapshot_line : Group → Volume → Record → Line
 snapshot_line group volume snapshot = record {
   start = 0;
@@ -160,9 +167,11 @@ devices_by group volume (roles.Store snapshot) = own_device group volume false (
 devices_by group volume roles.Record = []
 devices_by group volume roles.Clashing = []
 
+-- the devices that a volume makes in its role
 unfoldable pub devices_in : Group → Role × Volume → List DeviceSpec
 devices_in group member = devices_by group member.1 member.0
 
+-- the disk of a physical volume
 unfoldable pub disk_of : Physical → Disk
 disk_of physical = record { name = physical.disk; len = physical.size; at = source_line physical.line }
 
@@ -178,6 +187,7 @@ layers_of roles.Clashing = []
 abbrev pub unnamed_layer : List ℕ → Volume → Option Layer → List LoadFault
 unnamed_layer group volume layer = hit (is_some (fault_of (device_parts group volume.name layer))) Name volume.line
 
+-- the devices of a volume of whose parts no name is built
 unfoldable pub unnamed_volume : List ℕ → Role × Volume → List LoadFault
 unnamed_volume group member = flat_map (unnamed_layer group member.1) (layers_of member.0)
 
@@ -185,6 +195,7 @@ unnamed_volume group member = flat_map (unnamed_layer group member.1) (layers_of
 abbrev pub members_of : Group → List (Role × Volume)
 members_of group = zip (roles_of group.volumes) group.volumes
 
+-- the same of all volumes, in their order
 abbrev pub unnamed : Group → List LoadFault
 unnamed group = flat_map (unnamed_volume group.name) (members_of group)
 
@@ -195,30 +206,36 @@ tables_of group = (flat_map (devices_in group) (members_of group), map disk_of g
 -- What checks leave: numbers that fit 64 bits in sectors, stripes of physical volumes that are there, and snapshots of
 -- volumes that are origins
 
+-- a stripe of a physical volume that is there, at an offset that can be told in sectors
 pub record IsStripeIn (extent_size : ℕ) (physicals : List Physical) (stripe : Stripe) : Type 0 where
   pub there : stripe.physical < length physicals
   pub offset : (physical_at physicals stripe.physical).start + stripe.extent * extent_size < 2 ^ 64
 
+-- a segment whose ends can be told in sectors, of such stripes
 pub record IsSegmentIn (extent_size : ℕ) (physicals : List Physical) (segment : Segment) : Type 0 where
   pub start : segment.start * extent_size < 2 ^ 64
   pub len : segment.count * extent_size < 2 ^ 64
   pub end : (segment.start + segment.count) * extent_size < 2 ^ 64
   pub stripes : AllByRecursion (IsStripeIn extent_size physicals) (stripes_of segment.target)
 
+-- all of these segments are like that
 abbrev pub AreSegmentsIn : Group → List Segment → Type 0
 AreSegmentsIn group segments = AllByRecursion (IsSegmentIn group.extent_size group.physicals) segments
 
+-- all segments are like that, and what snapshots are taken of are origins
 pub record IsSoundGroup (group : Group) : Type 0 where
   pub volumes : AllByRecursion (λ volume. AreSegmentsIn group volume.segments) group.volumes
   pub origins : AllByRecursion (λ snapshot. role_at (roles_of group.volumes) snapshot.origin ≡ roles.Origin) (records_of group.volumes)
 
 -- what the devices of a volume with its role need: lengths that fit, and names
 
+-- of a store: the origin of its snapshot has a length and a name that can be told
 abbrev pub IsSnapshotIn : Group → Role → Type 0
 IsSnapshotIn group (roles.Store snapshot) =
     (length_of group (segments_at group.volumes snapshot.origin) < 2 ^ 64) × IsNamed group.name (name_at group.volumes snapshot.origin) (Some Real)
 IsSnapshotIn group role = ⊤
 
+-- the devices of a volume in its role can be made
 pub record IsMadeIn (group : Group) (member : Role × Volume) : Type 0 where
   pub segments : AreSegmentsIn group member.1.segments
   pub length : length_of group member.1.segments < 2 ^ 64
