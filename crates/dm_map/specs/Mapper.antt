@@ -24,6 +24,7 @@ OnSinkFault (Ok done) P = Unit {0}
 OnSinkFault (Err (faults.Sink fault)) P = P
 OnSinkFault (Err faults.Stopped) P = Unit {0}
 
+-- P, where the request was stopped
 abbrev pub OnStopped : {R F : Type 0} → Result R (MapFault F) → Type 0 → Type 0
 OnStopped (Ok done) P = Unit {0}
 OnStopped (Err (faults.Sink fault)) P = Unit {0}

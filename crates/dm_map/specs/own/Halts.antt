@@ -16,6 +16,7 @@ state_past stack op device start len sectors state =
     if nat_lt (device_len stack device) (start + len) then state
     else (steps (sector_step stack op MOST_DEPTH (Device device)) state start sectors).state
 
+-- the units of a request that is stopped after this many
 abbrev pub halted_units : Description → Op → (device start len count : ℕ) → State → List BlockUnit
 halted_units stack op device start len count state = take count (request_step stack op device start len state).units
 

@@ -12,6 +12,7 @@ pub record Node : Type 0 where
   pub lower : Lower
   pub sector : ℕ
 
+-- a sector of what is named, where data pass through
 abbrev pub node : Lower → (sector : ℕ) → Node
 node lower sector = record { lower = lower; sector = sector }
 

@@ -17,6 +17,7 @@ pub record AreAdded (before after : Counts) : Type 0 where
   pub comparisons : before.comparisons ≤ after.comparisons
   pub few : after.comparisons ≤ before.comparisons + most_comparisons * (after.searches - before.searches)
 
+-- the counts of a looker
 abbrev pub counts_of : Looking → Counts
 counts_of looker = record { searches = looker.searches; comparisons = looker.comparisons }
 
@@ -24,5 +25,6 @@ counts_of looker = record { searches = looker.searches; comparisons = looker.com
 abbrev pub grown_by : Counts → Counts → Counts
 grown_by before more = record { searches = before.searches + more.searches; comparisons = before.comparisons + more.comparisons }
 
+-- nothing looked at yet
 abbrev pub no_counts : Counts
 no_counts = record { searches = 0; comparisons = 0 }

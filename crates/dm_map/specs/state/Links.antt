@@ -3,6 +3,7 @@ use Rattle.std.specs.Prelude.{ℕ, ◌-◌, ◌/◌, ◌%◌, ◌^◌, ◌==◌,
 use Rattle.dm_map.specs.declared.state.trie_taken.link.Node.{Node}
 use Rattle.dm_map.specs.declared.state.trie_taken.link.Node.TheVariants.{Empty, Number, Fork}
 
+-- the node that a word of 32 bits stands for
 abbrev pub node_of : (code : ℕ) → Node
 node_of code =
     if nat_lt code (2 ^ 31) then (if code == 0 then Empty else Number (code - 1))

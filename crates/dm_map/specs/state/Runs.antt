@@ -9,6 +9,7 @@ abbrev pub begins : (before : Option ℕ) → ℕ → Bool
 begins None chunk = true
 begins (Some before) chunk = not (before + 1 == chunk)
 
+-- in how many runs chunks lie, after the one before them
 abbrev pub runs_after : (before : Option ℕ) → List ℕ → ℕ
 runs_after before [] = 0
 runs_after before (chunk ∷ rest) = (if begins before chunk then 1 else 0) + runs_after (Some chunk) rest
@@ -27,6 +28,7 @@ abbrev pub row_from : (first len : ℕ) → List ℕ
 row_from first zero = []
 row_from first (suc len) = first ∷ row_from (suc first) len
 
+-- the chunks of a run, in their order
 abbrev pub chunks_of : Run → List ℕ
 chunks_of run = row_from run.first run.len
 
@@ -34,12 +36,15 @@ chunks_of run = row_from run.first run.len
 abbrev pub chunks_in : List Run → List ℕ
 chunks_in runs = flat_map chunks_of runs
 
+-- a run without chunks
 abbrev pub no_run : Run
 no_run = record { first = 0; number = 0; len = 0 }
 
+-- the run with this index: one without chunks where there is none
 abbrev pub run_at : List Run → ℕ → Run
 run_at runs id = slice_index_or runs id no_run
 
+-- the first chunk after a run
 abbrev pub end_of : Run → ℕ
 end_of run = run.first + run.len
 

@@ -8,6 +8,7 @@ pub record Taken : Type 0 where
   pub chunks : List ℕ
   pub valid : Bool
 
+-- a valid snapshot that took no chunk
 abbrev pub none_taken : Taken
 none_taken = record { chunks = []; valid = true }
 
@@ -15,6 +16,7 @@ none_taken = record { chunks = []; valid = true }
 abbrev pub State : Type 0
 State = List Taken
 
+-- what a snapshot took, by the id of its device
 abbrev pub taken_at : State → ℕ → Taken
 taken_at state device = slice_index_or state device none_taken
 
@@ -24,11 +26,14 @@ start_state stack = replicate (length stack.devices) none_taken
 
 -- Changes
 
+-- the state with what this device's snapshot took replaced
 abbrev pub put : State → (device : ℕ) → Taken → State
 put = slice_set
 
+-- one more chunk is taken, with the next number
 abbrev pub with_chunk : Taken → (chunk : ℕ) → Taken
 with_chunk taken chunk = record { chunks = taken.chunks ++ chunk ∷ []; valid = taken.valid }
 
+-- the snapshot is invalid; what it took stays noted
 abbrev pub lost : Taken → Taken
 lost taken = record { chunks = taken.chunks; valid = false }

@@ -19,10 +19,12 @@ abbrev pub snapshot_of : FoundTarget → Option FoundSnapshot
 snapshot_of (found.Snapshot snapshot) = Some snapshot
 snapshot_of _ = None
 
+-- the snapshot of a line, if its target is one
 abbrev pub snapshot_of_line : Option FoundLine → Option FoundSnapshot
 snapshot_of_line (Some line) = snapshot_of line.target
 snapshot_of_line None = None
 
+-- the snapshot that a device is, by the line that holds its first sector
 abbrev pub snapshot_at : Description → (device : ℕ) → Option FoundSnapshot
 snapshot_at stack device = snapshot_of_line (found_at stack device 0)
 
@@ -31,10 +33,12 @@ abbrev pub origin_of : FoundTarget → Option FoundOrigin
 origin_of (found.Origin origin) = Some origin
 origin_of _ = None
 
+-- the origin of a line, if its target is one
 abbrev pub origin_of_line : Option FoundLine → Option FoundOrigin
 origin_of_line (Some line) = origin_of line.target
 origin_of_line None = None
 
+-- the origin that a device is, by the line that holds its first sector
 abbrev pub origin_at : Description → (device : ℕ) → Option FoundOrigin
 origin_at stack device = origin_of_line (found_at stack device 0)
 
@@ -43,6 +47,7 @@ abbrev pub room_of : Description → Option FoundSnapshot → (number : ℕ) →
 room_of stack (Some snapshot) number = has_place stack snapshot number
 room_of stack None number = false
 
+-- the store of a device's snapshot has room for the chunk with this number
 abbrev pub has_room : Description → (device number : ℕ) → Bool
 has_room stack device number = room_of stack (snapshot_at stack device) number
 

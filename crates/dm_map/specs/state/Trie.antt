@@ -6,9 +6,11 @@ use Rattle.std.specs.List.{list_any, slice_index_or}
 use Rattle.dm_map.specs.declared.state.trie_taken.link.Node.{Node}
 use Rattle.dm_map.specs.declared.state.trie_taken.link.Node.TheVariants.{Empty, Number, Fork}
 
+-- the node with this index: an empty one where there is none
 abbrev pub node_at : List Node → (at : ℕ) → Node
 node_at nodes at = slice_index_or nodes at Empty
 
+-- the chunk with this number: 0 where there is none
 abbrev pub chunk_at : List ℕ → (number : ℕ) → ℕ
 chunk_at chunks number = slice_index_or chunks number 0
 
@@ -26,6 +28,7 @@ way nodes chunk start (suc steps) = next_at chunk (way nodes chunk start steps) 
 abbrev pub end_of : List Node → (mask chunk : ℕ) → ℕ
 end_of nodes mask chunk = way nodes chunk (bit_and chunk mask) 64
 
+-- a node with two below it
 abbrev pub is_fork : Node → Bool
 is_fork (Fork bit pair) = true
 is_fork _ = false
@@ -52,6 +55,7 @@ pub record IsFork (marks : Marks) (count at bit pair : ℕ) : Type 0 where
   pub fresh : list_any (nat_eq bit) (marks.tested at) ≡ false
   pub sides : (value : ℕ) → value < 2 → IsSide marks at bit pair value
 
+-- the number of a taken chunk that agrees with all bits that were tested on the way to a node
 pub record IsNumber (marks : Marks) (chunks : List ℕ) (at number : ℕ) : Type 0 where
   pub within : number < length chunks
   pub agree : Agree (marks.tested at) (chunk_at chunks number) (marks.like at)

@@ -6,6 +6,7 @@ use Rattle.dm_stack.specs.lines.StoreLayout.{allocated, metadata}
 use Rattle.dm_map.specs.declared.state.usage.Usage.{Usage}
 use Rattle.dm_map.specs.state.State.{Taken}
 
+-- what a snapshot's status says of its store, in sectors
 abbrev pub usage_of : Description → FoundSnapshot → Taken → Usage
 usage_of stack snapshot taken = record {
   allocated = allocated snapshot.kind snapshot.chunk (length taken.chunks);

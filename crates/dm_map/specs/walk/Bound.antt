@@ -46,6 +46,7 @@ abbrev pub target_path : Description → State → ℕ → (device start : ℕ) 
 target_path stack state levels device start target distance =
     record { device = device; start = start; chunk = chunk_at target distance } ∷ by_below (below_target (read_over (taken_at state device)) target distance) [] [] (λ to lower. path stack state levels to lower)
 
+-- the mapping of a target on a line that starts at this sector of a device, through this many levels
 abbrev pub target_mapping : Op → ℕ → (device start : ℕ) → FoundTarget → Mapping
 target_mapping op levels device start target =
     record { op = op; step = λ stack. target_step stack op levels device target; path = λ stack state. target_path stack state levels device start target; depth = λ stack. depth_of stack device - 1; found = 0 }

@@ -19,6 +19,7 @@ pub record Home : Type 0 where
 abbrev pub nowhere : Home
 nowhere = record { disk = 0; sector = 0 }
 
+-- where a sector of what is named is kept on a disk, through this many levels; nowhere where it lies on none
 unfoldable pub home_to : Description → ℕ → Lower → ℕ → Home
 home_to stack levels (Disk disk) sector = record { disk = disk; sector = sector }
 home_to stack zero (Device device) sector = nowhere

@@ -25,6 +25,7 @@ write_target stack state device (found.Snapshot snapshot) distance next = write_
 write_target stack state device (found.Origin origin) distance next = served_step stack origin.over (next origin.to) state distance
 write_target stack state device target distance next = by_below (below_plain target distance) (keep (Drops ∷ []) state) (keep (Fails ∷ []) state) (λ to sector. next to state sector)
 
+-- a write of a sector of a device, by the line that holds it; a sector that no line holds fails
 abbrev pub write_line : Description → State → (device : ℕ) → Option FoundLine → (sector : ℕ) → (Lower → State → ℕ → Step) → Step
 write_line stack state device (Some line) sector next = write_target stack state device line.target (sector - line.start) next
 write_line stack state device None sector next = keep (Fails ∷ []) state

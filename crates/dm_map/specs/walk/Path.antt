@@ -25,6 +25,7 @@ line_path state device line distance next =
     record { device = device; start = line.start; chunk = chunk_at line.target distance }
     ∷ by_below (below_target (read_over (taken_at state device)) line.target distance) [] [] next
 
+-- the steps from a sector down, by the line that holds it: none where no line does
 abbrev pub found_path : State → (device : ℕ) → Option FoundLine → (sector : ℕ) → (next : Lower → ℕ → List PathStep) → List PathStep
 found_path state device (Some line) sector next = line_path state device line (sector - line.start) next
 found_path state device None sector next = []
@@ -38,9 +39,11 @@ path stack state (suc levels) (Device device) sector =
 
 -- Stretches
 
+-- one step: the same device, line and chunk
 abbrev pub is_same_step : PathStep → PathStep → Bool
 is_same_step step other = step.device == other.device && (step.start == other.start && is_same_chunk step.chunk other.chunk)
 
+-- one path, step by step
 abbrev pub is_same_path : List PathStep → List PathStep → Bool
 is_same_path = pointwise is_same_step
 

@@ -30,6 +30,7 @@ abbrev pub disk_unit : Op → (disk sector : ℕ) → BlockUnit
 disk_unit ops.Read disk sector = ReadOf disk sector
 disk_unit ops.Write disk sector = WriteOf disk sector
 
+-- what becomes of a sector of a zero target
 abbrev pub zero_unit : Op → BlockUnit
 zero_unit ops.Read = Zeros
 zero_unit ops.Write = Drops
@@ -57,6 +58,7 @@ abbrev pub served_sector : Description → Op → ℕ → FoundOrigin → State 
 served_sector stack ops.Read levels origin state sector = sector_step stack ops.Read levels origin.to state sector
 served_sector stack ops.Write levels origin state sector = served_step stack origin.over (sector_step stack ops.Write levels origin.to) state sector
 
+-- the step of sectors in a row of an origin's device
 abbrev pub origin_step : Description → Op → ℕ → FoundOrigin → State → (sector len : ℕ) → Step
 origin_step stack op levels origin state sector len = steps (served_sector stack op levels origin) state sector len
 

@@ -15,9 +15,11 @@ use Rattle.dm_map.specs.pieces.Units.{BlockUnit, ReadOf, WriteOf, Fails, CopyOf,
 
 -- The sectors of a chunk, as far as the snapshot goes
 
+-- the first sector of a chunk
 abbrev pub first_of : FoundSnapshot → (chunk : ℕ) → ℕ
 first_of snapshot chunk = chunk * snapshot.chunk
 
+-- how many sectors a chunk has: the last one of a device may be shorter
 abbrev pub count_of : Description → FoundSnapshot → (device chunk : ℕ) → ℕ
 count_of stack snapshot device chunk = min snapshot.chunk (device_len stack device - first_of snapshot chunk)
 
@@ -32,10 +34,12 @@ read stack state lower sector = read_unit stack state MOST_DEPTH lower sector
 
 -- Whether a chunk can be taken
 
+-- a sector that fails
 abbrev pub is_error : BlockUnit → Bool
 is_error Fails = true
 is_error unit = false
 
+-- one of these sectors fails
 abbrev pub any_error : List BlockUnit → Bool
 any_error [] = false
 any_error (unit ∷ units) = is_error unit || any_error units
@@ -51,9 +55,11 @@ abbrev pub copy_to : BlockUnit → Home → BlockUnit
 copy_to (ReadOf disk sector) to = CopyOf disk sector to.disk to.sector
 copy_to unit to = FillOf to.disk to.sector
 
+-- where a sector of the chunk with this number is kept
 abbrev pub home_in_store : Description → FoundSnapshot → (number sector : ℕ) → Home
 home_in_store stack snapshot number sector = home stack snapshot.store (store_sector snapshot number sector)
 
+-- the copies of sectors in a row to where the chunk with this number keeps them
 abbrev pub copies : Description → State → FoundSnapshot → (number sector len : ℕ) → List BlockUnit
 copies stack state snapshot number sector len = row (λ s. copy_to (read stack state snapshot.origin s) (home_in_store stack snapshot number s)) sector len
 
@@ -78,6 +84,7 @@ take_chunk stack snapshot device chunk state =
 
 -- Whether a write is refused
 
+-- a store that fails a write for which it has no room, and stays valid
 abbrev pub is_keeping : StoreKind → Bool
 is_keeping Keeping = true
 is_keeping kind = false
@@ -88,6 +95,7 @@ is_refused stack snapshot taken chunk = is_keeping snapshot.kind && (not (has_pl
 
 -- And then the sector is written
 
+-- a write to where a sector is kept
 abbrev pub write_to : Home → BlockUnit
 write_to to = WriteOf to.disk to.sector
 
@@ -95,15 +103,18 @@ write_to to = WriteOf to.disk to.sector
 abbrev pub store_writes : Description → Lower → (sector len : ℕ) → List BlockUnit
 store_writes stack store sector len = row (λ s. write_to (home stack store s)) sector len
 
+-- a write of a sector of the chunk with this number: it fails where the chunk isn't taken
 abbrev pub write_numbered : Description → FoundSnapshot → Option ℕ → (sector : ℕ) → BlockUnit
 write_numbered stack snapshot (Some number) sector = write_to (home_in_store stack snapshot number sector)
 write_numbered stack snapshot None sector = Fails
 
+-- a write of a sector of a snapshot, by the chunks that it took: it fails where the snapshot is invalid
 abbrev pub unit_in_store : Description → FoundSnapshot → (device : ℕ) → State → (sector : ℕ) → BlockUnit
 unit_in_store stack snapshot device state sector =
     let taken = taken_at state device in
     if taken.valid then write_numbered stack snapshot (number_in (sector / snapshot.chunk) taken.chunks) sector else Fails
 
+-- a write of a sector of a snapshot: it fails where it is refused, and takes its chunk first where that isn't taken yet
 abbrev pub write_snapshot : Description → FoundSnapshot → (device : ℕ) → State → (sector : ℕ) → Step
 write_snapshot stack snapshot device state sector =
     if is_refused stack snapshot (taken_at state device) (sector / snapshot.chunk) then keep (Fails ∷ []) state

@@ -3,6 +3,7 @@ use Rattle.std.specs.Prelude.{ℕ, zero, suc, List, [], ◌++◌}
 use Rattle.dm_map.specs.state.State.{State}
 use Rattle.dm_map.specs.pieces.Units.{BlockUnit}
 
+-- what becomes of a sector or of some in a row, and the state after it
 pub record Step : Type 0 where
   pub units : List BlockUnit
   pub state : State
