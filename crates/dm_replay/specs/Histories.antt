@@ -27,6 +27,7 @@ abbrev pub played_of : Option ℕ → List BlockUnit → List BlockUnit
 played_of None units = units
 played_of (Some count) units = take count units
 
+-- the units of a request that are played: all, or as many as it was halted after
 abbrev pub asked_units : Description → Asked → State → List BlockUnit
 asked_units stack asked state = played_of asked.halted_after (asked_step stack asked state).units
 
@@ -40,6 +41,7 @@ pub record World : Type 0 where
   pub state : State
   pub values : Values
 
+-- the world at the start: no chunk taken, and each sector with its old value
 abbrev pub first_world : Description → World
 first_world stack = record { state = start_state stack; values = old_values }
 
@@ -50,6 +52,7 @@ next_world stack world asked = record {
   values = played asked.number asked.start (asked_units stack asked world.state) world.values;
 }
 
+-- what a request's reads give in a world
 abbrev pub asked_answers : Description → World → Asked → List Answer
 asked_answers stack world asked = played_answers asked.number asked.start (asked_units stack asked world.state) world.values
 
@@ -58,5 +61,6 @@ unfoldable pub world_from : Description → World → List Asked → World
 world_from stack world [] = world
 world_from stack world (asked ∷ later) = world_from stack (next_world stack world asked) later
 
+-- the world after requests, from the start
 abbrev pub world_after : Description → List Asked → World
 world_after stack all = world_from stack (first_world stack) all

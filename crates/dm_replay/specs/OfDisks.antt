@@ -9,14 +9,17 @@ use Rattle.dm_replay.specs.declared.value_run.ValueRun.TheVariants as runs
 use Rattle.dm_replay.specs.Runs.{AreMaximal, flat}
 use Rattle.dm_replay.specs.Values.{Answer, Gives, Failed, Values}
 
+-- a value that names no disk but those below a count
 abbrev pub IsValueOf : (disks : ℕ) → Value → Type 0
 IsValueOf disks (value.Old disk sector) = disk < disks
 IsValueOf disks other = Unit {0}
 
+-- the same of an answer
 abbrev pub IsAnswerOf : (disks : ℕ) → Answer → Type 0
 IsAnswerOf disks (Gives given) = IsValueOf disks given
 IsAnswerOf disks Failed = Unit {0}
 
+-- the same of a run of values
 abbrev pub IsRunOf : (disks : ℕ) → ValueRun → Type 0
 IsRunOf disks (runs.Old disk start len) = disk < disks
 IsRunOf disks run = Unit {0}
@@ -27,9 +30,11 @@ IsUnitOf disks (ReadOf disk sector) = disk < disks
 IsUnitOf disks (CopyOf disk sector to to_sector) = disk < disks
 IsUnitOf disks unit = Unit {0}
 
+-- the same of units
 abbrev pub AreUnitsOf : (disks : ℕ) → List BlockUnit → Type 0
 AreUnitsOf disks units = AllByRecursion (IsUnitOf disks) units
 
+-- disks below a count hold only values that name such disks
 abbrev pub AreValuesOf : (disks : ℕ) → Values → Type 0
 AreValuesOf disks values = (disk sector : ℕ) → disk < disks → IsValueOf disks (values disk sector)
 

@@ -5,6 +5,7 @@ use Rattle.dm_replay.specs.declared.range_values.RangeValues.{RangeValues}
 use Rattle.dm_replay.specs.Ranges.{HoldOn, ranged}
 use Rattle.dm_replay.specs.Values.{Values, old_values}
 
+-- values with those of a patch over a range of a disk
 abbrev pub patched : Values → Patch → Values
 patched values patch = ranged values patch.disk patch.start patch.values.len patch.values.first
 

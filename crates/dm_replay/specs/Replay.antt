@@ -27,6 +27,7 @@ pub record Replaying : Type 0 where
   pub asked : List Asked
   pub failed : Bool
 
+-- a replay that was asked nothing yet
 abbrev pub new_replay : Description → Replaying
 new_replay of = record { stack = of; asked = []; failed = false }
 

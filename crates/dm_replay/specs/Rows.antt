@@ -18,6 +18,7 @@ rows_from stack world [] rows = rows
 rows_from stack world (asked ∷ later) rows =
     rows_from stack (next_world stack world asked) later (rows_played (value.Wrote asked.number) asked.device asked.start (asked_units stack asked world.state) rows)
 
+-- the rows that all devices read as after requests, from the start
 abbrev pub rows_after : Description → List Asked → Rows Value
 rows_after stack all = rows_from stack (first_world stack) all (first_rows value.Zero stack old_values)
 

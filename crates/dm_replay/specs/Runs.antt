@@ -13,6 +13,7 @@ first_answer (runs.Wrote request start len) = Gives (value.Wrote request start)
 first_answer (runs.Zero len) = Gives value.Zero
 first_answer (runs.Error len) = Failed
 
+-- how many sectors a run has
 abbrev pub run_len : ValueRun → ℕ
 run_len (runs.Old disk start len) = len
 run_len (runs.Wrote request start len) = len
@@ -24,6 +25,7 @@ abbrev pub next_answer : Answer → Answer
 next_answer (Gives first) = Gives (next_value first)
 next_answer Failed = Failed
 
+-- the answer of a sector that lies this much further on in a run
 abbrev pub further_answer : Answer → (len : ℕ) → Answer
 further_answer (Gives first) len = Gives (further first len)
 further_answer Failed len = Failed
@@ -33,6 +35,7 @@ abbrev pub answers_in : Answer → (len : ℕ) → List Answer
 answers_in first zero = []
 answers_in first (suc len) = first ∷ answers_in (next_answer first) len
 
+-- the answers of the sectors of a run, in their order
 abbrev pub run_answers : ValueRun → List Answer
 run_answers run = answers_in (first_answer run) (run_len run)
 

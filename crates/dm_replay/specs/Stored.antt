@@ -60,6 +60,7 @@ IsCut ranges sector = (start : ℕ) (range : RangeValues) → get nat_cmp ranges
 abbrev pub KeepsStored : (old new : BTreeMap ℕ RangeValues) → Type 0
 KeepsStored old new = (stored : Stored) → Shows old stored → Shows new stored
 
+-- a sector that no range goes on over from the one before it stays one
 abbrev pub KeepsCuts : (old new : BTreeMap ℕ RangeValues) → Type 0
 KeepsCuts old new = (sector : ℕ) → IsCut old sector → IsCut new sector
 

@@ -34,9 +34,11 @@ unit_answers request sector unit values = []
 
 -- units in order, from the sector on for which the first answer is given: what they leave, and what they answer
 
+-- the values that units leave
 abbrev pub played : (request sector : ℕ) → List BlockUnit → Values → Values
 played request = contents.played value.Zero (value.Wrote request)
 
+-- the answers of units, each over the values that the units before it leave
 unfoldable pub played_answers : (request sector : ℕ) → List BlockUnit → Values → List Answer
 played_answers request sector [] values = []
 played_answers request sector (unit ∷ units) values =
@@ -48,6 +50,7 @@ next_value (value.Old disk sector) = value.Old disk (suc sector)
 next_value value.Zero = value.Zero
 next_value (value.Wrote request sector) = value.Wrote request (suc sector)
 
+-- the value of a sector that lies this much further on in a range that begins with this value
 abbrev pub further : Value → (len : ℕ) → Value
 further (value.Old disk sector) len = value.Old disk (sector + len)
 further value.Zero len = value.Zero
