@@ -22,6 +22,7 @@ abbrev pub range_piece : (is_write : Bool) (disk start len : ℕ) → Piece
 range_piece true disk start len = code.Write disk start len
 range_piece false disk start len = code.Read disk start len
 
+-- the piece that a range of a disk is
 abbrev pub piece_of : DiskRange → Piece
 piece_of range = range_piece range.letter range.disk range.start range.len
 

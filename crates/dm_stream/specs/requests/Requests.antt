@@ -16,6 +16,7 @@ pub record NumberedRequest : Type 0 where
   pub number : ℕ
   pub values : RequestValues
 
+-- a request as the definitions see it
 abbrev pub numbered : Request → NumberedRequest
 numbered request = record { number = request.number; values = values_of request }
 

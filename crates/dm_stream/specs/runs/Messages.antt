@@ -29,9 +29,11 @@ abbrev pub earlier_message : EarlierFault → List ℕ
 earlier_message (earlier.BadRequest number word) = codes "dmremap: before: " ++ request_word word ++ codes " at " ++ decimal number ++ codes "\n"
 earlier_message earlier.Read = codes "dmremap: before: read\n"
 
+-- the message where reading requests failed
 abbrev pub read_message : List ℕ
 read_message = codes "dmremap: requests: read\n"
 
+-- the message where the output failed
 abbrev pub write_message : List ℕ
 write_message = codes "dmremap: output: write\n"
 

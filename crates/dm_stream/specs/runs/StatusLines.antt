@@ -19,6 +19,7 @@ usage_text usage =
 abbrev pub after_name : (len : ℕ) → Usage → List ℕ
 after_name len usage = codes ": 0 " ++ decimal len ++ codes " snapshot " ++ usage_text usage ++ code "\n" ∷ []
 
+-- the line of a snapshot, with what its store has taken
 abbrev pub snapshot_line : Description → State → (device : ℕ) → FoundSnapshot → List ℕ
 snapshot_line stack state device snapshot =
     name_at stack device ++ after_name (device_len stack device) (usage_of stack snapshot (taken_at state device))
@@ -28,6 +29,7 @@ abbrev pub line_if : Description → State → (device : ℕ) → Option FoundSn
 line_if stack state device (Some snapshot) = snapshot_line stack state device snapshot
 line_if stack state device None = []
 
+-- the line of a device by its id, if it is a snapshot
 abbrev pub status_line : Description → State → (device : ℕ) → List ℕ
 status_line stack state device = line_if stack state device (snapshot_at stack device)
 
