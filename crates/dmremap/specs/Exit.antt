@@ -18,14 +18,17 @@ use Rattle.dmremap.specs.declared.status.TheConstants.{STATUS_BAD_REQUEST, STATU
 
 -- ---- the status
 
+-- the status of a refused load
 abbrev pub load_status : LoadKind → ℕ
 load_status kinds.Memory = STATUS_MEMORY
 load_status kind = STATUS_REFUSED
 
+-- the status of a name that isn't built
 abbrev pub name_status : NameFault → ℕ
 name_status names.Memory = STATUS_MEMORY
 name_status fault = STATUS_REFUSED
 
+-- the status of a refused command
 abbrev pub refusal_status : Refusal → ℕ
 refusal_status (refusals.Load fault) = load_status fault.kind
 refusal_status (refusals.Name fault) = name_status fault
@@ -33,12 +36,14 @@ refusal_status (refusals.Earlier fault) = STATUS_REFUSED
 refusal_status refusals.Split = STATUS_REFUSED
 refusal_status refusals.Untidy = STATUS_REFUSED
 
+-- the status of a run that ended so
 abbrev pub ending_status : Ending → ℕ
 ending_status endings.Done = STATUS_DONE
 ending_status (endings.BadRequest number word) = STATUS_BAD_REQUEST
 ending_status endings.ReadFault = STATUS_READ_FAULT
 ending_status endings.WriteFault = STATUS_WRITE_FAULT
 
+-- the status of a command
 abbrev pub exit_status : Exit → ℕ
 exit_status (exits.Refused refusal) = refusal_status refusal
 exit_status (exits.Ended ending) = ending_status ending
@@ -59,6 +64,7 @@ untidy_message = codes "dmremap: replay: untidy\n"
 abbrev pub not_top_message : ℕ → List ℕ
 not_top_message number = refused_request number (codes "not top")
 
+-- the message of a refused command
 abbrev pub refusal_message : Refusal → List ℕ
 refusal_message (refusals.Load fault) = load_message fault
 refusal_message (refusals.Name fault) = name_message fault
@@ -66,6 +72,7 @@ refusal_message (refusals.Earlier fault) = earlier_message fault
 refusal_message refusals.Split = split_message
 refusal_message refusals.Untidy = untidy_message
 
+-- the message of a command: none of one that did all
 abbrev pub exit_message : Exit → List ℕ
 exit_message (exits.Refused refusal) = refusal_message refusal
 exit_message (exits.Ended ending) = ending_message ending

@@ -7,6 +7,7 @@ use Rattle.dm_stream.specs.declared.requests.lines.TheConstants.{MOST_LINE_BYTES
 use Rattle.dm_stream.specs.declared.requests.handling.TheConstants.{MOST_REQUESTS}
 use Rattle.dmremap.specs.declared.status.TheConstants.{STATUS_BAD_REQUEST, STATUS_DONE, STATUS_MEMORY, STATUS_READ_FAULT, STATUS_REFUSED, STATUS_WORDS, STATUS_WRITE_FAULT}
 
+-- the limits that the documents name
 pub record AreLimits : Type 0 where
   pub part_bytes : MOST_PART_BYTES ≡ 1048576
   pub line_bytes : MOST_LINE_BYTES ≡ 4096

@@ -156,6 +156,7 @@ pub record GivenWords : Type 0 where
   pub layer : Option Text
   pub name : Option Text
 
+-- a word that may not be given
 abbrev text_if : Option (Bor Text) → Option Text
 text_if word = option_map (λ w. w.now) word
 
@@ -163,6 +164,7 @@ text_if word = option_map (λ w. w.now) word
 abbrev pub option_words : Options → OptionWords
 option_words options = record { status = options.status; before = text_if options.before }
 
+-- what was given on the command line, as texts
 abbrev pub given_words : Given → GivenWords
 given_words given = record {
   early = option_words given.early;
@@ -238,6 +240,7 @@ name_if None lv layer = Err (lack.Place option.Status)
 name_if (Some vg) None layer = Err (lack.Place option.Status)
 name_if (Some vg) (Some lv) layer = Ok (name_words (record { vg = vg; lv = lv; layer = layer }))
 
+-- the job of `name`, or what it lacks
 abbrev pub name_from : GivenWords → Result JobWords Lack
 name_from given = name_if given.vg given.lv given.layer
 
@@ -246,6 +249,7 @@ abbrev pub split_if : Option Text → Result JobWords Lack
 split_if None = Err (lack.Place option.Status)
 split_if (Some name) = Ok (split_words name)
 
+-- the job of `split`, or what it lacks
 abbrev pub split_from : GivenWords → Result JobWords Lack
 split_from given = split_if given.name
 
@@ -258,6 +262,7 @@ abbrev pub option_or : Option Text → Option Text → Option Text
 option_or (Some early) own = Some early
 option_or None own = own
 
+-- the options before the command and after it: of two values the earlier counts
 abbrev pub both_options : OptionWords → OptionWords → OptionWords
 both_options early own = record { status = early.status || own.status; before = option_or early.before own.before }
 
@@ -289,6 +294,7 @@ abbrev pub source_said : Result Source Lack → Result SourceWords Lack
 source_said (Ok from) = Ok (source_words from)
 source_said (Err why) = Err why
 
+-- the words of a job, or what was lacking
 abbrev pub job_said : Result Job Lack → Result JobWords Lack
 job_said (Ok job) = Ok (job_words job)
 job_said (Err why) = Err why
