@@ -16,16 +16,19 @@ use Rattle.power_cut.specs.declared.fault.Fault.{Fault}
 use Rattle.power_cut.specs.declared.fault.Fault.TheVariants as faults
 use Rattle.power_cut.specs.OwnedRequest.{AreOfTops, IsOfTop}
 
+-- the status of a refused load
 abbrev pub load_status : LoadKind → ℕ
 load_status kinds.Memory = 6
 load_status kind = 1
 
+-- the status of a run that ended so
 abbrev pub ending_status : Ending → ℕ
 ending_status endings.Done = 0
 ending_status (endings.BadRequest number word) = 3
 ending_status endings.ReadFault = 4
 ending_status endings.WriteFault = 5
 
+-- the status of a program that ends with a fault
 abbrev pub fault_status : Fault → ℕ
 fault_status faults.Words = 2
 fault_status (faults.Unloaded fault) = load_status fault.kind
@@ -34,6 +37,7 @@ fault_status (faults.Ended ending) = ending_status ending
 fault_status (faults.NotTop number) = 3
 fault_status faults.Memory = 6
 
+-- the message of a fault
 abbrev pub fault_message : Fault → List ℕ
 fault_message faults.Words = codes "usage: power_cut FILE DISKS UNITS\n"
 fault_message (faults.Unloaded fault) = load_message fault

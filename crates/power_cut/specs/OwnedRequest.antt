@@ -19,9 +19,11 @@ asked_as stop stack request = record {
   halted_after = stop;
 }
 
+-- a request that is played to its end
 abbrev pub asked_of : Description → NumberedRequest → Asked
 asked_of = asked_as None
 
+-- a request that is cut after this many units
 abbrev pub cut_of : Description → (units : ℕ) → NumberedRequest → Asked
 cut_of stack units = asked_as (Some units) stack
 
@@ -29,16 +31,20 @@ cut_of stack units = asked_as (Some units) stack
 abbrev pub IsOfTop : Description → NumberedRequest → Type 0
 IsOfTop stack request = HasTop stack request.values.device
 
+-- all requests are of top devices
 abbrev pub AreOfTops : Description → List NumberedRequest → Type 0
 AreOfTops stack requests = All (IsOfTop stack) requests
 
+-- an operation that writes
 abbrev pub writes : Op → Bool
 writes Read = false
 writes Write = true
 
+-- a request that writes
 abbrev pub is_write : NumberedRequest → Bool
 is_write request = writes request.values.op
 
+-- the requests that write, in their order
 abbrev pub writes_of : List NumberedRequest → List NumberedRequest
 writes_of requests = filter is_write requests
 

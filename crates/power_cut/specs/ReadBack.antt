@@ -39,5 +39,6 @@ AreReadBack stack asked writes backs = ⊥
 abbrev pub back_text : Description → ReadBack → List ℕ
 back_text stack back = string_bytes back.line ++ runs_text stack back.number back.runs.items
 
+-- the lines of what is read back
 abbrev pub backs_text : Description → List ReadBack → List ℕ
 backs_text stack backs = flat_map (back_text stack) backs
