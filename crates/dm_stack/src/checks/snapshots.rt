@@ -18,9 +18,9 @@ use crate::names::indexed::Indexed;
 use dm_table::{DeviceSpec, Line, LoadFault, LoadKind, Target};
 use std::alloc::{AllocError, Global};
 
-/// Fails at the first line of a snapshot or of an origin that is not the only one of its table or is not
-/// as long as the origin that it names, or snapshot whose chunk is no power of two from 1 to 1,024
-/// sectors.
+/// Fails at the first line of a snapshot, or of a device over an origin, that does not stand alone in its
+/// table, or is not as long as the origin that it names; or of a snapshot whose chunk is no power of two
+/// from 1 to 1,024 sectors.
 ///
 /// Cost: a walk over the lines.
 pub(crate) fn check_snapshots(stack: &Indexed) -> Result<(), LoadFault>
