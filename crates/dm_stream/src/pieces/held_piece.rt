@@ -12,8 +12,9 @@ ghost use Rattle.dm_stream.specs.pieces.Pieces.{fewest, is_after};
 ghost use Rattle.dm_table.specs.io.Progress.{Wrote};
 
 use crate::pieces::disk_range::{DiskRange, follows};
+use crate::pieces::line_ends::LineEnds;
 use crate::pieces::number_prefix::NumberPrefix;
-use crate::pieces::piece_text::{put_alone, put_other, put_range};
+use crate::pieces::piece_text::{put_other, put_range};
 use crate::pieces::range_text::RangeText;
 use dm_map::Piece;
 use dm_stack::Stack;
@@ -32,6 +33,7 @@ pub(crate) struct HeldPiece<'s> {
     prefix: NumberPrefix,
     /// What the line of a range ended with that was written last.
     text: RangeText,
+    ends: LineEnds,
 }
 
 impl<'s> Model for HeldPiece<'s> {
@@ -60,6 +62,7 @@ impl<'s> HeldPiece<'s> {
             other: None,
             prefix: NumberPrefix::new(),
             text: RangeText::new(),
+            ends: LineEnds::new(),
         }
     }
 
@@ -136,7 +139,15 @@ impl<'s> HeldPiece<'s> {
     {
         if let Some(range) = &self.range {
             // It stays until the next piece is there, so that it isn't cleared in between.
-            if let Err(fault) = put_range(writer, &self.prefix, &mut self.text, self.stack, range) {
+            self.text.note(range.start, range.len);
+            if let Err(fault) = put_range(
+                writer,
+                &self.prefix,
+                &self.ends,
+                &self.text,
+                self.stack,
+                range,
+            ) {
                 self.range = None;
                 return Err(fault);
             }
@@ -162,7 +173,15 @@ impl<'s> HeldPiece<'s> {
             ≡ record { stack = self.old.stack; number = self.old.number; piece = None } }
     {
         if let Some(range) = &self.range {
-            let wrote = put_range(writer, &self.prefix, &mut self.text, self.stack, range);
+            self.text.note(range.start, range.len);
+            let wrote = put_range(
+                writer,
+                &self.prefix,
+                &self.ends,
+                &self.text,
+                self.stack,
+                range,
+            );
             self.range = None;
             return wrote;
         }
@@ -181,7 +200,7 @@ impl<'s> HeldPiece<'s> {
         let Some(other) = &self.other else {
             return Ok(());
         };
-        let wrote = put_other(writer, &self.prefix, self.text.ends(), self.stack, other);
+        let wrote = put_other(writer, &self.prefix, &self.ends, self.stack, other);
         self.other = None;
         wrote
     }
@@ -197,7 +216,9 @@ impl<'s> HeldPiece<'s> {
         ensures { Wrote (W.past writer.old) (W.past writer.new) result
             (pieces_text self.now.stack self.now.number (fewest (units_of (piece_of range.now)))) }
     {
-        put_alone(writer, &self.prefix, self.text.ends(), self.stack, range)
+        // The next range isn't likely to be the same, so none is noted.
+        let none = RangeText::new();
+        put_range(writer, &self.prefix, &self.ends, &none, self.stack, range)
     }
 }
 

@@ -11,6 +11,7 @@ ghost use Rattle.dm_stack.specs.names.DiskText.{disk_text};
 ghost use Rattle.dm_map.specs.pieces.Units.{CopyOf, FillOf, IsOnDisks, first_unit, piece_len};
 ghost use Rattle.dm_stream.specs.pieces.Pending.{IsNoRange, piece_of, piece_view};
 ghost use Rattle.dm_stream.specs.pieces.PieceText.{IsOther, piece_text, sector_text, unit_text};
+ghost use Rattle.dm_stream.specs.pieces.RangeText.{IsKept};
 ghost use Rattle.dm_table.specs.io.Progress.{Wrote};
 ghost use Rattle.dm_table.specs.words.Bytes.{code};
 
@@ -18,7 +19,7 @@ use crate::pieces::disk_range::DiskRange;
 use crate::pieces::line_ends::LineEnds;
 use crate::pieces::number_prefix::NumberPrefix;
 use crate::pieces::plain_word::PlainWord;
-use crate::pieces::range_text::{RangeText, put_next_range};
+use crate::pieces::range_text::RangeText;
 use dm_map::Piece;
 use dm_stack::{DiskId, Stack};
 use dm_table::{OutFault, Output, Text, put_bytes, put_digits};
@@ -28,6 +29,7 @@ use std::marker::Model;
 #[derive(Drop)]
 struct RangeLine<'a> {
     prefix: &'a NumberPrefix,
+    ends: &'a LineEnds,
     text: &'a RangeText,
     stack: &'a Stack,
     range: &'a DiskRange,
@@ -62,47 +64,8 @@ impl<'a> Text for RangeLine<'a> {
             self.stack,
             range.disk,
         );
-        self.text.put_into(block, at, range.start, range.len)
-    }
-}
-
-/// The line of a range that is all of a request's answer: the next one isn't likely to end with the same.
-#[derive(Drop)]
-struct AloneLine<'a> {
-    prefix: &'a NumberPrefix,
-    ends: &'a LineEnds,
-    stack: &'a Stack,
-    range: &'a DiskRange,
-}
-
-impl<'a> Model for AloneLine<'a> {
-    ghost use Rattle.std.specs.Prelude.{ℕ, List, ◌<◌, length};
-    ghost use Rattle.dm_stream.specs.pieces.PieceText.{letter_for, range_line};
-
-    ghost Value = { List ℕ };
-
-    ghost view = { λ line. range_line line.stack.now line.prefix.now
-        (letter_for line.range.now.letter) line.range.now.disk line.range.now.start
-        line.range.now.len };
-
-    ghost invariant = { λ line. line.range.now.disk < length line.stack.now.disks };
-}
-
-impl<'a> Text for AloneLine<'a> {
-    ghost text = { λ line. line };
-
-    #[inline(always)]
-    fn put_into(&self, block: &mut [u8], at: usize) -> usize {
-        let range = self.range;
-        let at = self.prefix.put_into(block, at);
-        let at = put_named(
-            block,
-            at,
-            &[range.letter.byte(), b' '],
-            self.stack,
-            range.disk,
-        );
-        put_next_range(self.ends, block, at, range.start, range.len)
+        self.text
+            .put_into(self.ends, block, at, range.start, range.len)
     }
 }
 
@@ -166,46 +129,26 @@ impl<'a> Text for RareLine<'a> {
     }
 }
 
-/// Has a writer put the line of a range of a disk of a stack, under a number, and notes what it ends
-/// with. It fails where the writer does.
+/// Has a writer put the line of a range of a disk of a stack, under a number. The text is that of the range, if
+/// any is kept. It fails where the writer does.
 #[inline(always)]
 pub(crate) fn put_range<W: Output>(
     writer: &mut W,
     prefix: &NumberPrefix,
-    text: &mut RangeText,
+    ends: &LineEnds,
+    text: &RangeText,
     stack: &Stack,
     range: &DiskRange,
 ) -> Result<(), OutFault>
     requires lies { IsOnDisks stack.now (piece_of range.now) }
+    requires kept { IsKept text.now range.now.start range.now.len }
     ensures { Wrote (W.past writer.old) (W.past writer.new) result
         (piece_text stack.now prefix.now (piece_view (piece_of range.now))) }
 {
-    text.note(range.start, range.len);
     writer.put(&RangeLine {
         prefix,
-        text,
-        stack,
-        range,
-    })
-}
-
-/// Has a writer put the line of a range that is all of a request's answer, under a number. It fails where the
-/// writer does.
-#[inline(always)]
-pub(crate) fn put_alone<W: Output>(
-    writer: &mut W,
-    prefix: &NumberPrefix,
-    ends: &LineEnds,
-    stack: &Stack,
-    range: &DiskRange,
-) -> Result<(), OutFault>
-    requires lies { IsOnDisks stack.now (piece_of range.now) }
-    ensures { Wrote (W.past writer.old) (W.past writer.new) result
-        (piece_text stack.now prefix.now (piece_view (piece_of range.now))) }
-{
-    writer.put(&AloneLine {
-        prefix,
         ends,
+        text,
         stack,
         range,
     })

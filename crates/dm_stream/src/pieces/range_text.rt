@@ -4,7 +4,7 @@
 //! a second time, and then copied whole; a range after one that came again is kept at once. Any other
 //! has its digits written where they belong, and its end copied where its length is short.
 
-ghost use Rattle.std.specs.Prelude.{◌≡◌, ◌+◌, ◌≤◌, length};
+ghost use Rattle.std.specs.Prelude.{◌≡◌, ◌+◌, ◌≤◌, ℕ, length};
 ghost use Rattle.dm_table.specs.io.Block.{IsPut};
 ghost use Rattle.dm_stream.specs.pieces.RangeText.{range_text, IsKept};
 
@@ -25,7 +25,6 @@ pub(crate) struct RangeText {
     end: usize,
     /// Whether the range came more than once.
     came_again: bool,
-    ends: LineEnds,
 }
 
 impl Model for RangeText {
@@ -42,14 +41,16 @@ impl Model for RangeText {
 
 impl RangeText {
     /// None came yet.
-    pub(crate) fn new() -> RangeText {
+    #[inline(always)]
+    pub(crate) fn new() -> RangeText
+        ensures kept { (start len : ℕ) → IsKept result start len }
+    {
         RangeText {
             start: 0,
             len: 0,
             text: [b' '; ROOM],
             end: 0,
             came_again: false,
-            ends: LineEnds::new(),
         }
     }
 
@@ -84,16 +85,17 @@ impl RangeText {
         self.end = put_range(&mut self.text, 0, start, len);
     }
 
-    /// What lines end with that have a length and no range.
+    /// Puts a range at an offset in a block, after at least four bytes, and returns where it ends. If a text is
+    /// kept, it is that of the range.
     #[inline(always)]
-    pub(crate) fn ends(&self) -> &LineEnds {
-        &self.ends
-    }
-
-    /// Puts the range that was noted at an offset in a block, after at least four bytes, and returns where
-    /// it ends.
-    #[inline(always)]
-    pub(crate) fn put_into(&self, block: &mut [u8], at: usize, start: u64, len: u64) -> usize
+    pub(crate) fn put_into(
+        &self,
+        ends: &LineEnds,
+        block: &mut [u8],
+        at: usize,
+        start: u64,
+        len: u64,
+    ) -> usize
         requires after { 4 ≤ at }
         requires room { at + ROOM ≤ length block.old }
         requires kept { IsKept self.now start len }
@@ -103,20 +105,14 @@ impl RangeText {
         if self.end > 0 {
             return put_room(block, at, &self.text, self.end);
         }
-        put_next_range(&self.ends, block, at, start, len)
+        put_next_range(ends, block, at, start, len)
     }
 }
 
 /// Puts a start, a length and a newline at an offset in a block, after at least four bytes, and returns
 /// where they end.
 #[inline(never)]
-pub(crate) fn put_next_range(
-    ends: &LineEnds,
-    block: &mut [u8],
-    at: usize,
-    start: u64,
-    len: u64,
-) -> usize
+fn put_next_range(ends: &LineEnds, block: &mut [u8], at: usize, start: u64, len: u64) -> usize
     requires after { 4 ≤ at }
     requires within { at + ROOM ≤ length block.old }
     ensures put { IsPut (range_text start len) at block.old block.new result }

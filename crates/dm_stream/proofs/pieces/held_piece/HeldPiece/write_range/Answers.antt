@@ -5,4 +5,4 @@ use Rattle.dm_stream.proofs.pieces.held_piece.HeldPiece.write_range.Goals as goa
 
 pub returns : goal.returns
 returns g c =
-    subst (λ (text : List ℕ). Wrote (g.W.Output.past c.args.writer.now) (g.W.Output.past c.put_alone.new.writer) c.put_alone.result text) (line_beside _ c.args.self.now _ c.self.view_is c.requires.0) c.put_alone.ensures
+    subst (λ (text : List ℕ). Wrote (g.W.Output.past c.args.writer.now) (g.W.Output.past c.put_range.new.writer) c.put_range.result text) (line_beside _ c.args.self.now _ c.self.view_is c.requires.0) c.put_range.ensures
