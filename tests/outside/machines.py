@@ -145,6 +145,7 @@ def check_bound_images(tally, program, top):
               "e": physical_volumes.gpt((64, 127)).ljust(64 * 512, b"\0") + first,
               "g": physical_volumes.gpt((8, 8 + len(second) // 4096 - 1), (64, 64 + len(other) // 4096 - 1), sector=4096).ljust(1 << 15, b"\0")
               + second.ljust(7 << 15, b"\0") + other,
+              "i": physical_volumes.mbr((0x83, 1, 2), (0x8E, 8, 8)).ljust(1 << 15, b"\0") + second,
               "h": physical_volumes.gpt((64, 127)).ljust(64 * 512, b"\0") + other}
     for name, image in images.items():
         program.file("machines/" + name, image)
@@ -162,6 +163,7 @@ def check_bound_images(tally, program, top):
         ("ae", "/dev/sdb a\nrefused\n", (WHOLE % ("e", "partition 1 is a physical volume: that is")) + "e: its id is " + identity % "firstx" + ", as that of a", 1),
         ("eg", "/dev/sdb e?offset=32768\npv0 g?offset=32768\n",
          WHOLE % ("e", "partition 1 is a physical volume: that is") + WHOLE % ("g", "partitions 1, 2 are physical volumes: these are"), 0),
+        ("ai", "/dev/sdb a\npv0 i?offset=32768\n", "i: the image of a whole disk (MBR), whose partition 2 is a physical volume: that is read\n", 0),
         ("h", "refused\n", WHOLE % ("h", "partition 1 is a physical volume: that is") + "h: its id is " + identity % "otherx" + ", which the text has not", 1),
         ("f", "refused\n", "f: a member of an md array that isn't raid1, so that no member has all of a physical volume: `md` makes a table of the "
          "array, and `under` puts it below those of the group", 1),

@@ -13,7 +13,7 @@ import re
 from argparse import ArgumentParser, Namespace
 from typing import Dict, Iterator, List, NoReturn
 
-from dmremap_tools.base import numbers, quoting, streams, tables
+from dmremap_tools.base import numbers, streams, tables
 from dmremap_tools.base.refusal import Refusal
 from dmremap_tools.layers import parts
 

@@ -4,7 +4,7 @@ import os
 import tempfile
 from typing import Dict, List, NamedTuple, Optional
 
-from dmremap_tools.base import disks, names, program, quoting, streams, tables
+from dmremap_tools.base import disks, names, program, streams, tables
 from dmremap_tools.base.given import Given, put
 from dmremap_tools.base.refusal import Refusal
 from dmremap_tools.layers import refused

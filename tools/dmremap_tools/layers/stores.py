@@ -74,7 +74,7 @@ class Files:
     def _tell_if_live(self, path: str) -> None:
         if stat.S_ISBLK(os.fstat(self._opened[path]).st_mode):
             streams.tell("%s is a block device: if its snapshot is in use, suspend it first, or give an image that was read with "
-                         "O_DIRECT, as `dd iflag=direct` does" % path)
+                         "O_DIRECT, as `dd iflag=direct` does" % quoting.shown(path))
 
 
 class Image:

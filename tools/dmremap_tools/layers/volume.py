@@ -46,7 +46,7 @@ class Volume:
             size = max(0, os.lseek(file, 0, os.SEEK_END) - start)
             if size < sizes[disk] * numbers.SECTOR:
                 streams.tell("the image of %s has %d bytes of %d: what lies after them fails to be read"
-                             % (disk, size, sizes[disk] * numbers.SECTOR))
+                             % (quoting.shown(disk), size, sizes[disk] * numbers.SECTOR))
 
     def read(self, view: memoryview, first: int, skipped: int) -> None:
         """Fills a view from a sector on, less some of its first bytes. What can't be read is an OSError."""
@@ -156,7 +156,7 @@ def get_ready() -> None:
     places = _places(loaded.group, loaded.sizes)
     below, disks = _below(loaded, names.MAPPER + name)
     for disk in sorted(disks - set(places)):
-        streams.tell("no image of %s: what lies there fails to be read" % disk)
+        streams.tell("no image of %s: what lies there fails to be read" % quoting.shown(disk))
     # What isn't read may have stores that nobody has.
     others = [it.name for it in loaded.devices if names.MAPPER + it.name not in below and it.lines[0].target == "snapshot"]
     fresh = _lists["fresh"] + others

@@ -47,14 +47,14 @@ def run(words: argparse.Namespace) -> None:
         if query.disk not in known:
             known[query.disk] = uses.named(query.disk)
             if known[query.disk] is None:
-                streams.tell("no line names %s, so nothing is said of its sectors" % query.disk)
+                streams.tell("no line names %s, so nothing is said of its sectors" % quoting.shown(query.disk))
         on = known[query.disk]
         end = query.first + (query.count or 1)
         ways = uses.ways(on, query.first, end, (Step(query.disk, query.first),))
         for way, count in itertools.islice(ways, MOST_WAYS):
             streams.out.write(text_of(way, count if query.count else None))
         if next(ways, None):
-            raise Refusal(streams.name_of(words.sectors), "too many ways up from %s %d" % query[:2])
+            raise Refusal(streams.name_of(words.sectors), "too many ways up from %s %d" % (quoting.shown(query.disk), query.first))
 
 
 def queries(words: argparse.Namespace, uses: Uses) -> Iterator[sectors_asked.Query]:

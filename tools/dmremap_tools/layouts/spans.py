@@ -103,7 +103,7 @@ class Spans:
         on = on or next((it for it in tables.names_in(physical.path) + [physical.key] if it in self._sizes), None)
         if on is None:
             streams.tell("left out: the physical volume %s (%s), which is neither a disk nor a device here"
-                         % (physical.key, physical.path))
+                         % (quoting.shown(physical.key), quoting.shown(physical.path)))
             return
         self._described.add(on)
         for taken in physical.taken:

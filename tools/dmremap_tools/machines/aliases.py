@@ -44,7 +44,7 @@ def run(words: argparse.Namespace) -> None:
     relations = Relations(lowers, [kernel[name] for name, _ in listed if name in kernel])
     for number, (name, _) in enumerate(listed, 1):
         if name not in kernel:
-            streams.tell("lsblk has not " + name)
+            streams.tell("lsblk has not " + quoting.shown(name))
             continue
         try:
             streams.out.write("".join(relations.add(name, kernel[name])))

@@ -89,7 +89,7 @@ def found_images(text: str, images: List[str]) -> Iterator[Tuple[str, str]]:
             yield name, "%s?offset=%d" % (path, start) if start else path
     for identity, name in of.items():
         if name not in found:
-            streams.tell("missing: %s, with the id %s" % (name, shown(identity)))
+            streams.tell("missing: %s, with the id %s" % (quoting.shown(name), shown(identity)))
 
 
 def begun_in(disk: disk_image.Image) -> Dict[bytes, int]:

@@ -122,7 +122,7 @@ def say_left_out(stack: Stack, disks: Dict[str, int]) -> None:
     for device in stack.devices.values():
         path = stack.lower(device.number)
         if device.why and device.why != NOT_ASKED:
-            streams.tell("left out: %s (%s)%s" % (quoting.shown(device.name), device.why, ", the disk " + path if path in disks else ""))
+            streams.tell("left out: %s (%s)%s" % (quoting.shown(device.name), device.why, ", the disk " + quoting.shown(path) if path in disks else ""))
         elif device.is_encrypted and not device.why:
             streams.tell("encrypted: the sectors below %s, whose lines of crypt are linear here" % device.name)
     left_out = [it for it in stack.devices.values() if it.why]

@@ -25,7 +25,7 @@ def by_ids(text: Optional[str], places: Dict[str, Place], sizes: Dict[str, int],
         lost = [identity for identity, name in named.items() if volumes and name in wanted and identity not in volumes]
         if lost:
             raise Refusal(quoting.shown(path), "it isn't %s, whose id is %s: its own is %s"
-                          % (named[lost[0]], shown(lost[0]), " or ".join(map(shown, volumes))))
+                          % (quoting.shown(named[lost[0]]), shown(lost[0]), " or ".join(map(shown, volumes))))
         for identity in volumes:
             name = named.get(identity)
             if name in wanted or name and path in images and name not in found:

@@ -2,7 +2,7 @@
 
 from typing import Dict, List, Optional, Set, Tuple
 
-from dmremap_tools.base import names, numbers, tables
+from dmremap_tools.base import names, numbers, quoting, tables
 from dmremap_tools.base.store_places import MOST, MOST_IN_CHUNK, places
 from dmremap_tools.machines.found import Found
 
@@ -88,7 +88,7 @@ class Stack:
             return "lsblk has no length of " + lower
         if length > numbers.LONGEST_DEVICE:
             return "dmremap takes no disk as long as " + lower
-        return "it goes past the end of " + self.lower(lower) if end > length else None
+        return "it goes past the end of " + quoting.shown(self.lower(lower)) if end > length else None
 
     def _fault_of_snapshot(self, device: Found) -> Optional[str]:
         """What is wrong with a snapshot, or the line of its origin."""

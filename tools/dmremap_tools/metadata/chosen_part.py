@@ -12,6 +12,8 @@ from dmremap_tools.metadata.volumes_within import array_data, where_volumes_begi
 
 # How much of a partition is to be fetched: its label, and most areas.
 HEAD = 1 << 20
+# What a sector has on disks that don't have 512 bytes in it.
+LARGE_SECTOR = 4096
 
 
 def chosen_parts(disk: Image, number: Optional[int]) -> List[Image]:
@@ -51,7 +53,11 @@ def volumes_of(disk: Image, table: Table) -> List[Image]:
         raise Refusal(disk.path, "there are both a partition table (%s) and the label of a physical volume, which lvm2 doesn't take then: "
                       "--partition N takes a partition, and --partition 0 the disk itself" % table.kind)
     there = [it for it in table.partitions if it.start < disk.size]
-    volumes = [it for it in there if has_volume(part_of(disk, it))]
+    volumes = with_volumes(disk, there)
+    if not volumes and table.kind == "MBR":
+        # It doesn't say in which sectors it counts, and labels do.
+        larger = table_of(disk, LARGE_SECTOR)
+        volumes = with_volumes(disk, larger.partitions if larger else [])
     if not volumes:
         raise Refusal(disk.path, no_volume(disk, table, len(there)))
     which = "partitions %s are physical volumes: these are" if len(volumes) > 1 else "partition %s is a physical volume: that is"
@@ -77,9 +83,10 @@ def no_volume(disk: Image, table: Table, there: int) -> str:
             % (found, numbers_of(table.partitions) or "-", where_volumes_begin(disk)))
 
 
-def has_volume(part: Image) -> bool:
-    """Whether a partition is a physical volume, or has one in a member of an md array."""
-    return label_of(part)[0] is not None or array_data(part) is not None
+def with_volumes(disk: Image, partitions: List[Partition]) -> List[Partition]:
+    """The partitions that are physical volumes, or have one in a member of an md array."""
+    parts = ((it, part_of(disk, it)) for it in partitions if it.start < disk.size)
+    return [it for it, part in parts if label_of(part)[0] is not None or array_data(part) is not None]
 
 
 def numbers_of(partitions: List[Partition]) -> str:
