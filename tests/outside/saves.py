@@ -168,6 +168,33 @@ def check_gaps(tally, program, top):
     tally.holds("its last map", read(disks.target("map")).decode() == MAP % (SECTOR * 48, "+") + text, read(disks.target("map")))
 
 
+OF_PARTITION = """contents = "Text Format Volume Group"
+version = 1
+g {
+	extent_size = 8
+	physical_volumes {
+		p {
+			device = ""
+			dev_size = 56
+			pe_start = 0
+			pe_count = 7
+		}
+	}
+	logical_volumes {
+		v {
+			status = ["READ", "WRITE", "VISIBLE"]
+			segment_count = 1
+			segment1 {
+				start_extent = 0
+				extent_count = 1
+				type = "striped"
+				stripe_count = 1
+				stripes = ["p", 0]
+			}
+		}
+	}
+}
+"""
 WHOLE = "dmremap-tools save: %s: the image of a whole disk (%s), and p has %d sectors: give the partition that it is, as IMAGE?offset=BYTES\n"
 
 
@@ -193,6 +220,14 @@ def check_whole_disks(tally, program, top):
         if not kind and tally.holds("a file from " + name, os.path.exists(target), "it isn't there"):
             tally.holds("what is saved from " + name, read(target) == image[:8 * SECTOR], "it is another")
             os.unlink(target)
+    path = program.file("save/disk", gpt.ljust(40 * SECTOR, b"\0") + bytes(range(256)) * 112)
+    listed = program.file("save/paths", "p %s?offset=%d\n" % (path, 40 * SECTOR))
+    for form, more in (("table", [program.file("save/disks", "p 56\n")]), ("lvm", [])):
+        source = program.file("save/source", "v: 0 8 linear p 0\n" if more else OF_PARTITION)
+        target = os.path.join(program.room, "save", "of partition " + form)
+        got = tool_calls.call(top, ["save", "--program", program.path, "--paths", listed, "v" if more else "g-v", target, form, source, *more])
+        tally.same("saving from a partition by its place, " + form, got, 0)
+        tally.holds("what is saved from it", os.path.exists(target) and read(target) == bytes(range(256)) * 16, "it is another")
 
 
 def check_file(tally, program, top):
