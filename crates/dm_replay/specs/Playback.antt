@@ -10,10 +10,10 @@ use Rattle.dm_replay.specs.Stored.{values_of}
 use Rattle.dm_replay.specs.Values.{played}
 
 -- a mapper that has not failed, and a player, of one stack: it has the device, and the disks that the values of the player name
-pub record CanPlay (mapper : MapperView) (player : Player) (device : ℕ) : Type 0 where
+pub record CanPlay (mapper : MapperView) (player : Player) (id : ℕ) : Type 0 where
   pub going : mapper.failed ≡ false
   pub stack : player.stack.now ≡ mapper.stack
-  pub device : device < length mapper.stack.devices
+  pub device : id < length mapper.stack.devices
   pub disks : AreValuesOf (length mapper.stack.disks) (values_of player.playing.values.disks.items)
 
 -- a player of this stack played these units of a request

@@ -1,4 +1,7 @@
-use Rattle.std.proofs.Common.{sym, ap, ◌∙◌, subst}
+use Rattle.std.proofs.Common.{◌≡◌, ℕ, false, List, Some, sym, ap, ◌∙◌, subst}
+use Rattle.std.specs.Prelude.{position}
+use Rattle.dm_stack.specs.claims.Claims.{IsTop}
+use Rattle.dm_stack.specs.Description.{is_same}
 use Rattle.dm_map.specs.state.State.{start_state}
 use Rattle.dm_replay.specs.Replay.{HasTop, Replaying}
 use Rattle.dm_replay.specs.Reruns.{rerun_from}
@@ -6,19 +9,23 @@ use Rattle.dm_replay.proofs.NamedLemmas.{named_id, named_there}
 use Rattle.dm_replay.proofs.WorldLemmas.{are_whole, few_whole, going_halted, is_kept, kept_more, next_start, write_of}
 use Rattle.dm_replay.proofs.replay.Replay.halt.Goals as goal
 
+-- a replay that is spent for want of memory: it had not failed, and a top device has the name
+spent : (inside old : Replaying) (name : List ℕ) (device : ℕ) → inside ≡ old → inside.failed ≡ false → position (λ other. is_same other.name name) inside.stack.devices ≡ Some device → IsTop inside.stack device
+    → (old.failed ≡ false) × HasTop old.stack name
+spent inside old name device is going named top =
+    (ap (λ (r : Replaying). r.failed) (sym is) ∙ going, subst (λ (r : Replaying). HasTop r.stack name) is (record { id = device; named = named; top = top }))
+
+pub returns-in_default-play_front-clause-fault : goal.returns-in_default-play_front-clause-fault
+returns-in_default-play_front-clause-fault g c =
+    spent _ _ c.args.request.now.device.now c.in-Some.device c.self.view_is c.if-failed.false c.in-Some.ensures.some.0 c.in-Some.ensures.some.1
+
 pub returns-in_default-keep-clause-fault : goal.returns-in_default-keep-clause-fault
 returns-in_default-keep-clause-fault g c =
-    let found = c.in-Some.ensures.some in (
-      ap (λ (r : Replaying). r.failed) (sym c.self.view_is) ∙ c.if-failed.false,
-      subst (λ (r : Replaying). HasTop r.stack c.args.request.now.device.now) c.self.view_is (record { id = c.in-Some.device; named = found.0; top = found.1 }),
-    )
+    spent _ _ c.args.request.now.device.now c.in-Some.device c.self.view_is c.if-failed.false c.in-Some.ensures.some.0 c.in-Some.ensures.some.1
 
 pub returns-in_default-rerun-clause-fault : goal.returns-in_default-rerun-clause-fault
 returns-in_default-rerun-clause-fault g c =
-    let found = c.in-Some.ensures.some in (
-      ap (λ (r : Replaying). r.failed) (sym c.self.view_is) ∙ c.if-failed.false,
-      subst (λ (r : Replaying). HasTop r.stack c.args.request.now.device.now) c.self.view_is (record { id = c.in-Some.device; named = found.0; top = found.1 }),
-    )
+    spent _ _ c.args.request.now.device.now c.in-Some.device c.self.view_is c.if-failed.false c.in-Some.ensures.some.0 c.in-Some.ensures.some.1
 
 pub whole_sectors-whole-requires-clause-next : goal.whole_sectors-whole-requires-clause-next
 whole_sectors-whole-requires-clause-next g c =
