@@ -1,8 +1,16 @@
 -- A mapper, and what its results say.
-use Rattle.std.specs.Prelude.{Bool, Result, Ok, Err}
+use Rattle.std.specs.Prelude.{ℕ, ◌≡◌, ◌+◌, ◌*◌, ◌≤◌, Bool, true, false, List, Result, Ok, Err, OnOk}
+use Rattle.dm_table.specs.declared.requests.request.Op.TheVariants.{Read}
+use Rattle.dm_table.specs.declared.requests.request.Request.{Request}
+use Rattle.dm_stack.specs.checks.Depth.{stack_depth}
 use Rattle.dm_stack.specs.Description.{Description}
-use Rattle.dm_map.specs.state.Counts.{Counts}
+use Rattle.dm_map.specs.pieces.Sink.{OfBeginning, SinkView}
+use Rattle.dm_map.specs.pieces.Units.{BlockUnit}
+use Rattle.dm_map.specs.state.Counts.{Counts, grown_by, most_comparisons}
+use Rattle.dm_map.specs.state.Fitting.{IsWithinPlaces}
 use Rattle.dm_map.specs.state.State.{State}
+use Rattle.dm_map.specs.walk.Mapping.{step_for}
+use Rattle.dm_map.specs.walk.Path.{read_stretches}
 use Rattle.dm_map.specs.declared.mapper.MapFault.{MapFault}
 use Rattle.dm_map.specs.declared.mapper.MapFault.TheVariants as faults
 
@@ -35,3 +43,24 @@ abbrev pub OnTried : {R F : Type 0} → Result R (MapFault F) → Type 0 → Typ
 OnTried (Ok done) P = P
 OnTried (Err (faults.Sink fault)) P = P
 OnTried (Err faults.Stopped) P = Unit {0}
+
+-- a sink failed at a beginning of these units, and with it the mapper
+pub record HasFailed {S : Type 0} (leaves : S → List BlockUnit → S → Type 0) (view : S → SinkView) (old new : S) (before after : MapperView) (units : List BlockUnit) : Type 0 where
+  pub left : OfBeginning leaves old units new
+  pub faults : (view new).faults ≡ (view old).faults + 1
+  pub going : before.failed ≡ false
+  pub failed : after.failed ≡ true
+
+-- what came of a request of a device: the sink took its units, and the mapper is in the state after it; or both failed; or the mapper had failed before, and nothing changed. A mapper that had not failed counted its searches, of which a read makes at most one a level for each stretch
+pub record HasMapped {S R F : Type 0} (takes leaves : S → List BlockUnit → S → Type 0) (view : S → SinkView) (result : Result R (MapFault F)) (old new : S) (before after : MapperView) (request : Request) (device : ℕ) : Type 0 where
+  pub took : OnOk result (takes old (step_for before.stack request device before.state).units new)
+  pub state : OnOk result (after.state ≡ (step_for before.stack request device before.state).state)
+  pub kept : OnOk result (((view new).stack ≡ (view old).stack) × ((view new).faults ≡ (view old).faults))
+  pub going : OnOk result ((before.failed ≡ false) × (after.failed ≡ false))
+  pub failed : OnSinkFault result (HasFailed leaves view old new before after (step_for before.stack request device before.state).units)
+  pub stopped : OnStopped result ((before.failed ≡ true) × (after ≡ before) × (new ≡ old))
+  pub counted : OnTried result (after.looked ≡ grown_by before.looked after.last)
+  pub few : OnTried result (after.last.comparisons ≤ most_comparisons * after.last.searches)
+  pub bounded : OnTried result (request.op ≡ Read → after.last.searches ≤ stack_depth before.stack * read_stretches before.stack before.state device request.start request.len)
+  pub stack : after.stack ≡ before.stack
+  pub within : IsWithinPlaces after.stack after.state

@@ -4,17 +4,16 @@
 //! `specs/walk/Mapping.antt` defines what becomes of a sector, `walk` cuts a range into pieces, and
 //! `walker` keeps what one request leaves for the next.
 
-ghost use Rattle.std.specs.Prelude.{◌≡◌, ◌+◌, ◌*◌, ◌<◌, ◌≤◌, false, true, length, nat_lt, IfOk, IfSome, OnOk};
+ghost use Rattle.std.specs.Prelude.{◌≡◌, ◌+◌, ◌*◌, ◌<◌, ◌≤◌, false, true, length, nat_lt, IfOk, IfSome};
 ghost use Rattle.dm_table.specs.declared.requests.request.Op.TheVariants.{Read};
 ghost use Rattle.dm_stack.specs.checks.Snapshots.{snapshots, IsSnapshot};
 ghost use Rattle.dm_stack.specs.checks.Depth.{stack_depth};
-ghost use Rattle.dm_map.specs.walk.Mapping.{request_step, step_for};
-ghost use Rattle.dm_map.specs.state.Counts.{grown_by, most_comparisons, no_counts, AreAdded};
+ghost use Rattle.dm_map.specs.walk.Mapping.{request_step};
+ghost use Rattle.dm_map.specs.state.Counts.{no_counts, AreAdded};
 ghost use Rattle.dm_map.specs.state.Fitting.{IsWithinPlaces};
 ghost use Rattle.dm_map.specs.declared.mapper.MapFault.TheVariants.{Sink};
-ghost use Rattle.dm_map.specs.Mapper.{with_looked, OnSinkFault, OnStopped, OnTried};
+ghost use Rattle.dm_map.specs.Mapper.{with_looked, HasMapped};
 ghost use Rattle.dm_map.specs.walk.Path.{read_stretches};
-ghost use Rattle.dm_map.specs.pieces.Sink.{OfBeginning};
 ghost use Rattle.dm_map.specs.state.State.{start_state, taken_at};
 ghost use Rattle.dm_map.specs.state.Tables.{snapshot_at};
 ghost use Rattle.dm_map.specs.state.Usage.{usage_of};
@@ -132,31 +131,9 @@ impl<'s, T: Taken> Mapper<'s, T> {
         sink: &mut S,
     ) -> Result<(), MapFault<S::Fault>>
         requires device { device < length self.old.stack.devices }
-        requires stack { (S.view sink.old).stack ≡ self.old.stack }
-        requires room { request.now.len ≤ (S.view sink.old).room }
-        ensures stack { self.new.stack ≡ self.old.stack }
-        ensures took { OnOk result (S.took sink.old
-            (step_for self.old.stack request.now device self.old.state).units sink.new) }
-        ensures state { OnOk result (self.new.state
-            ≡ (step_for self.old.stack request.now device self.old.state).state) }
-        ensures kept { OnOk result (((S.view sink.new).stack ≡ (S.view sink.old).stack)
-            × ((S.view sink.new).faults ≡ (S.view sink.old).faults)) }
-        ensures going { OnOk result ((self.old.failed ≡ false) × (self.new.failed ≡ false)) }
-        ensures left { OnSinkFault result
-            (OfBeginning S.left sink.old
-            (step_for self.old.stack request.now device self.old.state).units sink.new) }
-        ensures failed { OnSinkFault result ((S.view sink.new).faults ≡ (S.view sink.old).faults + 1) }
-        ensures stops { OnSinkFault result ((self.old.failed ≡ false) × (self.new.failed ≡ true)) }
-        ensures stopped { OnStopped result
-            ((self.old.failed ≡ true) × (self.new ≡ self.old) × (sink.new ≡ sink.old)) }
-        ensures counted { OnTried result (self.new.looked ≡ grown_by self.old.looked self.new.last) }
-        ensures few { OnTried result (self.new.last.comparisons ≤ most_comparisons * self.new.last.searches) }
-        ensures bounded { OnTried result
-            (request.now.op ≡ Read
-            → self.new.last.searches
-            ≤ stack_depth self.old.stack * read_stretches self.old.stack self.old.state device
-            request.now.start request.now.len) }
-        ensures within { IsWithinPlaces self.new.stack self.new.state }
+        requires sink { HasRoomFor S.view sink.old self.old.stack request.now.len }
+        ensures { HasMapped S.took S.left S.view
+            result sink.old sink.new self.old self.new request.now device }
     {
         let Some(home) = self.request_or_home(request, device, &mut *sink)? else {
             return Ok(());
@@ -167,8 +144,12 @@ impl<'s, T: Taken> Mapper<'s, T> {
         }
     }
 
-    /// The same, but where all sectors of the request lie in a row on a disk, below one line of its device,
-    /// nothing is handed over: where they lie is returned.
+    /// As `request`, but where all sectors of the request lie in a row on a disk, below one line of its device,
+    /// nothing is handed over, and where they lie is returned: the caller does with them what the request asks.
+    ///
+    /// # Errors
+    ///
+    /// `Sink` if the sink failed, and `Stopped` if the mapper had failed before, as `request` says.
     #[inline(always)]
     pub fn request_or_home<S: Sink>(
         &mut self,
@@ -177,31 +158,9 @@ impl<'s, T: Taken> Mapper<'s, T> {
         sink: &mut S,
     ) -> Result<Option<Home>, MapFault<S::Fault>>
         requires device { device < length self.old.stack.devices }
-        requires stack { (S.view sink.old).stack ≡ self.old.stack }
-        requires room { request.now.len ≤ (S.view sink.old).room }
-        ensures stack { self.new.stack ≡ self.old.stack }
-        ensures took { OnOk result (HasTakenOrIsHome S.took self.old.stack request.now.op request.now.len result
-            sink.old (step_for self.old.stack request.now device self.old.state).units sink.new) }
-        ensures state { OnOk result (self.new.state
-            ≡ (step_for self.old.stack request.now device self.old.state).state) }
-        ensures kept { OnOk result (((S.view sink.new).stack ≡ (S.view sink.old).stack)
-            × ((S.view sink.new).faults ≡ (S.view sink.old).faults)) }
-        ensures going { OnOk result ((self.old.failed ≡ false) × (self.new.failed ≡ false)) }
-        ensures left { OnSinkFault result
-            (OfBeginning S.left sink.old
-            (step_for self.old.stack request.now device self.old.state).units sink.new) }
-        ensures failed { OnSinkFault result ((S.view sink.new).faults ≡ (S.view sink.old).faults + 1) }
-        ensures stops { OnSinkFault result ((self.old.failed ≡ false) × (self.new.failed ≡ true)) }
-        ensures stopped { OnStopped result
-            ((self.old.failed ≡ true) × (self.new ≡ self.old) × (sink.new ≡ sink.old)) }
-        ensures counted { OnTried result (self.new.looked ≡ grown_by self.old.looked self.new.last) }
-        ensures few { OnTried result (self.new.last.comparisons ≤ most_comparisons * self.new.last.searches) }
-        ensures bounded { OnTried result
-            (request.now.op ≡ Read
-            → self.new.last.searches
-            ≤ stack_depth self.old.stack * read_stretches self.old.stack self.old.state device
-            request.now.start request.now.len) }
-        ensures within { IsWithinPlaces self.new.stack self.new.state }
+        requires sink { HasRoomFor S.view sink.old self.old.stack request.now.len }
+        ensures { HasMapped (HasTakenOrIsHome S.took self.old.stack request.now.op request.now.len result)
+            S.left S.view result sink.old sink.new self.old self.new request.now device }
     {
         if self.failed {
             self.walker.recall_places();

@@ -20,7 +20,7 @@ pub struct Home {
     pub start: u64,
 }
 
-/// Where sectors of a line lie, if they lie in a row on a disk, as a part of one of it does.
+/// Where sectors of a line lie, if the line is a part of a disk: they lie in a row there, as those of the line do.
 #[inline(always)]
 pub(crate) fn home_in<T: Taken>(
     walker: &Walker<'_, T>,

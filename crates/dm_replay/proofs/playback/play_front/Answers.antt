@@ -19,5 +19,5 @@ returns-in-Err-Sink g c =
     let first = c.min-first.ensures ∙ ap (min request.start) (c.len.ensures.len ∙ ap (λ (stack : Description). device_len stack device) c.requires.stack) in
     let f = front_played mapper.stack request device c.args.units c.min-first.result mapper.state c.args.player.playing c.begin.new.self c.into_player-in-Err-Sink.result before after first c.begin.ensures.playing
     (ap (λ s. s.now) c.begin.ensures.stack ∙ c.requires.stack) c.new-halting.ensures.player c.new-halting.ensures.left c.requires.disks
-    (front_halted before after (units_asked mapper.stack request device mapper.state) (rw c.in-Err-Sink.field-0-is at c.in-Err-Sink.ensures.left) c.new-halting.ensures.going c.if-halting.true) c.into_player-in-Err-Sink.ensures in
+    (front_halted before after (units_asked mapper.stack request device mapper.state) (rw c.in-Err-Sink.field-0-is at c.in-Err-Sink.ensures.failed).left c.new-halting.ensures.going c.if-halting.true) c.into_player-in-Err-Sink.ensures in
     record { next = f.next; played = record { stack = f.stack_is ∙ sym c.requires.stack; values = f.values; disks = f.disks } }

@@ -1,4 +1,4 @@
-use Rattle.std.proofs.Common.{◌≡◌, ◌∙◌, sym, ap, subst, Some, Ok, Err}
+use Rattle.std.proofs.Common.{◌≡◌, ◌∙◌, sym, ap, subst, None, Some, Ok, Err}
 use Rattle.dm_stack.specs.Description.{Description}
 use Rattle.dm_map.specs.pieces.Units.{IsOnDisk, units_of}
 use Rattle.dm_stream.specs.pieces.Pending.{Pending, piece_of}
@@ -29,6 +29,12 @@ write_range-requires g c =
     let stack : new.held.stack ≡ c.args.mapper.now.stack = ap (λ j. j.held.stack) home.1 ∙ ap (λ (h : Pending). h.stack) c.begin.ensures.number ∙ sym c.requires.stack in
     c.at.ensures.held new.held.stack c.args.request.now.at_least (subst (λ (s : Description). IsOnDisk s c.in-Ok-Some.home.disk c.in-Ok-Some.home.start c.args.request.now.len) (sym stack) home.0.lies)
 
+pub returns-in-Ok-None-clause-state : goal.returns-in-Ok-None-clause-state
+returns-in-Ok-None-clause-state g c =
+    let a = c.args in
+    let state = state_at c.request_or_home.result None _ (c.in-Ok-None.is ∙ ap Ok c.in-Ok-None.field-0-is) c.request_or_home.ensures.state in
+    on_ok c.finish.result _ (subst (λ (s : Description). c.request_or_home.new.self.state ≡ (step_of s a.device (numbered a.request.now) a.mapper.now.state).state) c.requires.stack state)
+
 pub returns-in-Ok-Some-clause-state : goal.returns-in-Ok-Some-clause-state
 returns-in-Ok-Some-clause-state g c =
     let a = c.args in
@@ -45,10 +51,10 @@ returns-in-Ok-Some-clause-wrote g c =
 pub returns-in-Err-Sink-clause-wrote : goal.returns-in-Err-Sink-clause-wrote
 returns-in-Err-Sink-clause-wrote g c =
     let request = c.args.request.now in let begun = c.begin.new.self in let new = c.request_or_home.new.sink in
-    let left = on_sink c.request_or_home.result c.in-Err-Sink.fault _ (c.in-Err-Sink.is ∙ ap Err c.in-Err-Sink.field-0-is) c.request_or_home.ensures.left in
+    let failed = on_sink c.request_or_home.result c.in-Err-Sink.fault _ (c.in-Err-Sink.is ∙ ap Err c.in-Err-Sink.field-0-is) c.request_or_home.ensures.failed in
     before_begin (λ s w. Wrote {E = OutFault} (g.W.Output.past w) (g.W.Output.past new.writer.now) (Err c.in-Err-Sink.fault) (pieces_text c.args.join.now.held.stack request.number (fewest (step_of s c.args.device (numbered request) c.args.mapper.now.state).units))) _ _ _ _ c.requires.stack c.begin.ensures.writer
     (record {
-      moved = left.holds.1.moved;
+      moved = failed.left.holds.1.moved;
       ok = tt;
-      left = cut_short _ request.number begun.held new.held left.front left.rest _ (g.W.Output.past begun.writer.now).written (g.W.Output.past new.writer.now).written c.begin.ensures.number left.whole left.holds.0;
+      left = cut_short _ request.number begun.held new.held failed.left.front failed.left.rest _ (g.W.Output.past begun.writer.now).written (g.W.Output.past new.writer.now).written c.begin.ensures.number failed.left.whole failed.left.holds.0;
     })
