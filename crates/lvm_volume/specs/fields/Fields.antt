@@ -265,16 +265,12 @@ field_faults check tree f = if is_asked f.when f.key tree then node_faults check
 abbrev pub fields_faults : Check → Tree → List Field → List LoadFault
 fields_faults check tree fields = flat_map (field_faults check tree) fields
 
--- the segments of a volume, each as a field of it
-abbrev pub keys_faults : Check → Tree → List LoadFault
-keys_faults check volume =
-    flat_map (λ i. field_faults check volume (segment_field i)) (range_with_len 1 (number_at (codes "segment_count") volume))
-
 -- a volume: its fields, each of its segments as a field, and then the fields of each segment
 unfoldable pub volume_faults : Check → Tree → List LoadFault
 volume_faults check volume =
     fields_faults check volume volume_fields
-    ++ (keys_faults check volume ++ flat_map (λ segment. fields_faults check segment segment_fields) (segments_of volume))
+    ++ (flat_map (λ i. field_faults check volume (segment_field i)) (range_with_len 1 (number_at (codes "segment_count") volume))
+    ++ flat_map (λ segment. fields_faults check segment segment_fields) (segments_of volume))
 
 -- the same at the fields of all physical volumes
 abbrev pub physicals_faults : Check → List (List ℕ × Tree) → List LoadFault

@@ -44,15 +44,11 @@ extent_faults group = size_faults group.extent_size group.physicals ++ volume_fa
 abbrev pub checks_of_parts : Group → List (List LoadFault)
 checks_of_parts group = unknown_faults group ∷ extent_faults group ∷ snapshot_faults group ∷ []
 
--- the checks after the one for fields, in their order
-abbrev pub later_checks : Tree → List (List LoadFault)
-later_checks top =
-    let group = group_of top in
-    faults_of_fields (Limits group.extent_size) top ∷ name_faults group.physicals ∷ checks_of_parts group
-
 -- the checks of a group's text
 abbrev pub group_checks : Tree → List (List LoadFault)
-group_checks top = faults_of_fields Fields top ∷ later_checks top
+group_checks top =
+    let group = group_of top in
+    faults_of_fields Fields top ∷ faults_of_fields (Limits group.extent_size) top ∷ name_faults group.physicals ∷ checks_of_parts group
 
 -- Tables
 
