@@ -55,6 +55,10 @@ part_mapped stack fault e old new delivered w0 w1 Stopped ends stopped among =
     (subst (λ (rs : List NumberedRequest). IsMapped (outcome_from stack old rs requests.ending) (since w0 w1) new.state (ending_for fault)) (sym among.is)
     (stopped_at stack fault old new among.first among.later requests.ending w0 w1 (stopped among.first among.holds)))
 
+-- what is said of a writer from the start to the end is said of the output that it was borrowed from
+pub of_output : {X : Type 0} (P : X → X → Type 0) (first last old new : X) → first ≡ old → last ≡ new → P first last → P old new
+of_output P first last old new from to fact = subst (λ x. P x new) from (subst (λ x. P first x) to fact)
+
 -- nothing more is read then
 pub stopped_met : (old new : InputPast) (fault : NotMapped) (e : ending.Ending) → e ≡ ending_for fault → MetNothing old new → HasMet e old new
 stopped_met old new (causes.Unknown number) e is met = subst (λ (x : ending.Ending). HasMet x old new) (sym is) met

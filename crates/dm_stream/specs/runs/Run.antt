@@ -1,13 +1,14 @@
 -- What a run did, against the outcome of what it was given.
 use Rattle.std.specs.Prelude.{◌≡◌, ◌≢◌, ℕ, List, Some, false}
-use Rattle.dm_table.specs.io.DeviceIo.{OutputPast}
-use Rattle.dm_table.specs.io.Progress.{IsClosedAfter}
+use Rattle.dm_table.specs.io.DeviceIo.{InputPast, OutputPast, delivery, written_since}
+use Rattle.dm_table.specs.io.Progress.{HasWritten, IsClosedAfter, IsReadOn}
 use Rattle.dm_table.specs.io.WriteAll.{IsCutShort}
 use Rattle.dm_stream.specs.declared.runs.ending.Ending as ending
 use Rattle.dm_stream.specs.declared.runs.ending.NotMapped.{NotMapped}
 use Rattle.dm_stream.specs.declared.runs.ending.NotMapped.TheVariants as causes
 use Rattle.dm_stream.specs.declared.runs.ending.RequestWord as word
-use Rattle.dm_stream.specs.runs.Outcome.{Outcome}
+use Rattle.dm_stream.specs.runs.Outcome.{Outcome, requests_outcome}
+use Rattle.dm_stream.specs.requests.Requests.{HasMet}
 use Rattle.dm_map.specs.Mapper.{MapperView}
 use Rattle.dm_map.specs.state.State.{State}
 use Rattle.dm_stack.specs.Description.{Description}
@@ -29,15 +30,26 @@ pub record CanMap (of : Description) (mapper : MapperView) : Type 0 where
   pub stack : mapper.stack ≡ of
   pub going : mapper.failed ≡ false
 
--- it stays one of its stack, and can go on unless the output failed
-pub record StaysMapper (before after : MapperView) (e : ending.Ending) : Type 0 where
-  pub stack : after.stack ≡ before.stack
-  pub going : e ≢ ending.TheVariants.WriteFault → after.failed ≡ false
+-- how a run that ends so leaves its mapper and its requests
+pub record IsLeft (mapper_old mapper_new : MapperView) (requests_old requests_new : InputPast) (e : ending.Ending) : Type 0 where
+  -- the mapper stays one of its stack, and can go on unless the output failed
+  pub stack : mapper_new.stack ≡ mapper_old.stack
+  pub going : e ≢ ending.TheVariants.WriteFault → mapper_new.failed ≡ false
+  -- requests are only read on, and nothing is read after an end or a fault
+  pub reads : IsReadOn requests_old requests_new
+  -- reading failed where the run ends so, and not where it ends as done. Nothing is read after a bad line: any read may fail or come to an end, and neither was met, but for the end that leaves a line unended
+  pub met : HasMet e requests_old requests_new
 
 -- what was done before the flush: the whole of an outcome, or, where a write failed, a beginning of its output that is not all of it
 pub record IsMapped (outcome : Outcome) (text : List ℕ) (left : State) (e : ending.Ending) : Type 0 where
   pub whole : e ≢ ending.TheVariants.WriteFault → (outcome.output ≡ text) × (outcome.ending ≡ Some e) × (left ≡ outcome.state)
   pub cut : e ≡ ending.TheVariants.WriteFault → IsCutShort outcome.output text
+
+-- what answering all that requests delivered did, before the flush
+pub record HasMapped (stack : Description) (mapper_old mapper_new : MapperView) (requests_old requests_new : InputPast) (output_old output_new : OutputPast) (e : ending.Ending) : Type 0 where
+  pub left : IsLeft mapper_old mapper_new requests_old requests_new e
+  pub writes : HasWritten output_old output_new (write_faults e)
+  pub mapped : IsMapped (requests_outcome stack mapper_old.state (delivery requests_old requests_new)) (written_since output_old output_new) mapper_new.state e
 
 -- what was done by the end, with the flush: the output was closed after that of the outcome; unless it failed, the run ends as the outcome does and leaves its state
 pub record HasRun (old new : OutputPast) (outcome : Outcome) (left : State) (e : ending.Ending) : Type 0 where

@@ -7,10 +7,8 @@ ghost use Rattle.std.proofs.Common.{refl, ◌∙◌};
 ghost use Rattle.dm_stream.specs.runs.Earlier.{HasMoved, HasPlayed, HasStoppedAt, played_ending};
 ghost use Rattle.dm_stream.specs.laws.Earlier.{moved_more, moved_none, stopped_more};
 ghost use Rattle.dm_stream.specs.runs.Outcome.{requests_outcome};
-ghost use Rattle.dm_stream.specs.requests.Requests.{HasMet};
-ghost use Rattle.dm_stream.specs.runs.Run.{CanMap};
+ghost use Rattle.dm_stream.specs.runs.Run.{CanMap, IsLeft};
 ghost use Rattle.dm_table.specs.io.DeviceIo.{delivery};
-ghost use Rattle.dm_table.specs.io.Progress.{IsReadOn};
 
 use crate::requests::handler::{Handler, ReadsFrom};
 use crate::requests::handling::handle_requests;
@@ -126,14 +124,12 @@ pub fn play_earlier<'s, T: Taken, R: Input>(
     requests: &mut R,
 ) -> Result<(), EarlierFault>
     requires { CanMap stack.now mapper.old }
-    ensures stack { mapper.new.stack ≡ mapper.old.stack }
-    ensures going { mapper.new.failed ≡ false }
+    // The mapper can go on. Requests are only read on, up to the first bad line, an end or a fault.
+    ensures left { IsLeft mapper.old mapper.new (R.past requests.old) (R.past requests.new)
+        (played_ending result) }
     // What the requests delivered gives the state that is left, and how they end.
     ensures played { HasPlayed (requests_outcome stack.now mapper.old.state
         (delivery (R.past requests.old) (R.past requests.new))) mapper.new.state result }
-    // Requests are only read on, and nothing is read after a bad line, an end or a fault.
-    ensures reads { IsReadOn (R.past requests.old) (R.past requests.new) }
-    ensures met { HasMet (played_ending result) (R.past requests.old) (R.past requests.new) }
 {
     let mut player = EarlierPlayer {
         discard: Discard { stack },

@@ -11,7 +11,7 @@ ghost use Rattle.dm_stream.specs.runs.Messages.{HasTold, ending_message};
 ghost use Rattle.dm_stream.specs.runs.Outcome.{Outcome, requests_outcome, run_outcome, with_status};
 ghost use Rattle.dm_stream.specs.pieces.Pieces.{AreFewest, fewest};
 ghost use Rattle.dm_stream.specs.requests.Requests.{HasMet};
-ghost use Rattle.dm_stream.specs.runs.Run.{CanMap, HasRun, IsMapped, StaysMapper, ending_for, write_faults};
+ghost use Rattle.dm_stream.specs.runs.Run.{CanMap, HasMapped, HasRun, IsLeft, IsMapped, ending_for, write_faults};
 ghost use Rattle.dm_stream.specs.declared.requests.lines.TheConstants.{MOST_LINE_BYTES};
 ghost use Rattle.dm_stream.specs.declared.requests.handling.TheConstants.{MOST_REQUESTS};
 ghost use Rattle.dm_table.specs.io.DeviceIo.{OutputPast, delivery, written_since};
@@ -40,34 +40,8 @@ fn ending_of(cause: NotMapped) -> Ending
     }
 }
 
-/// Answers the requests up to the first bad one, an end or a fault, through one mapper and one join.
-/// Nothing is flushed.
-fn map_lines<'s, T: Taken, R: Exchange<W>, W: Output>(
-    stack: &Stack,
-    requests: &mut R,
-    mapper: &mut Mapper<'s, T>,
-    handler: &mut RequestMapper<'_, 's, T, W>,
-) -> Ending
-    requires { IsReady stack.now mapper.old handler.old.join.held }
-    ensures mapper { StaysMapper mapper.old mapper.new result }
-    ensures nothing { handler.new.join.held.piece ≡ None }
-    ensures reads { IsReadOn (R.past requests.old) (R.past requests.new) }
-    ensures writes { HasWrittenTo W.past handler.old.join.writer handler.new.join.writer
-        (write_faults result) }
-    ensures mapped { IsMapped
-        (requests_outcome stack.now mapper.old.state
-        (delivery (R.past requests.old) (R.past requests.new)))
-        (written_since (W.past handler.old.join.writer.now) (W.past handler.new.join.writer.now))
-        mapper.new.state result }
-    ensures met { HasMet result (R.past requests.old) (R.past requests.new) }
-{
-    match handle_requests(stack, requests, handler, mapper) {
-        Ok(ending) => ending,
-        Err(cause) => ending_of(cause),
-    }
-}
-
-/// Answers them to an output, through a join that is made for it and gone at the return.
+/// Answers the requests up to the first bad one, an end or a fault, through one mapper and a join that is made for
+/// them and gone at the return. Nothing is flushed.
 fn map_requests<'s, T: Taken, R: Exchange<W>, W: Output>(
     stack: &'s Stack,
     mapper: &mut Mapper<'s, T>,
@@ -75,22 +49,20 @@ fn map_requests<'s, T: Taken, R: Exchange<W>, W: Output>(
     output: &mut W,
 ) -> Ending
     requires { CanMap stack.now mapper.old }
-    ensures mapper { StaysMapper mapper.old mapper.new result }
-    ensures reads { IsReadOn (R.past requests.old) (R.past requests.new) }
-    ensures writes { HasWritten (W.past output.old) (W.past output.new) (write_faults result) }
-    ensures mapped { IsMapped
-        (requests_outcome stack.now mapper.old.state (delivery (R.past requests.old) (R.past requests.new)))
-        (written_since (W.past output.old) (W.past output.new)) mapper.new.state result }
-    ensures met { HasMet result (R.past requests.old) (R.past requests.new) }
+    ensures { HasMapped stack.now mapper.old mapper.new (R.past requests.old) (R.past requests.new)
+        (W.past output.old) (W.past output.new) result }
 {
     let mut handler = RequestMapper {
         join: Join::new(stack, output),
         prefetched: 0,
         mapper: PhantomData,
     };
-    let ending = map_lines(stack, requests, mapper, &mut handler);
+    let handled = handle_requests(stack, requests, &mut handler, mapper);
     let _writer = handler.join.end();
-    ending
+    match handled {
+        Ok(ending) => ending,
+        Err(cause) => ending_of(cause),
+    }
 }
 
 /// Writes what comes after the answers of a run that ended so: the status lines, if they are asked for
@@ -143,23 +115,16 @@ pub fn run<'s, T: Taken, R: Exchange<W>, W: Output, E: Output>(
     messages: &mut E,
     status: bool,
 ) -> Ending
-    requires stack { mapper.old.stack ≡ stack.now }
-    requires going { mapper.old.failed ≡ false }
-    // The mapper stays one of its stack, and can go on unless the output failed.
-    ensures stack { mapper.new.stack ≡ mapper.old.stack }
-    ensures going { result ≢ Ending.WriteFault → mapper.new.failed ≡ false }
+    requires { CanMap stack.now mapper.old }
+    // The mapper can go on unless the output failed. Requests are only read on, up to the first bad line, an end or
+    // a fault.
+    ensures left { IsLeft mapper.old mapper.new (R.past requests.old) (R.past requests.new) result }
     // What the requests delivered gives what is written, and how it ends and the state that is left
     // unless the output failed. The output was flushed once; if it failed, it had taken a beginning:
     // all, if the flush failed, and less, if a write did.
     ensures ran { HasRun (W.past output.old) (W.past output.new)
         (run_outcome stack.now status mapper.old.state (delivery (R.past requests.old) (R.past requests.new)))
         mapper.new.state result }
-    // Requests are only read on, and nothing is read after an end or a fault. It ends with `ReadFault`
-    // only where reading failed, and with `Done` only where it did not. Nothing is read after a bad
-    // line: any read may fail or come to an end, and neither was met, but for the end that leaves a
-    // line unended.
-    ensures reads { IsReadOn (R.past requests.old) (R.past requests.new) }
-    ensures met { HasMet result (R.past requests.old) (R.past requests.new) }
     // The message of the ending, or a beginning of it if its stream failed.
     ensures told { HasTold (ending_message result) (E.past messages.old) (E.past messages.new) }
     // No other pieces of a request's units are as few.

@@ -77,7 +77,7 @@ returns-in-Ok-play_earlier-clause-earlier g c =
       record {
         end = endings.Done;
         ends = played_ending c.in-Ok.stack _ before endings.Done starts c.in-Ok-play_earlier.ensures.played.done.0;
-        met = c.in-Ok-play_earlier.ensures.met;
+        met = c.in-Ok-play_earlier.ensures.left.met;
       },
     )
 
@@ -85,7 +85,7 @@ pub returns-in-Ok-play_earlier-clause-memory : goal.returns-in-Ok-play_earlier-c
 returns-in-Ok-play_earlier-clause-memory g c = λ six. absurd (never_memory c.run.result (sym c.status.ensures ∙ six))
 
 pub returns-in-Ok-play_earlier-clause-requests : goal.returns-in-Ok-play_earlier-clause-requests
-returns-in-Ok-play_earlier-clause-requests g c = ran_requests c.run.result _ _ _ c.status.ensures c.run.ensures.reads c.run.ensures.met
+returns-in-Ok-play_earlier-clause-requests g c = ran_requests c.run.result _ _ _ c.status.ensures c.run.ensures.left.reads c.run.ensures.left.met
 
 pub returns-in-Ok-play_earlier-clause-output : goal.returns-in-Ok-play_earlier-clause-output
 returns-in-Ok-play_earlier-clause-output g c = ran_output c.run.result _ _ _ _ _ c.status.ensures c.run.ensures.ran
@@ -116,7 +116,7 @@ returns-clause-earlier g c =
       record {
         end = refused_ending fault;
         ends = played_ending c.in-Ok.stack _ before (refused_ending fault) starts c.in-Err-play_earlier.ensures.played.refused;
-        met = c.in-Err-play_earlier.ensures.met;
+        met = c.in-Err-play_earlier.ensures.left.met;
       },
     )
 

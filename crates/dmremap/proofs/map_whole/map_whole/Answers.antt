@@ -45,7 +45,7 @@ returns-in-Ok-new-clause-beginning g c = λ five.
     }
 
 pub returns-in-Ok-new-clause-requests : goal.returns-in-Ok-new-clause-requests
-returns-in-Ok-new-clause-requests g c = ran_requests c.run.result _ _ _ c.status.ensures c.run.ensures.reads c.run.ensures.met
+returns-in-Ok-new-clause-requests g c = ran_requests c.run.result _ _ _ c.status.ensures c.run.ensures.left.reads c.run.ensures.left.met
 
 pub returns-in-Ok-new-clause-output : goal.returns-in-Ok-new-clause-output
 returns-in-Ok-new-clause-output g c = ran_output c.run.result _ _ _ _ _ c.status.ensures c.run.ensures.ran
