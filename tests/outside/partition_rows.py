@@ -159,6 +159,9 @@ def bound(images, group, tables, output, message="", disks=None, words=()):
 ROWS += [
     bound([PARTED, SECOND], GROUP, BOUND, "1p1: 0 8 linear 1 64\n1p2: 0 128 linear 1 128\na: 0 8 linear /dev/mapper/1p2 4\na: 8 8 linear 2 4\n",
           disks="1 256\n2 128\n"),
+    # An MBR that counts in 4096 bytes, as the label says.
+    bound([mbr((0x83, 1, 2), (0x8E, 8, 16)).ljust(1 << 15, b"\0") + FIRST, SECOND], GROUP, BOUND,
+          "1p1: 0 16 linear 1 8\n1p2: 0 128 linear 1 64\na: 0 8 linear /dev/mapper/1p2 4\na: 8 8 linear 2 4\n", disks="1 192\n2 128\n"),
     bound([FIRST], GROUP, BOUND, "", "--disks: no length of pv1" + NO_LENGTH),
     bound([FIRST], GROUP, BOUND, "missing0: 0 12 error\na: 0 8 linear 1 4\na: 8 8 linear /dev/mapper/missing0 4\n",
           "missing: pv1, which reads as error: missing0\n", "1 128\n", ["--missing", "error"]),

@@ -24,6 +24,7 @@ from dmremap_tools.machines.lowers import Lowers
 from dmremap_tools.machines.missing import StandIns
 from dmremap_tools.machines.pictured import pictured
 from dmremap_tools.machines.sfdisk_text import Partition, partitions_in, path_of
+from dmremap_tools.metadata.chosen_part import LARGE_SECTOR
 
 EXAMPLE = "dmremap-tools partitions --lsblk lsblk.txt --disks whole.disks sfdisk.txt tables > whole"
 NO_LINE = "no line names one of these partitions; --lsblk says what numbers are, --image what is an image"
@@ -93,6 +94,9 @@ def images_in(words: List[str], group: Optional[str]) -> Tuple[Dict[str, str], L
 def partitions_of(path: str, lowers: Lowers, sector: int, names_of: Dict[bytes, str], is_bare: bool) -> List[Partition]:
     """The partitions that an image itself has, of which some are physical volumes."""
     image = pictured(path, sector)
+    if is_bare and not names_of.keys() & image.identities.values():
+        # An MBR doesn't say in which sectors it counts, and ids do.
+        image = pictured(path, LARGE_SECTOR)
     lowers.measure(path, image.length)
     bound = {place: names_of[identity] for place, identity in image.identities.items() if identity in names_of}
     for place, name in bound.items():
