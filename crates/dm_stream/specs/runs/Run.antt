@@ -46,7 +46,7 @@ pub record IsMapped (outcome : Outcome) (text : List ℕ) (left : State) (e : en
   pub cut : e ≡ ending.TheVariants.WriteFault → IsCutShort outcome.output text
 
 -- what answering all that requests delivered did, before the flush
-pub record HasMapped (stack : Description) (mapper_old mapper_new : MapperView) (requests_old requests_new : InputPast) (output_old output_new : OutputPast) (e : ending.Ending) : Type 0 where
+pub record HasMappedAll (stack : Description) (mapper_old mapper_new : MapperView) (requests_old requests_new : InputPast) (output_old output_new : OutputPast) (e : ending.Ending) : Type 0 where
   pub left : IsLeft mapper_old mapper_new requests_old requests_new e
   pub writes : HasWritten output_old output_new (write_faults e)
   pub mapped : IsMapped (requests_outcome stack mapper_old.state (delivery requests_old requests_new)) (written_since output_old output_new) mapper_new.state e

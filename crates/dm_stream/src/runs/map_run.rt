@@ -11,7 +11,7 @@ ghost use Rattle.dm_stream.specs.runs.Messages.{HasTold, ending_message};
 ghost use Rattle.dm_stream.specs.runs.Outcome.{Outcome, requests_outcome, run_outcome, with_status};
 ghost use Rattle.dm_stream.specs.pieces.Pieces.{AreFewest, fewest};
 ghost use Rattle.dm_stream.specs.requests.Requests.{HasMet};
-ghost use Rattle.dm_stream.specs.runs.Run.{CanMap, HasMapped, HasRun, IsLeft, IsMapped, ending_for, write_faults};
+ghost use Rattle.dm_stream.specs.runs.Run.{CanMap, HasMappedAll, HasRun, IsLeft, IsMapped, ending_for, write_faults};
 ghost use Rattle.dm_stream.specs.declared.requests.lines.TheConstants.{MOST_LINE_BYTES};
 ghost use Rattle.dm_stream.specs.declared.requests.handling.TheConstants.{MOST_REQUESTS};
 ghost use Rattle.dm_table.specs.io.DeviceIo.{OutputPast, delivery, written_since};
@@ -49,7 +49,7 @@ fn map_requests<'s, T: Taken, R: Exchange<W>, W: Output>(
     output: &mut W,
 ) -> Ending
     requires { CanMap stack.now mapper.old }
-    ensures { HasMapped stack.now mapper.old mapper.new (R.past requests.old) (R.past requests.new)
+    ensures { HasMappedAll stack.now mapper.old mapper.new (R.past requests.old) (R.past requests.new)
         (W.past output.old) (W.past output.new) result }
 {
     let mut handler = RequestMapper {
