@@ -1,7 +1,7 @@
 -- What a command that prints wrote, and how it would exit.
 use Rattle.std.proofs.Common.{◌≡◌, ℕ, List, Result, Ok, Err, refl, sym, ap, subst, arith}
-use Rattle.dm_table.specs.io.DeviceIo.{Delivery, InputPast, OutputPast, written_since}
-use Rattle.dm_table.specs.io.Progress.{HasWritten, Wrote}
+use Rattle.dm_table.specs.io.DeviceIo.{Delivery, InputPast, OutputPast}
+use Rattle.dm_table.specs.io.Progress.{Wrote}
 use Rattle.dm_stack.specs.Description.{Description}
 use Rattle.dm_stream.specs.declared.runs.ending.Ending.TheVariants as endings
 use Rattle.lvm_volume.specs.Names.{NameParts, built}
@@ -9,28 +9,26 @@ use Rattle.dmremap.specs.declared.exit.Exit.{Exit}
 use Rattle.dmremap.specs.declared.exit.Exit.TheVariants as exits
 use Rattle.dmremap.specs.declared.job.Format.{Format}
 use Rattle.dmremap.specs.declared.job.TableForm.{TableForm}
-use Rattle.dmremap.specs.Exit.{exit_after, failed_writes}
+use Rattle.dmremap.specs.Done.{HasDone}
+use Rattle.dmremap.specs.Exit.{exit_after}
 use Rattle.dmremap.specs.Load.{PartsGive, SoundAs}
 use Rattle.dmremap.specs.Printing.{CheckSays, FilesSay, IsPrinted, IsTextPrinted, Prints, ReportSays, Said, line, name_said, written_as}
 use Rattle.dmremap.specs.Streams.{AskedBy}
 use Rattle.dmremap.proofs.ExitLemmas.{read_on_none}
 
 -- a text was written, or a write of it failed
-pub printed_after : {E : Type 0} {old new : OutputPast} (result : Result (Unit {0}) E) (text : List ℕ) (exit : Exit) → exit ≡ exit_after result → Wrote old new result text
-    → IsTextPrinted text (written_since old new) exit
-printed_after {old = old} {new = new} (Ok done) text exit is wrote = subst (λ (e : Exit). IsTextPrinted text (written_since old new) e) (sym is) (sym wrote.ok)
-printed_after {old = old} {new = new} (Err fault) text exit is wrote = subst (λ (e : Exit). IsTextPrinted text (written_since old new) e) (sym is) wrote.left
-
-pub writes_after : {E : Type 0} {old new : OutputPast} (result : Result (Unit {0}) E) (text : List ℕ) (exit : Exit) → exit ≡ exit_after result → Wrote old new result text
-    → HasWritten old new (failed_writes exit)
-writes_after {old = old} {new = new} (Ok done) text exit is wrote = subst (λ (e : Exit). HasWritten old new (failed_writes e)) (sym is) wrote.moved
-writes_after {old = old} {new = new} (Err fault) text exit is wrote = subst (λ (e : Exit). HasWritten old new (failed_writes e)) (sym is) wrote.moved
+pub text_done : {E : Type 0} {old new : OutputPast} (result : Result (Unit {0}) E) (text : List ℕ) (exit : Exit) → exit ≡ exit_after result → Wrote old new result text → HasDone (IsTextPrinted text) old new exit
+text_done {old = old} {new = new} (Ok done) text exit is wrote = subst (λ (e : Exit). HasDone (IsTextPrinted text) old new e) (sym is) (record { did = sym wrote.ok; writes = wrote.moved })
+text_done {old = old} {new = new} (Err fault) text exit is wrote = subst (λ (e : Exit). HasDone (IsTextPrinted text) old new e) (sym is) (record { did = wrote.left; writes = wrote.moved })
 
 -- what was printed of a text, where that is what is said
 pub says_printed : (Says : Said → Type 0) (text output : List ℕ) (exit : Exit) → Says (Prints text) → IsTextPrinted text output exit → IsPrinted Says output exit
 says_printed Says text output (exits.Ended endings.Done) says is = subst (λ (t : List ℕ). Says (Prints t)) is says
 says_printed Says text output (exits.Ended endings.WriteFault) says cut = (text, says, cut)
 says_printed Says text output exit says is = absurd is
+
+pub says_done : (Says : Said → Type 0) (text : List ℕ) {old new : OutputPast} (exit : Exit) → Says (Prints text) → HasDone (IsTextPrinted text) old new exit → HasDone (IsPrinted Says) old new exit
+says_done Says text exit says done = record { did = says_printed Says text _ exit says done.did; writes = done.writes }
 
 -- no requests were asked for by what was printed
 pub asked_none : (Says : Said → Type 0) (text : List ℕ) (exit : Exit) (past : InputPast) → IsPrinted Says text exit → AskedBy past past exit
@@ -61,6 +59,6 @@ check_printed format other source disks description output exit same gives is =
     printed_more (ReportSays (SoundAs description)) (CheckSays format source disks) (λ said says. record { load = SoundAs description; loaded = loaded; says = says }) output exit is
 
 -- a name that is built
-pub name_printed : (parts : NameParts) (name output : List ℕ) (exit : Exit) → Ok name ≡ built parts → IsTextPrinted (line name) output exit
-    → IsPrinted (λ said. name_said (built parts) ≡ said) output exit
-name_printed parts name output exit is printed = says_printed (λ said. name_said (built parts) ≡ said) (line name) output exit (ap name_said (sym is)) printed
+pub name_done : (parts : NameParts) (name : List ℕ) {old new : OutputPast} (exit : Exit) → Ok name ≡ built parts → HasDone (IsTextPrinted (line name)) old new exit
+    → HasDone (IsPrinted (λ said. name_said (built parts) ≡ said)) old new exit
+name_done parts name exit is printed = says_done (λ said. name_said (built parts) ≡ said) (line name) exit (ap name_said (sym is)) printed

@@ -1,5 +1,5 @@
 -- What the requests that a player was handed say of a replay.
-use Rattle.std.proofs.Common.{◌≡◌, ℕ, List, [], ◌∷◌, ◌++◌, None, Some, Result, Err, IfErr, refl, sym, ap, subst, ◌∙◌, append_assoc}
+use Rattle.std.proofs.Common.{◌≡◌, ◌≢◌, ℕ, List, [], ◌∷◌, ◌++◌, None, Some, Result, Err, IfErr, refl, sym, ap, subst, ◌∙◌, append_assoc}
 use Rattle.std.proofs.lemmas.List.{append-nil}
 use Rattle.dm_table.specs.io.DeviceIo.{Delivery, InputPast, since}
 use Rattle.dm_table.specs.io.Progress.{IsReadOn, MetNothing}
@@ -7,6 +7,7 @@ use Rattle.dm_table.specs.io.WriteAll.{IsCutShort}
 use Rattle.dm_table.specs.laws.Progress.{since-same}
 use Rattle.dm_stack.specs.claims.Claims.{IsTidy, IsTop}
 use Rattle.dm_stack.specs.Description.{Description}
+use Rattle.dm_stream.specs.declared.runs.ending.Ending.{Ending}
 use Rattle.dm_stream.specs.declared.runs.ending.Ending.TheVariants as endings
 use Rattle.dm_stream.specs.runs.Outcome.{device_of}
 use Rattle.dm_stream.specs.requests.Requests.{IsAmong, NumberedRequest, Requests, requests_of}
@@ -92,6 +93,13 @@ pub stopped_by : {T : Type 0} (Says : ReplayFault → Type 0) (IsCause : Numbere
 stopped_by Says IsCause stack old request w r fault is h why = one_stopped IsCause stack old request w (why (at_fault r fault Says is h))
 
 -- ---- all requests
+
+-- all were answered, and they end by themselves
+pub all_played : (stack : Description) (requests : Requests) (text : List ℕ) (e : Ending) → AreAnswered stack [] requests.all text → requests.ending ≡ Some e → e ≢ endings.WriteFault → IsPlayed stack requests text (exits.Ended e)
+all_played stack requests text endings.WriteFault told ends other = absurd (other refl)
+all_played stack requests text endings.Done told ends other = record { ends_so = ends; told = told }
+all_played stack requests text (endings.BadRequest number word) told ends other = record { ends_so = ends; told = told }
+all_played stack requests text endings.ReadFault told ends other = record { ends_so = ends; told = told }
 
 -- it stopped at one of the first
 stops_among : (IsCause : NumberedRequest → Type 0) (stack : Description) (all first later : List NumberedRequest) (text : List ℕ) → all ≡ first ++ later → StopsAt IsCause stack [] first text → StopsAt IsCause stack [] all text

@@ -1,3 +1,4 @@
+pub mod Done
 pub mod Exit
 pub mod Inputs
 pub mod Job

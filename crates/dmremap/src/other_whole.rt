@@ -6,10 +6,10 @@
 //! in `specs/OtherWhole.antt`.
 
 ghost use Rattle.std.specs.Prelude.{◌≡◌, List, ℕ, false, true};
-ghost use Rattle.dm_table.specs.io.DeviceIo.{Delivery, delivery, written_since};
-ghost use Rattle.dm_table.specs.io.Progress.{HasWritten};
+ghost use Rattle.dm_table.specs.io.DeviceIo.{Delivery, delivery};
 ghost use Rattle.dmremap.specs.declared.exit.Exit.{Exit};
-ghost use Rattle.dmremap.specs.Exit.{IsPlain, failed_writes, is_refused};
+ghost use Rattle.dmremap.specs.Done.{HasDone};
+ghost use Rattle.dmremap.specs.Exit.{IsPlain, is_refused};
 ghost use Rattle.dmremap.specs.Inputs.{IsReadOnIf, delivery_if};
 ghost use Rattle.dmremap.specs.Job.{JobWords, job_words};
 ghost use Rattle.dmremap.specs.OtherWhole.{JobDoes, ReplaysFiles, has_requests, is_other};
@@ -103,12 +103,10 @@ fn answer<S: Input, D: Input, Q: Exchange<W>, W: Output>(
     output: &mut W,
 ) -> Exit
     requires other { is_other (job_words job) ≡ true }
-    ensures did { JobDoes (job_words job.entry)
+    ensures did { HasDone (JobDoes (job_words job.entry)
         (delivery_if S.past source.old source.new)
         (delivery_if D.past disks.old disks.new)
-        (delivery (Q.past requests.old) (Q.past requests.new))
-        (written_since (W.past output.old) (W.past output.new)) result }
-    ensures writes { HasWritten (W.past output.old) (W.past output.new) (failed_writes result) }
+        (delivery (Q.past requests.old) (Q.past requests.new))) (W.past output.old) (W.past output.new) result }
     ensures asked { AskedBy (Q.past requests.old) (Q.past requests.new) result }
     ensures unasked { has_requests (job_words job.entry) ≡ false
         → Q.past requests.new ≡ Q.past requests.old }
@@ -142,12 +140,10 @@ fn replay<S: Input, D: Input, Q: Exchange<W>, W: Output>(
     requests: &mut Q,
     output: &mut W,
 ) -> Exit
-    ensures did { ReplaysFiles format
+    ensures did { HasDone (ReplaysFiles format
         (delivery_if S.past source.old source.new)
         (delivery_if D.past disks.old disks.new)
-        (delivery (Q.past requests.old) (Q.past requests.new))
-        (written_since (W.past output.old) (W.past output.new)) result }
-    ensures writes { HasWritten (W.past output.old) (W.past output.new) (failed_writes result) }
+        (delivery (Q.past requests.old) (Q.past requests.new))) (W.past output.old) (W.past output.new) result }
     ensures asked { AskedBy (Q.past requests.old) (Q.past requests.new) result }
     ensures source { IsReadOnIf S.past source.old source.new }
     ensures disks { IsReadOnIf D.past disks.old disks.new }

@@ -4,12 +4,11 @@
 //! is said in `specs/Printing.antt`.
 
 ghost use Rattle.std.specs.Prelude.{◌≡◌, option_map};
-ghost use Rattle.dm_table.specs.io.DeviceIo.{written_since};
-ghost use Rattle.dm_table.specs.io.Progress.{HasWritten, Wrote};
+ghost use Rattle.dm_table.specs.io.Progress.{Wrote};
 ghost use Rattle.lvm_volume.specs.Names.{built};
-ghost use Rattle.dmremap.specs.Exit.{failed_writes};
 ghost use Rattle.dmremap.specs.Load.{SoundAs};
 ghost use Rattle.dmremap.specs.Printing.{IsPrinted, IsTextPrinted, ReportSays, SplitSays, line, name_said, written_as};
+ghost use Rattle.dmremap.specs.Done.{HasDone};
 
 use crate::exit::{Exit, Refusal};
 use crate::job::TableForm;
@@ -22,9 +21,7 @@ use std::alloc::Global;
 
 /// Prints the devices of a stack in a form.
 pub(crate) fn print_stack<W: Output>(form: TableForm, stack: Stack, output: &mut W) -> Exit
-    ensures printed { IsTextPrinted (written_as form stack.devices)
-        (written_since (W.past output.old) (W.past output.new)) result }
-    ensures writes { HasWritten (W.past output.old) (W.past output.new) (failed_writes result) }
+    ensures { HasDone (IsTextPrinted (written_as form stack.devices)) (W.past output.old) (W.past output.new) result }
 {
     let (devices, _) = stack.into_parts();
     Exit::after(write_devices(form, &devices, output))
@@ -46,9 +43,7 @@ fn write_devices<W: Output>(
 
 /// Prints the report of a stack.
 pub(crate) fn print_report<W: Output>(alloc: Global, stack: &Stack, output: &mut W) -> Exit
-    ensures printed { IsPrinted (ReportSays (SoundAs stack.now))
-        (written_since (W.past output.old) (W.past output.new)) result }
-    ensures writes { HasWritten (W.past output.old) (W.past output.new) (failed_writes result) }
+    ensures { HasDone (IsPrinted (ReportSays (SoundAs stack.now))) (W.past output.old) (W.past output.new) result }
 {
     match check_report(alloc, stack) {
         Ok(text) => print_text(text.as_str().as_bytes(), output),
@@ -64,11 +59,10 @@ pub(crate) fn print_name<W: Output>(
     layer: Option<&str>,
     output: &mut W,
 ) -> Exit
-    ensures printed { IsPrinted
+    ensures { HasDone (IsPrinted
         (λ said. name_said (built
-        (record { vg = vg.now; lv = lv.now; layer = option_map (λ l. l.now) layer.entry })) ≡ said)
-        (written_since (W.past output.old) (W.past output.new)) result }
-    ensures writes { HasWritten (W.past output.old) (W.past output.new) (failed_writes result) }
+        (record { vg = vg.now; lv = lv.now; layer = option_map (λ l. l.now) layer.entry })) ≡ said))
+        (W.past output.old) (W.past output.new) result }
 {
     match build_name(alloc, vg, lv, layer) {
         Ok(name) => print_line(name.as_str().as_bytes(), output),
@@ -78,9 +72,7 @@ pub(crate) fn print_name<W: Output>(
 
 /// Prints the parts of the name of a volume.
 pub(crate) fn print_parts<W: Output>(alloc: Global, name: &str, output: &mut W) -> Exit
-    ensures printed { IsPrinted (SplitSays name.now)
-        (written_since (W.past output.old) (W.past output.new)) result }
-    ensures writes { HasWritten (W.past output.old) (W.past output.new) (failed_writes result) }
+    ensures { HasDone (IsPrinted (SplitSays name.now)) (W.past output.old) (W.past output.new) result }
 {
     match spaced_parts(alloc, name) {
         Ok(Some(parts)) => print_line(parts.as_bytes(), output),
@@ -91,17 +83,14 @@ pub(crate) fn print_parts<W: Output>(alloc: Global, name: &str, output: &mut W) 
 
 /// Prints a text of whole lines.
 fn print_text<W: Output>(text: &[u8], output: &mut W) -> Exit
-    ensures printed { IsTextPrinted text.now (written_since (W.past output.old) (W.past output.new)) result }
-    ensures writes { HasWritten (W.past output.old) (W.past output.new) (failed_writes result) }
+    ensures { HasDone (IsTextPrinted text.now) (W.past output.old) (W.past output.new) result }
 {
     Exit::after(write_all(output, text))
 }
 
 /// Prints a line.
 fn print_line<W: Output>(text: &[u8], output: &mut W) -> Exit
-    ensures printed { IsTextPrinted (line text.now) (written_since (W.past output.old) (W.past output.new))
-        result }
-    ensures writes { HasWritten (W.past output.old) (W.past output.new) (failed_writes result) }
+    ensures { HasDone (IsTextPrinted (line text.now)) (W.past output.old) (W.past output.new) result }
 {
     Exit::after(write_line(text, output))
 }

@@ -4,10 +4,11 @@
 
 ghost use Rattle.std.specs.Prelude.{◌≡◌, false};
 ghost use Rattle.dm_table.specs.io.DeviceIo.{delivery, written_since};
-ghost use Rattle.dm_table.specs.io.Progress.{HasWritten, HasWrittenTo, IsReadOn};
+ghost use Rattle.dm_table.specs.io.Progress.{HasWrittenTo, IsReadOn};
 ghost use Rattle.dm_table.specs.laws.Progress.{written_to_none, written_to_more};
 ghost use Rattle.dm_stream.specs.requests.Requests.{requests_of};
 ghost use Rattle.dm_replay.specs.Replay.{new_replay};
+ghost use Rattle.dmremap.specs.Done.{HasDone};
 ghost use Rattle.dmremap.specs.Exit.{failed_writes};
 ghost use Rattle.dmremap.specs.OtherWhole.{ReplaysStack};
 ghost use Rattle.dmremap.specs.laws.Played.{played_none, played_more, stopped_more};
@@ -102,27 +103,6 @@ impl<W: Output, Q: Exchange<W>> ReadsFrom<Q> for RequestPlayer<'_, '_, W> {
     }
 }
 
-/// Plays requests through a player, up to the first bad one, an end or a fault. Nothing is flushed.
-fn play_lines<'s, Q: Exchange<W>, W: Output>(
-    stack: &Stack,
-    requests: &mut Q,
-    replay: &mut Replay<'s, TrieTaken>,
-    player: &mut RequestPlayer<'_, 's, W>,
-) -> Exit
-    requires new { replay.old ≡ new_replay stack.now }
-    ensures reads { IsReadOn (Q.past requests.old) (Q.past requests.new) }
-    ensures met { HasMetBy result (Q.past requests.old) (Q.past requests.new) }
-    ensures writes { HasWrittenTo W.past player.old.output player.new.output (failed_writes result) }
-    ensures played { IsPlayed stack.now
-        (requests_of (delivery (Q.past requests.old) (Q.past requests.new)))
-        (written_since (W.past player.old.output.now) (W.past player.new.output.now)) result }
-{
-    match handle_requests(stack, requests, player, replay) {
-        Ok(ending) => Exit::Ended(ending),
-        Err(exit) => exit,
-    }
-}
-
 /// Plays requests to an output, up to the first bad one, an end or a fault. Nothing is flushed.
 fn play_requests<'s, Q: Exchange<W>, W: Output>(
     alloc: Global,
@@ -134,21 +114,24 @@ fn play_requests<'s, Q: Exchange<W>, W: Output>(
     requires new { replay.old ≡ new_replay stack.now }
     ensures reads { IsReadOn (Q.past requests.old) (Q.past requests.new) }
     ensures met { HasMetBy result (Q.past requests.old) (Q.past requests.new) }
-    ensures writes { HasWritten (W.past output.old) (W.past output.new) (failed_writes result) }
-    ensures played { IsPlayed stack.now (requests_of (delivery (Q.past requests.old) (Q.past requests.new)))
-        (written_since (W.past output.old) (W.past output.new)) result }
+    ensures played { HasDone
+        (IsPlayed stack.now (requests_of (delivery (Q.past requests.old) (Q.past requests.new))))
+        (W.past output.old) (W.past output.new) result }
 {
     let mut player = RequestPlayer {
         alloc,
         output,
         stack: PhantomData,
     };
-    let exit = play_lines(stack, requests, replay, &mut player);
+    let played = handle_requests(stack, requests, &mut player, replay);
     let RequestPlayer {
         output: _output,
         ..
     } = player;
-    exit
+    match played {
+        Ok(ending) => Exit::Ended(ending),
+        Err(exit) => exit,
+    }
 }
 
 /// Replays requests on the disks of a stack, and says how the command would exit. Nothing is flushed.
@@ -158,9 +141,8 @@ pub(crate) fn replay_stack<Q: Exchange<W>, W: Output>(
     requests: &mut Q,
     output: &mut W,
 ) -> Exit
-    ensures did { ReplaysStack stack.now (delivery (Q.past requests.old) (Q.past requests.new))
-        (written_since (W.past output.old) (W.past output.new)) result }
-    ensures writes { HasWritten (W.past output.old) (W.past output.new) (failed_writes result) }
+    ensures did { HasDone (ReplaysStack stack.now (delivery (Q.past requests.old) (Q.past requests.new)))
+        (W.past output.old) (W.past output.new) result }
     ensures asked { AskedBy (Q.past requests.old) (Q.past requests.new) result }
 {
     match Replay::<TrieTaken>::new(alloc, stack) {

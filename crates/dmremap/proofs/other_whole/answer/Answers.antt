@@ -7,18 +7,24 @@ use Rattle.dmremap.proofs.other_whole.answer.Goals as goal
 
 pub returns-in-Ok-clause-did : goal.returns-in-Ok-clause-did
 returns-in-Ok-clause-did g c =
-    rw c.in-Print.is (stack_printed c.in-Print.form (format_of (source_words c.in-Print.from)) _ _ _ c.in-Ok.stack _ c.print_stack.result c.format-in-Print.ensures c.in-Ok.ensures.gives.sound c.print_stack.ensures.printed)
+    record {
+      did = rw c.in-Print.is (stack_printed c.in-Print.form (format_of (source_words c.in-Print.from)) _ _ _ c.in-Ok.stack _ c.print_stack.result c.format-in-Print.ensures c.in-Ok.ensures.gives.sound c.print_stack.ensures.did);
+      writes = c.print_stack.ensures.writes;
+    }
 
 pub returns-in-Ok-load_if-clause-did : goal.returns-in-Ok-load_if-clause-did
 returns-in-Ok-load_if-clause-did g c =
-    rw c.in-Check.is (check_printed (format_of (source_words c.in-Check.from)) _ _ _ c.in-Ok-load_if.stack _ c.print_report.result c.format-in-Check.ensures c.in-Ok-load_if.ensures.gives.sound c.print_report.ensures.printed)
+    record {
+      did = rw c.in-Check.is (check_printed (format_of (source_words c.in-Check.from)) _ _ _ c.in-Ok-load_if.stack _ c.print_report.result c.format-in-Check.ensures c.in-Ok-load_if.ensures.gives.sound c.print_report.ensures.did);
+      writes = c.print_report.ensures.writes;
+    }
 
 pub returns-in-Ok-load_if-clause-asked : goal.returns-in-Ok-load_if-clause-asked
 returns-in-Ok-load_if-clause-asked g c =
-    asked_none (ReportSays (SoundAs c.in-Ok-load_if.stack)) (written_since (g.W.Output.past c.args.output.now) (g.W.Output.past c.print_report.new.output)) c.print_report.result (g.Q.Exchange.past c.args.requests.now) c.print_report.ensures.printed
+    asked_none (ReportSays (SoundAs c.in-Ok-load_if.stack)) (written_since (g.W.Output.past c.args.output.now) (g.W.Output.past c.print_report.new.output)) c.print_report.result (g.Q.Exchange.past c.args.requests.now) c.print_report.ensures.did
 
 pub returns-in-Name-clause-did : goal.returns-in-Name-clause-did
-returns-in-Name-clause-did g c = rw c.in-Name.is c.print_name.ensures.printed
+returns-in-Name-clause-did g c = record { did = rw c.in-Name.is c.print_name.ensures.did; writes = c.print_name.ensures.writes }
 
 pub returns-in-SplitName-clause-did : goal.returns-in-SplitName-clause-did
-returns-in-SplitName-clause-did g c = rw c.in-SplitName.is c.print_parts.ensures.printed
+returns-in-SplitName-clause-did g c = record { did = rw c.in-SplitName.is c.print_parts.ensures.did; writes = c.print_parts.ensures.writes }

@@ -7,7 +7,7 @@ returns-clause-exits g c =
     let end = c.finish.ensures in
     let done = c.answer-exit.ensures in (
       end.0,
-      exited _ _ _ _ c.answer-exit.result end.0 done.writes done.did end.1,
+      exited _ _ _ _ c.answer-exit.result end.0 done.did.writes done.did.did end.1,
       end.2,
       closed_unasked _ _ c.answer-exit.result end.0 _ _ end.1.ends done.asked,
     )
@@ -21,4 +21,4 @@ returns-clause-requests g c = let end = c.finish.ensures in closed_requests _ _ 
 pub returns-clause-output : goal.returns-clause-output
 returns-clause-output g c =
     let end = c.finish.ensures in
-    rw end.2.is (end.1.output _ c.answer-exit.ensures.writes)
+    rw end.2.is (end.1.output _ c.answer-exit.ensures.did.writes)

@@ -3,16 +3,16 @@ use Rattle.std.specs.Option.{IfSome}
 use Rattle.std.specs.Prelude.{string_bytes}
 use Rattle.lvm_volume.specs.Names.{IsSpaced}
 use Rattle.dmremap.specs.Printing.{SplitSays, line}
-use Rattle.dmremap.proofs.PrintLemmas.{says_printed}
+use Rattle.dmremap.proofs.PrintLemmas.{says_done}
 use Rattle.dmremap.proofs.printing.print_parts.Goals as goal
 
 -- what is so where there is something is so of what there is
 of_some : {T : Type 0} (found : Option T) (value : T) (Holds : T → Type 0) → found ≡ Some value → IfSome found Holds → Holds value
 of_some found value Holds is holds = subst (λ (o : Option _). IfSome o Holds) is holds
 
-pub returns-in-Ok-Some-clause-printed : goal.returns-in-Ok-Some-clause-printed
-returns-in-Ok-Some-clause-printed g c =
+pub returns-in-Ok-Some : goal.returns-in-Ok-Some
+returns-in-Ok-Some g c =
     let text = c.as_bytes.result.now in
     let same : text ≡ string_bytes c.in-Ok-Some.parts = search rules in
     let is = of_some c.in-Ok-Some.field-0 c.in-Ok-Some.parts (λ parts. IsSpaced c.args.name.now (string_bytes parts)) c.in-Ok-Some.field-0-is c.in-Ok-Some.ensures.some in
-    says_printed (SplitSays c.args.name.now) (line text) _ c.print_line.result (text, subst (IsSpaced c.args.name.now) (sym same) is, refl) c.print_line.ensures.printed
+    says_done (SplitSays c.args.name.now) (line text) c.print_line.result (text, subst (IsSpaced c.args.name.now) (sym same) is, refl) c.print_line.ensures
