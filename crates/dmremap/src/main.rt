@@ -29,12 +29,25 @@ use job::{Job, Source};
 use map_after::map_after;
 use map_whole::map_whole;
 use other_whole::other_whole;
-use part_file::PartFile;
+use part_file::{DisksPart, EarlierPart, PartFile, SourcePart};
 use stack_room::has_stack_room;
 use status::STATUS_DONE;
 use std::io;
+use std::io::{Stderr, Stdin, Stdout};
 use std::process::ExitCode;
 use words::{WordsFault, not_text, read_words};
+
+/// A file of the command, which is of the type of its part.
+type File<'r, P> = Counted<PartFile<'r, HostRuntime, P>>;
+
+/// The requests, which are read in turn with their answers.
+type Requests = InTurn<Counted<Stdin>>;
+
+/// Where answers go.
+type Answers = Gathered<Counted<Stdout>>;
+
+/// Where messages go.
+type Messages = Counted<Stderr>;
 
 /// Runs the command that the words ask for, and exits with its status.
 fn main(rt: HostRuntime) -> ExitCode {
@@ -83,24 +96,31 @@ fn arguments_of(rt: &HostRuntime) -> Result<Vec<String>, WordsFault> {
 
 /// Maps the requests of the standard input through the tables of a source, after those of a file, if there is one.
 fn map_files(rt: &HostRuntime, source: Source<'_>, earlier: Option<&str>, status: bool) -> u8 {
-    let mut file = file_at(rt, source.file());
+    let mut file = source_at(rt, source);
     let mut disks = disks_at(rt, source);
     let mut requests = InTurn::new(Counted::new(rt.stdin()));
     let mut output = Gathered::new(Counted::new(rt.stdout()));
     let mut messages = Counted::new(rt.stderr());
     match earlier {
-        Some(path) => map_after(
+        Some(path) => map_after::<
+            File<'_, SourcePart>,
+            File<'_, DisksPart>,
+            File<'_, EarlierPart>,
+            Requests,
+            Answers,
+            Messages,
+        >(
             rt.alloc(),
             source.format(),
             status,
             &mut file,
             &mut disks,
-            &mut file_at(rt, path),
+            &mut Counted::new(PartFile::new(rt, path)),
             &mut requests,
             &mut output,
             &mut messages,
         ),
-        None => map_whole(
+        None => map_whole::<File<'_, SourcePart>, File<'_, DisksPart>, Requests, Answers, Messages>(
             rt.alloc(),
             source.format(),
             status,
@@ -118,10 +138,10 @@ fn do_other<'r>(rt: &'r HostRuntime, job: &'r Job<'r>) -> u8
     requires { is_other (job_words job.now) ≡ true }
 {
     let (mut source, mut disks) = match job.source() {
-        Some(source) => (Some(file_at(rt, source.file())), disks_at(rt, source)),
+        Some(source) => (Some(source_at(rt, source)), disks_at(rt, source)),
         None => (None, None),
     };
-    other_whole(
+    other_whole::<File<'_, SourcePart>, File<'_, DisksPart>, Requests, Answers, Messages>(
         rt.alloc(),
         job,
         &mut source,
@@ -132,18 +152,15 @@ fn do_other<'r>(rt: &'r HostRuntime, job: &'r Job<'r>) -> u8
     )
 }
 
-/// The file at a path, which is opened once it is read.
-fn file_at<'r>(rt: &'r HostRuntime, path: &'r str) -> Counted<PartFile<'r, HostRuntime>> {
-    Counted::new(PartFile::new(rt, path))
+/// The file of a source, which is opened once it is read.
+fn source_at<'r>(rt: &'r HostRuntime, source: Source<'r>) -> File<'r, SourcePart> {
+    Counted::new(PartFile::new(rt, source.file()))
 }
 
 /// The disk list of a source, where its format has one.
-fn disks_at<'r>(
-    rt: &'r HostRuntime,
-    source: Source<'r>,
-) -> Option<Counted<PartFile<'r, HostRuntime>>> {
+fn disks_at<'r>(rt: &'r HostRuntime, source: Source<'r>) -> Option<File<'r, DisksPart>> {
     match source.disks() {
-        Some(path) => Some(file_at(rt, path)),
+        Some(path) => Some(Counted::new(PartFile::new(rt, path))),
         None => None,
     }
 }

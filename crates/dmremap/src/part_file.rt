@@ -17,14 +17,25 @@ use opened::{Opened, open};
 use std::fs::Files;
 use std::io;
 use std::io::Read;
+use std::marker::PhantomData;
 
-/// A file of a load, by its path.
+/// A file of a load, by its path, and by what it is to the command, so that none stands for another.
 #[derive(Drop)]
-pub(crate) struct PartFile<'r, R: Files> {
+pub(crate) struct PartFile<'r, R: Files, P> {
     files: &'r R,
     path: &'r str,
     stage: Stage<R::File>,
+    part: PhantomData<P>,
 }
+
+/// The part that is FILE.
+pub(crate) struct SourcePart {}
+
+/// The part that is DISKS.
+pub(crate) struct DisksPart {}
+
+/// The part that is REQUESTS, those before a run.
+pub(crate) struct EarlierPart {}
 
 /// How far a file was read.
 #[derive(Drop)]
@@ -37,18 +48,19 @@ pub(crate) enum Stage<F> {
     Ended(Opened),
 }
 
-impl<'r, R: Files> PartFile<'r, R> {
+impl<'r, R: Files, P> PartFile<'r, R, P> {
     /// The file at this path, of which nothing is asked yet.
-    pub(crate) fn new(files: &'r R, path: &'r str) -> PartFile<'r, R> {
+    pub(crate) fn new(files: &'r R, path: &'r str) -> PartFile<'r, R, P> {
         PartFile {
             files,
             path,
             stage: Stage::Unopened,
+            part: PhantomData,
         }
     }
 }
 
-impl<'r, R: Files> Read for PartFile<'r, R> {
+impl<'r, R: Files, P> Read for PartFile<'r, R, P> {
     ghost remaining = { λ part. left_of R.File.remaining part.stage };
 
     fn read(&mut self, buffer: &mut [u8]) -> io::Result<usize>
