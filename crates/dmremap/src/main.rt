@@ -165,13 +165,18 @@ fn disks_at<'r>(rt: &'r HostRuntime, source: Source<'r>) -> Option<File<'r, Disk
     }
 }
 
-/// Prints why there is no job, and returns its exit status. Help or the version that could not be printed
-/// is told as an output that could not be written; whether a message could be printed makes no difference.
+/// Prints why there is no job, and returns its exit status. Out of memory is told as by any command, and help or
+/// the version that could not be printed as an output that could not be written; whether a message could be printed
+/// makes no difference.
 fn refuse(rt: &HostRuntime, fault: &WordsFault) -> u8 {
+    let mut messages: Messages = Counted::new(rt.stderr());
+    if let WordsFault::Memory = fault {
+        return Exit::Memory.tell(&mut messages);
+    }
     let printed = fault.print(rt);
     let status = fault.status();
     if status == STATUS_DONE && printed.is_err() {
-        Exit::Ended(Ending::WriteFault).tell(&mut Counted::new(rt.stderr()))
+        Exit::Ended(Ending::WriteFault).tell(&mut messages)
     } else {
         status
     }
