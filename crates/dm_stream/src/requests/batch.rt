@@ -42,9 +42,27 @@ pub(crate) fn answer_gathered<H: Handler>(
     ensures { AnswersFronts (H.ready stack.now) (H.answered stack.now) (H.stopped stack.now) done held.now
         handler.old source.old handler.new source.new result }
 {
-    if !gathers {
-        return Ok(Answered { count: 0, len: 0 });
+    if gathers {
+        answer_batch(stack, handler, source, held, done)
+    } else {
+        Ok(Answered { count: 0, len: 0 })
     }
+}
+
+/// Answers a batch of the requests at the front of the held bytes, after `done` others.
+#[inline(never)]
+fn answer_batch<H: Handler>(
+    stack: &Stack,
+    handler: &mut H,
+    source: &mut H::Source,
+    held: &[u8],
+    done: u64,
+) -> Result<Answered, H::Fault>
+    requires ready { H.ready stack.now handler.old source.old }
+    requires few { done ≤ MOST_REQUESTS }
+    ensures { AnswersFronts (H.ready stack.now) (H.answered stack.now) (H.stopped stack.now) done held.now
+        handler.old source.old handler.new source.new result }
+{
     let mut fronts = ArrayVec::new();
     let len = read_fronts(stack, held, done, &mut fronts);
     prefetch_fronts(stack, handler, &*source, &fronts);

@@ -3,7 +3,7 @@ use Rattle.dm_stream.specs.requests.Batch.{AreFirst, front_requests}
 use Rattle.dm_stream.specs.declared.requests.front.Front.{Front}
 use Rattle.dm_stream.specs.declared.requests.handling.TheConstants.{MOST_REQUESTS}
 use Rattle.dm_stream.proofs.requests.Batches.{among_those}
-use Rattle.dm_stream.proofs.requests.batch.answer_gathered.Goals as goal
+use Rattle.dm_stream.proofs.requests.batch.answer_batch.Goals as goal
 
 pub returns-in-Err : goal.returns-in-Err
 returns-in-Err g c =
