@@ -1,5 +1,5 @@
 -- The checks of a group one after the other, and the fault of each.
-use Rattle.std.proofs.Common.{◌≡◌, ◌≢◌, ◌⊎◌, inl, inr, List, [], ◌∷◌, Option, Some, None, Result, Ok, Err, refl, ap, ◌∙◌}
+use Rattle.std.proofs.Common.{◌≡◌, ◌≢◌, ◌⊎◌, inl, inr, List, [], ◌∷◌, Option, Some, None, Result, Ok, Err, refl, ◌∙◌}
 use Rattle.lvm_text.specs.Tree.{Tree}
 use Rattle.dm_table.specs.declared.load.place.Part.TheVariants.{Source}
 use Rattle.dm_table.specs.declared.load.load_fault.LoadKind.TheVariants.{Memory}
@@ -20,7 +20,7 @@ Refused fault said = (fault.kind ≡ Memory → IsMemoryFault Source fault) × (
 -- a check that finds a fault, or is out of memory
 pub refused_by : {X : Type 0} {found : Option LoadFault} {fault : LoadFault} {said : Result X LoadFault} → (found ≡ Some fault → Refused fault said) → (found ≡ Some fault) ⊎ IsMemoryFault Source fault → Refused fault said
 refused_by refused (inl is) = refused is
-refused_by refused (inr memory) = (λ kind. memory, λ other. absurd (other (ap (λ (f : LoadFault). f.kind) memory)))
+refused_by refused (inr memory) = (λ kind. memory, λ other. absurd (other (rw memory)))
 
 pub found_later : (faults : List LoadFault) (later : Option LoadFault) → first_or faults None ≡ None → first_or faults later ≡ later
 found_later [] later e = refl
@@ -56,7 +56,7 @@ pub at_fields : (top : Tree) (fault : LoadFault) → of_both top ≡ Some fault 
 at_fields top fault found =
     let limits = Limits (group_of top).extent_size in (
       λ memory. absurd (both_kind (faults_of_fields Fields top) (faults_of_fields limits top) fault (of_walk Fields top) (of_walk limits top) found memory),
-      λ other. ap (λ (o : Option LoadFault). unless o (group_of top)) (both_found (faults_of_fields Fields top) (faults_of_fields limits top) _ fault found),
+      λ other. rw (both_found (faults_of_fields Fields top) (faults_of_fields limits top) _ fault found),
     )
 
 -- The later ones
@@ -76,7 +76,7 @@ past_names top none names = past_fields top none ∙ found_later (name_faults (g
 pub at_names : {X : Type 0} (top : Tree) (x : X) (fault : LoadFault) → of_both top ≡ None → Refused fault (unless (first_or (name_faults (group_of top).physicals) None) x) → Refused fault (unless (first_fault (group_checks top)) (group_of top))
 at_names top x fault none h = (
   h.0,
-  λ other. ap (λ (o : Option LoadFault). unless o (group_of top)) (past_fields top none ∙ first_kept (name_faults (group_of top).physicals) _ fault (err_is _ x fault (h.1 other))),
+  λ other. rw (past_fields top none, first_kept (name_faults (group_of top).physicals) _ fault (err_is _ x fault (h.1 other))),
 )
 
 parts_kind : (group : Group) (fault : LoadFault) → first_fault (checks_of_parts group) ≡ Some fault → fault.kind ≢ Memory
@@ -91,15 +91,15 @@ pub at_parts : (top : Tree) (fault : LoadFault) → of_both top ≡ None → fir
     → Refused fault (unless (first_fault (group_checks top)) (group_of top))
 at_parts top fault none names found = (
   λ memory. absurd (parts_kind (group_of top) fault found memory),
-  λ other. ap (λ (o : Option LoadFault). unless o (group_of top)) (past_names top none names ∙ found),
+  λ other. rw (past_names top none names, found),
 )
 
 pub accepted : (top : Tree) → of_both top ≡ None → first_or (name_faults (group_of top).physicals) None ≡ None → first_fault (checks_of_parts (group_of top)) ≡ None → unless (first_fault (group_checks top)) (group_of top) ≡ Ok (group_of top)
-accepted top none names parts = ap (λ (o : Option LoadFault). unless o (group_of top)) (past_names top none names ∙ parts)
+accepted top none names parts = rw (past_names top none names, parts)
 
 -- the check of names
 pub at_unnamed : {X : Type 0} (group : Group) (x : X) (fault : LoadFault) → first_or (unnamed group) None ≡ Some fault → Refused fault (unless (first_or (unnamed group) None) x)
 at_unnamed group x fault found = (
   λ memory. absurd (first_kind (unnamed group) fault (of_unnamed group.name (members_of group)) found memory),
-  λ other. ap (λ (o : Option LoadFault). unless o x) found,
+  λ other. rw found,
 )

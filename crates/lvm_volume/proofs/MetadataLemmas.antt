@@ -38,8 +38,7 @@ one_fault (Some found) x fault is = cc
 -- the checks of a group, then the one of names
 pub refused_group : (top : Tree) (fault : LoadFault) → unless (first_fault (group_checks top)) (group_of top) ≡ Err fault → unless (first_fault (metadata_checks top)) (tables_of (group_of top)) ≡ Err fault
 refused_group top fault is =
-    ap (λ (found : Option LoadFault). unless found (tables_of (group_of top)))
-    (earlier_check (group_checks top) (unnamed (group_of top)) fault (one_fault (first_fault (group_checks top)) (group_of top) fault is))
+    rw (earlier_check (group_checks top) (unnamed (group_of top)) fault (one_fault (first_fault (group_checks top)) (group_of top) fault is))
 
 pub named_group : (top : Tree) (group : Group) → unless (first_fault (group_checks top)) (group_of top) ≡ Ok group
     → unless (first_or (unnamed group) None) (tables_of group) ≡ unless (first_fault (metadata_checks top)) (tables_of (group_of top))
@@ -56,4 +55,4 @@ refused_tables source tree view (Err fault) says answers =
     λ not_memory. OfGroup tree says (one_fault (first_fault (metadata_checks tree)) (tables_of (group_of tree)) fault (answers.1 not_memory))
 
 pub refused_text : (source : List ℕ) (found : TextFault) → IsUtf8 source → (found ≢ texts.Memory → HasFault source found) → (text_fault found).kind ≢ Memory → IsRefusedText source (text_fault found)
-refused_text source found utf8 has not_memory = OfText utf8 found (has (λ is. not_memory (ap (λ (f : TextFault). (text_fault f).kind) is))) refl
+refused_text source found utf8 has not_memory = OfText utf8 found (has (λ is. not_memory (rw is))) refl

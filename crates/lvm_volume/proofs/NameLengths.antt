@@ -1,5 +1,5 @@
 -- How long a name is.
-use Rattle.std.proofs.Common.{◌≡◌, ◌∙◌, ℕ, ◌+◌, ◌==◌, Bool, true, false, cond, List, [], ◌∷◌, ◌++◌, length, length-append, ap, arith, refl, sym}
+use Rattle.std.proofs.Common.{◌≡◌, ℕ, ◌+◌, ◌==◌, Bool, true, false, cond, List, [], ◌∷◌, ◌++◌, length, length-append, arith, refl}
 use Rattle.std.specs.Prelude.{count_by, option_map}
 use Rattle.std.proofs.lemmas.List.Sums.{sum_by-cons}
 use Rattle.dm_table.specs.words.Bytes.{code}
@@ -9,7 +9,7 @@ use Rattle.lvm_volume.specs.Names.{NameParts, doubled, joined, with_hyphen}
 pub length_doubled : (part : List ℕ) → length (doubled part) ≡ length part + count_by (λ b. b == code "-") part
 length_doubled [] = refl
 length_doubled (b ∷ part) =
-    by_test (b == code "-") refl (length_doubled part) ∙ ap (λ (n : ℕ). length (b ∷ part) + n) (sym (sum_by-cons (λ x. cond (x == code "-") 1 0) b part)) where
+    rw (sum_by-cons (λ x. cond (x == code "-") 1 0) b part) (by_test (b == code "-") refl (length_doubled part)) where
       by_test : (test : Bool) → (b == code "-") ≡ test → length (doubled part) ≡ length part + count_by (λ b. b == code "-") part
           → length (doubled (b ∷ part)) ≡ length (b ∷ part) + (cond (b == code "-") 1 0 + count_by (λ b. b == code "-") part)
       by_test true is more = rw is (omega (arith, more))

@@ -22,10 +22,10 @@ same_tree source t u is_t is_u = one_tree source t u is_t.says is_u.says
 
 pub one_group : (source : List ℕ) (a b : List DeviceSpec × List Disk) → DescribesGroup source a → DescribesGroup source b → a ≡ b
 one_group source a b is_a is_b =
-    is_a.is ∙ ap (λ (tree : Tree). tables_of (group_of tree)) (same_tree source is_a.tree is_b.tree is_a.says is_b.says) ∙ sym is_b.is
+    rw (is_a.is, same_tree source is_a.tree is_b.tree is_a.says is_b.says, ← is_b.is)
 
 checks_of_one : (source : List ℕ) (t u : Tree) → SaysTree source t → SaysTree source u → first_fault (metadata_checks t) ≡ first_fault (metadata_checks u)
-checks_of_one source t u is_t is_u = ap (λ (tree : Tree). first_fault (metadata_checks tree)) (same_tree source t u is_t is_u)
+checks_of_one source t u is_t is_u = rw (same_tree source t u is_t is_u)
 
 pub never_refused : (source : List ℕ) (tables : List DeviceSpec × List Disk) (fault : LoadFault) → DescribesGroup source tables → IsRefusedText source fault → ⊥
 never_refused source tables fault is (NotUtf8 other same) = other is.says.utf8

@@ -34,8 +34,8 @@ pub undoubled-doubled : (w : List ℕ) → undoubled (doubled w) ≡ w
 undoubled-doubled [] = refl
 undoubled-doubled (b ∷ w) =
     cond_elim (eqb b (code "-")) (λ xs. undoubled xs ≡ b ∷ w) (code "-" ∷ code "-" ∷ doubled w) (b ∷ doubled w)
-    (λ e. ap (λ (xs : List ℕ). code "-" ∷ xs) (undoubled-doubled w) ∙ ap (λ n. n ∷ w) (sym (eqb-true b (code "-") e)))
-    (λ e. plain_undoubled b (doubled w) e ∙ ap (λ (xs : List ℕ). b ∷ xs) (undoubled-doubled w))
+    (λ e. rw (undoubled-doubled w, ← eqb-true b (code "-") e))
+    (λ e. rw (plain_undoubled b (doubled w) e, undoubled-doubled w))
 
 pub doubled-append : (xs ys : List ℕ) → doubled (xs ++ ys) ≡ doubled xs ++ doubled ys
 doubled-append [] ys = refl
@@ -60,7 +60,7 @@ pub push_plain : (xs : List ℕ) (i : ℕ) (old t one e : List ℕ) → i < leng
 push_plain xs i old t one e lt at grown is plain =
     let b = get_or xs i 0 in
     let own : doubled (b ∷ []) ≡ b ∷ [] = rw (not_equal b (code "-") (eqb b (code "-")) refl plain) refl in
-    rw (doubled_more xs i lt, own) (grown ∙ ap (λ (z : List ℕ). t ++ z) is ∙ ap (λ (z : List ℕ). z ++ b ∷ []) at ∙ append_assoc old (doubled (take i xs)) (b ∷ []))
+    rw (doubled_more xs i lt, own) (rw (grown, is, at, append_assoc old (doubled (take i xs)) (b ∷ [])))
 
 letter_ascii : (b : ℕ) → is_letter b ≡ true → b < 128
 letter_ascii b h = grind (arith, nat_tests)
@@ -344,27 +344,18 @@ record Sliced (name : List ℕ) (s : NameParts) : Type 0 where
 sliced_two : (name rest : List ℕ) (s : NameParts) → FirstSlice name → later_slices name ≡ Some rest → FirstSlice rest → later_slices rest ≡ None → Some (record { vg = first_slice name; lv = first_slice rest; layer = None }) ≡ Some s → Sliced name s
 sliced_two name rest s h t g u e = record {
   parts = record { vg = h.part; lv = g.part; layer = None };
-  are = sym (same_Some _ _ e)
-      ∙ ap (λ (x : List ℕ). let q : NameParts = record { vg = x; lv = first_slice rest; layer = None } in q) h.first
-      ∙ ap (λ (x : List ℕ). let q : NameParts = record { vg = doubled h.part; lv = x; layer = None } in q) g.first;
-  spell = h.whole
-      ∙ ap (λ (x : Option (List ℕ)). doubled h.part ++ with_hyphen x) t
-      ∙ ap (λ (x : List ℕ). doubled h.part ++ code "-" ∷ x) (g.whole ∙ ap (λ (x : Option (List ℕ)). doubled g.part ++ with_hyphen x) u);
+  are = rw (← g.first, ← h.first) (sym (same_Some _ _ e));
+  spell = rw (h.whole, t, g.whole, u);
 }
 
 sliced_three : (name rest last : List ℕ) (s : NameParts) → FirstSlice name → later_slices name ≡ Some rest → FirstSlice rest → later_slices rest ≡ Some last → FirstSlice last → later_slices last ≡ None
     → Some (record { vg = first_slice name; lv = first_slice rest; layer = Some (first_slice last) }) ≡ Some s → Sliced name s
 sliced_three name rest last s h t g u k v e =
-    let end : last ≡ doubled k.part = k.whole ∙ ap (λ (x : Option (List ℕ)). doubled k.part ++ with_hyphen x) v ∙ append-nil (doubled k.part) in
+    let end : last ≡ doubled k.part = rw (k.whole, v, append-nil (doubled k.part)) in
     record {
       parts = record { vg = h.part; lv = g.part; layer = Some k.part };
-      are = sym (same_Some _ _ e)
-          ∙ ap (λ (x : List ℕ). let q : NameParts = record { vg = x; lv = first_slice rest; layer = Some (first_slice last) } in q) h.first
-          ∙ ap (λ (x : List ℕ). let q : NameParts = record { vg = doubled h.part; lv = x; layer = Some (first_slice last) } in q) g.first
-          ∙ ap (λ (x : List ℕ). let q : NameParts = record { vg = doubled h.part; lv = doubled g.part; layer = Some x } in q) k.first;
-      spell = h.whole
-          ∙ ap (λ (x : Option (List ℕ)). doubled h.part ++ with_hyphen x) t
-          ∙ ap (λ (x : List ℕ). doubled h.part ++ code "-" ∷ x) (g.whole ∙ ap (λ (x : Option (List ℕ)). doubled g.part ++ with_hyphen x) u ∙ ap (λ (x : List ℕ). doubled g.part ++ code "-" ∷ x) end);
+      are = rw (← k.first, ← g.first, ← h.first) (sym (same_Some _ _ e));
+      spell = rw (h.whole, t, g.whole, u, end);
     }
 
 sliced_last : (name rest last : List ℕ) (s : NameParts) (more : Option (List ℕ)) → later_slices name ≡ Some rest → later_slices rest ≡ Some last → later_slices last ≡ more
@@ -402,8 +393,7 @@ later_whole w = ap later_slices (sym (append-nil (doubled w))) ∙ cut_later w [
 layer_slices : (vg lv : List ℕ) (l : Option (List ℕ)) → with_layer vg lv (after_hyphen (with_hyphen (option_map doubled l))) ≡ Some (record { vg = vg; lv = lv; layer = option_map doubled l })
 layer_slices vg lv None = refl
 layer_slices vg lv (Some l) =
-    ap (λ (x : Option (List ℕ)). cond (is_none x) (Some (let q : NameParts = record { vg = vg; lv = lv; layer = Some (first_slice (doubled l)) } in q)) None) (later_whole l)
-    ∙ ap (λ (x : List ℕ). Some (let q : NameParts = record { vg = vg; lv = lv; layer = Some x } in q)) (first_whole l)
+    rw (later_whole l, first_whole l)
 
 joined_slices : (vg lv : List ℕ) (l : Option (List ℕ)) → part_fault vg ≡ None → part_fault lv ≡ None → layer_fault l ≡ None
     → slices_of (doubled vg ++ code "-" ∷ (doubled lv ++ with_hyphen (option_map doubled l))) ≡ Some (record { vg = doubled vg; lv = doubled lv; layer = option_map doubled l })
@@ -427,9 +417,7 @@ layer_back (Some l) = rw (undoubled-doubled l)
 
 pub parts_back : (p : NameParts) → undoubled_parts (doubled_parts p) ≡ p
 parts_back p =
-    ap (λ (x : List ℕ). let q : NameParts = record { vg = x; lv = undoubled (doubled p.lv); layer = option_map undoubled (option_map doubled p.layer) } in q) (undoubled-doubled p.vg)
-    ∙ ap (λ (x : List ℕ). let q : NameParts = record { vg = p.vg; lv = x; layer = option_map undoubled (option_map doubled p.layer) } in q) (undoubled-doubled p.lv)
-    ∙ ap (λ (x : Option (List ℕ)). let q : NameParts = record { vg = p.vg; lv = p.lv; layer = x } in q) (layer_back p.layer)
+    rw (undoubled-doubled p.vg, undoubled-doubled p.lv, layer_back p.layer)
 
 -- The clauses
 
@@ -464,9 +452,9 @@ pub some_split : (name : List ℕ) (s : NameParts) (f : Option NameFault) → So
 some_split name s (Some f) e is n le = absurd cc
 some_split name s None e is n le =
     let d = sliced name s (sym e) in
-    let short : long_fault d.parts ≡ None = rw (le-leb (length (joined d.parts)) 127 (subst (λ (xs : List ℕ). length xs ≤ 127) d.spell le)) in
+    let short : long_fault d.parts ≡ None = rw (le-leb (length (joined d.parts)) 127 (rw (← d.spell) le)) in
     let fine : parts_faults d.parts ≡ None = sym (parts-doubled d.parts) ∙ ap parts_faults (sym d.are) ∙ sym is in
-    (d.parts, (fault_parts d.parts ∙ ap (λ (x : Option NameFault). or_later x (long_fault d.parts)) fine ∙ short, sym d.spell), d.are)
+    (d.parts, (rw (fault_parts d.parts, fine, short), sym d.spell), d.are)
 
 -- Undoubling
 
@@ -480,13 +468,12 @@ apart_undoubled x (y ∷ zs) h =
 undoubled_pair : (xs ys : List ℕ) → ((i : ℕ) → i < length xs → LacksTextAt (code "-" ∷ code "-" ∷ []) (xs ++ code "-" ∷ code "-" ∷ ys) i) → undoubled (xs ++ code "-" ∷ code "-" ∷ ys) ≡ xs ++ code "-" ∷ undoubled ys
 undoubled_pair [] ys h = refl
 undoubled_pair (x ∷ xs) ys h =
-    apart_undoubled x (xs ++ code "-" ∷ code "-" ∷ ys) (h 0 (omega arith))
-    ∙ ap (λ (zs : List ℕ). x ∷ zs) (undoubled_pair xs ys (λ i lt. h (suc i) (omega (arith, lt))))
+    rw (← undoubled_pair xs ys (λ i lt. h (suc i) (omega (arith, lt)))) (apart_undoubled x (xs ++ code "-" ∷ code "-" ∷ ys) (h 0 (omega arith)))
 
 pub undoubled_none : (bs : List ℕ) → ((i : ℕ) → i ≤ length bs → LacksTextAt (code "-" ∷ code "-" ∷ []) bs i) → undoubled bs ≡ bs
 undoubled_none [] h = refl
 undoubled_none (x ∷ bs) h =
-    apart_undoubled x bs (h 0 (omega arith)) ∙ ap (λ (zs : List ℕ). x ∷ zs) (undoubled_none bs (λ i le. h (suc i) (omega (arith, le))))
+    rw (apart_undoubled x bs (h 0 (omega arith)), undoubled_none bs (λ i le. h (suc i) (omega (arith, le))))
 
 pub undoubled_step : (s before after : List ℕ) (i j : ℕ) → ((k : ℕ) → k < i → LacksTextAt (code "-" ∷ code "-" ∷ []) s k) → HasTextAt (code "-" ∷ code "-" ∷ []) s i j → before ≡ take i s → after ≡ drop j s → length before ≡ i → undoubled s ≡ before ++ code "-" ∷ undoubled after
 undoubled_step s before after i j lacks has b a n =
@@ -497,4 +484,4 @@ undoubled_step s before after i j lacks has b a n =
 
 pub undoubled_joined : (all whole rest before after one two : List ℕ) → all ≡ whole ++ rest → rest ≡ before ++ code "-" ∷ after → one ≡ whole ++ before → two ≡ one ++ code "-" ∷ [] → all ≡ two ++ after
 undoubled_joined all whole rest before after one two a r o t =
-    rw t (a ∙ ap (λ (z : List ℕ). whole ++ z) r ∙ sym (append_assoc whole before (code "-" ∷ after)) ∙ ap (λ (z : List ℕ). z ++ code "-" ∷ after) (sym o) ∙ sym (append_assoc one (code "-" ∷ []) after))
+    rw t (rw (a, r, ← append_assoc whole before (code "-" ∷ after), ← o, ← append_assoc one (code "-" ∷ []) after))

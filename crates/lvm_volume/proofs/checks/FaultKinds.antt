@@ -1,5 +1,5 @@
 -- No check of a group finds a fault of memory.
-use Rattle.std.proofs.Common.{◌≡◌, ◌≢◌, ℕ, Bool, true, false, List, [], ◌∷◌, ◌++◌, length, codes, Option, Some, None, ap, ◌∙◌, if◌then◌else◌, ◌+◌}
+use Rattle.std.proofs.Common.{◌≡◌, ◌≢◌, ℕ, Bool, true, false, List, [], ◌∷◌, ◌++◌, length, codes, Option, Some, None, if◌then◌else◌, ◌+◌}
 use Rattle.std.specs.Prelude.{is_some}
 use Rattle.std.specs.List.{AllByRecursion, flat_map, range_with_len}
 use Rattle.lvm_text.specs.Tree.{Tree, Shown, node_of, sections_of}
@@ -29,7 +29,7 @@ NoMemory = AllByRecursion (λ fault. fault.kind ≢ Memory)
 
 pub first_kind : (faults : List LoadFault) (fault : LoadFault) → NoMemory faults → first_or faults None ≡ Some fault → fault.kind ≢ Memory
 first_kind [] fault none e = absurd cc
-first_kind (f ∷ faults) fault none e = let same : f ≡ fault = cc in λ memory. none.0 (ap (λ (g : LoadFault). g.kind) same ∙ memory)
+first_kind (f ∷ faults) fault none e = let same : f ≡ fault = cc in λ memory. none.0 (rw same memory)
 
 pub both : (xs ys : List LoadFault) → NoMemory xs → NoMemory ys → NoMemory (xs ++ ys)
 both [] ys a b = b

@@ -1,5 +1,5 @@
 -- The maps of all physical volumes, and what is claimed.
-use Rattle.std.proofs.Common.{◌≡◌, ◌⊎◌, ℕ, ◌+◌, ◌<◌, ◌≤◌, ◌==◌, Bool, true, false, List, [], ◌∷◌, ◌++◌, Option, Some, None, length, get_or, set, drop, Result, Ok, Err, refl, sym, ap, ◌∙◌, subst, arith, inl, inr}
+use Rattle.std.proofs.Common.{◌≡◌, ◌⊎◌, ℕ, ◌+◌, ◌<◌, ◌≤◌, ◌==◌, Bool, true, false, List, [], ◌∷◌, ◌++◌, Option, Some, None, length, get_or, set, drop, Result, Ok, Err, refl, sym, ◌∙◌, subst, arith, inl, inr}
 use Rattle.std.specs.Prelude.{IfOk}
 use Rattle.std.specs.List.{list_any}
 use Rattle.std.specs.Ordering.{nat_cmp}
@@ -53,15 +53,15 @@ holds_more maps new claim used holds within keeps = record { at = λ i d below. 
   at_position i d below true e =
       let same : i ≡ claim.physical = eqb-true i claim.physical e in
       let has : HasRanges (get_or (set maps claim.physical new) claim.physical d) ((claim.first, claim.end) ∷ ranges_of claim.physical used) =
-      subst (λ (m : BTreeMap ℕ ℕ). HasRanges m ((claim.first, claim.end) ∷ ranges_of claim.physical used)) (sym (get_or-set_same maps claim.physical new d within)) keeps in
+      rw (get_or-set_same maps claim.physical new d within) keeps in
       let more : (claim.first, claim.end) ∷ ranges_of claim.physical used ≡ ranges_of claim.physical (claim ∷ used) = rw (same_eqb claim.physical) refl in
       subst (λ (j : ℕ). HasRanges (get_or (set maps claim.physical new) j d) (ranges_of j (claim ∷ used))) (sym same)
-      (subst (λ (rs : List (ℕ × ℕ)). HasRanges (get_or (set maps claim.physical new) claim.physical d) rs) more has)
+      (rw (← more) has)
   at_position i d below false e =
       let has : HasRanges (get_or (set maps claim.physical new) i d) (ranges_of i used) =
-      subst (λ (m : BTreeMap ℕ ℕ). HasRanges m (ranges_of i used)) (sym (get_or-set_other maps claim.physical i new d (eqb-false i claim.physical e))) (holds.at i d below) in
+      rw (get_or-set_other maps claim.physical i new d (eqb-false i claim.physical e)) (holds.at i d below) in
       let same : ranges_of i used ≡ ranges_of i (claim ∷ used) = rw e refl in
-      subst (λ (rs : List (ℕ × ℕ)). HasRanges (get_or (set maps claim.physical new) i d) rs) same has
+      rw (← same) has
 
 pub holds_nothing : (maps : List (BTreeMap ℕ ℕ)) (m : BTreeMap ℕ ℕ) → Holds maps [] → HasRanges m [] → Holds (maps ++ m ∷ []) []
 holds_nothing maps m holds keeps = record { at = λ i d below. at_position i d (cases_lt i (length maps)) (omega (arith, below, length-append maps (m ∷ []))) } where
@@ -69,23 +69,19 @@ holds_nothing maps m holds keeps = record { at = λ i d below. at_position i d (
   at_position i d (inl before) below = subst (λ (n : BTreeMap ℕ ℕ). HasRanges n []) (sym (get_or_append_left maps (m ∷ []) d i before)) (holds.at i d before)
   at_position i d (inr after) below =
       let last : i ≡ length maps = omega (arith, after, below) in
-      subst (λ (n : BTreeMap ℕ ℕ). HasRanges n []) (sym (ap (λ (j : ℕ). get_or (maps ++ m ∷ []) j d) last ∙ get_or-append_seam maps m [] d)) keeps
+      rw (last, get_or-append_seam maps m [] d) keeps
 
 -- one volume more is looked at
 pub volume_passed : (physicals : List Physical) (used : List Claim) (volumes : List Volume) (i : ℕ) (volume : Volume) (segments : List Segment) → i < length volumes → volume ≡ get_or volumes i volume → segments ≡ volume.segments
     → first_or (segment_faults physicals used 0 segments) None ≡ None
     → first_or (volume_faults physicals (used_after used segments) (drop (i + 1) volumes)) None ≡ first_or (volume_faults physicals used (drop i volumes)) None
 volume_passed physicals used volumes i volume segments within is same none =
-    let at : drop i volumes ≡ volume ∷ drop (i + 1) volumes = drop_more volumes i volume within ∙ ap (λ (v : Volume). v ∷ drop (i + 1) volumes) (sym is) in
-    sym (ap (λ (vs : List Volume). first_or (volume_faults physicals used vs) None) at
-    ∙ ap (λ (ss : List Segment). first_or (segment_faults physicals used 0 ss ++ volume_faults physicals (used_after used ss) (drop (i + 1) volumes)) None) (sym same)
-    ∙ first_after (segment_faults physicals used 0 segments) _ None none)
+    let at : drop i volumes ≡ volume ∷ drop (i + 1) volumes = rw is (drop_more volumes i volume within) in
+    sym (rw (at, ← same) (first_after (segment_faults physicals used 0 segments) _ None none))
 
 -- or has a fault
 pub volume_stops : (physicals : List Physical) (used : List Claim) (volumes : List Volume) (i : ℕ) (volume : Volume) (segments : List Segment) (fault : LoadFault) → i < length volumes → volume ≡ get_or volumes i volume → segments ≡ volume.segments
     → first_or (segment_faults physicals used 0 segments) None ≡ Some fault → first_or (volume_faults physicals used (drop i volumes)) None ≡ Some fault
 volume_stops physicals used volumes i volume segments fault within is same found =
-    let at : drop i volumes ≡ volume ∷ drop (i + 1) volumes = drop_more volumes i volume within ∙ ap (λ (v : Volume). v ∷ drop (i + 1) volumes) (sym is) in
-    ap (λ (vs : List Volume). first_or (volume_faults physicals used vs) None) at
-    ∙ ap (λ (ss : List Segment). first_or (segment_faults physicals used 0 ss ++ volume_faults physicals (used_after used ss) (drop (i + 1) volumes)) None) (sym same)
-    ∙ first_here (segment_faults physicals used 0 segments) _ None fault found
+    let at : drop i volumes ≡ volume ∷ drop (i + 1) volumes = rw is (drop_more volumes i volume within) in
+    rw (at, ← same) (first_here (segment_faults physicals used 0 segments) _ None fault found)

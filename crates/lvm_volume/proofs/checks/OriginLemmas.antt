@@ -45,7 +45,7 @@ has_origin snapshots snapshot = list_any (λ other. other.origin == snapshot.ori
 all_among : (snapshots : List Record) → AllByRecursion (has_origin snapshots) snapshots
 all_among [] = tt
 all_among (snapshot ∷ snapshots) = (
-  ap (λ (b : Bool). b || list_any (λ other. other.origin == snapshot.origin) snapshots) (eq-eqb snapshot.origin snapshot.origin refl),
+  rw (eq-eqb snapshot.origin snapshot.origin refl),
   all_by (has_origin snapshots) (has_origin (snapshot ∷ snapshots)) (λ other is. or_true (snapshot.origin == other.origin) _ is) snapshots (all_among snapshots),
 )
 

@@ -1,5 +1,5 @@
 -- What a check finds first.
-use Rattle.std.proofs.Common.{◌≡◌, ℕ, suc, ◌+◌, ◌-◌, ◌<◌, List, [], ◌∷◌, ◌++◌, ◌⊎◌, inl, inr, Option, Some, None, Result, Ok, Err, refl, sym, ap, ◌∙◌, arith, append_assoc}
+use Rattle.std.proofs.Common.{◌≡◌, ℕ, suc, ◌+◌, ◌-◌, ◌<◌, List, [], ◌∷◌, ◌++◌, ◌⊎◌, inl, inr, Option, Some, None, Result, Ok, Err, refl, sym, arith, append_assoc}
 use Rattle.std.specs.List.{flat_map, range_with_len}
 use Rattle.std.specs.Result.{result_err}
 use Rattle.dm_table.specs.declared.load.place.Part.TheVariants.{Source}
@@ -37,6 +37,4 @@ range_more i end below = let n : end - i ≡ suc (end - (i + 1)) = omega arith i
 -- what is made so far, and what the numbers that are left give
 pub made_more : {X : Type 0} (f : ℕ → List X) (made more : List X) (i end : ℕ) → i < end → more ≡ made ++ f (i + 1) → more ++ flat_map f (range_with_len (i + 1 + 1) (end - (i + 1))) ≡ made ++ flat_map f (range_with_len (i + 1) (end - i))
 made_more {X} f made more i end below e =
-    ap (λ (xs : List X). xs ++ flat_map f (range_with_len (i + 1 + 1) (end - (i + 1)))) e
-    ∙ append_assoc made (f (i + 1)) _
-    ∙ ap (λ (ns : List ℕ). made ++ flat_map f ns) (sym (range_more i end below))
+    rw (e, range_more i end below) (append_assoc made (f (i + 1)) _)

@@ -19,7 +19,7 @@ or_first_both None (x ∷ xs) ys = refl
 or_first_both (Some fault) xs ys = refl
 
 after_both : (reader : FieldReader) (xs ys : List LoadFault) → after (after reader xs) ys ≡ after reader (xs ++ ys)
-after_both reader xs ys = ap (λ (found : Option LoadFault). record { extent_size = reader.extent_size; excess = found }) (or_first_both reader.excess xs ys)
+after_both reader xs ys = rw (or_first_both reader.excess xs ys)
 
 -- the first of two fails
 pub then_fails : {f : Check → List LoadFault} (g : Check → List LoadFault) {old new other : FieldReader} {fault : LoadFault} → IsStep f old new (Some fault) → IsStep (λ check. f check ++ g check) old other (Some fault)
@@ -35,8 +35,8 @@ then_goes {f} {g} {old} h k =
     let none : first_of (f Fields) ≡ None = ap first_of a.0 in
     record {
       passed = λ is. let b = k.passed is in (
-        ap (λ (xs : List LoadFault). xs ++ g Fields) a.0 ∙ b.0,
-        b.1 ∙ ap (λ (reader : FieldReader). after reader (g (Limits reader.extent_size))) a.1 ∙ after_both old (f (Limits old.extent_size)) (g (Limits old.extent_size)),
+        rw a.0 b.0,
+        rw (b.1, a.1, after_both old (f (Limits old.extent_size)) (g (Limits old.extent_size))),
       );
       failed_at = λ fault same. found_more (λ found. first_after (f Fields) (g Fields) None none ∙ found) (k.failed_at fault same);
     }
@@ -84,16 +84,14 @@ pub goes_on : {X Y : Type 0} (f : Check → Y → List LoadFault) (view : X → 
 goes_on f view xs i x within is h k = in_words (at_index f view xs i x within is) (then_goes h k)
 
 pub none_left : {X Y : Type 0} (f : Check → Y → List LoadFault) (view : X → Y) (xs : List X) (i : ℕ) (reader : FieldReader) → length xs ≤ i → IsStep (λ check. flat_map (f check) (map view (drop i xs))) reader reader None
-none_left {X} f view xs i reader past = in_words (λ check. sym (ap (λ (ys : List X). flat_map (f check) (map view ys)) (drop_of_length-le xs past))) (nothing_left reader)
+none_left {X} f view xs i reader past = in_words (λ check. sym (rw (drop_of_length-le xs past))) (nothing_left reader)
 
 -- what is made so far, and of the elements that are left
 pub made_next : {X Y Z : Type 0} (f : Y → Z) (view : X → Y) (xs : List X) (i : ℕ) (x : X) (z : Z) (done more : List Z) → i < length xs → x ≡ get_or xs i x → z ≡ f (view x) → more ≡ done ++ z ∷ []
     → more ++ map f (map view (drop (i + 1) xs)) ≡ done ++ map f (map view (drop i xs))
 made_next {X} {Y} {Z} f view xs i x z done more within is said pushed =
     let left = map f (map view (drop (i + 1) xs)) in
-    ap (λ (zs : List Z). zs ++ left) pushed ∙ append_assoc done (z ∷ []) left
-    ∙ ap (λ (y : Z). done ++ y ∷ left) (said ∙ ap (λ (y : X). f (view y)) is)
-    ∙ ap (λ (zs : List Z). done ++ zs) (sym (ap (λ (ys : List X). map f (map view ys)) (drop_more xs i x within)))
+    rw (pushed, drop_more xs i x within, ← is, ← said) (append_assoc done (z ∷ []) left)
 
 -- In a loop over numbers from 1 on
 
@@ -146,6 +144,4 @@ finds_nothing f h (Limits size) = none_first (f (Limits size)) (ap (λ (reader :
 
 pub same_both : (f g : Check → List LoadFault) (m n : ℕ) → ((check : Check) → f check ≡ g check) → m ≡ n → of_both f m ≡ of_both g n
 same_both f g m n same size =
-    ap (λ (faults : List LoadFault). first_or faults (first_of (f (Limits m)))) (same Fields)
-    ∙ ap (λ (faults : List LoadFault). first_or (g Fields) (first_of faults)) (same (Limits m))
-    ∙ ap (of_both g) size
+    rw (same Fields, same (Limits m)) (ap (of_both g) size)

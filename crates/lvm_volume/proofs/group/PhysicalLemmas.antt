@@ -1,5 +1,5 @@
 -- Physical volumes as they are read, one after the other.
-use Rattle.std.proofs.Common.{◌≡◌, ℕ, ◌+◌, ◌<◌, Bool, true, false, not, List, [], ◌∷◌, length, if◌then◌else◌, get_or, drop, map, Option, Some, None, Ok, Err, refl, sym, ap, ◌∙◌}
+use Rattle.std.proofs.Common.{◌≡◌, ℕ, ◌+◌, ◌<◌, Bool, true, false, not, List, [], ◌∷◌, length, if◌then◌else◌, get_or, drop, map, Option, Some, None, Ok, Err, refl, sym}
 use Rattle.std.proofs.lemmas.List.{drop_more}
 use Rattle.dm_table.specs.words.Name.{is_disk_name}
 use Rattle.dm_table.specs.declared.load.load_fault.LoadFault.{LoadFault}
@@ -37,7 +37,7 @@ nothing true x ys e = absurd cc
 nothing false x ys e = refl
 
 at_position : (f : Fields → Physical) (xs : List PhysicalFields) (i : ℕ) (other : PhysicalFields) → i < length xs → map f (map fields_view (drop i xs)) ≡ f (fields_view (get_or xs i other)) ∷ map f (map fields_view (drop (i + 1) xs))
-at_position f xs i other within = ap (λ (ys : List PhysicalFields). map f (map fields_view ys)) (drop_more xs i other within)
+at_position f xs i other within = rw (drop_more xs i other within)
 
 -- the next is refused
 pub refused_here : (f : Fields → Physical) (xs : List PhysicalFields) (i : ℕ) (other : PhysicalFields) (all : List Physical) (fault : LoadFault) → i < length xs
@@ -46,8 +46,8 @@ pub refused_here : (f : Fields → Physical) (xs : List PhysicalFields) (i : ℕ
 refused_here f xs i other all fault within left e =
     let x = fields_view (get_or xs i other) in
     let found = alone (not (is_disk_name (f x).disk)) (fault_at Source Name (f x).line) (name_faults (map f (map fields_view (drop (i + 1) xs)))) fault (err_is _ _ fault e) in
-    let first : first_or (name_faults all) None ≡ Some fault = sym left ∙ ap (λ (ps : List Physical). first_or (name_faults ps) None) (at_position f xs i other within) ∙ found in
-    ap (λ (o : Option LoadFault). unless o all) first
+    let first : first_or (name_faults all) None ≡ Some fault = rw (← left, at_position f xs i other within, found) in
+    rw first
 
 pub taken_here : (f : Fields → Physical) (xs : List PhysicalFields) (i : ℕ) (other : PhysicalFields) (p : Physical) → i < length xs
     → unless (first_or (name_faults (f (fields_view (get_or xs i other)) ∷ [])) None) (f (fields_view (get_or xs i other))) ≡ Ok p
@@ -57,20 +57,20 @@ taken_here f xs i other p within e =
     let a = ok_is (first_or (name_faults (f x ∷ [])) None) (f x) p e in
     let more = map f (map fields_view (drop (i + 1) xs)) in
     let at = at_position f xs i other within in (
-      at ∙ ap (λ (q : Physical). q ∷ more) a.1,
-      sym (ap (λ (ps : List Physical). first_or (name_faults ps) None) at ∙ nothing (not (is_disk_name (f x).disk)) (fault_at Source Name (f x).line) (name_faults more) a.0),
+      rw (← a.1) at,
+      sym (rw at (nothing (not (is_disk_name (f x).disk)) (fault_at Source Name (f x).line) (name_faults more) a.0)),
     )
 
 -- the fields that sections say, with names, are the physical volumes that they say
 
 devices_said : (sections : List Keyed) → devices_in (map fields_of sections) ≡ map device_of sections
 devices_said [] = refl
-devices_said (section ∷ sections) = ap (λ (devices : List (List ℕ)). device_of section ∷ devices) (devices_said sections)
+devices_said (section ∷ sections) = rw (devices_said sections)
 
 named_said : (devices : List (List ℕ)) (sections : List Keyed) → map (spec.named devices) (map fields_of sections) ≡ map (physical_of devices) sections
 unfolding physical_of
 named_said devices [] = refl
-named_said devices (section ∷ sections) = ap (λ (physicals : List Physical). physical_of devices section ∷ physicals) (named_said devices sections)
+named_said devices (section ∷ sections) = rw (named_said devices sections)
 
 pub all_said : (sections : List Keyed) → all_named (map fields_of sections) ≡ physicals_in sections
-all_said sections = ap (λ (devices : List (List ℕ)). map (spec.named devices) (map fields_of sections)) (devices_said sections) ∙ named_said (map device_of sections) sections
+all_said sections = rw (devices_said sections) (named_said (map device_of sections) sections)

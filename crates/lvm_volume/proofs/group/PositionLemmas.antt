@@ -32,7 +32,7 @@ unfolding IsDistinct
 none_before [] key rest distinct = refl
 none_before (k ∷ done) key rest distinct =
     let other : bytes_eq key k ≡ false = bytes_eq-sym key k ∙ at_middle (λ y. bytes_eq k y ≡ false) done key rest distinct.0 in
-    ap (λ (b : Bool). b || list_any (bytes_eq key) done) other ∙ none_before done key rest distinct.1
+    rw other (none_before done key rest distinct.1)
 
 -- The keys that hold sections are some of all keys
 
@@ -56,16 +56,16 @@ sections_differ v differ = sections_distinct v (IsDistinct-from_AllPairs bytes_e
 
 any_texts : (key : List ℕ) (ks : List (Bor (List ℕ))) → list_any (λ k. bytes_eq key k.now) ks ≡ list_any (bytes_eq key) (texts ks)
 any_texts key [] = refl
-any_texts key (k ∷ ks) = ap (λ (rest : Bool). bytes_eq key k.now || rest) (any_texts key ks)
+any_texts key (k ∷ ks) = rw (any_texts key ks)
 
 -- a key that is added to others
 pub added : (key : Bor (List ℕ)) (old new : List (Bor (List ℕ))) → new ≡ cond (list_any (λ k. bytes_eq key.now k.now) old) old (old ++ key ∷ []) → list_any (bytes_eq key.now) (texts old) ≡ false → texts new ≡ texts old ++ key.now ∷ []
 added key old new is none =
-    ap texts (is ∙ ap (λ (b : Bool). cond b old (old ++ key ∷ [])) (any_texts key.now old ∙ none)) ∙ map_push (λ (text : Bor (List ℕ)). text.now) old key
+    ap texts (rw (is, any_texts key.now old, none)) ∙ map_push (λ (text : Bor (List ℕ)). text.now) old key
 
 position_texts : (key : List ℕ) (ks : List (Bor (List ℕ))) → position_or_len (λ k. bytes_eq key k.now) ks ≡ position_or_len (bytes_eq key) (texts ks)
 position_texts key [] = refl
-position_texts key (k ∷ ks) = ap (λ (n : ℕ). cond (not (bytes_eq key k.now)) (1 + n) 0) (position_texts key ks)
+position_texts key (k ∷ ks) = rw (position_texts key ks)
 
 by_test : (b : Bool) (n len : ℕ) → nat_lt n len ≡ b → n ≤ len → unwrap_or (cond b (Some n) None) len ≡ n
 by_test true n len e within = refl
@@ -75,4 +75,4 @@ by_test false n len e within = omega (arith, ltb-false n len e)
 pub position_is : (key : List ℕ) (ks : List (Bor (List ℕ))) (found : Option ℕ) → found ≡ position (λ k. bytes_eq key k.now) ks → unwrap_or found (length ks) ≡ position_of (texts ks) key
 position_is key ks found is =
     let position = position_or_len (λ (k : Bor (List ℕ)). bytes_eq key k.now) ks in
-    ap (λ (o : Option ℕ). unwrap_or o (length ks)) is ∙ by_test (nat_lt position (length ks)) position (length ks) refl (prefix_len-le-length _ ks) ∙ position_texts key ks
+    rw is (by_test (nat_lt position (length ks)) position (length ks) refl (prefix_len-le-length _ ks) ∙ position_texts key ks)

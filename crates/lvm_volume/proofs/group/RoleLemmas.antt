@@ -37,15 +37,14 @@ by_tests own false false is_origin stored snapshot role is = is
 by_tests own true false is_origin stored snapshot role is = ap with_origin is ∙ more_origin own is_origin stored
 by_tests own false true is_origin stored snapshot role is = ap (with_store snapshot) is ∙ more_store own is_origin stored snapshot
 by_tests own true true is_origin stored snapshot role is =
-    ap (λ (r : Role). with_store snapshot (with_origin r)) is ∙ ap (with_store snapshot) (more_origin own is_origin stored) ∙ more_store own true stored snapshot
+    rw is (ap (with_store snapshot) (more_origin own is_origin stored) ∙ more_store own true stored snapshot)
 
 pub all_changed : (snapshot : Record) (snapshots : List Record) (first : ℕ) (volumes : List Volume)
     → changed (with_store snapshot) snapshot.store first (changed with_origin snapshot.origin first (map (role_of snapshots) (enumerate_from first volumes))) ≡ map (role_of (snapshot ∷ snapshots)) (enumerate_from first volumes)
 all_changed snapshot snapshots first [] = refl
 all_changed snapshot snapshots first (volume ∷ volumes) =
     let one = by_tests (recorded volume.segments) (snapshot.origin == first) (snapshot.store == first) (list_any (λ s. s.origin == first) snapshots) (filter (λ s. s.store == first) snapshots) snapshot (role_of snapshots (first, volume)) refl in
-    ap (λ (role : Role). role ∷ changed (with_store snapshot) snapshot.store (first + 1) (changed with_origin snapshot.origin (first + 1) (map (role_of snapshots) (enumerate_from (first + 1) volumes)))) one
-    ∙ ap (λ (all : List Role). role_of (snapshot ∷ snapshots) (first, volume) ∷ all) (all_changed snapshot snapshots (first + 1) volumes)
+    rw (one, all_changed snapshot snapshots (first + 1) volumes)
 
 -- The one at a position
 
@@ -80,7 +79,7 @@ pub one_more : (volumes : List Volume) (at : ℕ) (volume : Volume) (snapshot : 
 one_more volumes at volume snapshot some within is one =
     let more : drop (at - 1) volumes ≡ volume ∷ drop at volumes =
     drop_more volumes (at - 1) volume (omega (arith, some, within)) ∙ ap (λ (v : Volume). v ∷ drop (at - 1 + 1) volumes) (sym is) ∙ ap (λ (n : ℕ). volume ∷ drop n volumes) (omega (arith, some)) in
-    sym (ap records_of more ∙ ap (λ (own : List Record). own ++ records_of (drop at volumes)) one)
+    sym (rw (more, one))
 
 -- Volumes with their roles, once one of the two lists has no more
 

@@ -1,4 +1,4 @@
-use Rattle.std.proofs.Common.{◌∙◌, ap}
+use Rattle.std.proofs.Common.{◌∙◌}
 use Rattle.std.specs.Prelude.{Err, option_map}
 use Rattle.dm_table.specs.declared.words.name.CheckFault.{CheckFault}
 use Rattle.lvm_volume.proofs.Splits.{fault_built, layer_letters, form_is_long}
@@ -13,4 +13,4 @@ joined-requires-clause-layer c = layer_letters c.args.layer c.args.vg.now c.args
 pub returns-in-Err-Form : goal.returns-in-Err-Form
 returns-in-Err-Form c =
     form_is_long (record { vg = c.args.vg.now; lv = c.args.lv.now; layer = option_map (λ l. l.now) c.args.layer }) c.as_str.result.now c.in_default.ensures
-    (c.as_str.ensures.value ∙ c.in-Ok.ensures) (c.in-Err-Form.ensures.form.0 (ap (λ (f : CheckFault). Err f) c.in-Err-Form.field-0-is))
+    (c.as_str.ensures.value ∙ c.in-Ok.ensures) (c.in-Err-Form.ensures.form.0 (rw c.in-Err-Form.field-0-is))

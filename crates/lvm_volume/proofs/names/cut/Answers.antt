@@ -13,7 +13,7 @@ split_at-requires c =
     let bs = c.args.name.now in
     let n : c.slice_length.result ≡ slice_length bs = length_is _ _ bs c.slice_length.ensures c.as_bytes.ensures.value in
     let within : c.slice_length.result ≤ length bs = omega (arith, n, length_within bs) in
-    (within, λ lt high. let is_hyphen : get_or bs c.slice_length.result 0 ≡ code "-" = ap (λ m. get_or bs m 0) n ∙ hyphen_at bs (omega (arith, n, lt)) in absurd (omega (arith, is_hyphen, high)))
+    (within, λ lt high. let is_hyphen : get_or bs c.slice_length.result 0 ≡ code "-" = rw n (hyphen_at bs (omega (arith, n, lt))) in absurd (omega (arith, is_hyphen, high)))
 
 pub returns-clause-later : goal.returns-clause-later
 returns-clause-later c =

@@ -14,7 +14,7 @@ loop-byte-preserved c =
     let own = c.in_ok-push.ensures.ascii ascii in
     elim c.if-byte-eq45.branch [
       | then-byte-eq45+in_ok-push-2 w ↦ ap string_bytes w.text-is
-          ∙ push_hyphen xs i (string_bytes c.args.text.now) (string_bytes c.loop-byte.text) (string_bytes c.push.new.self) (string_bytes w.push-then-byte-eq45.new.self) _ c.loop-byte-test.true c.loop-byte.invariant c.in_ok-push.ensures.bytes own w.if-byte-eq45.true (w.in_ok-push-2.ensures.bytes ∙ ap (λ (e : List ℕ). string_bytes c.push.new.self ++ e) (w.in_ok-push-2.ensures.ascii (omega arith)))
+          ∙ push_hyphen xs i (string_bytes c.args.text.now) (string_bytes c.loop-byte.text) (string_bytes c.push.new.self) (string_bytes w.push-then-byte-eq45.new.self) _ c.loop-byte-test.true c.loop-byte.invariant c.in_ok-push.ensures.bytes own w.if-byte-eq45.true (rw (← w.in_ok-push-2.ensures.ascii (omega arith)) w.in_ok-push-2.ensures.bytes)
       | else-byte-eq45 w ↦ ap string_bytes w.text-is
           ∙ push_plain xs i (string_bytes c.args.text.now) (string_bytes c.loop-byte.text) (string_bytes c.push.new.self) _ c.loop-byte-test.true c.loop-byte.invariant c.in_ok-push.ensures.bytes own w.if-byte-eq45.false
     ]

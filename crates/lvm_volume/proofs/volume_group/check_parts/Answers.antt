@@ -1,4 +1,4 @@
-use Rattle.std.proofs.Common.{◌≡◌, ◌∙◌, List, [], Option, None, ap, length, subst, sym}
+use Rattle.std.proofs.Common.{◌≡◌, ◌∙◌, List, [], Option, None, ap, length, sym}
 use Rattle.dm_table.specs.declared.load.load_fault.LoadFault.{LoadFault}
 use Rattle.dm_table.specs.declared.load.load_fault.LoadKind.TheVariants.{Unknown}
 use Rattle.dm_table.specs.load.LoadFault.{first_or}
@@ -21,14 +21,11 @@ returns c = λ name.
     let ps = c.as_slice-physicals.ensures.value in
     let vs = c.as_slice-volumes.ensures.value in
     let unknown : first_or (unknown_faults group) None ≡ None =
-    sym (c.in_ok-check_targets.ensures
-    ∙ ap (λ (ps : List Physical). first_or (at_line Unknown (least_line_of (λ alone. is_unknown (length ps) (length c.as_slice-volumes.result.now)) c.as_slice-volumes.result.now)) None) ps
-    ∙ ap (λ (vs : List Volume). first_or (at_line Unknown (least_line_of (λ alone. is_unknown (length physicals) (length vs)) vs)) None) vs) in
-    let sizes : first_or (size_faults size physicals) None ≡ None = sym (c.in_ok-check_sizes.ensures ∙ ap (λ (ps : List Physical). first_or (size_faults size ps) None) ps) in
+    sym (rw (← vs, ← ps) c.in_ok-check_targets.ensures) in
+    let sizes : first_or (size_faults size physicals) None ≡ None = sym (rw (← ps) c.in_ok-check_sizes.ensures) in
     let lie : first_or (volume_faults physicals [] volumes) None ≡ None =
-    sym (ap (λ (ps : List Physical). first_or (volume_faults ps [] c.as_slice-volumes.result.now) None) ps
-    ∙ ap (λ (vs : List Volume). first_or (volume_faults physicals [] vs) None) vs)
+    sym (rw (ps, vs))
     ∙ c.in_ok-check_extents.ensures in
     let extents : first_or (extent_faults group) None ≡ None = first_after (size_faults size physicals) _ None sizes ∙ lie in
     let later = ap (λ (vs : List Volume). first_or (snapshot_faults_in vs) None) vs ∙ sym (found_later (unknown_faults group) _ unknown ∙ found_later (extent_faults group) _ extents) in
-    subst (λ (o : Option LoadFault). IsChecked c.check_snapshots.result o) later c.check_snapshots.ensures
+    rw (← later) c.check_snapshots.ensures

@@ -1,4 +1,4 @@
-use Rattle.std.proofs.Common.{Bool, not, true, ◌≡◌, ◌∷◌, sym, subst, set}
+use Rattle.std.proofs.Common.{Bool, not, true, ◌≡◌, ◌∷◌, set}
 use Rattle.std.specs.Prelude.{IfOk}
 use Rattle.lvm_volume.specs.checks.Extents.{Claim}
 use Rattle.lvm_volume.specs.checks.Used.{Holds, HasRanges, ranges_of}
@@ -8,7 +8,7 @@ use Rattle.lvm_volume.proofs.checks.extents.claim.Goals as goal
 pub returns-clause-free : goal.returns-clause-free
 returns-clause-free c = λ used holds.
     let here : Claim = record { physical = c.args.physical; first = c.args.first; end = c.args.end } in
-    subst (λ (b : Bool). IfOk c.take.result (λ free. free ≡ not b)) (sym (meets_is here used)) (c.take.ensures.free (ranges_of c.args.physical used) (holds.at c.args.physical _ c.requires.within))
+    rw (meets_is here used) (c.take.ensures.free (ranges_of c.args.physical used) (holds.at c.args.physical _ c.requires.within))
 
 pub returns-clause-held : goal.returns-clause-held
 returns-clause-held c = λ used holds.

@@ -1,4 +1,4 @@
-use Rattle.std.proofs.Common.{◌≡◌, List, false, ◌/◌, sym, subst, ap, length, ◌∙◌}
+use Rattle.std.proofs.Common.{◌≡◌, List, false, ◌/◌, sym, ap, length, ◌∙◌}
 use Rattle.std.specs.Prelude.{IfOk}
 use Rattle.lvm_volume.specs.declared.group.segment.Stripe.{Stripe}
 use Rattle.lvm_volume.specs.declared.group.segment.SegmentType.{SegmentType}
@@ -13,7 +13,4 @@ returns-else-segment-parts-ne0-clause-held c = λ used holds.
     let stripes = c.as_slice-stripes.result.now in
     let claims : claims_by (segment.count / length stripes) stripes ≡ claims_of segment =
     ap (λ (stripes : List Stripe). claims_by (segment.count / length stripes) stripes) c.as_slice-stripes.ensures ∙ sym (ap (λ (target : SegmentType). claims_by (segment.count / parts_of target) (stripes_of target)) c.in-Striped.is) in
-    subst (λ (cs : List Claim). IfOk c.claim_all.result (λ misplaced. misplaced ≡ false → Holds c.claim_all.new.maps (used_by used cs))) claims
-    (if_ok c.claim_all.result (Claimed c.args.physicals.now c.claim_all.new.maps (claims_by (segment.count / length stripes) stripes) used) (λ misplaced. misplaced ≡ false → Holds c.claim_all.new.maps (used_by used (claims_by (segment.count / length stripes) stripes)))
-    (λ misplaced claimed. claimed.held)
-    (c.claim_all.ensures.claimed used holds))
+    rw (← claims) (if_ok c.claim_all.result (Claimed c.args.physicals.now c.claim_all.new.maps (claims_by (segment.count / length stripes) stripes) used) (λ misplaced. misplaced ≡ false → Holds c.claim_all.new.maps (used_by used (claims_by (segment.count / length stripes) stripes))) (λ misplaced claimed. claimed.held) (c.claim_all.ensures.claimed used holds))

@@ -1,4 +1,4 @@
-use Rattle.std.proofs.Common.{[], refl, sym, subst, arith, List}
+use Rattle.std.proofs.Common.{[], refl, arith, List}
 use Rattle.std.specs.BTreeMap.{BTreeMap}
 use Rattle.std.proofs.Common.{ℕ}
 use Rattle.std.proofs.lemmas.Grind.{common_steps}
@@ -8,6 +8,6 @@ use Rattle.lvm_volume.proofs.checks.extents.maps_of.Goals as goal
 
 pub loop-made-preserved : goal.loop-made-preserved
 loop-made-preserved c = record {
-  held = subst (λ (maps : List (BTreeMap ℕ ℕ)). Holds maps []) (sym c.in_ok-push.ensures.items) (holds_nothing c.loop-made.maps.items c.new.result c.loop-made.invariant.held (keeps_nothing c.new.result (λ q. rw c.new.ensures.empty refl)));
+  held = rw c.in_ok-push.ensures.items (holds_nothing c.loop-made.maps.items c.new.result c.loop-made.invariant.held (keeps_nothing c.new.result (λ q. rw c.new.ensures.empty refl)));
   count = grind (arith, common_steps);
 }

@@ -12,4 +12,4 @@ returns c =
     let volumes = c.args.volumes.now in
     let roles = c.deref.ensures.value ∙ c.in-Ok.ensures in
     let line = c.least_line_of.ensures ∙ ap (λ (all : List Role). least_line_of (is_bad_snapshot volumes all) volumes) roles in
-    checked _ _ (c.check_least.ensures ∙ ap (λ (line : Option ℕ). first_or (at_line loads.Snapshot line) None) line)
+    checked _ _ (rw (← line) c.check_least.ensures)

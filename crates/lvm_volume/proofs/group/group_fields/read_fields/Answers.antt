@@ -1,4 +1,4 @@
-use Rattle.std.proofs.Common.{◌≡◌, ◌++◌, ◌∙◌, ℕ, List, Option, ap, codes, map, subst, sym}
+use Rattle.std.proofs.Common.{◌≡◌, ◌++◌, ◌∙◌, ℕ, List, Option, ap, codes, map, sym}
 use Rattle.std.proofs.lemmas.Result.{err_from_is_err_and}
 use Rattle.dm_table.specs.declared.load.place.Part.TheVariants.{Source}
 use Rattle.dm_table.specs.declared.load.load_fault.LoadKind.TheVariants.{Field}
@@ -43,8 +43,8 @@ returns-in-len1-clause-checked c =
     let text = λ (check : Check).
     sym (of_one check top.line c.as_slice.result.now c.group-item.result c.in-len1.len_at_least c.in-len1.len_below c.group-item.is)
     ∙ ap (one_group_faults check top.line) are
-    ∙ sym (ap (λ (faults : List LoadFault). faults ++ one_group_faults check top.line (sections_of top.values)) (head check)) in
-    subst (λ (found : Option LoadFault). IsChecked c.group_fields.result found) (same_both (λ check. group_faults check group.1) (of_text top) _ _ text (ap (λ (g : Keyed). number_at (codes "extent_size") g.1) first)) c.group_fields.ensures.checked
+    ∙ sym (rw (head check)) in
+    rw (← same_both (λ check. group_faults check group.1) (of_text top) _ _ text (ap (λ (g : Keyed). number_at (codes "extent_size") g.1) first)) c.group_fields.ensures.checked
 
 pub returns-clause-checked : goal.returns-clause-checked
 returns-clause-checked c =

@@ -1,4 +1,4 @@
-use Rattle.std.proofs.Common.{◌∙◌, List, ap, map}
+use Rattle.std.proofs.Common.{◌∙◌, List, map}
 use Rattle.std.proofs.lemmas.Result.{err_from_is_err_and}
 use Rattle.std.proofs.lemmas.List.{map_push}
 use Rattle.lvm_text.specs.Iterate.{item_view}
@@ -24,7 +24,7 @@ loop-section-preserved c =
     let sections = c.args.sections.now in
     let item = c.section-item.result in
     record {
-      made = made_next fields_of item_view sections c.loop-section.section-index item (fields_view c.in_ok-fields.fields) (map fields_view c.loop-section.all.items) _ c.loop-section-test.true c.section-item.is c.in_ok-fields.ensures.value (ap (λ (all : List PhysicalFields). map fields_view all) c.in-Ok-push.ensures.items ∙ map_push fields_view c.loop-section.all.items c.in_ok-fields.fields) ∙ c.loop-section.invariant.made;
+      made = made_next fields_of item_view sections c.loop-section.section-index item (fields_view c.in_ok-fields.fields) (map fields_view c.loop-section.all.items) _ c.loop-section-test.true c.section-item.is c.in_ok-fields.ensures.value (rw c.in-Ok-push.ensures.items (map_push fields_view c.loop-section.all.items c.in_ok-fields.fields)) ∙ c.loop-section.invariant.made;
       step = λ new failed left. c.loop-section.invariant.step new failed (goes_on of_physical item_view sections c.loop-section.section-index item c.loop-section-test.true c.section-item.is c.in_ok-fields.ensures.step left);
     }
 

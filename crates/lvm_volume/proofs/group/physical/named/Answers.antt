@@ -16,12 +16,12 @@ returns-in-Ok c = λ devices counts.
     let disk = ap (λ (shared : Bool). chosen shared fields.key fields.device) (c.is_shared-shared.ensures ∙ ap (nat_lt 1) (counts fields.device)) in
     let same : spec.named devices fields ≡ record { disk = c.in-Ok.disk; size = fields.size; start = fields.start; count = fields.count; line = fields.line } =
     rw (← disk, ← c.in-Ok.ensures.named) refl in
-    named (spec.named devices fields) (ap is_disk_name (sym disk) ∙ c.in-Ok.ensures.tested) ∙ ap (λ (p : Physical). Ok p) same
+    rw (← same) (named (spec.named devices fields) (ap is_disk_name (sym disk) ∙ c.in-Ok.ensures.tested))
 
 pub returns-in-Err-Form : goal.returns-in-Err-Form
 returns-in-Err-Form c = λ devices counts.
     let fields = fields_view c.args.fields.now in
     let disk = ap (λ (shared : Bool). chosen shared fields.key fields.device) (c.is_shared-shared.ensures ∙ ap (nat_lt 1) (counts fields.device)) in (
-      λ memory. let none : Name ≡ Memory = sym (ap (λ (f : LoadFault). f.kind) c.source_fault.ensures) ∙ memory in absurd cc,
+      λ memory. let none : Name ≡ Memory = sym (rw c.source_fault.ensures) ∙ memory in absurd cc,
       λ other. unnamed (spec.named devices fields) (ap is_disk_name (sym disk) ∙ c.in-Err-Form.ensures.form (ap Err c.in-Err-Form.field-0-is)) ∙ ap Err (sym c.source_fault.ensures),
     )

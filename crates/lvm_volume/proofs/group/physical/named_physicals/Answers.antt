@@ -24,9 +24,6 @@ loop-fields-preserved c =
     let step = taken_here (named devices) all c.loop-fields.fields-index _ c.in_ok-physical.physical c.loop-fields-test.true (c.in_ok-physical.ensures devices c.in-Ok.ensures) in
     record {
       made =
-          ap (λ (made : List Physical). made ++ more) c.in-Ok-push.ensures.items
-          ∙ append_assoc c.loop-fields.physicals.items (c.in_ok-physical.physical ∷ []) more
-          ∙ ap (λ (ps : List Physical). c.loop-fields.physicals.items ++ ps) (sym step.0)
-          ∙ c.loop-fields.invariant.made;
+          rw c.in-Ok-push.ensures.items (append_assoc c.loop-fields.physicals.items (c.in_ok-physical.physical ∷ []) more ∙ ap (λ (ps : List Physical). c.loop-fields.physicals.items ++ ps) (sym step.0) ∙ c.loop-fields.invariant.made);
       left = step.1 ∙ c.loop-fields.invariant.left;
     }

@@ -1,4 +1,4 @@
-use Rattle.std.proofs.Common.{◌∙◌, sym, ap, slice_set, arith}
+use Rattle.std.proofs.Common.{sym, ap, slice_set, arith}
 use Rattle.lvm_volume.specs.declared.group.roles.Role.{Role}
 use Rattle.lvm_volume.specs.group.RoleCode.{with_origin}
 use Rattle.lvm_volume.proofs.group.RoleLemmas.{changed_one, not_after}
@@ -7,8 +7,7 @@ use Rattle.lvm_volume.proofs.group.roles.add_origin.Goals as goal
 pub returns-then-position-len : goal.returns-then-position-len
 returns-then-position-len c =
     let all = c.args.roles.now.items in
-    ap (λ (role : Role). slice_set all c.args.position role) (c.with_origin.ensures ∙ ap with_origin c.index.ensures)
-    ∙ sym (changed_one with_origin c.args.position all c.index.result.now (omega (arith, c.if-position-len.true, c.len.ensures)))
+    rw (c.with_origin.ensures, ap with_origin c.index.ensures) (sym (changed_one with_origin c.args.position all c.index.result.now (omega (arith, c.if-position-len.true, c.len.ensures))))
 
 pub returns-else-position-len : goal.returns-else-position-len
 returns-else-position-len c = sym (not_after with_origin c.args.position 0 c.args.roles.now.items (omega (arith, c.if-position-len.false, c.len.ensures)))

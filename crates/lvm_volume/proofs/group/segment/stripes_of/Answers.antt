@@ -1,8 +1,8 @@
-use Rattle.std.proofs.Common.{◌++◌, sym, ap, ◌∙◌}
+use Rattle.std.proofs.Common.{◌++◌, sym, ◌∙◌}
 use Rattle.std.proofs.lemmas.List.{append-nil}
 use Rattle.lvm_volume.proofs.group.StripeLemmas.{too_short}
 use Rattle.lvm_volume.proofs.group.segment.stripes_of.Goals as goal
 
 pub returns : goal.returns
 returns c =
-    sym (append-nil c.loop-rest.stripes.items) ∙ sym (ap (λ more. c.loop-rest.stripes.items ++ more) (too_short c.args.positions.now c.loop-rest.rest.now c.in_default.len_below)) ∙ c.loop-rest.invariant
+    sym (append-nil c.loop-rest.stripes.items) ∙ sym (rw (too_short c.args.positions.now c.loop-rest.rest.now c.in_default.len_below)) ∙ c.loop-rest.invariant

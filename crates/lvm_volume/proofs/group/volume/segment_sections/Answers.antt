@@ -25,8 +25,8 @@ loop-i-init c =
     let volume = c.args.volume.now in
     let all : c.args.count - 0 ≡ c.args.count = omega arith in
     record {
-      made = rw c.new-sections.ensures.items (ap (λ (n : ℕ). flat_map (section_of volume) (range_with_len 1 n)) all);
-      step = λ failed left reader. in_words (λ check. ap (λ (n : ℕ). numbers_faults volume n check) all) (left reader);
+      made = rw c.new-sections.ensures.items (rw all);
+      step = λ failed left reader. in_words (λ check. rw all) (left reader);
     }
 
 pub returns-in_err-section-clause-step : goal.returns-in_err-section-clause-step
@@ -37,7 +37,7 @@ returns-in_err-section-clause-step c =
     let p = err_from_is_err_and c.from_residual.result c.from_residual.ensures.1 in
     rw (p.1, p.2)
     (c.loop-i.invariant.step _
-    (λ reader. number_fails (at_number volume) c.loop-i.i c.args.count c.loop-i-test.true (in_words (λ check. ap (λ (text : List ℕ). at_key kinds.Section text volume check) key) (c.in_err-section.ensures.step reader))))
+    (λ reader. number_fails (at_number volume) c.loop-i.i c.args.count c.loop-i-test.true (in_words (λ check. rw key) (c.in_err-section.ensures.step reader))))
 
 pub loop-i-preserved : goal.loop-i-preserved
 unfolding field_faults
@@ -49,7 +49,7 @@ loop-i-preserved c =
     record {
       made = made_more (section_of volume) _ _ c.loop-i.i c.args.count c.loop-i-test.true more ∙ c.loop-i.invariant.made;
       step = λ failed left.
-          c.loop-i.invariant.step failed (λ reader. number_goes (at_number volume) c.loop-i.i c.args.count c.loop-i-test.true (in_words (λ check. ap (λ (text : List ℕ). at_key kinds.Section text volume check) key) (c.in_ok-section.ensures.step reader)) (left reader));
+          c.loop-i.invariant.step failed (λ reader. number_goes (at_number volume) c.loop-i.i c.args.count c.loop-i-test.true (in_words (λ check. rw key) (c.in_ok-section.ensures.step reader)) (left reader));
     }
 
 pub returns-clause-step : goal.returns-clause-step

@@ -29,9 +29,9 @@ returns-in_err-segments-clause-step c =
     let volume = c.args.section.1.now in
     let reader = c.head_of.new.reader in
     let count = c.in_ok-head.ensures.count in
-    let all : map section_view c.deref.result.now ≡ segments_of volume = ap (map section_view) c.deref.ensures.value ∙ c.in_ok-sections.ensures.value ∙ ap (λ (n : ℕ). flat_map (λ i. section_at (codes "segment" ++ decimal i) volume) (range_with_len 1 n)) count in
+    let all : map section_view c.deref.result.now ≡ segments_of volume = rw (← count) (ap (map section_view) c.deref.ensures.value ∙ c.in_ok-sections.ensures.value) in
     let p = err_from_is_err_and c.from_residual-in_err-segments.result c.from_residual-in_err-segments.ensures.1 in
-    rw (p.1, p.2) (then_goes c.in_ok-head.ensures.step (then_goes (in_words (λ check. ap (λ (n : ℕ). numbers_faults volume n check) count) (c.in_ok-sections.ensures.step reader)) (in_words (λ check. ap (λ (all : List Tree). segments_faults all check) all) c.in_err-segments.ensures.step)))
+    rw (p.1, p.2) (then_goes c.in_ok-head.ensures.step (then_goes (in_words (λ check. ap (λ (n : ℕ). numbers_faults volume n check) count) (c.in_ok-sections.ensures.step reader)) (in_words (λ check. rw all) c.in_err-segments.ensures.step)))
 
 pub returns-clause-step : goal.returns-clause-step
 unfolding volume_faults
@@ -39,8 +39,8 @@ returns-clause-step c =
     let volume = c.args.section.1.now in
     let reader = c.head_of.new.reader in
     let count = c.in_ok-head.ensures.count in
-    let all : map section_view c.deref.result.now ≡ segments_of volume = ap (map section_view) c.deref.ensures.value ∙ c.in_ok-sections.ensures.value ∙ ap (λ (n : ℕ). flat_map (λ i. section_at (codes "segment" ++ decimal i) volume) (range_with_len 1 n)) count in
-    then_goes c.in_ok-head.ensures.step (then_goes (in_words (λ check. ap (λ (n : ℕ). numbers_faults volume n check) count) (c.in_ok-sections.ensures.step reader)) (in_words (λ check. ap (λ (all : List Tree). segments_faults all check) all) c.in_ok-segments.ensures.step))
+    let all : map section_view c.deref.result.now ≡ segments_of volume = rw (← count) (ap (map section_view) c.deref.ensures.value ∙ c.in_ok-sections.ensures.value) in
+    then_goes c.in_ok-head.ensures.step (then_goes (in_words (λ check. ap (λ (n : ℕ). numbers_faults volume n check) count) (c.in_ok-sections.ensures.step reader)) (in_words (λ check. rw all) c.in_ok-segments.ensures.step))
 
 pub returns-clause-value : goal.returns-clause-value
 unfolding volume_of
@@ -48,6 +48,6 @@ returns-clause-value c =
     let volume = c.args.section.1.now in
     let reader = c.head_of.new.reader in
     let count = c.in_ok-head.ensures.count in
-    let all : map section_view c.deref.result.now ≡ segments_of volume = ap (map section_view) c.deref.ensures.value ∙ c.in_ok-sections.ensures.value ∙ ap (λ (n : ℕ). flat_map (λ i. section_at (codes "segment" ++ decimal i) volume) (range_with_len 1 n)) count in
+    let all : map section_view c.deref.result.now ≡ segments_of volume = rw (← count) (ap (map section_view) c.deref.ensures.value ∙ c.in_ok-sections.ensures.value) in
     let made = c.in_ok-segments.ensures.value ∙ ap (map (segment_of c.args.positions.now)) all in
     rw (c.in-Ok.ensures, c.in_ok-head.ensures.ro, made, c.line.ensures) refl

@@ -1,4 +1,4 @@
-use Rattle.std.proofs.Common.{◌≡◌, ◌++◌, [], List, None, Some, sym, ap, ◌∙◌}
+use Rattle.std.proofs.Common.{◌≡◌, ◌++◌, [], List, None, Some, sym, ◌∙◌}
 use Rattle.std.proofs.lemmas.List.{append-nil}
 use Rattle.std.proofs.lemmas.Result.{err_from_is_err_and}
 use Rattle.dm_table.specs.declared.load.load_fault.LoadFault.{LoadFault}
@@ -18,5 +18,5 @@ returns c =
     let layer = unnamed_layer c.args.group.now c.args.volume.now (Some c.args.layer) in
     let own = unnamed_layer c.args.group.now c.args.volume.now None in
     let both : first_or (layer ++ (own ++ [])) None ≡ first_or own None =
-    first_after layer (own ++ []) None (sym c.in_ok-check_device.ensures) ∙ ap (λ (faults : List LoadFault). first_or faults None) (append-nil own) in
+    rw (first_after layer (own ++ []) None (sym c.in_ok-check_device.ensures), append-nil own) in
     c.check_device-2.ensures ∙ sym both

@@ -34,7 +34,7 @@ Named fields physicals = unless (first_or (name_faults (all_named (map fields_vi
 
 physicals_are : (top : Tree) (fields : GroupFields) (all : List PhysicalFields) → IsSaid (first_section (sections_of top.values)) fields → all ≡ fields.physicals.items → all_named (map fields_view all) ≡ (group_of top).physicals
 physicals_are top fields all said is =
-    ap (λ (all : List PhysicalFields). all_named (map fields_view all)) is ∙ ap all_named said.physicals ∙ all_said (sections_at (codes "physical_volumes") (first_section (sections_of top.values)).1)
+    rw is (ap all_named said.physicals ∙ all_said (sections_at (codes "physical_volumes") (first_section (sections_of top.values)).1))
 
 made : (top : Tree) (fields : GroupFields) (all : List PhysicalFields) (physicals : List Physical) → of_both top ≡ None → IsSaid (first_section (sections_of top.values)) fields → all ≡ fields.physicals.items → Named all physicals
     → Made top fields.extent_size physicals fields.volumes.items
@@ -43,7 +43,7 @@ made top fields all physicals none said is got =
     let h = ok_is (first_or (name_faults (all_named (map fields_view all))) None) (all_named (map fields_view all)) physicals got in
     record {
       fields = none;
-      names = ap (λ (ps : List Physical). first_or (name_faults ps) None) (sym named) ∙ h.0;
+      names = rw (← named) h.0;
       same = λ name is_name. let are : (group_of top).physicals ≡ physicals = sym named ∙ h.1 in rw (is_name, said.extent_size, ← are, said.volumes) refl;
     }
 
@@ -59,7 +59,7 @@ returns-in_err-named_physicals c =
     let named = physicals_are top c.in-Ok.fields c.deref.result.now c.in-Ok.ensures.value c.deref.ensures.value in
     let p = err_from_is_err_and c.from_residual.result c.from_residual.ensures.1 in
     rw (p.1, p.2)
-    (at_names top (group_of top).physicals fault c.in-Ok.ensures.checked (subst (λ (ps : List Physical). Refused fault (unless (first_or (name_faults ps) None) ps)) named c.in_err-named_physicals.ensures))
+    (at_names top (group_of top).physicals fault c.in-Ok.ensures.checked (rw (← named) c.in_err-named_physicals.ensures))
 
 pub returns-in_err-check_parts : goal.returns-in_err-check_parts
 returns-in_err-check_parts c =
@@ -82,5 +82,4 @@ pub returns : goal.returns
 returns c =
     let top = c.args.top.now in
     let h = made top c.in-Ok.fields c.deref.result.now _ c.in-Ok.ensures.checked c.in-Ok.ensures.value c.deref.ensures.value c.in_ok-named_physicals.ensures in
-    accepted top h.fields h.names (found_in h _ (c.in_ok-check_parts.ensures (group_of top).name))
-    ∙ ap (λ (g : Group). Ok g) (h.same c.in-Ok-new.name (c.in-Ok-new.ensures ∙ c.in-Ok.ensures.value.name))
+    rw (← h.same c.in-Ok-new.name (c.in-Ok-new.ensures ∙ c.in-Ok.ensures.value.name)) (accepted top h.fields h.names (found_in h _ (c.in_ok-check_parts.ensures (group_of top).name)))
