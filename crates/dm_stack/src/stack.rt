@@ -73,7 +73,7 @@ impl Model for Stack {
 
     ghost invariant = { λ stack. IsLoaded (described stack.devices stack.disks)
         stack.device_names stack.disk_names stack.found.items stack.depth stack.snapshots.items
-        stack.texts.items stack.fronts };
+        stack.texts.items stack.fronts.places };
 }
 
 impl Stack {

@@ -1,10 +1,10 @@
 -- Keys of names: what is kept of sixteen bytes, and that a key is of one name.
-use Rattle.std.proofs.Common.{◌≡◌, ℕ, zero, suc, ◌+◌, ◌-◌, ◌%◌, ◌^◌, ◌<◌, not, Bool, true, false, List, [], ◌∷◌, ◌++◌, get_or, length, map, take, drop, replicate, refl, sym, ap, ◌∙◌, arith, bit_and}
+use Rattle.std.proofs.Common.{◌≡◌, ℕ, zero, suc, ◌+◌, ◌-◌, ◌%◌, ◌/◌, ◌^◌, ◌<◌, ◌≤◌, not, Bool, true, false, List, [], ◌∷◌, ◌++◌, get_or, length, map, take, drop, replicate, refl, sym, ap, ◌∙◌, arith, bit_and}
 use Rattle.std.specs.List.{All, Contains, prefix_len, slice_range}
 use Rattle.std.proofs.Math.Seq.{take-append_seam}
-use Rattle.std.proofs.lemmas.List.{drop_more, take-append-drop}
+use Rattle.std.proofs.lemmas.List.{drop_more, length-drop, take-append-drop, take_all}
 use Rattle.std.proofs.lemmas.List.Elements.{All-contains_itself, All-drop, All-same, All-take}
-use Rattle.std.proofs.lemmas.Nat.{and_le_r, and_mask}
+use Rattle.std.proofs.lemmas.Nat.{and_le_r, and_mask, shr_below}
 use lib.Lanes.{mask_l, zip2}
 use Rattle.dm_stack.specs.names.FrontNames.{IsKeyOf}
 use Rattle.dm_stack.specs.declared.names.name_key.NameKey.{NameKey}
@@ -51,6 +51,16 @@ same_name one other key a b =
     ∙ ap (take (length other)) (sym a.bytes ∙ b.bytes)
     ∙ take-append_seam other zeros
 
+-- The first place of a key
+
+-- a word that is shifted to some binary digits has no more of them
+pub shifted : (x digits : ℕ) → 1 ≤ digits → digits ≤ 13 → x % 2 ^ 64 / 2 ^ ((64 - digits) % 64) < 2 ^ digits
+shifted x digits some few =
+    let sum : digits + (64 - digits) ≡ 64 = omega (arith, few) in
+    let by : (64 - digits) % 64 ≡ 64 - digits = omega (arith, some, few) in
+    let word : x % 2 ^ 64 < 2 ^ (digits + (64 - digits)) = rw sum (omega arith) in
+    rw by (shr_below (x % 2 ^ 64) digits (64 - digits) word)
+
 -- Parts of a list
 
 -- each of a part of a list is in it
@@ -60,6 +70,11 @@ part_of xs ahead part from n is_ahead is_part =
     (All-take (Contains xs) (n - 0) ahead
     (All-same (Contains xs) ahead (slice_range xs from (length xs)) is_ahead
     (All-take (Contains xs) (length xs - from) (drop from xs) (All-drop (Contains xs) from xs (All-contains_itself xs)))))
+
+-- the first eight from an index on
+pub part_at : {X : Type 0} (xs ahead part : List X) (from : ℕ) → ahead ≡ slice_range xs from (length xs) → part ≡ slice_range ahead 0 8 → part ≡ take 8 (drop from xs)
+part_at xs ahead part from is_ahead is_part =
+    is_part ∙ ap (take 8) (is_ahead ∙ take_all (length xs - from) (drop from xs) (let len = length-drop from xs in omega (arith, len)))
 
 -- a space where it stands
 pub space_cut : (text : List ℕ) (len : ℕ) → len < length text → get_or text len 0 ≡ 32 → text ≡ take len text ++ 32 ∷ drop (len + 1) text

@@ -64,7 +64,7 @@ pub(crate) fn check(
 ) -> Result<Checked, LoadFault>
     ensures loaded { IfOk result (λ checked. IsLoaded (described devices.now disks.now)
         checked.names.devices checked.names.disks checked.found.items checked.depth
-        checked.snapshots.items checked.texts.items checked.fronts) }
+        checked.snapshots.items checked.texts.items checked.fronts.places) }
     ensures fault { IfErr result (λ fault.
         IsRefusedBy (described devices.now disks.now) fault ⊎ IsMemoryFault Source fault) }
 {

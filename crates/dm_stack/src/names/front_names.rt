@@ -2,13 +2,13 @@
 //!
 //! The keys of names are in places. At which place a name begins to be looked for follows from its key, and
 //! where other names are, it is at one of the next. No proof rests on that: a place with a short name says
-//! whose it is, and where no place has the key nothing is said.
+//! whose it is, and where none of those that are tried has the key nothing is said of the name.
 
-ghost use Rattle.std.specs.Prelude.{◌≡◌, ◌<◌, ◌≤◌, IfOk, IfSome, List, get_or, length, take};
-ghost use Rattle.std.specs.List.{Contains};
+ghost use Rattle.std.specs.Prelude.{◌≡◌, ◌≢◌, ◌<◌, ◌≤◌, IfNone, IfOk, IfSome, List, get_or, length, take};
+ghost use Rattle.std.specs.List.{All, Contains};
 ghost use Rattle.dm_table.specs.declared.tables.table.DeviceSpec.{DeviceSpec};
 ghost use Rattle.dm_table.specs.words.Bytes.{code};
-ghost use Rattle.dm_stack.specs.names.FrontNames.{AreApart, ArePlaces, IsKeyOf, IsPlaceOf};
+ghost use Rattle.dm_stack.specs.names.FrontNames.{AreApart, ArePlaces, IsKeyOf, IsPlaceOf, first_place, tried};
 ghost use Rattle.dm_stack.specs.declared.names.front_names.Place.{Place};
 ghost use Rattle.dm_stack.specs.declared.names.name_key.NameKey.{NameKey};
 ghost use Rattle.dm_stack.specs.declared.names.name_key.TheConstants.{ROOM};
@@ -38,7 +38,8 @@ pub(crate) struct Place {
     pub device: DeviceId,
 }
 
-/// The names of devices. A clause sees the places.
+/// The names of devices. A clause sees the places, and by how much a key's product is shifted to its first
+/// one; the invariant says that all places that are tried for a key are there.
 #[derive(Drop)]
 pub(crate) struct FrontNames {
     places: Reserved<Place>,
@@ -47,12 +48,13 @@ pub(crate) struct FrontNames {
 }
 
 impl Model for FrontNames {
-    ghost use Rattle.std.specs.Prelude.{List};
-    ghost use Rattle.dm_stack.specs.declared.names.front_names.Place.{Place};
+    ghost use Rattle.dm_stack.specs.names.FrontNames.{Fronts, HasAllTried};
 
-    ghost Value = { List Place };
+    ghost Value = { Fronts };
 
-    ghost view = { λ names. names.places.items };
+    ghost view = { λ names. record { places = names.places.items; shift = names.shift } };
+
+    ghost invariant = { λ names. HasAllTried names.places.items names.shift };
 }
 
 impl FrontNames {
@@ -62,7 +64,7 @@ impl FrontNames {
     /// and 8 more, of 32 bytes.
     pub(crate) fn new(alloc: Global, devices: &[DeviceSpec]) -> Result<FrontNames, AllocError>
         requires { AreApart devices.now }
-        ensures { IfOk result (λ names. ArePlaces devices.now names) }
+        ensures { IfOk result (λ names. ArePlaces devices.now names.places) }
     {
         let digits = place_digits(devices.len());
         let shift = 64 - digits;
@@ -81,7 +83,7 @@ impl FrontNames {
     #[inline(always)]
     pub(crate) fn find_short(&self, room: &[u8; ROOM], len: usize) -> Option<DeviceId>
         requires { len < ROOM }
-        ensures { IfSome result (λ device. (place : Place) × Contains self.now place
+        ensures { IfSome result (λ device. (place : Place) × Contains self.now.places place
             × (place.key.len < ROOM) × IsKeyOf (take len room.now) place.key × (place.device ≡ device)) }
     {
         self.find(&NameKey::short(room, len))
@@ -102,10 +104,12 @@ impl FrontNames {
         Some((device, len))
     }
 
-    /// The device at a place that has a key.
+    /// The device at a place that has a key. `None`: none of the places that are tried for it has it.
     #[inline(always)]
     fn find(&self, key: &NameKey) -> Option<DeviceId>
-        ensures { IfSome result (λ device. Contains self.now (record { key = key.now; device = device })) }
+        ensures found { IfSome result (λ device.
+            Contains self.now.places (record { key = key.now; device = device })) }
+        ensures none { IfNone result (All (λ place. place.key ≢ key.now) (tried self.now key.now)) }
     {
         let places = self.places.as_slice();
         let ahead = places.get(first_place(key, self.shift)..)?;
@@ -158,15 +162,18 @@ fn place_of(devices: &[DeviceSpec], index: usize) -> Place
 
 /// Where the places of a key begin.
 #[inline(always)]
-fn first_place(key: &NameKey, shift: u32) -> usize {
+fn first_place(key: &NameKey, shift: u32) -> usize
+    ensures { result ≡ first_place key.now shift }
+{
     let mixed = (key.first ^ key.last.rotate_left(29)).wrapping_mul(0x9E37_79B9_7F4A_7C15);
     mixed.wrapping_shr(shift) as usize
 }
 
 /// Puts a place at the first empty one from an index on, unless all are taken.
 fn put(places: &mut Vec<Place>, from: usize, place: Place)
-    ensures { (devices : List DeviceSpec) → ArePlaces devices places.old.items
+    ensures places { (devices : List DeviceSpec) → ArePlaces devices places.old.items
         → (place.key.len < ROOM → IsPlaceOf devices place) → ArePlaces devices places.new.items }
+    ensures len { length places.new.items ≡ length places.old.items }
 {
     let end = places.len().min(from.saturating_add(TRIES));
     let mut at = from;

@@ -22,7 +22,7 @@ is_of : (c : In_ok-device) → IsOf c
 is_of c =
     let found = c.in_ok-device.ensures in
     let place = found.0 in
-    let of = All-contains (λ (p : Place). p.key.len < ROOM → IsPlaceOf c.self.inside.devices p) c.self.inside.fronts place c.self.invariant.fronts found.1 found.2 in
+    let of = All-contains (λ (p : Place). p.key.len < ROOM → IsPlaceOf c.self.inside.devices p) c.self.inside.fronts.places place c.self.invariant.fronts found.1 found.2 in
     let len = c.in-Some.len in
     let room : take len c.in_ok-room.room.now ≡ take len c.args.text.now = ap (λ (xs : List ℕ). take len xs) c.in_ok-room.ensures.cases.same ∙ take-take len 16 c.args.text.now (omega (arith, c.in-Some.ensures.within)) in
     record {
