@@ -2,11 +2,12 @@
 use Rattle.std.proofs.Common.{◌≡◌, ℕ, ◌^◌, ◌<◌, ◌≤◌, inl, inr, Option, Some, None, length, ap, refl, arith}
 use Rattle.std.specs.Prelude.{slice_get}
 use Rattle.std.proofs.lemmas.Bool.{cases_lt}
+use Rattle.std.specs.Option.{option_map_or}
 use Rattle.std.proofs.lemmas.Option.{slice_get_past}
 use Rattle.dm_table.specs.declared.tables.disk.Disk.{Disk}
 use Rattle.dm_stack.specs.declared.id.Lower.{Lower}
 use Rattle.dm_stack.specs.declared.id.Lower.TheVariants as lowers
-use Rattle.dm_stack.specs.Description.{Description, device_len, disk_len, lower_len, len_or_none}
+use Rattle.dm_stack.specs.Description.{Description, device_len, disk_len, lower_len}
 use Rattle.dm_stack.specs.checks.Soundness.{IsSound}
 use Rattle.dm_stack.proofs.SoundLines.{device_small, disk_small}
 
@@ -23,12 +24,12 @@ pub disk_there : (stack : Description) (disk sector : ℕ) → sector < disk_len
 disk_there stack disk sector inside =
     elim (cases_lt disk (length stack.disks)) [
       | inl there ↦ there
-      | inr past ↦ absurd (let none : disk_len stack disk ≡ 0 = ap len_or_none (slice_get_past stack.disks disk past) in omega arith)
+      | inr past ↦ absurd (let none : disk_len stack disk ≡ 0 = ap (λ (found : Option Disk). option_map_or (λ disk. disk.len) found 0) (slice_get_past stack.disks disk past) in omega arith)
     ]
 
 -- nothing is longer than a line may be
 
-disk_within : (stack : Description) (id : ℕ) (disk : Option Disk) → IsSound stack → slice_get stack.disks id ≡ disk → len_or_none disk ≤ 2 ^ 50
+disk_within : (stack : Description) (id : ℕ) (disk : Option Disk) → IsSound stack → slice_get stack.disks id ≡ disk → option_map_or (λ (it : Disk). it.len) disk 0 ≤ 2 ^ 50
 disk_within stack id None sound at = omega arith
 disk_within stack id (Some disk) sound at = disk_small stack id disk sound at
 

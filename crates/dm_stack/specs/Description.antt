@@ -1,6 +1,7 @@
 -- What a stack is, for every definition: its devices with their lines, and its disks, by their indexes in the lists.
-use Rattle.std.specs.Prelude.{ℕ, ◌+◌, ◌==◌, Bool, false, List, [], ◌∷◌, Option, Some, None, find, map, nat_eq, slice_get}
+use Rattle.std.specs.Prelude.{ℕ, ◌+◌, ◌==◌, Bool, false, List, [], ◌∷◌, Option, Some, None, map, nat_eq, slice_get}
 use Rattle.std.specs.List.{flat_map, position_or_len}
+use Rattle.std.specs.Option.{option_map_or}
 use Rattle.std.specs.Cmp.Lexicographic.{pointwise}
 use Rattle.dm_table.specs.declared.tables.table.DevRef.{DevRef}
 use Rattle.dm_table.specs.declared.tables.table.DevRef.TheVariants as refs
@@ -24,17 +25,11 @@ described devices disks = record { devices = devices; disks = disks }
 abbrev pub is_same : List ℕ → List ℕ → Bool
 is_same = pointwise nat_eq
 
--- the first device, and the first disk, of a name
-abbrev pub device_named : List DeviceSpec → List ℕ → Option DeviceSpec
-device_named devices name = find (λ device. is_same device.name name) devices
-
-abbrev pub disk_named : List Disk → List ℕ → Option Disk
-disk_named disks name = find (λ disk. is_same disk.name name) disks
-
 -- the id of a name: the index of the first of that name, or the number of them where none has it
 abbrev pub device_id : Description → List ℕ → ℕ
 device_id stack name = position_or_len (λ device. is_same device.name name) stack.devices
 
+-- the same of the name of a disk
 abbrev pub disk_id : Description → List ℕ → ℕ
 disk_id stack name = position_or_len (λ disk. is_same disk.name name) stack.disks
 
@@ -56,47 +51,29 @@ end_of [] = 0
 end_of (line ∷ []) = line.start + line.len
 end_of (line ∷ next ∷ lines) = end_of (next ∷ lines)
 
--- the name of a device, and of a disk, that may be missing
-abbrev pub name_or_none : Option DeviceSpec → List ℕ
-name_or_none (Some device) = device.name
-name_or_none None = []
-
-abbrev pub disk_name_or_none : Option Disk → List ℕ
-disk_name_or_none (Some disk) = disk.name
-disk_name_or_none None = []
-
--- what a device that may be missing says
+-- the lines of a device that may be missing
 abbrev pub lines_or_none : Option DeviceSpec → List Line
 lines_or_none (Some device) = device.lines
 lines_or_none None = []
 
-abbrev pub is_read_only : Option DeviceSpec → Bool
-is_read_only (Some device) = device.ro
-is_read_only None = false
-
--- the length of a disk that may be missing
-abbrev pub len_or_none : Option Disk → ℕ
-len_or_none (Some disk) = disk.len
-len_or_none None = 0
-
--- names, the lines of a device, whether it is read-only, and lengths in sectors, by ids
+-- names, the lines of a device, whether it is read-only, and lengths in sectors, by ids: empty, false or 0 where nothing has the id
 abbrev pub name_at : Description → ℕ → List ℕ
-name_at stack device = name_or_none (slice_get stack.devices device)
+name_at stack device = option_map_or (λ it. it.name) (slice_get stack.devices device) []
 
 abbrev pub disk_name_at : Description → ℕ → List ℕ
-disk_name_at stack disk = disk_name_or_none (slice_get stack.disks disk)
+disk_name_at stack disk = option_map_or (λ it. it.name) (slice_get stack.disks disk) []
 
 abbrev pub lines_at : Description → ℕ → List Line
 lines_at stack device = lines_or_none (slice_get stack.devices device)
 
 abbrev pub is_ro_at : Description → ℕ → Bool
-is_ro_at stack device = is_read_only (slice_get stack.devices device)
+is_ro_at stack device = option_map_or (λ it. it.ro) (slice_get stack.devices device) false
 
 abbrev pub device_len : Description → ℕ → ℕ
 device_len stack device = end_of (lines_at stack device)
 
 abbrev pub disk_len : Description → ℕ → ℕ
-disk_len stack disk = len_or_none (slice_get stack.disks disk)
+disk_len stack disk = option_map_or (λ it. it.len) (slice_get stack.disks disk) 0
 
 abbrev pub lower_len : Description → Lower → ℕ
 lower_len stack (lowers.Device device) = device_len stack device
@@ -111,6 +88,7 @@ ref_link stack (refs.Disk name) = []
 abbrev pub line_links : Description → Line → List ℕ
 line_links stack line = flat_map (λ span. ref_link stack span.to) (spans line)
 
+-- the ids of the devices that a device's lines name, in their order: one may come twice
 abbrev pub device_links : Description → DeviceSpec → List ℕ
 device_links stack device = flat_map (line_links stack) device.lines
 

@@ -11,7 +11,7 @@ use Rattle.dm_table.specs.declared.load.load_fault.LoadFault.{LoadFault}
 use Rattle.dm_table.specs.load.LoadFault.{fault, faults_by, first_or}
 use Rattle.dm_stack.specs.Description.{Description}
 use Rattle.dm_stack.specs.checks.StoreLimit.{all_places}
-use Rattle.dm_stack.specs.checks.Soundness.{IsSound, WithBefore, all_lines, checks_after, is_crowded, target_places, with_before}
+use Rattle.dm_stack.specs.checks.Soundness.{IsSound, WithBefore, all_lines, checks_after, target_places, with_before}
 use Rattle.dm_table.proofs.FaultLemmas.{first_fault-none}
 use Rattle.dm_stack.proofs.checks.Passes.{cond_none}
 use Rattle.dm_stack.proofs.checks.PlacedLemmas.{next_of}
@@ -71,7 +71,7 @@ few_from stack used (line ∷ lines) few none =
 pub few_places : (stack : Description) → IsSound stack → all_places stack ≤ 4194304
 few_places stack sound =
     let late = first_fault-none (checks_after stack) sound.after in
-    let same = by_same Limit (λ (l : WithBefore Line). l.it.at) (passes_most stack 0) (is_crowded stack) (with_before (all_lines stack.devices))
+    let same = by_same Limit (λ (l : WithBefore Line). l.it.at) (passes_most stack 0) (λ l. nat_lt 4194304 (sum_by (line_places stack) l.before + line_places stack l.it)) (with_before (all_lines stack.devices))
     (λ l. ap (nat_lt 4194304) (zero-add (sum_by (line_places stack) l.before + line_places stack l.it))) in
     let few = few_from stack 0 (all_lines stack.devices) (omega arith) (same ∙ late.1.1.1.1.1.0) in
     omega (arith, few)

@@ -12,7 +12,7 @@ use Rattle.dm_table.specs.declared.load.load_fault.LoadKind.TheVariants.{Limit, 
 use Rattle.dm_table.specs.declared.load.load_fault.LoadFault.{LoadFault}
 use Rattle.dm_table.specs.load.LoadFault.{fault, faults_by, first_or, first_fault}
 use Rattle.dm_stack.specs.Description.{Description, end_of}
-use Rattle.dm_stack.specs.checks.Soundness.{Early, HaveSmallEnds, IsRefusedBy, Late, OnCycle, WithBefore, all_lines, checks_after, checks_before, crowded, deep, depth_of, empty, empty_in, faults_by_id, has_bad_store, has_bad_stripes, is_crowded, is_far, is_large, is_misplaced, is_repeated, is_unknown, misplaced, misplaced_in, misplaced_kind, passes_end, past, range, snapshot, bad_snapshots_in, is_bad_snapshot, store, stripe, too_large, too_many, twice, twice_in, unknown, with_before, without_lines}
+use Rattle.dm_stack.specs.checks.Soundness.{Early, HaveSmallEnds, IsRefusedBy, Late, OnCycle, WithBefore, all_lines, checks_after, checks_before, crowded, deep, depth_of, empty, empty_in, faults_by_id, has_bad_store, has_bad_stripes, is_far, is_large, is_misplaced, is_repeated, is_unknown, misplaced, misplaced_in, misplaced_kind, passes_end, past, range, snapshot, bad_snapshots_in, is_bad_snapshot, store, stripe, too_large, too_many, twice, twice_in, unknown, with_before, without_lines}
 use Rattle.dm_table.specs.tables.Span.{spans}
 use Rattle.dm_stack.proofs.checks.Passes.{all_parts, append_none, faults_by_none}
 
@@ -124,7 +124,7 @@ after_not_memory stack at e =
     (first_not_memory (snapshot stack) _ at
     (all_each IsNotMemory (λ device. bad_snapshots_in stack device.lines) stack.devices (λ device. by_not_memory Snapshot (λ line. line.at) (λ line. is_bad_snapshot stack (length device.lines) line.len line.target) device.lines (λ e. cc)))
     (first_not_memory (store stack) _ at (by_not_memory Store (λ line. line.at) (λ line. has_bad_store stack line.target) (all_lines stack.devices) (λ e. cc))
-    (first_not_memory (crowded stack) None at (by_not_memory Limit (λ line. line.it.at) (is_crowded stack) (with_before (all_lines stack.devices)) (λ e. cc)) (λ none. absurd cc)))))) e
+    (first_not_memory (crowded stack) None at (by_not_memory Limit (λ line. line.it.at) _ (with_before (all_lines stack.devices)) (λ e. cc)) (λ none. absurd cc)))))) e
 
 pub refused_not_memory : (stack : Description) (at : LoadFault) → IsRefusedBy stack at → IsNotMemory at
 refused_not_memory stack at (Early before) = before_not_memory stack at before

@@ -1,5 +1,5 @@
 -- The checks of a load, over the devices and the disks that it is handed.
-use Rattle.std.specs.Prelude.{◌≡◌, ℕ, suc, ◌+◌, ◌/◌, ◌%◌, ◌≤◌, ◌<◌, Bool, true, false, not, ◌||◌, ◌==◌, List, [], ◌∷◌, ◌++◌, Option, Some, None, drop, filter, length, map, is_none, nat_lt, if◌then◌else◌}
+use Rattle.std.specs.Prelude.{◌≡◌, ℕ, suc, ◌+◌, ◌/◌, ◌%◌, ◌≤◌, ◌<◌, Bool, true, false, not, ◌||◌, ◌==◌, List, [], ◌∷◌, ◌++◌, Option, Some, None, drop, filter, find, length, map, is_none, nat_lt, if◌then◌else◌}
 use Rattle.std.specs.Int.{is_power_of_two}
 use Rattle.std.specs.List.{All, flat_map, list_any, sum_by}
 use Rattle.dm_table.specs.declared.tables.table.DevRef.{DevRef}
@@ -13,7 +13,7 @@ use Rattle.dm_table.specs.declared.load.load_fault.LoadKind.{LoadKind}
 use Rattle.dm_table.specs.declared.load.load_fault.LoadKind.TheVariants.{Limit, Twice, Empty, Gap, Overlap, Unknown, Cycle, Deep, Stripe, Range, Snapshot, Store}
 use Rattle.dm_table.specs.declared.load.load_fault.LoadFault.{LoadFault}
 use Rattle.dm_table.specs.load.LoadFault.{fault, faults_by, first_fault}
-use Rattle.dm_stack.specs.Description.{Description, is_same, device_named, disk_named, end_of, lower_of, lower_len, links}
+use Rattle.dm_stack.specs.Description.{Description, is_same, end_of, lower_of, lower_len, links}
 use Rattle.dm_table.specs.tables.Span.{Span, spans}
 use Rattle.dm_stack.specs.checks.Graph.{Reaches, depth_to}
 use Rattle.dm_stack.specs.lines.StoreLayout.{place_count}
@@ -70,6 +70,7 @@ with_before (x ∷ xs) = record { before = []; it = x } ∷ map (λ later. recor
 abbrev pub is_repeated : {X : Type 0} → (X → List ℕ) → WithBefore X → Bool
 is_repeated name x = list_any (λ other. is_same (name other) (name x.it)) x.before
 
+-- an element whose name one before it has, each at its place
 abbrev pub twice_in : {X : Type 0} → (X → List ℕ) → (X → Place) → List X → List LoadFault
 twice_in name place xs = faults_by Twice (λ x. place x.it) (is_repeated name) (with_before xs)
 
@@ -100,21 +101,24 @@ is_misplaced line = not (line.it.start == end_of line.before)
 abbrev pub misplaced_kind : WithBefore Line → LoadKind
 misplaced_kind line = if nat_lt (end_of line.before) line.it.start then Gap else Overlap
 
+-- the gaps and overlaps of a device's lines
 abbrev pub misplaced_in : List Line → List LoadFault
 misplaced_in lines = map (λ line. fault (misplaced_kind line) line.it.at) (filter is_misplaced (with_before lines))
 
+-- the gaps and overlaps of all devices
 abbrev pub misplaced : Description → List LoadFault
 misplaced stack = flat_map (λ device. misplaced_in device.lines) stack.devices
 
 -- a name of no device or disk
 abbrev pub is_unknown_ref : Description → DevRef → Bool
-is_unknown_ref stack (refs.Device name) = is_none (device_named stack.devices name)
-is_unknown_ref stack (refs.Disk name) = is_none (disk_named stack.disks name)
+is_unknown_ref stack (refs.Device name) = is_none (find (λ device. is_same device.name name) stack.devices)
+is_unknown_ref stack (refs.Disk name) = is_none (find (λ disk. is_same disk.name name) stack.disks)
 
 -- a line that names what is not there
 abbrev pub is_unknown : Description → Line → Bool
 is_unknown stack line = list_any (λ span. is_unknown_ref stack span.to) (spans line)
 
+-- a line that names what isn't there
 abbrev pub unknown : Description → List LoadFault
 unknown stack = line_faults Unknown (is_unknown stack) stack
 
@@ -137,10 +141,12 @@ abbrev pub is_bad_stripe : (len chunk count : ℕ) → Bool
 is_bad_stripe len chunk count =
     count == 0 || (nat_lt MOST_STRIPES count || (chunk == 0 || (nat_lt MOST_CHUNK chunk || (not (len % count == 0) || not ((len / count) % chunk == 0)))))
 
+-- a striped line that is bad in one of these ways
 abbrev pub has_bad_stripes : Line → Target → Bool
 has_bad_stripes line (targets.Striped chunk columns) = is_bad_stripe line.len chunk (length columns)
 has_bad_stripes line _ = false
 
+-- the striped lines that are bad
 abbrev pub stripe : Description → List LoadFault
 stripe stack = line_faults Stripe (λ line. has_bad_stripes line line.target) stack
 
@@ -149,6 +155,7 @@ abbrev pub passes : (end offset : ℕ) → (len : Option ℕ) → Bool
 passes end offset (Some len) = nat_lt end (offset + len)
 passes end offset None = false
 
+-- a span that passes the end of what it names
 abbrev pub is_past : Description → Span → Bool
 is_past stack span = passes (lower_len stack (lower_of stack span.to)) span.offset span.len
 
@@ -156,6 +163,7 @@ is_past stack span = passes (lower_len stack (lower_of stack span.to)) span.offs
 abbrev pub passes_end : Description → Line → Bool
 passes_end stack line = list_any (is_past stack) (spans line)
 
+-- the lines that pass the end of what they name
 abbrev pub range : Description → List LoadFault
 range stack = line_faults Range (passes_end stack) stack
 
@@ -174,6 +182,7 @@ is_bad_snapshot stack lines len _ = false
 abbrev pub bad_snapshots_in : Description → List Line → List LoadFault
 bad_snapshots_in stack lines = faults_by Snapshot (λ line. line.at) (λ line. is_bad_snapshot stack (length lines) line.len line.target) lines
 
+-- the lines of snapshots and origins that are bad
 abbrev pub snapshot : Description → List LoadFault
 snapshot stack = flat_map (λ device. bad_snapshots_in stack device.lines) stack.devices
 
@@ -182,6 +191,7 @@ abbrev pub HasGoodChunk : Target → Type 0
 HasGoodChunk (targets.Snapshot origin store kind chunk) = (0 < chunk) × (chunk ≤ MOST_SNAPSHOT_CHUNK)
 HasGoodChunk _ = Unit {0}
 
+-- each line's chunk is within its limits
 abbrev pub HaveGoodChunks : List Line → Type 0
 HaveGoodChunks lines = All (λ line. HasGoodChunk line.target) lines
 
@@ -195,20 +205,22 @@ abbrev pub has_bad_store : Description → Target → Bool
 has_bad_store stack (targets.Snapshot origin store kind chunk) = not (is_store_to stack MOST_DEPTH (lower_of stack store))
 has_bad_store stack _ = false
 
+-- the snapshots whose store can't be one
 abbrev pub store : Description → List LoadFault
 store stack = line_faults Store (λ line. has_bad_store stack line.target) stack
 
 -- a line up to which all stores have too many places together; the first is a snapshot
-abbrev pub is_crowded : Description → WithBefore Line → Bool
-is_crowded stack line = nat_lt MOST_PLACES (sum_by (λ other. target_places stack other.target) line.before + target_places stack line.it.target)
-
 abbrev pub crowded : Description → List LoadFault
-crowded stack = faults_by Limit (λ line. line.it.at) (is_crowded stack) (with_before (all_lines stack.devices))
+crowded stack =
+    faults_by Limit (λ line. line.it.at)
+    (λ line. nat_lt MOST_PLACES (sum_by (λ other. target_places stack other.target) line.before + target_places stack line.it.target))
+    (with_before (all_lines stack.devices))
 
 -- the checks of a load before the one for cycles, and those after it, in their order
 abbrev pub checks_before : Description → List (List LoadFault)
 checks_before stack = too_many stack ∷ too_large stack ∷ twice stack ∷ empty stack ∷ misplaced stack ∷ unknown stack ∷ []
 
+-- the checks after the one for cycles
 abbrev pub checks_after : Description → List (List LoadFault)
 checks_after stack = deep stack ∷ stripe stack ∷ range stack ∷ snapshot stack ∷ store stack ∷ crowded stack ∷ []
 
@@ -216,6 +228,7 @@ checks_after stack = deep stack ∷ stripe stack ∷ range stack ∷ snapshot st
 abbrev pub IsOnCycle : Description → ℕ → Type 0
 IsOnCycle stack device = Reaches (links stack) device device
 
+-- no device reaches itself by what devices name
 abbrev pub HasNoCycle : Description → Type 0
 HasNoCycle stack = (device : ℕ) → device < length stack.devices → IsOnCycle stack device → ⊥
 
