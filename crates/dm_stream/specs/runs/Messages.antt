@@ -29,10 +29,6 @@ abbrev pub earlier_message : EarlierFault → List ℕ
 earlier_message (earlier.BadRequest number word) = codes "dmremap: before: " ++ request_word word ++ codes " at " ++ decimal number ++ codes "\n"
 earlier_message earlier.Read = codes "dmremap: before: read\n"
 
--- the message where reading requests failed
-abbrev pub read_message : List ℕ
-read_message = codes "dmremap: requests: read\n"
-
 -- the message where the output failed
 abbrev pub write_message : List ℕ
 write_message = codes "dmremap: output: write\n"
@@ -41,7 +37,7 @@ write_message = codes "dmremap: output: write\n"
 abbrev pub ending_message : Ending → List ℕ
 ending_message endings.Done = []
 ending_message (endings.BadRequest number word) = refused_request number (request_word word)
-ending_message endings.ReadFault = read_message
+ending_message endings.ReadFault = codes "dmremap: requests: read\n"
 ending_message endings.WriteFault = write_message
 
 -- the message that is told when an output was closed: that of a failed output goes before any other
