@@ -9,7 +9,7 @@ use Rattle.dm_stream.specs.runs.Messages.{earlier_message, ending_message, refus
 use Rattle.dm_stream.specs.runs.Run.{write_faults}
 use Rattle.lvm_volume.specs.declared.fault.NameFault.{NameFault}
 use Rattle.lvm_volume.specs.declared.fault.NameFault.TheVariants as names
-use Rattle.lvm_volume.specs.NameMessage.{name_message, split_message}
+use Rattle.lvm_volume.specs.NameMessage.{name_message, name_refusal}
 use Rattle.dmremap.specs.declared.exit.Exit.{Exit}
 use Rattle.dmremap.specs.declared.exit.Exit.TheVariants as exits
 use Rattle.dmremap.specs.declared.exit.Refusal.{Refusal}
@@ -56,27 +56,19 @@ IsPlain exit = (exit_status exit ≢ STATUS_WRITE_FAULT) × (exit_status exit �
 
 -- ---- the message
 
--- two claims of the stack of a replay meet
-abbrev pub untidy_message : List ℕ
-untidy_message = codes "dmremap: replay: untidy\n"
-
--- the request of this number is of no top device
-abbrev pub not_top_message : ℕ → List ℕ
-not_top_message number = refused_request number (codes "not top")
-
 -- the message of a refused command
 abbrev pub refusal_message : Refusal → List ℕ
 refusal_message (refusals.Load fault) = load_message fault
 refusal_message (refusals.Name fault) = name_message fault
 refusal_message (refusals.Earlier fault) = earlier_message fault
-refusal_message refusals.Split = split_message
-refusal_message refusals.Untidy = untidy_message
+refusal_message refusals.Split = name_refusal (codes "split")
+refusal_message refusals.Untidy = codes "dmremap: replay: untidy\n"
 
 -- the message of a command: none of one that did all
 abbrev pub exit_message : Exit → List ℕ
 exit_message (exits.Refused refusal) = refusal_message refusal
 exit_message (exits.Ended ending) = ending_message ending
-exit_message (exits.NotTop number) = not_top_message number
+exit_message (exits.NotTop number) = refused_request number (codes "not top")
 exit_message exits.Memory = memory_message
 
 -- ---- the output

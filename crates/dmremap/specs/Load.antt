@@ -71,15 +71,11 @@ TextPartsGive form Unread list load = ⊥
 abbrev pub DescribesGroupAs : List ℕ → Description → Type 0
 DescribesGroupAs source description = DescribesGroup source (description.devices, description.disks)
 
--- the text gives a fault: one of its own, or one of what it describes
-abbrev pub GivesGroupFault : List ℕ → LoadFault → Type 0
-GivesGroupFault source fault =
+-- what the text gives: a fault of its own, or one of what it describes; or a sound stack
+abbrev pub MetadataGives : List ℕ → Load → Type 0
+MetadataGives source (RefusedBy fault) =
     IsRefusedText source fault
     ⊎ ((description : Description) × DescribesGroupAs source description × IsRefusedBy description fault)
-
--- what the text gives
-abbrev pub MetadataGives : List ℕ → Load → Type 0
-MetadataGives source (RefusedBy fault) = GivesGroupFault source fault
 MetadataGives source (SoundAs description) = DescribesGroupAs source description × IsSound description
 
 -- what the one part gives: it is refused before its text is looked at where it was not read

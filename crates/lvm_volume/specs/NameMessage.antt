@@ -15,7 +15,3 @@ name_message HyphenFirst = name_refusal (codes "hyphen")
 name_message Empty = name_refusal (codes "empty")
 name_message Long = name_refusal (codes "long")
 name_message Memory = memory_message
-
--- the message of a name that no parts build
-abbrev pub split_message : List ℕ
-split_message = name_refusal (codes "split")
