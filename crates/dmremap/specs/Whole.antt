@@ -67,10 +67,6 @@ pub record GiveAfter (format : Format) (flag : Bool) (source disks : Delivery) (
   pub loaded : PartsGive format source disks load
   pub is : whole_after load flag before requests ≡ Some whole
 
--- the same without earlier requests
-abbrev pub GiveWhole : (format : Format) (flag : Bool) (source disks requests : Delivery) → Whole → Type 0
-GiveWhole format flag source disks requests whole = GiveAfter format flag source disks None requests whole
-
 -- ---- by what became of the streams
 
 -- the deliveries gave this run: it wrote its output, told its message, and exits with this status
@@ -78,10 +74,6 @@ pub record IsRunAfter (format : Format) (flag : Bool) (source disks : Delivery) 
   pub message : List ℕ
   pub gives : GiveAfter format flag source disks before requests (record { output = written_since output_old output_new; message = message; status = status })
   pub told : IsTold message messages_old messages_new
-
-abbrev pub IsWholeRun : (format : Format) (flag : Bool) (source disks requests : Delivery) (status : ℕ) (output_old output_new messages_old messages_new : OutputPast) → Type 0
-IsWholeRun format flag source disks requests status output_old output_new messages_old messages_new =
-    IsRunAfter format flag source disks None requests status output_old output_new messages_old messages_new
 
 -- earlier requests were played over a stack up to how they end, and nothing more was asked of them
 pub record ArePlayed (description : Description) (old new : InputPast) : Type 0 where
@@ -101,6 +93,3 @@ pub record IsFailedAfter (format : Format) (flag : Bool) (source disks : Deliver
   pub loaded : PartsGive format source disks (SoundAs description)
   pub played : (earlier_outcome description before).ending ≡ Some endings.Done
   pub output : FailedOutput (outcome_after description flag before requests).output old new
-
-abbrev pub IsFailedRun : (format : Format) (flag : Bool) (source disks requests : Delivery) (old new : OutputPast) → Type 0
-IsFailedRun format flag source disks requests old new = IsFailedAfter format flag source disks None requests old new

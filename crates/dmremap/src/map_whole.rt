@@ -4,7 +4,7 @@
 //! `map_whole` is the promise that the program makes. `main` hands in the real files and streams,
 //! tests hand in memory.
 
-ghost use Rattle.std.specs.Prelude.{◌≡◌, ◌≢◌, Bool, List};
+ghost use Rattle.std.specs.Prelude.{◌≡◌, ◌≢◌, Bool, List, None};
 ghost use Rattle.dm_table.specs.io.DeviceIo.{Delivery, delivery};
 ghost use Rattle.dm_table.specs.load.LoadMessage.{memory_message};
 ghost use Rattle.dm_table.specs.io.Progress.{IsReadOn};
@@ -19,7 +19,7 @@ ghost use Rattle.dmremap.specs.declared.status.TheConstants.{STATUS_MEMORY, STAT
 ghost use Rattle.dmremap.specs.Inputs.{IsReadOnIf, delivery_if};
 ghost use Rattle.dmremap.specs.Limits.{AreLimits};
 ghost use Rattle.dmremap.specs.Streams.{MessagesTold, OutputWritten, RequestsRead};
-ghost use Rattle.dmremap.specs.Whole.{GiveWhole, IsFailedRun, IsWholeRun, Whole};
+ghost use Rattle.dmremap.specs.Whole.{GiveAfter, IsFailedAfter, IsRunAfter, Whole};
 
 #[cfg(test)]
 mod tests;
@@ -63,9 +63,9 @@ pub fn map_whole<S: Input, D: Input, Q: Exchange<W>, W: Output, M: Output>(
     output: &mut W,
     messages: &mut M,
 ) -> u8
-    // What the deliveries give is one run.
+    // What the deliveries give is one run: no requests came before.
     ensures one { (f : Format) (flag : Bool) (s d q : Delivery) (a b : Whole)
-        → GiveWhole f flag s d q a → GiveWhole f flag s d q b → a ≡ b }
+        → GiveAfter f flag s d None q a → GiveAfter f flag s d None q b → a ≡ b }
     // The pieces of an answer are the fewest that its units can be made of.
     ensures fewest { (units : List BlockUnit) → AreFewest units (fewest units) }
     // The number of levels of devices that a sector is followed through never truncates a lookup.
@@ -73,14 +73,14 @@ pub fn map_whole<S: Input, D: Input, Q: Exchange<W>, W: Output, M: Output>(
     ensures limits { AreLimits }
 
     // Unless the output failed or memory ran out, the deliveries determine everything.
-    ensures whole { result ≢ STATUS_WRITE_FAULT → result ≢ STATUS_MEMORY → IsWholeRun format status
+    ensures whole { result ≢ STATUS_WRITE_FAULT → result ≢ STATUS_MEMORY → IsRunAfter format status
         (delivery (S.past source.old) (S.past source.new)) (delivery_if D.past disks.old disks.new)
-        (delivery (Q.past requests.old) (Q.past requests.new)) result
+        None (delivery (Q.past requests.old) (Q.past requests.new)) result
         (W.past output.old) (W.past output.new) (M.past messages.old) (M.past messages.new) }
     // Where the output failed, they determine what a beginning was written of.
-    ensures beginning { result ≡ STATUS_WRITE_FAULT → IsFailedRun format status
+    ensures beginning { result ≡ STATUS_WRITE_FAULT → IsFailedAfter format status
         (delivery (S.past source.old) (S.past source.new)) (delivery_if D.past disks.old disks.new)
-        (delivery (Q.past requests.old) (Q.past requests.new)) (W.past output.old) (W.past output.new) }
+        None (delivery (Q.past requests.old) (Q.past requests.new)) (W.past output.old) (W.past output.new) }
     // Where memory ran out, nothing was asked of the output or of the requests.
     ensures memory { result ≡ STATUS_MEMORY → (W.past output.new ≡ W.past output.old)
         × (Q.past requests.new ≡ Q.past requests.old)
