@@ -13,6 +13,7 @@ abbrev pub lower_text : Description → Lower → List ℕ
 lower_text stack (Device id) = codes "/dev/mapper/" ++ name_at stack id
 lower_text stack (Disk id) = disk_name_at stack id
 
+-- the last line of a report: the first clash, or that no claims meet
 abbrev pub tidiness_text : Description → Option Clash → List ℕ
 tidiness_text stack None = codes "tidy"
 tidiness_text stack (Some clash) =
@@ -31,6 +32,7 @@ pub record SaysTidiness (stack : Description) (text : List ℕ) : Type 0 where
   pub clash : IsFirstClash (claims stack) found
   pub is : tidiness_text stack found ≡ text
 
+-- the text is the report of this stack
 pub record IsReport (stack : Description) (text : List ℕ) : Type 0 where
   pub found : Option Clash
   pub clash : IsFirstClash (claims stack) found

@@ -16,6 +16,7 @@ stack_depth stack = greatest (map (depth_of stack) (range_with_len 0 (length sta
 abbrev pub named_at : Description → ℕ → List Lower
 named_at stack device = map (λ span. lower_of stack span.to) (flat_map spans (lines_at stack device))
 
+-- the depth of what is named by its id: 0 for a disk
 abbrev pub lower_depth : Description → Lower → ℕ
 lower_depth stack (lowers.Device device) = depth_of stack device
 lower_depth stack (lowers.Disk disk) = 0

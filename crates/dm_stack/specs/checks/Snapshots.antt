@@ -15,6 +15,7 @@ abbrev pub is_snapshot : Target → Bool
 is_snapshot (targets.Snapshot origin store kind chunk) = true
 is_snapshot _ = false
 
+-- one of the lines is a snapshot
 abbrev pub has_snapshot : List Line → Bool
 has_snapshot lines = list_any (λ line. is_snapshot line.target) lines
 

@@ -38,9 +38,11 @@ may_store ro lines = not ro && list_all (λ line. is_plain line.target) lines
 abbrev pub store_links_of : (may : Bool) → (device : ℕ) → List ℕ → List ℕ
 store_links_of may device links = links ++ (if may then [] else device ∷ [])
 
+-- of a device by its id: what it names, and itself where no store may be made of it
 abbrev pub store_links_at : Description → ℕ → List ℕ
 store_links_at stack device = store_links_of (may_store (is_ro_at stack device) (lines_at stack device)) device (links_of (links stack) device)
 
+-- the same of each device, in the order of the devices
 abbrev pub store_links : Description → List (List ℕ)
 store_links stack = map (store_links_at stack) (range_with_len 0 (length stack.devices))
 
@@ -49,6 +51,7 @@ abbrev pub is_shallow : List ℕ → Lower → Bool
 is_shallow depths (Device device) = nat_le (slice_index_or depths device 0) MOST_DEPTH
 is_shallow depths (Disk disk) = true
 
+-- a snapshot whose store is deeper, by these depths, than a store may be
 abbrev pub has_deep_store : Description → List ℕ → Target → Bool
 has_deep_store stack depths (targets.Snapshot origin store kind chunk) = not (is_shallow depths (lower_of stack store))
 has_deep_store stack depths _ = false

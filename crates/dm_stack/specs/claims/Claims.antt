@@ -30,6 +30,7 @@ span_claim stack device span = record {
 abbrev pub line_claims : Description → (device : ℕ) → Line → List Claim
 line_claims stack device line = map (span_claim stack device) (spans line)
 
+-- the claims of a device, in the order of its lines
 abbrev pub device_claims : Description → (device : ℕ) → List Claim
 device_claims stack device = flat_map (line_claims stack device) (lines_at stack device)
 

@@ -7,10 +7,12 @@ use Rattle.dm_stack.specs.declared.id.Lower.TheVariants.{Device, Disk}
 use Rattle.dm_stack.specs.Description.{Description, lower_of}
 use Rattle.dm_table.specs.tables.Span.{spans}
 
+-- what is named is this device
 abbrev pub is_device : ℕ → Lower → Bool
 is_device device (Device id) = id == device
 is_device device (Disk id) = false
 
+-- the line names this device
 abbrev pub line_names : Description → ℕ → Line → Bool
 line_names stack device line = list_any (λ span. is_device device (lower_of stack span.to)) (spans line)
 

@@ -21,6 +21,7 @@ meets one other = is_same_lower one.to other.to && (nat_lt (max one.start other.
 abbrev pub clash_of : (earlier later : Claim) → Clash
 clash_of earlier later = record { lower = later.to; sector = max earlier.start later.start; first = earlier.device; second = later.device }
 
+-- the clash of a later claim with the first before it that meets it
 abbrev pub clash_with : (before : List Claim) → (later : Claim) → Option Clash
 clash_with before later = option_map (λ earlier. clash_of earlier later) (find (λ earlier. meets earlier later) before)
 
@@ -38,6 +39,7 @@ abbrev pub held_end : Use → ℕ → ℕ
 held_end Reading end = 0
 held_end _ end = end
 
+-- how far claims reach, with one more
 abbrev pub reach_with : Reach → Claim → Reach
 reach_with reach claim = record {
   own = max reach.own (own_end claim.kind claim.end);
@@ -74,6 +76,7 @@ numbered number (claim ∷ claims) = record { number = number; claim = claim } �
 abbrev pub reach_next : (count : ℕ) → Lower → Reach → Numbered → Reach
 reach_next count lower reach next = if nat_lt next.number count && is_same_lower next.claim.to lower then reach_with reach next.claim else reach
 
+-- how far the claims on this device or disk reach, of those whose numbers are below a count
 abbrev pub reach_of : (count : ℕ) → Lower → List Numbered → Reach
 reach_of count lower claims = fold (reach_next count lower) no_reach claims
 

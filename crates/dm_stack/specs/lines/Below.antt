@@ -29,6 +29,7 @@ line_of lines sector = find (holds sector) lines
 abbrev pub found_columns : Description → List Column → List FoundColumn
 found_columns stack columns = map (λ column. record { to = lower_of stack column.to; offset = column.offset }) columns
 
+-- a target, with what it names by ids
 abbrev pub found_target : Description → Target → FoundTarget
 found_target stack (targets.Linear to offset) = found.Linear (lower_of stack to) offset
 found_target stack (targets.Striped chunk columns) = found.Striped chunk (found_columns stack columns)
@@ -37,6 +38,7 @@ found_target stack targets.Error = found.Error
 found_target stack (targets.Snapshot origin store kind chunk) = found.Snapshot (found_snapshot stack origin store kind chunk)
 found_target stack (targets.Origin origin) = found.Origin (record { to = lower_of stack origin; over = snapshots_over stack (lower_of stack origin) })
 
+-- a line, with what it names by ids
 abbrev pub found_line : Description → Line → FoundLine
 found_line stack line = record { start = line.start; len = line.len; target = found_target stack line.target }
 
@@ -50,13 +52,16 @@ pub data Below : Type 0 where
 abbrev pub column_of : (chunk count distance : ℕ) → ℕ
 column_of chunk count distance = (distance / chunk) % count
 
+-- the sector of the column, counted from where the line's share of it starts
 abbrev pub in_column : (chunk count distance : ℕ) → ℕ
 in_column chunk count distance = (distance / chunk / count) * chunk + distance % chunk
 
+-- what lies at a sector of a column's share: an error where there is no such column
 abbrev pub below_column : Option FoundColumn → ℕ → Below
 below_column (Some column) sector = Lies column.to (column.offset + sector)
 below_column None sector = IsError
 
+-- what lies below a striped line, at a distance from its start
 abbrev pub below_stripes : (chunk : ℕ) → List FoundColumn → ℕ → Below
 below_stripes chunk columns distance =
     below_column (slice_get columns (column_of chunk (length columns) distance)) (in_column chunk (length columns) distance)
@@ -91,12 +96,14 @@ chunk_at (found.Striped chunk columns) distance = Some (distance / chunk)
 chunk_at (found.Snapshot snapshot) distance = Some (distance / snapshot.chunk)
 chunk_at _ distance = None
 
+-- one chunk, or no chunk for both
 abbrev pub is_same_chunk : Option ℕ → Option ℕ → Bool
 is_same_chunk None None = true
 is_same_chunk None (Some other) = false
 is_same_chunk (Some chunk) None = false
 is_same_chunk (Some chunk) (Some other) = chunk == other
 
+-- what lies below a sector of a device, by the line that holds it; a sector that no line holds is an error
 abbrev pub below_line : (over : FoundSnapshot → ℕ → Below) → Option FoundLine → ℕ → Below
 below_line over (Some line) sector = below_target over line.target (sector - line.start)
 below_line over None sector = IsError
@@ -147,6 +154,7 @@ pub record IsOriginSound (stack : Description) (device start len : ℕ) (origin 
   pub same : lower_len stack origin.to ≡ len
   pub over : origin.over ≡ snapshots_over stack origin.to
 
+-- what the lower layers need of the target of a line of a device, which starts there and is as long
 abbrev pub IsTargetSound : Description → (device start len : ℕ) → FoundTarget → Type 0
 IsTargetSound stack device start len (found.Linear to offset) = LiesIn stack to offset len
 IsTargetSound stack device start len (found.Striped chunk columns) = AreStripes stack len chunk columns

@@ -19,6 +19,7 @@ abbrev pub over_of : Description → (device : ℕ) → Target → List FoundOve
 over_of stack device (targets.Snapshot origin store kind chunk) = record { device = device; snapshot = found_snapshot stack origin store kind chunk } ∷ []
 over_of stack device _ = []
 
+-- the snapshots among the lines of a device, with that device
 abbrev pub device_over : Description → (device : ℕ) → List FoundOver
 device_over stack device = flat_map (λ line. over_of stack device line.target) (lines_at stack device)
 
