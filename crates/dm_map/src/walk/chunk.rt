@@ -27,6 +27,18 @@ pub(crate) fn part_of_chunk(chunk_size: u64, sector: u64, most: u64) -> u64
     most.min(chunk_size - sector % chunk_size)
 }
 
+/// The sector of a store where a taken chunk begins, which was the `number`th to be taken, from 0.
+pub(crate) fn store_start(snapshot: &FoundSnapshot, number: usize) -> u64
+    requires chunk { 0 < snapshot.now.chunk }
+    requires chunk_small { snapshot.now.chunk ≤ MOST_SNAPSHOT_CHUNK }
+    requires small { (place snapshot.now.kind snapshot.now.chunk number + 1) * snapshot.now.chunk
+        ≤ MOST_LENGTH }
+    ensures { result ≡ place snapshot.now.kind snapshot.now.chunk number * snapshot.now.chunk }
+{
+    let chunk_size = snapshot.chunk as u64;
+    place(snapshot.kind, chunk_size, number as u64) * chunk_size
+}
+
 /// The sector of a store that has a sector of a taken chunk, which was the `number`th to be taken,
 /// from 0.
 pub(crate) fn store_sector(snapshot: &FoundSnapshot, number: usize, sector: u64) -> u64
@@ -36,8 +48,7 @@ pub(crate) fn store_sector(snapshot: &FoundSnapshot, number: usize, sector: u64)
         ≤ MOST_LENGTH }
     ensures { result ≡ store_sector snapshot.now number sector }
 {
-    let chunk_size = snapshot.chunk as u64;
-    place(snapshot.kind, chunk_size, number as u64) * chunk_size + sector % chunk_size
+    store_start(snapshot, number) + sector % snapshot.chunk as u64
 }
 
 /// Where the sectors of a chunk of a snapshot are read, from one of them on: in the store if the chunk

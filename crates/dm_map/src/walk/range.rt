@@ -91,8 +91,18 @@ pub(crate) fn map_top<S: Sink, T: Taken>(
         if let Some(home) = home_in(walker, device, line, sector, len) {
             return Ok(Some(home));
         }
+        if is_snapshot(line) {
+            // What the line is has been asked here, so that this is the call of `map_snapshot` alone.
+            return handed(map_line(walker, op, MOST_DEPTH, device, line, sector, len, sink));
+        }
     }
     handed(map_lines(walker, op, MOST_DEPTH, device, line, sector, len, sink))
+}
+
+/// Whether a line is that of a snapshot.
+#[inline(always)]
+fn is_snapshot(line: &FoundLine) -> bool {
+    matches!(line.target, FoundTarget::Snapshot(_))
 }
 
 /// Hands over the units of sectors of a device. A read-only device fails a write of all of them.

@@ -34,7 +34,7 @@ use crate::pieces::piece::Piece;
 use crate::pieces::sink::Sink;
 use crate::state::taken::Taken;
 use crate::state::walker::Walker;
-use crate::walk::chunk::store_sector;
+use crate::walk::chunk::store_start;
 use crate::walk::homes::{HomeStretch, first_homes};
 use crate::walk::stretch::{Ground, Stretch, first_stretch};
 use dm_stack::{DeviceId, FoundSnapshot, MOST_DEPTH};
@@ -157,8 +157,8 @@ fn first_source<T: Taken>(
     }
 }
 
-/// Copies sectors of a chunk, which all read without an error, from the origin to the place that the
-/// store has for this number. The first stretch of the origin was found before; that of the place is
+/// Copies the first sectors of a chunk, which all read without an error, from the origin to the place that
+/// the store has for this number. The first stretch of the origin was found before; that of the place is
 /// returned.
 fn copy_chunk<S: Sink, T: Taken>(
     walker: &mut Walker<'_, T>,
@@ -175,6 +175,7 @@ fn copy_chunk<S: Sink, T: Taken>(
     requires chunk { 0 < snapshot.now.chunk }
     requires chunk_small { snapshot.now.chunk ≤ MOST_SNAPSHOT_CHUNK }
     requires place { has_place walker.old.stack snapshot.now number ≡ true }
+    requires begins { sector % snapshot.now.chunk ≡ 0 }
     requires part { sector % snapshot.now.chunk + len ≤ snapshot.now.chunk }
     requires reads { reads_all walker.old.stack walker.old.state snapshot.now.origin sector len ≡ true }
     requires first { IsFirst walker.old walker.old
@@ -189,7 +190,7 @@ fn copy_chunk<S: Sink, T: Taken>(
         (store_sector snapshot.now number sector) len home) }
 {
     walker.recall_soundness();
-    let mut to = store_sector(snapshot, number, sector);
+    let mut to = store_start(snapshot, number);
     let home = first_homes(walker, snapshot.store, to, len);
     let mut source = first;
     let mut target = home;

@@ -6,7 +6,7 @@ use Rattle.dm_stack.specs.lines.Below.{IsLineOf}
 use Rattle.dm_stack.proofs.InStack.{device_there}
 use Rattle.dm_map.specs.state.Walker.{StackState}
 use Rattle.dm_map.specs.walk.Bound.{range_mapping}
-use Rattle.dm_map.specs.walk.Range.{AreAsked, IsAtLine, refuses}
+use Rattle.dm_map.specs.walk.Range.{AreAsked, HasRoomFor, IsAtLine, refuses}
 use Rattle.dm_map.proofs.walk.HomeLemmas.{home_mapped, mapped_over}
 use Rattle.dm_map.proofs.walk.Ranges.{range_refused}
 use Rattle.dm_map.proofs.walk.WalkedOn.{mapped_after_look, mapped_handed}
@@ -32,6 +32,10 @@ map_lines-requires g c =
       asked = subst (λ (s : Description). AreAsked g.S.Sink.view a.sink.now s (Device a.device) a.sector a.len) (sym stack) c.requires;
     }
 
+pub returns-then-is_snapshot : goal.returns-then-is_snapshot
+returns-then-is_snapshot g c =
+    let a = c.args in let look = c.look-line.ensures in mapped_over a.walker.now.stack a.op a.len c.handed-then-is_snapshot.ensures (mapped_after_look (range_mapping a.op MOST_DEPTH (Device a.device)) refl look.same look.looked look.one c.map_line.ensures)
+
 pub returns-in-Some : goal.returns-in-Some
 returns-in-Some g c =
     let a = c.args in let look = c.look-line.ensures in let line = c.look-line.result.now in let w = c.look-line.new.self in
@@ -41,6 +45,17 @@ returns-in-Some g c =
     (subst (λ (s : Description). refuses s a.op a.device ≡ false) (sym stack) (sym c.refuses.ensures ∙ c.if-refuses.false))
     (subst (λ (s : Description). IsLineOf s a.device line a.sector) (sym stack) look.line) c.requires.some
     (omega (arith, c.if-len-line.true, look.line.from, look.line.before)) c.in-Some.ensures)
+
+pub map_line-requires : goal.map_line-requires
+map_line-requires g c =
+    let a = c.args in let look = c.look-line.ensures in let line = c.look-line.result.now in
+    let stack : c.look-line.new.self.stack ≡ a.walker.now.stack = ap (λ (v : StackState). v.stack) look.same in
+    record {
+      at = subst (λ (v : StackState). IsAtLine v.stack a.op MOST_DEPTH a.device line a.sector) (sym look.same) (record { deep = omega arith; passes = sym c.refuses.ensures ∙ c.if-refuses.false; of = look.line });
+      some = c.requires.some;
+      inside = omega (arith, c.if-len-line.true, look.line.from, look.line.before);
+      sink = subst (λ (s : Description). HasRoomFor g.S.Sink.view a.sink.now s a.len) (sym stack) c.requires.sink;
+    }
 
 pub returns : goal.returns
 returns g c =

@@ -19,8 +19,8 @@ use Rattle.dm_stack.proofs.InStack.{lower_small}
 use Rattle.dm_map.proofs.walk.UnitRows.{left_row, took_row}
 use Rattle.dm_map.proofs.walk.take_chunk.copy_chunk.Goals as goal
 
-pub store_sector-to-requires-clause-small : goal.store_sector-to-requires-clause-small
-store_sector-to-requires-clause-small g c =
+pub store_start-to-requires-clause-small : goal.store_start-to-requires-clause-small
+store_start-to-requires-clause-small g c =
     let a = c.args in
     let small = lower_small a.walker.now.stack a.snapshot.now.store c.recall_soundness.ensures in let fits = leb-true _ _ c.requires.place in
     omega (arith, small, fits)
@@ -32,6 +32,10 @@ next_place place chunk = omega arith
 doesnt_fail : (walk : WalkerView) (lower : Lower) (sector len : ℕ) (stretch : Stretch) → IsFirst walk walk (range_step walk.stack Read MOST_DEPTH lower walk.state sector) len stretch → reads_all walk.stack walk.state lower sector len ≡ true → stretch.ground ≡ Fails → ⊥
 doesnt_fail walk lower sector len stretch first reads fails = both_ways _ (fails_on walk lower sector len stretch first fails) reads
 
+-- the chunk's place begins where its first sector lies
+begins_at : (at rest : ℕ) → {start : ℕ} → start ≡ at → rest ≡ 0 → start ≡ at + rest
+begins_at at rest start begins = omega (arith, start, begins)
+
 pub copies-init : goal.copies-init
 copies-init g c =
     let a = c.args in let h = c.first_homes-home.ensures in
@@ -40,7 +44,7 @@ copies-init g c =
       taken = rw none (g.met.S.Sink.took_nothing a.sink.now);
       within = omega arith;
       from = refl;
-      to = ap (λ (s : ℕ). s + a.len) c.store_sector-to.ensures;
+      to = ap (λ (s : ℕ). s + a.len) (begins_at _ _ c.store_start-to.ensures c.requires.begins);
       reads = c.requires.reads;
       source = c.requires.first;
       target = h.is;
@@ -89,7 +93,7 @@ returns-then-left-eq0-clause-walked g c =
 
 pub returns-then-left-eq0-clause-home : goal.returns-then-left-eq0-clause-home
 returns-then-left-eq0-clause-home g c =
-    let a = c.args in subst (λ (at : ℕ). IsFirstHomes a.walker.now.stack a.snapshot.now.store at a.len c.first_homes-home.result) c.store_sector-to.ensures c.first_homes-home.ensures.is
+    let a = c.args in subst (λ (at : ℕ). IsFirstHomes a.walker.now.stack a.snapshot.now.store at a.len c.first_homes-home.result) (begins_at _ _ c.store_start-to.ensures c.requires.begins) c.first_homes-home.ensures.is
 
 pub overflow_add-from : goal.overflow_add-from
 overflow_add-from g c =

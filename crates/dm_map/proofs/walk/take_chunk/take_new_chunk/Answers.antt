@@ -25,6 +25,9 @@ pub invalidate-requires : goal.invalidate-requires
 invalidate-requires g c =
     record { device = subst (λ (w : StackState). c.args.device < length w.stack.devices) (sym c.first_source.ensures.same) (device_there c.args.walker.now.stack c.args.device _ c.requires.inside) }
 
+pub copy_chunk-requires-clause-begins : goal.copy_chunk-requires-clause-begins
+copy_chunk-requires-clause-begins g c = chunk_begins c.args.chunk c.args.snapshot.now.chunk c.requires.sound.chunk_some
+
 pub copy_chunk-requires-clause-part : goal.copy_chunk-requires-clause-part
 copy_chunk-requires-clause-part g c =
     let begins = chunk_begins c.args.chunk c.args.snapshot.now.chunk c.requires.sound.chunk_some in

@@ -1,7 +1,7 @@
 use Rattle.std.proofs.Common.{◌≡◌, ◌+◌, ◌*◌, arith}
 use Rattle.dm_stack.specs.lines.StoreLayout.{place}
 use Rattle.dm_stack.proofs.StoreLayoutLemmas.{place_within}
-use Rattle.dm_map.proofs.walk.chunk.store_sector.Goals as goal
+use Rattle.dm_map.proofs.walk.chunk.store_start.Goals as goal
 
 pub place-requires-clause-fits : goal.place-requires-clause-fits
 place-requires-clause-fits c =
