@@ -4,7 +4,7 @@ No contract can say that a growth was really refused, so a body that gives up of
 proved like any other. This reads the sources of all crates for the places that make such a refusal,
 and holds them against the table below: each says what was asked there, to the letter and with the
 numbers of its constants, and why only a growth that was refused lets it fail. What only hands a
-refusal on, as `?` and an arm for one do, makes none."""
+refusal on, as `?`, an arm for one and an `if let` do, makes none."""
 
 import glob
 import os
@@ -101,6 +101,9 @@ FUNCTION = re.compile(r" *(?:pub(?:\(\w+\))? )?fn (\w+)")
 # What is asked before a place is come to, and the line on which it begins.
 ASKED = re.compile(r"(?:let \w+\(.*?\) = |(?:let (?:mut )?\w+ = )?match |if |while )(.+?)(?: else)? \{$")
 ASKS = re.compile(r" *(?:let \w+\(.*?\) = |(?:let (?:mut )?\w+ = )?match |if |while )")
+# The pattern of a line and what is done, or looked at, there.
+HANDED = re.compile(r" *if let (.+?) = (.*)")
+ARM = re.compile(r"(?:(.*)=>)?(.*)")
 CONSTANT = re.compile(r"^ *(?:pub(?:\(\w+\))? )?const (\w+): [^=]+= ([^;]+);", re.M)
 # Lines that are no code, and uses, which may name no refusal by another name.
 ASIDE = re.compile(r" *(?:ghost|requires|ensures|(?:pub )?use)\b")
@@ -139,11 +142,12 @@ def places_in(module, lines, constants):
         code = line.split("//")[0]
         function = (FUNCTION.match(code) or [None, function])[1]
         owner = code if code[:1].strip() else owner
-        pattern, arrow, value = code.rpartition("=>")
-        handed_on = MADE.search(pattern) or re.search(r"\bFrom<Alloc", owner)
+        pattern, value = (HANDED.match(code) or ARM.match(code)).groups()
+        handed_on = MADE.search(pattern or "") or re.search(r"\bFrom<Alloc", owner)
         if not ASIDE.match(code) and not FUNCTION.match(code) and MADE.search(value) and not handed_on:
             asked = re.sub(r"\b[A-Z][A-Z0-9_]+\b", lambda it: constants.get(it[0], it[0]), asked_before(lines, at))
-            places.append((module, function, asked))
+            if not (asked.startswith("let ") and MADE.search(asked.partition(" = ")[0])):
+                places.append((module, function, asked))
     return places
 
 
