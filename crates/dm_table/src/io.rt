@@ -12,4 +12,5 @@ pub mod gathered;
 pub mod ghost_list;
 pub mod short_io;
 pub mod text;
+pub mod threes;
 pub mod writing;

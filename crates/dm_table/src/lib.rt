@@ -20,6 +20,7 @@ pub use io::gathered::Gathered;
 pub use io::ghost_list::{GhostList, Tally};
 pub use io::short_io::{ShortIn, ShortOut};
 pub use io::text::{TEXT_ROOM, Text};
+pub use io::threes::Threes;
 pub use io::writing::{close, write_all};
 pub use load::load_fault::{LoadFault, LoadKind};
 pub use load::load_message::{LoadMessage, memory_message};

@@ -8,7 +8,7 @@ ghost use Rattle.dm_table.specs.io.Block.{IsPut};
 ghost use Rattle.dm_stream.specs.pieces.LineEnds.{AreMade, IsLineEnd, line_end};
 ghost use Rattle.dm_stream.specs.declared.pieces.line_ends.TheConstants.{LENGTHS, LONGEST, ROOM};
 
-use dm_table::{put_bytes, put_digits, put_next_digits};
+use dm_table::{Threes, put_bytes, put_digits, put_next_digits};
 
 /// The bytes of the longest end: those of a length, and a newline.
 const LONGEST: usize = 21;
@@ -23,6 +23,7 @@ const ROOM: usize = 8;
 #[derive(Drop)]
 pub(crate) struct LineEnds {
     ends: [[u8; ROOM]; LENGTHS],
+    threes: Threes,
     ghost made: { AreMade 1000 ends },
 }
 
@@ -35,7 +36,16 @@ impl LineEnds {
             ends[len] = line_end(len);
             len += 1;
         }
-        LineEnds { ends }
+        LineEnds {
+            ends,
+            threes: Threes::new(),
+        }
+    }
+
+    /// What the digits of numbers are copied from.
+    #[inline(always)]
+    pub(crate) fn threes(&self) -> &Threes {
+        &self.threes
     }
 
     /// Puts the end of a line of this length at an offset in a block, after at least four bytes, and
@@ -50,7 +60,7 @@ impl LineEnds {
         if len < LENGTHS as u64 {
             return self.put_short(block, at, len);
         }
-        let at = put_next_digits(block, at, len);
+        let at = put_next_digits(block, at, len, &self.threes);
         put_bytes(block, at, b"\n")
     }
 

@@ -118,7 +118,7 @@ fn put_next_range(ends: &LineEnds, block: &mut [u8], at: usize, start: u64, len:
     ensures put { IsPut (range_text start len) at block.old block.new result }
     ensures few { result ≤ at + 43 }
 {
-    let at = put_next_digits(block, at, start);
+    let at = put_next_digits(block, at, start, ends.threes());
     let at = put_bytes(block, at, b" ");
     ends.put_into(block, at, len)
 }

@@ -1,11 +1,7 @@
 -- What a block of bytes holds after a text was put into it.
-use Rattle.std.specs.Prelude.{◌≡◌, ◌+◌, ◌/◌, ◌%◌, ℕ, List, [], ◌∷◌, ◌++◌, length, take}
+use Rattle.std.specs.Prelude.{◌≡◌, ◌+◌, ℕ, List, ◌++◌, length, take}
 
 -- a text was put at an offset in a block: where it ends, and what the block holds up to there
 pub record IsPut (text : List ℕ) (at : ℕ) (old new : List ℕ) (end : ℕ) : Type 0 where
   pub ends : end ≡ at + length text
   pub holds : take end new ≡ take at old ++ text
-
--- the last four digits of a number, as bytes
-abbrev pub four_digits : ℕ → List ℕ
-four_digits n = (48 + n / 1000 % 10) ∷ (48 + n / 100 % 10) ∷ (48 + n / 10 % 10) ∷ (48 + n % 10) ∷ []

@@ -4,9 +4,10 @@
 //! the end is free: a room of a fixed size is copied whole, past the end of its text, since such a
 //! copy is the cheapest.
 
-ghost use Rattle.std.specs.Prelude.{◌≡◌, ◌++◌, ◌∷◌, ◌+◌, ◌-◌, ◌/◌, ◌%◌, ◌<◌, ◌≤◌, length, take, drop, decimal};
-ghost use Rattle.dm_table.specs.io.Block.{IsPut, four_digits};
+ghost use Rattle.std.specs.Prelude.{◌≡◌, ◌++◌, ◌+◌, ◌-◌, ◌≤◌, length, take, drop, decimal};
+ghost use Rattle.dm_table.specs.io.Block.{IsPut};
 
+use crate::io::threes::Threes;
 use crate::words::number_text::MOST_DIGITS;
 use crate::words::room::as_room;
 
@@ -23,7 +24,7 @@ fn copy_to(block: &mut [u8], at: usize, bytes: &[u8])
 /// Sets a slice to a room, as one value: a copy from one slice to another asks first whether they
 /// overlap.
 #[inline(always)]
-fn set_room<const ROOM: usize>(place: &mut [u8], room: &[u8; ROOM])
+pub(crate) fn set_room<const ROOM: usize>(place: &mut [u8], room: &[u8; ROOM])
     requires { length place.old ≡ ROOM }
     ensures { place.new ≡ room.now }
 {
@@ -123,11 +124,11 @@ pub fn put_digits(block: &mut [u8], at: usize, number: u64) -> usize
 
 /// The same at an offset that has at least four bytes before it.
 ///
-/// The digits are written by fours from the last on. The first four have zeros in front of a shorter
+/// The digits are written by threes from the last on. The first three have zeros in front of a shorter
 /// beginning, which run over the bytes before, and those are put back: so no jump depends on how many
 /// digits a number begins with, which a processor foresees only half of the time.
 #[inline(always)]
-pub fn put_next_digits(block: &mut [u8], at: usize, number: u64) -> usize
+pub fn put_next_digits(block: &mut [u8], at: usize, number: u64, threes: &Threes) -> usize
     requires after { 4 ≤ at }
     requires within { at + MOST_DIGITS ≤ length block.old }
     ensures put { IsPut (decimal number) at block.old block.new result }
@@ -135,14 +136,14 @@ pub fn put_next_digits(block: &mut [u8], at: usize, number: u64) -> usize
 {
     let before = *as_room::<4>(&block[at - 4..at]);
     let end = at + count_digits(number);
-    put_padded(block, end, number);
+    put_padded(block, end, number, threes);
     set_room(&mut block[at - 4..at], &before);
     end
 }
 
-/// Writes the digits of a number up to an offset, and zeros before the first so that they are fours.
+/// Writes the digits of a number up to an offset, and zeros before the first so that they are threes.
 #[inline(always)]
-fn put_padded(block: &mut [u8], end: usize, number: u64)
+fn put_padded(block: &mut [u8], end: usize, number: u64, threes: &Threes)
     requires after { length (decimal number) + 4 ≤ end }
     requires within { end ≤ length block.old }
     ensures before { take (end - length (decimal number) - 4) block.new
@@ -152,43 +153,14 @@ fn put_padded(block: &mut [u8], end: usize, number: u64)
 {
     let mut left = number;
     let mut to = end;
-    'fours: while left >= 10_000 {
-        put_four(block, to, left % 10_000);
-        left /= 10_000;
-        to -= 4;
+    'groups: while left >= 1000 {
+        let more = left / 1000;
+        // The rest, by an instruction less than by `%`.
+        threes.put_up_to(block, to, left - more * 1000);
+        left = more;
+        to -= 3;
     }
-    put_four(block, to, left);
-}
-
-/// Writes the last four digits of a number up to an offset.
-#[inline(always)]
-fn put_four(block: &mut [u8], end: usize, four: u64)
-    requires short { four < 10000 }
-    requires after { 4 ≤ end }
-    requires within { end ≤ length block.old }
-    ensures before { take (end - 4) block.new ≡ take (end - 4) block.old }
-    ensures written { drop (end - 4) block.new ≡ four_digits four ++ drop end block.old }
-{
-    put_pair(block, end - 2, four % 100);
-    put_pair(block, end - 4, four / 100);
-}
-
-/// The digits of the numbers below 100, two of each.
-static PAIRS: [u8; 200] =
-    *b"00010203040506070809101112131415161718192021222324252627282930313233343536373839404142434445464748495051525354555657585960616263646566676869707172737475767778798081828384858687888990919293949596979899";
-
-/// Writes two digits at an offset.
-#[inline(always)]
-fn put_pair(block: &mut [u8], at: usize, pair: u64)
-    requires short { pair < 100 }
-    requires within { at + 2 ≤ length block.old }
-    ensures before { take at block.new ≡ take at block.old }
-    ensures written { drop at block.new ≡ (48 + pair / 10) ∷ (48 + pair % 10) ∷ drop (at + 2) block.old }
-{
-    let from = pair as usize * 2;
-    let (tens, ones) = (PAIRS[from], PAIRS[from + 1]);
-    block[at] = tens;
-    block[at + 1] = ones;
+    threes.put_up_to(block, to, left);
 }
 
 /// How many digits a number has.

@@ -1,4 +1,4 @@
-use Rattle.std.proofs.Common.{◌≡◌, ℕ, List, ◌+◌, ◌≤◌, ◌++◌, length, take, drop}
+use Rattle.std.proofs.Common.{◌≡◌, ℕ, List, ◌+◌, ◌-◌, ◌≤◌, ◌++◌, length, take, drop}
 use Rattle.std.specs.Fmt.{decimal}
 use Rattle.dm_table.proofs.io.block.put_padded.Given as goal
 
@@ -6,11 +6,11 @@ use Rattle.dm_table.proofs.io.block.put_padded.Given as goal
 pub record Padded (left to number end : ℕ) (old new : List ℕ) : Type 0 where
   pub within : to ≤ end
   pub place : to + length (decimal number) ≡ end + length (decimal left)
-  pub before : take to new ≡ take to old
+  pub before : take (to - 1) new ≡ take (to - 1) old
   pub written : decimal left ++ drop to new ≡ decimal number ++ drop end old
 
-abbrev pub invariant-fours : goal.invariant-fours
-invariant-fours l = Padded l.left l.to l.number l.end l.fn.block l.block
+abbrev pub invariant-groups : goal.invariant-groups
+invariant-groups l = Padded l.left l.to l.number l.end l.fn.block l.block
 
-abbrev pub decreases-fours : goal.decreases-fours
-decreases-fours l = l.left
+abbrev pub decreases-groups : goal.decreases-groups
+decreases-groups l = l.left
