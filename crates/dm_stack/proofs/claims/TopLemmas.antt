@@ -20,7 +20,7 @@ use Rattle.dm_stack.specs.declared.claims.clash.Clash.{Clash}
 use Rattle.dm_stack.specs.declared.id.Lower.{Lower}
 use Rattle.dm_stack.specs.declared.id.Lower.TheVariants.{Device, Disk}
 use Rattle.dm_stack.specs.claims.Claims.{AreTops, NeverMeet, IsClash, IsFirstClash, IsLower, IsThere, IsTidy, IsTop, MeetAt, claims, device_claims, line_claims, span_claim, span_end}
-use Rattle.dm_table.specs.declared.tables.disk.Disk.{Disk}
+use Rattle.dm_table.specs.declared.tables.disk.Disk.{Disk as ListedDisk}
 use Rattle.dm_stack.specs.Description.{Description, end_of, is_same, lines_at, lines_or_none, lower_len, lower_of}
 use Rattle.dm_stack.specs.claims.Naming.{is_device, is_named, line_names}
 use Rattle.dm_stack.specs.Report.{IsReport, report_text}
@@ -272,7 +272,7 @@ by_length xs id len none_len false is some = absurd (omega (arith, some, none_le
 
 lower_there : (stack : Description) (lower : Lower) → 0 < lower_len stack lower → IsLower stack lower
 lower_there stack (Device id) some = by_length stack.devices id (lower_len stack (Device id)) (λ none. ap (λ (found : Option DeviceSpec). end_of (lines_or_none found)) none) (nat_lt id (length stack.devices)) refl some
-lower_there stack (Disk id) some = by_length stack.disks id (lower_len stack (Disk id)) (λ none. ap (λ (found : Option Disk). option_map_or (λ disk. disk.len) found 0) none) (nat_lt id (length stack.disks)) refl some
+lower_there stack (Disk id) some = by_length stack.disks id (lower_len stack (Disk id)) (λ none. ap (λ (found : Option ListedDisk). option_map_or (λ disk. disk.len) found 0) none) (nat_lt id (length stack.disks)) refl some
 
 clash_there : (stack : Description) (clash : Clash) → IsSound stack → IsClash (claims stack) clash → IsThere stack clash
 clash_there stack clash sound is =
