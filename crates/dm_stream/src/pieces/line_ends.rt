@@ -19,7 +19,7 @@ const LENGTHS: usize = 1000;
 /// The room in bytes: three digits, a newline, and how many bytes these are as the last.
 const ROOM: usize = 8;
 
-/// The ends of lines of each length below 1,000.
+/// The ends of lines of each length below 1,000, and what digits of longer lengths and of starts are copied from.
 #[derive(Drop)]
 pub(crate) struct LineEnds {
     ends: [[u8; ROOM]; LENGTHS],
@@ -42,7 +42,7 @@ impl LineEnds {
         }
     }
 
-    /// What the digits of numbers are copied from.
+    /// What digits of numbers are copied from.
     #[inline(always)]
     pub(crate) fn threes(&self) -> &Threes {
         &self.threes
