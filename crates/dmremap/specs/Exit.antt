@@ -64,7 +64,7 @@ refusal_message (refusals.Earlier fault) = earlier_message fault
 refusal_message refusals.Split = name_refusal (codes "split")
 refusal_message refusals.Untidy = codes "dmremap: replay: untidy\n"
 
--- the message of a command: none of one that did all
+-- the message of a command: none where it did all that was asked
 abbrev pub exit_message : Exit → List ℕ
 exit_message (exits.Refused refusal) = refusal_message refusal
 exit_message (exits.Ended ending) = ending_message ending

@@ -156,7 +156,7 @@ pub record GivenWords : Type 0 where
   pub layer : Option Text
   pub name : Option Text
 
--- a word that may not be given
+-- a word that may be missing
 abbrev text_if : Option (Bor Text) → Option Text
 text_if word = option_map (λ w. w.now) word
 
@@ -249,7 +249,7 @@ abbrev pub split_if : Option Text → Result JobWords Lack
 split_if None = Err (lack.Place option.Status)
 split_if (Some name) = Ok (split_words name)
 
--- the job of `split`, or what it lacks
+-- the job of `splitname`, or what it lacks
 abbrev pub split_from : GivenWords → Result JobWords Lack
 split_from given = split_if given.name
 

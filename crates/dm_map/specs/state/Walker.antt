@@ -14,5 +14,6 @@ pub record StackState : Type 0 where
   pub stack : Description
   pub state : State
 
+-- that of a walker
 abbrev pub stack_state : WalkerView → StackState
 stack_state walker = record { stack = walker.stack; state = walker.state }

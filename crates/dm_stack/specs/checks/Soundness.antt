@@ -70,7 +70,7 @@ with_before (x ∷ xs) = record { before = []; it = x } ∷ map (λ later. recor
 abbrev pub is_repeated : {X : Type 0} → (X → List ℕ) → WithBefore X → Bool
 is_repeated name x = list_any (λ other. is_same (name other) (name x.it)) x.before
 
--- an element whose name one before it has, each at its place
+-- the elements whose names some before them have, as faults at their places
 abbrev pub twice_in : {X : Type 0} → (X → List ℕ) → (X → Place) → List X → List LoadFault
 twice_in name place xs = faults_by Twice (λ x. place x.it) (is_repeated name) (with_before xs)
 
@@ -118,7 +118,7 @@ is_unknown_ref stack (refs.Disk name) = is_none (find (λ disk. is_same disk.nam
 abbrev pub is_unknown : Description → Line → Bool
 is_unknown stack line = list_any (λ span. is_unknown_ref stack span.to) (spans line)
 
--- a line that names what isn't there
+-- the lines that name what isn't there
 abbrev pub unknown : Description → List LoadFault
 unknown stack = line_faults Unknown (is_unknown stack) stack
 

@@ -25,7 +25,7 @@ clash_of earlier later = record { lower = later.to; sector = max earlier.start l
 abbrev pub clash_with : (before : List Claim) → (later : Claim) → Option Clash
 clash_with before later = option_map (λ earlier. clash_of earlier later) (find (λ earlier. meets earlier later) before)
 
--- how far claims reach, with one more
+-- the reach of no claim
 abbrev pub no_reach : Reach
 no_reach = record { own = 0; held = 0; all = 0 }
 

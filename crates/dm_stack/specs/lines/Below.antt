@@ -154,7 +154,7 @@ pub record IsOriginSound (stack : Description) (device start len : ℕ) (origin 
   pub same : lower_len stack origin.to ≡ len
   pub over : origin.over ≡ snapshots_over stack origin.to
 
--- what the lower layers need of the target of a line of a device, which starts there and is as long
+-- what the lower layers need of the target of a line of a device, with the line's start and length
 abbrev pub IsTargetSound : Description → (device start len : ℕ) → FoundTarget → Type 0
 IsTargetSound stack device start len (found.Linear to offset) = LiesIn stack to offset len
 IsTargetSound stack device start len (found.Striped chunk columns) = AreStripes stack len chunk columns

@@ -40,7 +40,7 @@ pub record HasAllTried (places : List Place) (shift : ℕ) : Type 0 where
 abbrev pub tried : Fronts → NameKey → List Place
 tried names key = take TRIES (drop (first_place key names.shift) names.places)
 
--- so is it at each place with a short name
+-- the device of each place with a short name is that of its name
 abbrev pub ArePlaces : List DeviceSpec → List Place → Type 0
 ArePlaces devices places = All (λ place. place.key.len < ROOM → IsPlaceOf devices place) places
 

@@ -4,7 +4,7 @@ use Rattle.std.proofs.lemmas.List.{append-nil}
 use Rattle.std.proofs.lemmas.Grind.{flat_map-append}
 use Rattle.dm_table.specs.io.DeviceIo.{since}
 use Rattle.dm_stack.specs.Description.{Description}
-use Rattle.dm_map.specs.declared.pieces.piece.Piece as code
+use Rattle.dm_map.specs.declared.pieces.piece.Piece as coded
 use Rattle.dm_map.specs.pieces.Units.{BlockUnit, first_unit, next_unit, piece_len, units_in, units_of}
 use Rattle.dm_stream.specs.pieces.Pending.{Pending, HoldsNoRange, IsHeld, IsNoRange, goes_on, held_of, held_units, piece_view, range_piece}
 use Rattle.dm_stream.specs.declared.pieces.disk_range.DiskRange.{DiskRange}
@@ -26,17 +26,17 @@ fewest-whole first after (suc len) (suc more) rest some one apart =
     ∙ ap (λ (ps : List UnitRun). ps ++ fewest (units_in after (suc more) ++ rest)) (sym (fewest-run first len))
 
 -- what is held and a piece that does not go on from it
-pub held_apart : (stack : Description) (old : Option code.Piece) (piece : code.Piece) → IsHeld stack old → 1 ≤ piece_len piece → goes_on old piece ≡ false
+pub held_apart : (stack : Description) (old : Option coded.Piece) (piece : coded.Piece) → IsHeld stack old → 1 ≤ piece_len piece → goes_on old piece ≡ false
     → (rest : List BlockUnit) → fewest (held_units old ++ units_of piece ++ rest) ≡ fewest (held_units old) ++ fewest (units_of piece ++ rest)
 held_apart stack None piece fits one apart rest = refl
 held_apart stack (Some held) piece fits one apart rest = fewest-whole (first_unit held) (first_unit piece) (piece_len held) (piece_len piece) rest fits.0 one apart
 
 -- the held piece and one that does, as one
-pub held_joined : (old : Option code.Piece) (held piece both : code.Piece) → old ≡ Some held → goes_on old piece ≡ true → first_unit both ≡ first_unit held → piece_len both ≡ piece_len held + piece_len piece → units_of both ≡ held_units old ++ units_of piece
+pub held_joined : (old : Option coded.Piece) (held piece both : coded.Piece) → old ≡ Some held → goes_on old piece ≡ true → first_unit both ≡ first_unit held → piece_len both ≡ piece_len held + piece_len piece → units_of both ≡ held_units old ++ units_of piece
 held_joined old held piece both is after first len =
     ap (λ (u : BlockUnit). units_in u (piece_len both)) first ∙ ap (units_in (first_unit held)) len
-    ∙ units_joined (first_unit held) (first_unit piece) (piece_len held) (piece_len piece) (sym (ap (λ (p : Option code.Piece). goes_on p piece) is) ∙ after)
-    ∙ ap (λ (p : Option code.Piece). held_units p ++ units_of piece) (sym is)
+    ∙ units_joined (first_unit held) (first_unit piece) (piece_len held) (piece_len piece) (sym (ap (λ (p : Option coded.Piece). goes_on p piece) is) ∙ after)
+    ∙ ap (λ (p : Option coded.Piece). held_units p ++ units_of piece) (sym is)
 
 -- a range has the length of its piece
 pub piece_len-range : (is_write : Bool) (disk start len : ℕ) → piece_len (range_piece is_write disk start len) ≡ len
@@ -48,7 +48,7 @@ a_range : (is_write : Bool) (disk start len : ℕ) → IsNoRange (range_piece is
 a_range true disk start len none = none
 a_range false disk start len none = none
 
-pub no_range : (range : Option DiskRange) (other : Option code.Piece) → HoldsNoRange (held_of range other) → range ≡ None
+pub no_range : (range : Option DiskRange) (other : Option coded.Piece) → HoldsNoRange (held_of range other) → range ≡ None
 no_range None other none = refl
 no_range (Some range) other none = absurd (a_range range.letter range.disk range.start range.len none)
 
@@ -58,20 +58,20 @@ text_run stack number first zero some = absurd (omega arith)
 text_run stack number first (suc len) some =
     sym (ap (pieces_text stack number) (fewest-run first len) ∙ append-nil (piece_text stack number (record { first = first; len = suc len })))
 
-pub held_text : (stack : Description) (number : ℕ) (piece : code.Piece) → 1 ≤ piece_len piece → piece_text stack number (piece_view piece) ≡ pieces_text stack number (fewest (units_of piece))
+pub held_text : (stack : Description) (number : ℕ) (piece : coded.Piece) → 1 ≤ piece_len piece → piece_text stack number (piece_view piece) ≡ pieces_text stack number (fewest (units_of piece))
 held_text stack number piece some = text_run stack number (first_unit piece) (piece_len piece) some
 
 -- so is the line of a piece beside what is held
-pub line_beside : (inside held : Pending) (piece : code.Piece) → inside ≡ held → 1 ≤ piece_len piece → piece_text inside.stack inside.number (piece_view piece) ≡ pieces_text held.stack held.number (fewest (units_of piece))
+pub line_beside : (inside held : Pending) (piece : coded.Piece) → inside ≡ held → 1 ≤ piece_len piece → piece_text inside.stack inside.number (piece_view piece) ≡ pieces_text held.stack held.number (fewest (units_of piece))
 line_beside inside held piece same some =
     held_text inside.stack inside.number piece some ∙ ap (λ (h : Pending). pieces_text h.stack h.number (fewest (units_of piece))) same
 
 -- the line of the held piece is the text of what is held
-pub held_line : (inside held : Pending) (piece : code.Piece) → inside ≡ held → inside.piece ≡ Some piece → IsHeld inside.stack inside.piece
+pub held_line : (inside held : Pending) (piece : coded.Piece) → inside ≡ held → inside.piece ≡ Some piece → IsHeld inside.stack inside.piece
     → piece_text inside.stack inside.number (piece_view piece) ≡ pieces_text held.stack held.number (fewest (held_units held.piece))
 held_line inside held piece same is fits =
     held_text inside.stack inside.number piece (subst (IsHeld inside.stack) is fits).0
-    ∙ ap (λ (p : Option code.Piece). pieces_text inside.stack inside.number (fewest (held_units p))) (sym is)
+    ∙ ap (λ (p : Option coded.Piece). pieces_text inside.stack inside.number (fewest (held_units p))) (sym is)
     ∙ ap (λ (h : Pending). pieces_text h.stack h.number (fewest (held_units h.piece))) same
 
 some_units : (unit : BlockUnit) (len : ℕ) → 1 ≤ len → HasUnits (units_in unit len)
@@ -79,7 +79,7 @@ some_units unit zero some = absurd (omega arith)
 some_units unit (suc len) some = tt
 
 -- a piece that did not go on, where the held one was not written whole
-pub left_apart : (old mid new : Pending) (piece : code.Piece) (w0 w1 : List ℕ) → 1 ≤ piece_len piece → mid ≡ old → new ≡ record { stack = mid.stack; number = mid.number; piece = None }
+pub left_apart : (old mid new : Pending) (piece : coded.Piece) (w0 w1 : List ℕ) → 1 ≤ piece_len piece → mid ≡ old → new ≡ record { stack = mid.stack; number = mid.number; piece = None }
     → ((rest : List BlockUnit) → fewest (held_units old.piece ++ units_of piece ++ rest) ≡ fewest (held_units old.piece) ++ fewest (units_of piece ++ rest))
     → IsCutShort (pieces_text mid.stack mid.number (fewest (held_units mid.piece))) (since w0 w1)
     → HasLeft old new (units_of piece) w0 w1

@@ -2,7 +2,7 @@
 use Rattle.std.specs.Prelude.{ℕ, ◌<◌, ◌≤◌, ◌^◌, Bool, true, false, List, [], Option, Some, None}
 use Rattle.dm_stack.specs.Description.{Description}
 use Rattle.dm_map.specs.declared.pieces.piece.Piece.{Piece}
-use Rattle.dm_map.specs.declared.pieces.piece.Piece.TheVariants as code
+use Rattle.dm_map.specs.declared.pieces.piece.Piece.TheVariants as coded
 use Rattle.dm_map.specs.pieces.Units.{BlockUnit, ReadOf, WriteOf, Zeros, Drops, Fails, CopyOf, FillOf, units_of, first_unit, piece_len, diskless_len, IsOnDisk, IsOnDisks}
 use Rattle.dm_stream.specs.pieces.Pieces as pieces
 use Rattle.dm_stream.specs.declared.pieces.disk_range.DiskRange.{DiskRange}
@@ -19,8 +19,8 @@ piece_view piece = record { first = first_unit piece; len = piece_len piece }
 
 -- a write, or else a read, of a range of a disk
 abbrev pub range_piece : (is_write : Bool) (disk start len : ℕ) → Piece
-range_piece true disk start len = code.Write disk start len
-range_piece false disk start len = code.Read disk start len
+range_piece true disk start len = coded.Write disk start len
+range_piece false disk start len = coded.Read disk start len
 
 -- the piece that a range of a disk is
 abbrev pub piece_of : DiskRange → Piece
@@ -28,8 +28,8 @@ piece_of range = range_piece range.letter range.disk range.start range.len
 
 -- a piece that is no read and no write
 abbrev pub IsNoRange : Piece → Type 0
-IsNoRange (code.Read disk start len) = ⊥
-IsNoRange (code.Write disk start len) = ⊥
+IsNoRange (coded.Read disk start len) = ⊥
+IsNoRange (coded.Write disk start len) = ⊥
 IsNoRange _ = Unit {0}
 
 -- what is held: a range, or else another piece, if any

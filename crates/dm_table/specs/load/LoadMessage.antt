@@ -42,7 +42,7 @@ part_message part kind = codes "dmremap: " ++ part_word part ++ codes ": " ++ ki
 abbrev pub memory_message : List ℕ
 memory_message = codes "dmremap: memory\n"
 
--- the message of a refused load: what was not read has no number
+-- the message of a fault of this kind in a part, at a number: what was not read has none
 abbrev pub kind_message : Part → LoadKind → ℕ → List ℕ
 kind_message part kinds.Read number = part_message part kinds.Read
 kind_message part kinds.Long number = part_message part kinds.Long

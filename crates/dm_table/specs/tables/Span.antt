@@ -32,6 +32,6 @@ target_spans len targets.Error = []
 target_spans len (targets.Snapshot origin store kind chunk) = whole_span store Own ∷ whole_span origin Reading ∷ []
 target_spans len (targets.Origin origin) = whole_span origin Serving ∷ []
 
--- what a line names, in the order in which it does
+-- what a line names: of a snapshot first the store
 abbrev pub spans : Line → List Span
 spans line = target_spans line.len line.target

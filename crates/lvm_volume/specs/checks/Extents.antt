@@ -62,7 +62,7 @@ stripes_of Zero = []
 stripes_of Error = []
 stripes_of (Snapshot chunk_size origin store) = []
 
--- the positions of the volumes that a segment names: only that of a record names any
+-- the positions of the volumes that a segment names: only a snapshot's names any
 abbrev pub volumes_named : SegmentType → List ℕ
 volumes_named (Snapshot chunk_size origin store) = origin ∷ store ∷ []
 volumes_named (Striped stripe_size stripes) = []
@@ -80,7 +80,7 @@ unknown_faults group = at_line Unknown (least_line_of (λ alone. is_unknown (len
 
 -- Snapshot: a snapshot that its group can't have
 
--- the least line of a segment that makes no snapshot
+-- the least line of a snapshot's segment that the group can't have
 abbrev pub snapshot_faults_in : List Volume → List LoadFault
 snapshot_faults_in volumes = at_line loads.Snapshot (least_line_of (is_bad_snapshot volumes (roles_of volumes)) volumes)
 

@@ -105,7 +105,7 @@ abbrev pub held : {X : Type 0} → X → (Content → X) → Option Shown → X
 held other view None = other
 held other view (Some shown) = view shown.content
 
--- the integer of a key, or 0; its string, its list, and the sections inside it, or none
+-- the integer of a key, or 0
 abbrev pub number_at : List ℕ → Tree → ℕ
 number_at key tree = held 0 number_in (node_of key tree.values)
 
@@ -213,7 +213,7 @@ abbrev pub is_far_scalar : Scalar → Bool
 is_far_scalar (Text text) = false
 is_far_scalar (Int n) = nat_lt most n
 
--- a number over the limit, or, of extents of this many sectors, one over it in sectors
+-- a number over the limit, or, of extents of this many sectors, one over it in sectors; or a list with an integer over it
 abbrev pub is_far : ℕ → Kind → Content → Bool
 is_far extent_size kind (Whole (Int n)) = nat_lt most n || (counts_extents kind && nat_lt most (n * extent_size))
 is_far extent_size kind (Whole (Text text)) = false

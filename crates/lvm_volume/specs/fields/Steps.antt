@@ -42,8 +42,6 @@ number_kind numbers.Any = kinds.Number
 number_kind numbers.Positive = kinds.Positive
 number_kind numbers.Extents = kinds.Extents
 
--- the fields of a segment from its type on, and those that its type asks for
-
 -- the fields of a segment that depend on its type
 abbrev pub later_fields : List Field
 later_fields =
@@ -58,8 +56,6 @@ later_fields =
 -- the type of a segment, and the fields that depend on it
 abbrev pub type_fields : List Field
 type_fields = always (codes "type") kinds.TypeWord ∷ later_fields
-
--- what is found in segments, and at their keys in a volume of this many
 
 -- what a check finds at the fields of segments
 abbrev pub segments_faults : List Tree → Check → List LoadFault

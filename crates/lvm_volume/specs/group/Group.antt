@@ -84,7 +84,7 @@ stripes_in keys _ = []
 abbrev pub striped_in : List (List ℕ) → Tree → SegmentType
 striped_in keys segment = Striped (number_at (codes "stripe_size") segment) (stripes_in keys (items_at (codes "stripes") segment))
 
--- the segment of a record, where these are the keys of the volumes
+-- a snapshot's segment, where these are the keys of the volumes
 abbrev pub snapshot_in : List (List ℕ) → Tree → SegmentType
 snapshot_in keys segment =
     Snapshot (number_at (codes "chunk_size") segment) (position_of keys (text_at (codes "origin") segment)) (position_of keys (text_at (codes "cow_store") segment))

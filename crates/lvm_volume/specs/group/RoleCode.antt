@@ -9,8 +9,6 @@ abbrev pub record_list : Option Record → List Record
 record_list None = []
 record_list (Some snapshot) = snapshot ∷ []
 
--- a role with one more snapshot that has the volume as its origin, or as its store
-
 -- the role where one more snapshot is taken of the volume
 abbrev pub with_origin : Role → Role
 with_origin roles.Plain = roles.Origin

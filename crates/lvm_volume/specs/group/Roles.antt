@@ -11,7 +11,7 @@ use Rattle.lvm_volume.specs.declared.group.roles.Role.TheVariants as roles
 
 -- Records: volumes whose only segment is a snapshot
 
--- the record in a segment, if it is of that type
+-- the record in a segment, if that is a snapshot's
 abbrev pub snapshot_of : (line : ℕ) → SegmentType → List Record
 snapshot_of line (Snapshot chunk_size origin store) = record { chunk_size = chunk_size; origin = origin; store = store; line = line } ∷ []
 snapshot_of line (Striped stripe_size stripes) = []
@@ -100,6 +100,6 @@ is_bad_target volumes all alone count (Striped stripe_size stripes) = false
 is_bad_target volumes all alone count Zero = false
 is_bad_target volumes all alone count Error = false
 
--- the segment of a record that makes no snapshot; the flag says that it is the only one of its volume
+-- a snapshot's segment that the group can't have; the flag says that it is the only one of its volume
 abbrev pub is_bad_snapshot : List Volume → List Role → (alone : Bool) → Segment → Bool
 is_bad_snapshot volumes all alone segment = is_bad_target volumes all alone segment.count segment.target

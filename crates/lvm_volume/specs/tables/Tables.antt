@@ -191,7 +191,7 @@ unnamed_volume group member = flat_map (unnamed_layer group member.1) (layers_of
 abbrev pub members_of : Group → List (Role × Volume)
 members_of group = zip (roles_of group.volumes) group.volumes
 
--- the same of all volumes, in their order
+-- the devices of all volumes of whose parts no name is built, in their order
 abbrev pub unnamed : Group → List LoadFault
 unnamed group = flat_map (unnamed_volume group.name) (members_of group)
 

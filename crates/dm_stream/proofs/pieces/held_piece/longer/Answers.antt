@@ -2,19 +2,19 @@ use Rattle.std.proofs.Common.{◌+◌, ℕ, sym, subst, ◌∙◌, ap, arith}
 use Rattle.dm_stack.specs.Description.{Description}
 use Rattle.dm_map.specs.pieces.Units.{BlockUnit, IsOnDisks, first_unit, piece_len}
 use Rattle.dm_map.specs.declared.pieces.piece.Piece.{Piece}
-use Rattle.dm_map.specs.declared.pieces.piece.Piece.TheVariants as code
+use Rattle.dm_map.specs.declared.pieces.piece.Piece.TheVariants as coded
 use Rattle.dm_stream.specs.pieces.Pending.{Fits}
 use Rattle.dm_stream.proofs.pieces.FitsLemmas.{fits_few}
 use Rattle.dm_stream.proofs.pieces.held_piece.longer.Goals as goal
 
 fits_there : (stack : Description) (piece : Piece) → Fits stack (first_unit piece) (piece_len piece) → IsOnDisks stack piece
-fits_there stack (code.Read disk start len) fits = fits
-fits_there stack (code.Write disk start len) fits = fits
-fits_there stack (code.Zero len) fits = tt
-fits_there stack (code.Drop len) fits = tt
-fits_there stack (code.Error len) fits = tt
-fits_there stack (code.Copy disk start len to to_start) fits = fits
-fits_there stack (code.Fill len disk start) fits = fits
+fits_there stack (coded.Read disk start len) fits = fits
+fits_there stack (coded.Write disk start len) fits = fits
+fits_there stack (coded.Zero len) fits = tt
+fits_there stack (coded.Drop len) fits = tt
+fits_there stack (coded.Error len) fits = tt
+fits_there stack (coded.Copy disk start len to to_start) fits = fits
+fits_there stack (coded.Fill len disk start) fits = fits
 
 pub overflow_add-len : goal.overflow_add-len
 overflow_add-len c =
