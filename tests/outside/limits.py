@@ -213,10 +213,7 @@ def check_small_stack(tally, program):
         tally.same("a stack of %d KiB, which may get more" % size, got, 6, "", "dmremap: memory\n")
     got = program.run(["splitname", "a-b"], before=lambda: limit_stack(512 << 10, most))
     tally.same("a stack of 512 KiB, which may get more", got, 0, "a b\n")
-    table = "s0: 0 64 striped 2 8 sda 0 sdb 0\n" + "".join(
-        "s%d: 0 64 snapshot /dev/mapper/s%d c%d P 8\n" % (it, it - 1, it) for it in range(1, 32))
-    disks = "sda 32\nsdb 32\n" + "".join("c%d 128\n" % it for it in range(1, 32))
-    given = "W s31 0 64\nR s31 0 64\nW s30 0 64\n"
+    table, disks, given = deepest()
     files = ["table", program.file("table", table), program.file("disks", disks)]
     room = dict(os.environ, ROOM="r" * 100000)
     for words in (["map", *files, "--status"], ["replay", *files], ["check", *files], ["concise", *files]):
@@ -224,6 +221,14 @@ def check_small_stack(tally, program):
         got = program.run(words, given=given, env=room, before=lambda: limit_stack(512 << 10))
         tally.same("%s with a stack of 512 KiB" % words[0], got, wanted.status, wanted.out, wanted.err)
         tally.holds("%s of a deep stack" % words[0], wanted.out, "it is refused: %r" % wanted.err)
+
+
+def deepest():
+    """A table as deep as one may be, its disks, and requests that go all the way down."""
+    table = "s0: 0 64 striped 2 8 sda 0 sdb 0\n" + "".join(
+        "s%d: 0 64 snapshot /dev/mapper/s%d c%d P 8\n" % (it, it - 1, it) for it in range(1, 32))
+    disks = "sda 32\nsdb 32\n" + "".join("c%d 128\n" % it for it in range(1, 32))
+    return table, disks, "W s31 0 64\nR s31 0 64\nW s30 0 64\n"
 
 
 def limit_stack(limit, most=None):

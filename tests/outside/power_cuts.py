@@ -8,6 +8,7 @@ import growths
 import halts
 from growths import Shim
 from harness import Program, become_nobody, failing_input
+from limits import deepest, limit_stack
 from replays import first_units, lines, played
 from snapshots import plain
 from transcripts import POWER_CUT
@@ -69,6 +70,7 @@ def check(tally, room, top):
     check_refused(tally, program)
     check_streams(tally, program)
     check_growths(tally, program)
+    check_small_stack(tally, program)
 
 
 def check_answers(tally, program):
@@ -153,6 +155,19 @@ def check_growths(tally, program):
     if tally.holds("the shim of power_cut", not shim.fault, shim.fault):
         given, units, wanted = ROWS[7]
         growths.check_growths(tally, shim, "power_cut", words_of(program, *SNAPSHOT, units), [given], [wanted])
+
+
+def check_small_stack(tally, program):
+    """It is refused before a word is read, and the least one that isn't has room for the deepest stack."""
+    for size in (64, 511):
+        got = program.run([], before=lambda: limit_stack(size << 10))
+        tally.same("power_cut with a stack of %d KiB" % size, got, 6, "", "dmremap: memory\n")
+    table, disks, _ = deepest()
+    words, given = words_of(program, table, disks, 200), "W s31 0 64\n"
+    wanted = program.run(words, given=given)
+    got = program.run(words, given=given, before=lambda: limit_stack(512 << 10))
+    tally.same("power_cut with a stack of 512 KiB", got, 0, wanted.out, wanted.err)
+    tally.holds("power_cut of a deep stack", wanted.out, "it is refused: %r" % wanted.err)
 
 
 def words_of(program, source, disks, units):

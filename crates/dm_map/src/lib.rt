@@ -12,6 +12,7 @@ mod fixtures;
 mod mapper;
 mod own;
 mod pieces;
+mod stack_room;
 mod state;
 mod walk;
 
@@ -23,6 +24,7 @@ pub use pieces::discard::Discard;
 pub use pieces::piece::Piece;
 pub use pieces::piece_list::PieceList;
 pub use pieces::sink::Sink;
+pub use stack_room::has_stack_room;
 pub use state::plain_taken::PlainTaken;
 pub use state::run_taken::RunTaken;
 pub use state::taken::Taken;

@@ -21,6 +21,7 @@ mod read_back;
 mod request_list;
 
 use cut::answer_after_cut;
+use dm_map::has_stack_room;
 use dm_stack::Stack;
 use dm_table::{
     Counted, Gathered, LoadFault, LoadKind, Part, Place, parse_disks, parse_table, read_part,
@@ -40,6 +41,9 @@ fn main(rt: HostRuntime) -> ExitCode {
 
 /// Does what the words ask for, or says why not.
 fn run(rt: &HostRuntime) -> Result<(), Fault> {
+    if !has_stack_room(rt) {
+        return Err(Fault::Memory);
+    }
     let words = words_of(rt)?;
     let [_, file, disks, units] = words.as_slice() else {
         return Err(Fault::Words);

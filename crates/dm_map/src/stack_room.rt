@@ -1,4 +1,4 @@
-//! Whether there is room for the stack that the program takes.
+//! Whether there is room for the stack that a program takes which maps requests.
 //!
 //! A stack that is too small ends a program by a signal, wherever it then is. So the kernel's own table of
 //! limits is read before anything else is done. An address space that ends sooner doesn't stand there.
@@ -13,9 +13,10 @@ const LEAST_STACK: u64 = 524_288;
 /// The limits of this process, a line each: see `proc_pid_limits(5)`.
 const LIMITS: &str = "/proc/self/limits";
 
-/// Whether the limit of the stack is at least that, or can't be told.
+/// Whether the limit of the stack is at least 512 KiB, as a stack of devices at the limit of depth asks for, or
+/// can't be told. Programs ask before they do anything else.
 #[inline(never)]
-pub(crate) fn has_stack_room(rt: &HostRuntime) -> bool {
+pub fn has_stack_room(rt: &HostRuntime) -> bool {
     match stack_limit(rt) {
         Some(limit) => limit >= LEAST_STACK,
         None => true,
