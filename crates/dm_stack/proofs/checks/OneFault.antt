@@ -6,7 +6,6 @@ use Rattle.std.proofs.Math.Seq.{get_or-append_seam}
 use Rattle.std.proofs.lemmas.List.{length-append}
 use Rattle.dm_table.specs.declared.load.load_fault.LoadFault.{LoadFault}
 use Rattle.dm_table.specs.declared.tables.table.DeviceSpec.{DeviceSpec}
-use Rattle.dm_table.specs.load.LoadFault.{fault}
 use Rattle.dm_stack.specs.Description.{Description}
 use Rattle.dm_stack.specs.checks.Soundness.{Early, HasNoCycle, IsFirstCycle, IsRefusedBy, IsSound, Late, OnCycle}
 

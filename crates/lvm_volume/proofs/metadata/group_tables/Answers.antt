@@ -1,5 +1,3 @@
-use Rattle.dm_table.specs.load.LoadFault.{Answers}
-use Rattle.dm_table.specs.declared.load.place.Part.TheVariants.{Source}
 use Rattle.lvm_volume.proofs.MetadataLemmas.{named_group, refused_group}
 use Rattle.lvm_volume.proofs.metadata.group_tables.Goals as goal
 

@@ -1,4 +1,3 @@
-use Rattle.lvm_text.specs.Reading.{Describes, HasFault}
 use Rattle.lvm_volume.proofs.MetadataLemmas.{refused_tables, refused_text}
 use Rattle.lvm_volume.proofs.OneGroup.{says_one_thing}
 use Rattle.lvm_volume.proofs.metadata.parse_metadata.Goals as goal

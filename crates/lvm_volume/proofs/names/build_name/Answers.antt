@@ -1,6 +1,5 @@
 use Rattle.std.proofs.Common.{◌∙◌}
-use Rattle.std.specs.Prelude.{Err, option_map}
-use Rattle.dm_table.specs.declared.words.name.CheckFault.{CheckFault}
+use Rattle.std.specs.Prelude.{option_map}
 use Rattle.lvm_volume.proofs.Splits.{fault_built, layer_letters, form_is_long}
 use Rattle.lvm_volume.proofs.names.build_name.Goals as goal
 

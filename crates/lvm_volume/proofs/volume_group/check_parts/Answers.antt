@@ -1,11 +1,7 @@
-use Rattle.std.proofs.Common.{◌≡◌, ◌∙◌, List, [], Option, None, ap, length, sym}
-use Rattle.dm_table.specs.declared.load.load_fault.LoadFault.{LoadFault}
-use Rattle.dm_table.specs.declared.load.load_fault.LoadKind.TheVariants.{Unknown}
+use Rattle.std.proofs.Common.{◌≡◌, ◌∙◌, List, [], None, ap, sym}
 use Rattle.dm_table.specs.load.LoadFault.{first_or}
-use Rattle.lvm_volume.specs.declared.group.physical.Physical.{Physical}
 use Rattle.lvm_volume.specs.declared.group.volume.Volume.{Volume}
-use Rattle.lvm_volume.specs.checks.Extents.{at_line, is_unknown, least_line_of, size_faults, snapshot_faults_in, unknown_faults, volume_faults}
-use Rattle.lvm_volume.specs.fields.Fields.{IsChecked}
+use Rattle.lvm_volume.specs.checks.Extents.{size_faults, snapshot_faults_in, unknown_faults, volume_faults}
 use Rattle.lvm_volume.specs.group.Group.{Group}
 use Rattle.lvm_volume.specs.tables.Tables.{extent_faults}
 use Rattle.lvm_volume.proofs.fields.Faults.{first_after}

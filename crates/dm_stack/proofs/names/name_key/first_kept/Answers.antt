@@ -1,4 +1,4 @@
-use Rattle.std.proofs.Common.{◌≡◌, ℕ, zero, suc, ◌+◌, ◌-◌, ◌<◌, ◌++◌, List, replicate, refl, ap, ◌∙◌, arith, bit_and}
+use Rattle.std.proofs.Common.{◌≡◌, ℕ, zero, suc, ◌-◌, ◌<◌, ◌++◌, List, replicate, refl, ap, ◌∙◌, arith, bit_and}
 use Rattle.std.specs.Prelude.{slice_range}
 use lib.Lanes.{zip2}
 use Rattle.dm_stack.specs.declared.names.name_key.TheConstants.{KEPT}

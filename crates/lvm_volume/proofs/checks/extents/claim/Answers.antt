@@ -1,5 +1,4 @@
-use Rattle.std.proofs.Common.{Bool, not, true, ◌≡◌, ◌∷◌, set}
-use Rattle.std.specs.Prelude.{IfOk}
+use Rattle.std.proofs.Common.{true, ◌≡◌, ◌∷◌, set}
 use Rattle.lvm_volume.specs.checks.Extents.{Claim}
 use Rattle.lvm_volume.specs.checks.Used.{Holds, HasRanges, ranges_of}
 use Rattle.lvm_volume.proofs.checks.HoldLemmas.{meets_is, if_ok, holds_more}

@@ -1,8 +1,7 @@
 use Rattle.std.proofs.Common.{◌≡◌, List, false, ◌/◌, sym, ap, length, ◌∙◌}
-use Rattle.std.specs.Prelude.{IfOk}
 use Rattle.lvm_volume.specs.declared.group.segment.Stripe.{Stripe}
 use Rattle.lvm_volume.specs.declared.group.segment.SegmentType.{SegmentType}
-use Rattle.lvm_volume.specs.checks.Extents.{Claim, claims_of, parts_of, stripes_of, used_by}
+use Rattle.lvm_volume.specs.checks.Extents.{claims_of, parts_of, stripes_of, used_by}
 use Rattle.lvm_volume.specs.checks.Used.{Claimed, Holds, claims_by}
 use Rattle.lvm_volume.proofs.checks.HoldLemmas.{if_ok}
 use Rattle.lvm_volume.proofs.checks.extents.is_misplaced.Goals as goal

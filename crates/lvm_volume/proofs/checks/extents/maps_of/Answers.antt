@@ -1,8 +1,5 @@
-use Rattle.std.proofs.Common.{[], refl, arith, List}
-use Rattle.std.specs.BTreeMap.{BTreeMap}
-use Rattle.std.proofs.Common.{ℕ}
+use Rattle.std.proofs.Common.{refl, arith}
 use Rattle.std.proofs.lemmas.Grind.{common_steps}
-use Rattle.lvm_volume.specs.checks.Used.{Holds}
 use Rattle.lvm_volume.proofs.checks.HoldLemmas.{holds_nothing, keeps_nothing}
 use Rattle.lvm_volume.proofs.checks.extents.maps_of.Goals as goal
 

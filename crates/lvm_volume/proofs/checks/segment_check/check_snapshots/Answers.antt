@@ -1,8 +1,6 @@
-use Rattle.std.proofs.Common.{List, None, Option, ℕ, ap, ◌∙◌}
-use Rattle.dm_table.specs.declared.load.load_fault.LoadKind.TheVariants as loads
-use Rattle.dm_table.specs.load.LoadFault.{first_or}
+use Rattle.std.proofs.Common.{List, ap, ◌∙◌}
 use Rattle.lvm_volume.specs.declared.group.roles.Role.{Role}
-use Rattle.lvm_volume.specs.checks.Extents.{at_line, least_line_of}
+use Rattle.lvm_volume.specs.checks.Extents.{least_line_of}
 use Rattle.lvm_volume.specs.group.Roles.{is_bad_snapshot}
 use Rattle.lvm_volume.proofs.fields.Faults.{checked}
 use Rattle.lvm_volume.proofs.checks.segment_check.check_snapshots.Goals as goal

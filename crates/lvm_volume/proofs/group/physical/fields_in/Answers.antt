@@ -4,7 +4,6 @@ use Rattle.std.proofs.lemmas.List.{map_push}
 use Rattle.lvm_text.specs.Iterate.{item_view}
 use Rattle.dm_table.specs.declared.load.load_fault.LoadFault.{LoadFault}
 use Rattle.lvm_volume.specs.fields.Checks.{Check}
-use Rattle.lvm_volume.specs.declared.group.physical.PhysicalFields.{PhysicalFields}
 use Rattle.lvm_volume.specs.fields.Fields.{fields_faults, physical_fields}
 use Rattle.lvm_volume.specs.group.Group.{Keyed}
 use Rattle.lvm_volume.specs.group.PhysicalFields.{fields_of, fields_view}

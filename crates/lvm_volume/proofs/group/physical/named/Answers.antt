@@ -1,9 +1,7 @@
-use Rattle.std.proofs.Common.{◌≡◌, Bool, Ok, Err, refl, sym, ap, ◌∙◌}
+use Rattle.std.proofs.Common.{◌≡◌, Bool, Err, refl, sym, ap, ◌∙◌}
 use Rattle.std.specs.Prelude.{nat_lt}
 use Rattle.dm_table.specs.declared.load.load_fault.LoadKind.TheVariants.{Memory, Name}
-use Rattle.dm_table.specs.declared.load.load_fault.LoadFault.{LoadFault}
 use Rattle.dm_table.specs.words.Name.{is_disk_name}
-use Rattle.lvm_volume.specs.declared.group.physical.Physical.{Physical}
 use Rattle.lvm_volume.specs.group.Group.{chosen}
 use Rattle.lvm_volume.specs.group.PhysicalFields.{fields_view}
 use Rattle.lvm_volume.specs.group.PhysicalFields as spec

@@ -1,9 +1,7 @@
-use Rattle.std.proofs.Common.{◌≡◌, ◌++◌, ◌∙◌, ℕ, List, ap, codes, decimal, map, refl}
-use Rattle.std.specs.List.{flat_map, range_with_len}
+use Rattle.std.proofs.Common.{◌≡◌, ◌∙◌, ℕ, ap, map, refl}
 use Rattle.std.proofs.lemmas.Result.{err_from_is_err_and}
-use Rattle.lvm_text.specs.Tree.{Tree}
-use Rattle.lvm_volume.specs.fields.Fields.{section_at, section_view, segments_of, volume_faults}
-use Rattle.lvm_volume.specs.fields.Steps.{numbers_faults, segments_faults}
+use Rattle.lvm_volume.specs.fields.Fields.{section_view, segments_of, volume_faults}
+use Rattle.lvm_volume.specs.fields.Steps.{numbers_faults}
 use Rattle.lvm_volume.specs.group.Group.{segment_of, volume_of}
 use Rattle.lvm_volume.proofs.fields.Steps.{in_words, then_fails, then_goes}
 use Rattle.lvm_volume.proofs.group.volume.volume_of.Goals as goal

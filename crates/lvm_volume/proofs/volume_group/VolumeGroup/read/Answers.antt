@@ -16,7 +16,7 @@ use Rattle.lvm_volume.specs.group.PhysicalFields.{all_named, fields_view}
 use Rattle.lvm_volume.specs.tables.Tables.{IsSoundGroup, checks_of_parts}
 use Rattle.lvm_volume.proofs.checks.Sound.{one-in_limits, one_section, sound_group}
 use Rattle.lvm_volume.proofs.group.PhysicalLemmas.{all_said}
-use Rattle.lvm_volume.proofs.GroupLemmas.{Refused, accepted, at_fields, at_names, at_parts, both_none, of_both, ok_is, refused_by}
+use Rattle.lvm_volume.proofs.GroupLemmas.{accepted, at_fields, at_names, at_parts, both_none, of_both, ok_is, refused_by}
 use Rattle.lvm_volume.proofs.volume_group.VolumeGroup.read.Goals as goal
 
 pub returns-in-Err : goal.returns-in-Err

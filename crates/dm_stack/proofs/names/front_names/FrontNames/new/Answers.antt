@@ -1,4 +1,4 @@
-use Rattle.std.proofs.Common.{◌<◌, ℕ, ◌-◌, ◌*◌, ◌^◌, List, length, ap, ◌∙◌, arith, bit_xor}
+use Rattle.std.proofs.Common.{◌<◌, ◌-◌, ◌*◌, ◌^◌, List, length, ap, ◌∙◌, arith, bit_xor}
 use Rattle.std.specs.Int.{rotate_left, w64}
 use Rattle.dm_stack.specs.names.FrontNames.{first_place}
 use Rattle.dm_stack.specs.declared.names.front_names.Place.{Place}

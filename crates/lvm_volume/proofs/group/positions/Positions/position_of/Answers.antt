@@ -1,5 +1,4 @@
-use Rattle.std.proofs.Common.{◌∙◌, List, ℕ, Some, None}
-use Rattle.lvm_volume.specs.group.Group.{position_of}
+use Rattle.std.proofs.Common.{◌∙◌, Some, None}
 use Rattle.lvm_volume.proofs.group.PositionLemmas.{position_is}
 use Rattle.lvm_volume.proofs.group.positions.Positions.position_of.Goals as goal
 
