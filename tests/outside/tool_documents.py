@@ -1,5 +1,6 @@
 """What is made of the texts of the commands of dmremap-tools, the manual and the completions, is made of them as they are,
-shows without a warning, and offers what there is. And one sources' folder packs into the same bytes, which work."""
+shows without a warning, and offers what there is. And one sources' folder packs into the same bytes, which work. Where what
+is made can't be written, a line says so."""
 
 import importlib.util
 import os
@@ -44,6 +45,7 @@ def check(tally, program, top):
             tally.holds(name, it.read() == text, "it isn't what tools/derive writes")
     manual.check_shown(tally, os.path.join(top, "docs", TOOL + ".1"))
     check_offered(tally, program, top, derive)
+    check_derived(tally, program, top)
     check_packed(tally, program, top)
     check_started(tally, program, top)
 
@@ -71,6 +73,22 @@ def check_offered(tally, program, top, derive):
             offered = {it for it in got.out.decode().split("\n") if it.startswith(given[-1])} - {"", "--help"}
             is_so = (got.status, got.err) == (0, b"") and offered == wanted - {"--help"}
             tally.holds("what %s offers after %s" % (shell, given), is_so, "status %s, %r, %s" % (got.status, got.err, offered))
+
+
+def check_derived(tally, program, top):
+    """A manual that doesn't fit on the disk, and completions without their folder."""
+    room = os.path.join(os.path.realpath(program.room), "derived")
+    shutil.copytree(os.path.join(top, "tools"), os.path.join(room, "tools"))
+    page = os.path.join(room, "docs", TOOL + ".1")
+    os.makedirs(os.path.dirname(page))
+    os.symlink("/dev/full", page)
+    script = [os.path.join(room, "tools", "derive")]
+    tally.same("tools/derive on a full disk", run(script), 5, "", "derive: %s: No space left on device\n" % page)
+    os.unlink(page)
+    lost = os.path.join(room, "completions", TOOL + ".bash")
+    tally.same("tools/derive without a folder", run(script), 5, "", "derive: %s: No such file or directory\n" % lost)
+    with open(page, encoding="utf-8") as one, open(os.path.join(top, "docs", TOOL + ".1"), encoding="utf-8") as other:
+        tally.holds("what it wrote before", one.read() == other.read(), "it is another")
 
 
 def check_packed(tally, program, top):
