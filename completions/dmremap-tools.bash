@@ -46,7 +46,7 @@ _dmremap_tools() {
             store-size) offered="--help --chunk --kind" ;;
             used) offered="--help --program --paths --store --fresh --keep --status" ;;
             md) offered="--help --name --follow --copy --path --size" ;;
-            under) offered="--help --disk" ;;
+            under) offered="--help --disk --sector-size" ;;
             thin) offered="--help --data --device --external --part" ;;
             cache) offered="--help --cache --origin --name --sectors --all --part" ;;
             btrfs) offered="--help --name --device --copy --part" ;;

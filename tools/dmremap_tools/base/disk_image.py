@@ -89,6 +89,16 @@ def raw_image(path: str) -> Image:
     return image
 
 
+def is_image(path: str) -> bool:
+    """Whether a file or a disk begins as no text does. What can be read only once, as a pipe, isn't looked at."""
+    with contextlib.suppress(OSError):
+        kind = os.stat(path).st_mode
+        if path != "-" and (stat.S_ISREG(kind) or stat.S_ISBLK(kind)):
+            with open(path, "rb", buffering=0) as file:
+                return plain_text.is_binary(file.read(plain_text.LOOKED_AT))
+    return False
+
+
 def image_at(place: Place) -> Image:
     """The image from a place on."""
     image = raw_image(place.path)

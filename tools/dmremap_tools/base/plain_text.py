@@ -24,10 +24,15 @@ def compression(beginning: bytes) -> str:
     return next((kind for magic, kind in COMPRESSED.items() if beginning.startswith(magic)), "")
 
 
+def is_binary(beginning: bytes) -> bool:
+    """Whether what begins so is no text in any encoding."""
+    return b"\0" in beginning[:LOOKED_AT] and not beginning.startswith(WIDE)
+
+
 def begun(name: str, beginning: bytes) -> bytes:
     """The beginning of a text without a byte order mark; what is no text is refused."""
     check_kind(name, beginning)
-    if b"\0" in beginning[:LOOKED_AT]:
+    if is_binary(beginning):
         raise Refusal(name, "it is no text")
     return beginning[len(MARK):] if beginning.startswith(MARK) else beginning
 

@@ -5,39 +5,49 @@ and the device of LOWER that it is. LVM on md, on a partition, or on an image in
 prints of the group, and LOWER what `md`, `partitions` or `file-device` print. Gets one text with the devices of both. The
 DISKS of both, one after the other, will do: there may be disks that no line names.
 
-Refuses a DISK that UPPER doesn't name, a DEVICE that LOWER hasn't, a device that both have, and lines past the end of DEVICE.
+LOWER may also be the image of a whole disk, with the path by which answers name it: its partitions are the devices that
+`partitions` makes of them. DEVICE is then one of these, as sda.img2 of sda.img, or sda2, if the image is called as the disk
+is, up to a dot. `disks --paths` says how long the image is.
+
+Refuses a DISK that UPPER doesn't name, a DEVICE that LOWER hasn't, a device that both have, lines past the end of DEVICE, and
+an image without a partition table.
 """
 
 from argparse import ArgumentParser, Namespace
 from typing import Dict, List
 
-from dmremap_tools.base import names, quoting, streams, tables
+from dmremap_tools.base import disk_image, names, numbers, quoting, streams, tables
 from dmremap_tools.base.refusal import Refusal
+from dmremap_tools.machines.partition_devices import devices_in
 
-EXAMPLE = "dmremap-tools under --disk /dev/md0 md0 vg0.table md0.table > stack.table"
+EXAMPLE = "dmremap-tools under --disk /dev/sda2 sda2 vg0.table sda.img > stack.table"
 
 
 def add_words(parser: ArgumentParser) -> None:
     """Adds the arguments."""
     parser.add_argument("--disk", metavar=("DISK", "DEVICE"), nargs=2, action="append", required=True,
-                        help="a disk of UPPER, and the device of LOWER that it is")
-    parser.add_argument("upper", metavar="UPPER")
-    parser.add_argument("lower", metavar="LOWER")
+                        help="a disk of UPPER, and the device or the partition of LOWER that it is")
+    numbers.add_sector_size(parser, "how many bytes a sector has where LOWER is an image with an MBR, which doesn't say so")
+    parser.add_argument("upper", metavar="UPPER", help="table text or concise text")
+    parser.add_argument("lower", metavar="LOWER", help="the same, or the image of a whole disk")
 
 
 def run(words: Namespace) -> None:
     """Prints both as one."""
+    numbers.check_sector_size(words.sector_size)
     upper, is_upper_concise = tables.read(words.upper)
-    lower, is_lower_concise = tables.read(words.lower)
+    parted = devices_in(words.lower, words.sector_size or numbers.SECTOR, is_upper_concise) if disk_image.is_image(words.lower) else {}
+    lower, is_lower_concise = (list(parted.values()), is_upper_concise) if parted else tables.read(words.lower)
     both = {it.name for it in upper} & {it.name for it in lower}
     if both:
         raise Refusal(streams.name_of(words.lower), "%s has a device %s, too"
                       % (streams.name_of(words.upper), quoting.shown(min(both))))
-    devices = {it.name: it for it in lower}
+    devices = {**parted, **{it.name: it for it in lower}}
     for disk, word in words.disk:
         name = names.Names().device(word, names.Word("DEVICE"))
         if name not in devices:
-            raise Refusal(streams.name_of(words.lower), "it has no device " + name)
+            others = "partition %s: there are %s" % (name, quoting.some(list(parted))) if parted else "device " + name
+            raise Refusal(streams.name_of(words.lower), "it has no " + others)
         _put_under(words.upper, upper, disk, devices[name])
     streams.out.write(tables.text_of(lower + upper, is_upper_concise or is_lower_concise))
 

@@ -22,8 +22,9 @@ from dmremap_tools.machines import missing
 from dmremap_tools.machines.disks import names_by_id
 from dmremap_tools.machines.lowers import Lowers
 from dmremap_tools.machines.missing import StandIns
+from dmremap_tools.machines.partition_devices import devices_of
 from dmremap_tools.machines.pictured import pictured
-from dmremap_tools.machines.sfdisk_text import Partition, partitions_in, path_of
+from dmremap_tools.machines.sfdisk_text import Partition, partitions_in
 from dmremap_tools.metadata.chosen_part import LARGE_SECTOR
 
 EXAMPLE = "dmremap-tools partitions --lsblk lsblk.txt --disks whole.disks sfdisk.txt tables > whole"
@@ -106,27 +107,3 @@ def partitions_of(path: str, lowers: Lowers, sector: int, names_of: Dict[bytes, 
             if image.members else ""
         raise Refusal(quoting.shown(path), "no physical volume of the group is in it: none of its labels has such an id" + array)
     return image.partitions
-
-
-def devices_of(partitions: List[Partition], devices: List[tables.Device], lowers: Lowers, images: Dict[str, str],
-               is_concise: bool) -> List[Tuple[tables.Device, Optional[tables.Device]]]:
-    """The device that each partition becomes, and the device of FILE that it lies on, if it does."""
-    of, made = {it.name: it for it in devices}, []
-    taken = set(of)
-    volumes = {image: of[names.of_path(disk)] for disk, image in images.items() if names.of_path(disk) in of}
-    for partition in partitions:
-        volume = of.get(names.of_path(partition.disk)) or volumes.get(partition.disk)
-        if not volume and not names.DISK.fullmatch(partition.disk):
-            raise Refusal(quoting.shown(partition.path), "%s is neither a disk nor a device of FILE" % quoting.shown(partition.disk))
-        name = path_of(volume.name, partition.number) if volume else partition.path.rpartition("/")[2]
-        if name in taken or not names.FORM.fullmatch(name):
-            raise Refusal(quoting.shown(partition.path), "its name is taken, or none of a device")
-        if volume and partition.start + partition.length > volume.end():
-            raise Refusal(quoting.shown(partition.path), "it goes past the end of " + volume.name)
-        taken.add(name)
-        lowers.add(partition, name)
-        device = tables.Device(name, (volume.flags if volume else "rw") if is_concise else "")
-        lower = names.MAPPER + volume.name if volume else partition.disk
-        device.lines = [tables.Line(0, partition.length, "linear", [lower, str(partition.start)])]
-        made.append((device, volume))
-    return made

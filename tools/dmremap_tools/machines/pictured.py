@@ -15,10 +15,11 @@ GIVE = "give the partition that it is, as IMAGE?offset=BYTES"
 
 
 class Pictured(NamedTuple):
-    """An image: its length in sectors, its partitions, the ids of physical volumes by the paths of the image or of a
-    partition, and which of these are members of md arrays."""
+    """An image: its length in sectors, what its partition table is called, or nothing, its partitions, the ids of physical
+    volumes by the paths of the image or of a partition, and which of these are members of md arrays."""
 
     length: int
+    kind: str
     partitions: List[Partition]
     identities: Dict[str, bytes]
     members: List[str]
@@ -30,7 +31,7 @@ def pictured(path: str, sector: int) -> Pictured:
     table = table_in(image, sector)
     parts = {path_of(path, str(it.number)): it for it in table.partitions} if table else {}
     places = {name: part_of(image, it) for name, it in parts.items()} if table else {path: image}
-    return Pictured(image.size // numbers.SECTOR,
+    return Pictured(image.size // numbers.SECTOR, table.kind if table else "",
                     [Partition(path, name, it.start // numbers.SECTOR, it.size // numbers.SECTOR) for name, it in parts.items()],
                     {name: label.identity for name, it in places.items() for label in label_of(it)[:1] if label},
                     [name for name, it in places.items() if any(superblocks(it))])
