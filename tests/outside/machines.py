@@ -255,7 +255,9 @@ def check_containers(tally, program, top):
             (containers.version_2(), "256", "the disk has 256 sectors, and its data begins at sector 256"),
             (first, "0", "a device has from 1 to 2^50 sectors, and not 0"), (first, str(1 << 51), "a device has from 1 to 2^50 sectors, and not %d" % (1 << 51))]:
         got = device("container", content, "--length", length)
-        tally.same("a container on a disk of %s sectors" % length, got, 2, "refused\n", "%s luks: --length: %s\n" % (TOOL, why))
+        # No disk is so long, or none with this container is.
+        status = 2 if why.startswith("a device") else 1
+        tally.same("a container on a disk of %s sectors" % length, got, status, "refused\n", "%s luks: --length: %s\n" % (TOOL, why))
     check_real_containers(tally, device)
     got = device("container", second, "--name", "a b")
     tally.same("a container with such a name", got, 1, "refused\n", TOOL + " luks: NAME: no name of a device: 'a b'\n")

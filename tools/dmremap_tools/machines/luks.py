@@ -36,7 +36,7 @@ def run(words: argparse.Namespace) -> None:
     image = disk_image.raw_image(words.header)
     first, length = 0, words.length
     if length is not None and numbers.check_length("--length", length) < image.size // numbers.SECTOR and not is_text(image):
-        raise WrongWords("--length: the disk has %d sectors, and HEADER alone has %d" % (length, image.size // numbers.SECTOR))
+        raise Refusal("--length", "the disk has %d sectors, and HEADER alone has %d" % (length, image.size // numbers.SECTOR))
     if is_text(image) and words.partition is not None:
         raise WrongWords("--partition is of an image, and luksDump tells of one container")
     if not is_text(image):
@@ -54,7 +54,7 @@ def run(words: argparse.Namespace) -> None:
         raise Refusal("DISK", "no name of a disk: '%s'" % quoting.shown(words.disk))
     count = container.length if container.length is not None else (length or 0) - container.start
     if count <= 0 and words.length is not None:
-        raise WrongWords("--length: the disk has %d sectors, and its data begins at sector %d" % (length, container.start))
+        raise Refusal("--length", "the disk has %d sectors, and its data begins at sector %d" % (length, container.start))
     if count <= 0:
         raise Refusal(image.path, "how long is the disk? Its data begins at sector %d: give --length" % container.start)
     if length is not None and container.start + count > length:
