@@ -172,6 +172,19 @@ def check_bound_images(tally, program, top):
         got = tool_calls.call(top, ["disks", "text", *("--image=" + it for it in names)], folder=folder)
         told, _, reason = message.rpartition("\n")
         tally.same("the images " + names, got, status, output, "%s%s disks: %s\n" % (told + "\n" * bool(told), TOOL, reason) if status else message)
+    # A disk with both a partition table and a label.
+    beside = physical_volumes.mbr((0x8E, 64, 8)) + first[512:].ljust(63 * 512, b"\0") + second
+    program.file("machines/j", beside)
+    both = "j: there are both a partition table (MBR) and the label of a physical volume, which lvm2 doesn't take then: IMAGE?offset=BYTES takes a " \
+           "partition, and IMAGE?offset=0 the disk itself"
+    alone = "missing: /dev/sdb, with the id " + identity % "firstx" + "\n"
+    for words, output, message in [
+            (["j"], "", both), (["j?offset=0"], "/dev/sdb j?offset=0\n", ""), (["j?offset=32768"], "pv0 j?offset=32768\n", ""),
+            (["j?offset=0", "j?offset=32768"], "/dev/sdb j?offset=0\npv0 j?offset=32768\n", ""),
+            (["j?offset=512"], "", "j?offset=512: there is no label in the first four sectors: it is no physical volume")]:
+        got = tool_calls.call(top, ["disks", "text", *("--image=" + it for it in words)], folder=folder)
+        told = {"j?offset=0": missing, "j?offset=32768": alone}.get(words[0], "") if len(words) == 1 else ""
+        tally.same("the images %s" % words, got, 1 if message else 0, output or "refused\n", "%s disks: %s\n" % (TOOL, message) if message else told)
     got = tool_calls.call(top, ["disks", "text", "--image", "-"], folder=folder)
     tally.same("an image without a name", got, 2, "refused\n", TOOL + " disks: a line names each image, and standard input has no name\n")
     check_lengths(tally, program, top, folder)

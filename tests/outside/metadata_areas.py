@@ -129,11 +129,11 @@ def flipped(head, place, bit):
 
 def text_in(head):
     """The text of a head, or None where it is refused."""
-    disk_image, chosen_part, valid_text, refusal = (importlib.import_module("dmremap_tools." + it) for it in (
-        "base.disk_image", "metadata.chosen_part", "metadata.valid_text", "base.refusal"))
+    disk_image, chosen_part, valid_text, refusal, ways = (importlib.import_module("dmremap_tools." + it) for it in (
+        "base.disk_image", "metadata.chosen_part", "metadata.valid_text", "base.refusal", "metadata.ways"))
     try:
         with unsaid():
-            image, = chosen_part.chosen_parts(disk_image.Image(io.BytesIO(head), "head"), None)
+            image, = chosen_part.chosen_parts(disk_image.Image(io.BytesIO(head), "head"), None, ways.OPTIONS)
             return valid_text.valid_text(image, valid_text.areas_of(image))
     except refusal.Refusal:
         return None

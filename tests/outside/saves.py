@@ -18,6 +18,7 @@ def check(tally, program, top):
     check_file(tally, program, top)
     check_gaps(tally, program, top)
     check_whole_disks(tally, program, top)
+    check_labels(tally, program, top)
     check_refusals(tally, program, top)
     check_mutations(tally, program, top)
 
@@ -228,6 +229,43 @@ def check_whole_disks(tally, program, top):
         got = tool_calls.call(top, ["save", "--program", program.path, "--paths", listed, "v" if more else "g-v", target, form, source, *more])
         tally.same("saving from a partition by its place, " + form, got, 0)
         tally.holds("what is saved from it", os.path.exists(target) and read(target) == bytes(range(256)) * 16, "it is another")
+
+
+IDENTITIES = [it.ljust(32, b"x") for it in (b"first", b"other")]
+OWN, OTHER = ("%s-xxxx-xxxx-xxxx-xxxx-xxxx-xxxxxx" % it for it in ("firstx", "otherx"))
+OF_VOLUME = OF_PARTITION.replace("device =", 'id = "%s"\n\t\t\tdevice =' % OWN)
+PHYSICAL, BESIDE = (physical_volumes.volume(length=56 * SECTOR, identity=it) for it in IDENTITIES)
+BOTH = "there are both a partition table (MBR) and the label of a physical volume, which lvm2 doesn't take then: IMAGE?offset=BYTES takes a partition, " \
+       "and IMAGE?offset=0 the disk itself"
+UNLABELLED = "the image of a whole disk (GPT), none of whose partitions (1) has a sound label: give the partition that it is, as IMAGE?offset=BYTES"
+
+
+def check_labels(tally, program, top):
+    """Disks of which labels don't say which part is meant, so that its place has to: one with both a partition table and a
+    label, one whose partition has none, one with a label elsewhere, and the head of one."""
+    mbr, gpt = physical_volumes.mbr((0x8E, 40, 56)), physical_volumes.gpt((40, 95), last=199).ljust(40 * SECTOR, b"\0")
+    below, above = (mbr + it[SECTOR:40 * SECTOR] for it in (BESIDE, PHYSICAL))
+    plain = bytes(range(256)) * 112
+    for name, image, begin, what in (
+            ("both", below + PHYSICAL, None, BOTH), ("a partition beside a label", below + PHYSICAL, 40, None),
+            ("a label beside a partition", above + BESIDE, 0, None),
+            ("another label", below + PHYSICAL, 0, "it isn't p, whose id is %s: its own is %s" % (OWN, OTHER)),
+            ("no label", gpt + plain, None, UNLABELLED), ("a partition without a label", gpt + plain, 40, None),
+            ("a label elsewhere", gpt + plain + bytes(8 * SECTOR) + PHYSICAL, None,
+             UNLABELLED + "; the label of one that begins at sector 104 is sound: give it as IMAGE?offset=53248"),
+            ("a volume elsewhere", gpt + plain + bytes(8 * SECTOR) + PHYSICAL, 104, None),
+            ("two labels elsewhere", gpt + plain + bytes(8 * SECTOR) + PHYSICAL + BESIDE, None,
+             UNLABELLED + "; labels of some that begin at the sectors 104, 160 are sound: give one as IMAGE?offset=BYTES, 512 for each sector"),
+            ("the head of a disk", physical_volumes.mbr((0x83, 8, 8), (0x8E, 400, 56)) + bytes(99 * SECTOR), None,
+             "the image of a whole disk (MBR), which ends before its partitions do (1 from sector 8 on, 2 from sector 400 on): take more of the disk")):
+        path, target = program.file("save/disk", image), os.path.join(program.room, "save", "of label")
+        listed = program.file("save/paths", "p %s%s\n" % (path, "" if begin is None else "?offset=%d" % (begin * SECTOR)))
+        source = program.file("save/source", OF_VOLUME)
+        got = tool_calls.call(top, ["save", "--program", program.path, "--paths", listed, "g-v", target, "lvm", source])
+        tally.same("saving by labels, " + name, got, 1 if what else 0, "", "dmremap-tools save: %s: %s\n" % (path, what) if what else "")
+        if not what and tally.holds("a file by labels, " + name, os.path.exists(target), "it isn't there"):
+            tally.holds("what is saved by labels, " + name, read(target) == image[begin * SECTOR:(begin + 8) * SECTOR], "it is another")
+            os.unlink(target)
 
 
 def check_file(tally, program, top):

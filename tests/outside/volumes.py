@@ -12,7 +12,7 @@ import time
 import used
 import walks
 from harness import run
-from physical_volumes import gpt
+from physical_volumes import gpt, mbr, volume
 from tool_calls import TOOL, call
 
 SECTOR, CHUNK = 512, 16
@@ -175,6 +175,16 @@ def check_labelled(case):
         case.put("copy.img", case.bytes("c.img"))
         got = case.serve(words + ["image=" + it for it in images], "true")
         case.tally.same("a server with " + name, got, 1, "", said % os.path.join(case.folder, why))
+    # A label before the partition table's own partition: only its place says which is meant.
+    disk = mbr((0x8E, walks.PARTITION, 1 << 12)) + volume()[SECTOR:]
+    case.put("both.img", disk.ljust(walks.PARTITION * SECTOR, b"\0") + case.bytes("a.img")[walks.PARTITION * SECTOR:])
+    placed = "both.img?offset=%d" % (walks.PARTITION * SECTOR)
+    for images in ([placed, *walks.NAMES[1:]], ["%s=%s" % (walks.HINTS[0], placed), *walks.NAMES[1:]]):
+        case.copies("disks of which one is known by its place", words + ["image=" + it for it in images], home)
+    got = case.serve(words + ["image=" + it for it in ["both.img", *walks.NAMES[1:]]], "true")
+    case.tally.same("a server with both a table and a label", got, 1, "", "%s nbd-plugin: %s: there are both a partition table (MBR) and the label of a "
+                    "physical volume, which lvm2 doesn't take then: IMAGE?offset=BYTES takes a partition, and IMAGE?offset=0 the disk itself\n"
+                    % (TOOL, os.path.join(case.folder, "both.img")))
 
 
 def check_holes(case):

@@ -23,11 +23,11 @@ class Sources:
     def check(self, name: str, end: int) -> None:
         """Refuses a disk that isn't there, or ends before this sector."""
         missing = self.missing(name)
-        path, start = self._place(name)
+        place = self._place(name)
         if missing is not None:
-            raise Refusal(quoting.shown(path), missing)
-        if os.lseek(self._open[name], 0, os.SEEK_END) < start + end * numbers.SECTOR:
-            raise Refusal(quoting.shown(path), "it ends before sector %d" % end)
+            raise Refusal(quoting.shown(place.path), missing)
+        if os.lseek(self._open[name], 0, os.SEEK_END) < place.start + end * numbers.SECTOR:
+            raise Refusal(quoting.shown(place.path), "it ends before sector %d" % end)
 
     def missing(self, name: str) -> Optional[str]:
         """Why a disk isn't there, or None if it is."""

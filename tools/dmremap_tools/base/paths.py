@@ -12,16 +12,17 @@ PLACED = re.compile(r"(.*)\?offset=([0-9]{1,19})", re.S)
 
 
 class Place(NamedTuple):
-    """Where the bytes of a disk are: a file or a disk here, and the byte at which they begin in it."""
+    """Where the bytes of a disk are: a file or a disk here, the byte at which they begin in it, and whether that was said."""
 
     path: str
     start: int = 0
+    is_said: bool = False
 
 
 def place_of(path: str) -> Place:
     """The place that a path is, or PATH?offset=BYTES."""
     match = PLACED.fullmatch(path)
-    return Place(match[1], int(match[2])) if match else Place(path)
+    return Place(match[1], int(match[2]), True) if match else Place(path)
 
 
 def add_words(parser: ArgumentParser, is_needed: bool = False) -> None:

@@ -7,7 +7,8 @@ nbdkit takes these parameters with it:
     disks=DISKS                 its disks; not with lvm
     device=DEVICE               what is served, by its name or path
     image=NAME=PATH             where a disk of the stack is read
-    image=PATH                  the same with lvm, of a disk or of one with a partition, whose label has the id of a physical volume
+    image=PATH                  the same with lvm, of a disk or of one with a partition, whose label has the id of a physical volume;
+                                PATH?offset=BYTES, here and before, is what begins there in a whole disk
     paths=PATHS                 the same for all: lines NAME PATH
     store=SNAPSHOT=IMAGE        the store of a snapshot, as with `used`
     fresh=SNAPSHOT              a snapshot with nothing in its store

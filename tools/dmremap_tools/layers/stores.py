@@ -53,7 +53,7 @@ class Files:
 
     def read(self, place: Place, first: int, count: int) -> bytes:
         """So many sectors from this one on."""
-        path, start = place
+        path, start = place.path, place.start
         try:
             if path not in self._opened:
                 self._opened[path] = os.open(path, os.O_RDONLY)

@@ -171,8 +171,10 @@ def _stack() -> Given:
 
 def _places(group: Optional[str], sizes: Dict[str, int]) -> Dict[str, Place]:
     """Where each disk is. In a group, the labels of images without a name say what they are."""
-    bare = [os.path.abspath(it) for it in _lists["image"] if "=" not in it] if group is not None else []
-    named = _pairs("image", [it for it in _lists["image"] if "=" in it or group is None])
+    words = _lists["image"]
+    alone = [it for it in words if group is not None and "=" not in paths.place_of(it).path]
+    bare = [paths.place_of(os.path.abspath(it)) for it in alone]
+    named = _pairs("image", [it for it in words if it not in alone])
     listed = paths.places(_given.get("paths"))
     paths.check_known(_given.get("paths"), listed, sizes)
     paths.check_known("image", named, sizes)

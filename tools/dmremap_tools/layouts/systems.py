@@ -15,8 +15,8 @@ XFS, BTRFS, BTRFS_AT = b"XFSB", b"_BHRfS_M", 65536 + 64
 
 def system_in(image: str, asked: AskedRuns, is_damaged: bool, superblock: "int | None") -> "ext_system.ExtSystem | XfsSystem":
     """The file system in an image, with what is asked for looked up."""
-    path, at = paths.place_of(image)
-    descriptor = opened(path)
+    place = paths.place_of(image)
+    descriptor, at = opened(place.path), place.start
     is_btrfs, is_xfs = read_at(descriptor, at + BTRFS_AT, len(BTRFS)) == BTRFS, read_at(descriptor, at, len(XFS)) == XFS
     os.close(descriptor)
     if is_btrfs:
@@ -27,7 +27,7 @@ def system_in(image: str, asked: AskedRuns, is_damaged: bool, superblock: "int |
         raise Refusal(quoting.shown(image), "it is XFS, which xfs_db of xfsprogs reads, and that isn't here")
     if at:
         raise Refusal(quoting.shown(image), "it is XFS, and xfs_db reads no file system within a file: `losetup -r -o %d`" % at)
-    return XfsSystem(path, asked)
+    return XfsSystem(place.path, asked)
 
 
 def read_at(descriptor: int, at: int, count: int) -> bytes:

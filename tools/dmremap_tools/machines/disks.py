@@ -4,7 +4,7 @@ Have: TEXT, the metadata of a group, for tables that were printed from it; or PA
 each physical volume or path, with its name as dmremap has it and its length in sectors. With --image, which may be given
 several times, a line NAME PATH for each physical volume in an image, as --paths takes it: the id in its label says which it
 is, whatever its path was. One on a partition of the image of a whole disk, or in a member of an md array, has
-PATH?offset=BYTES. Physical volumes without an image are told.
+PATH?offset=BYTES, which says in IMAGE, too, where one begins. Physical volumes without an image are told.
 
 Refuses a text that is no metadata of a group, physical volumes of which it has no length, images of others, and that of a
 whole disk at PATHS for a partition.
@@ -22,6 +22,7 @@ from dmremap_tools.metadata.chosen_part import chosen_parts, table_in
 from dmremap_tools.metadata.physical_volume import label_of
 from dmremap_tools.metadata.volume_group import disk_names, sections_in
 from dmremap_tools.metadata.volumes_within import check_mirrored, taken_from_array
+from dmremap_tools.metadata.ways import GIVE, PLACES
 
 EXAMPLE = "dmremap table lvm vg0.backup > vg0.table && dmremap-tools disks vg0.backup > vg0.disks"
 
@@ -52,9 +53,9 @@ def run(words: argparse.Namespace) -> None:
 def length_of(name: str, place: paths.Place) -> int:
     """The sectors of a disk. The image of a whole disk isn't as long as a partition of it, by its name, and is refused."""
     length = pictured.sectors_at(place)
-    table = table_in(disk_image.raw_image(place.path)) if not place.start and is_partition(name) else None
+    table = table_in(disk_image.raw_image(place.path)) if not place.is_said and is_partition(name) else None
     if table:
-        raise Refusal(quoting.shown(place.path), "the image of a whole disk (%s), and %s is a partition: %s" % (table.kind, quoting.shown(name), pictured.GIVE))
+        raise Refusal(quoting.shown(place.path), "the image of a whole disk (%s), and %s is a partition: %s" % (table.kind, quoting.shown(name), GIVE))
     return length
 
 
@@ -75,7 +76,8 @@ def found_images(text: str, images: List[str]) -> Iterator[Tuple[str, str]]:
     for path in images:
         if path == "-":
             raise WrongWords("a line names each image, and standard input has no name")
-        begun = begun_in(disk_image.raw_image(path))
+        place = paths.place_of(path)
+        begun = begun_in(place)
         if not begun:
             raise Refusal(quoting.shown(path), "there is no label in the first four sectors: it is no physical volume")
         known = {identity: start for identity, start in begun.items() if identity in of}
@@ -86,15 +88,15 @@ def found_images(text: str, images: List[str]) -> Iterator[Tuple[str, str]]:
             if name in found:
                 raise Refusal(quoting.shown(path), "its id is %s, as that of %s" % (shown(identity), quoting.shown(found[name])))
             found[name] = path
-            yield name, "%s?offset=%d" % (path, start) if start else path
+            yield name, "%s?offset=%d" % (place.path, start) if start or place.is_said else path
     for identity, name in of.items():
         if name not in found:
             streams.tell("missing: %s, with the id %s" % (quoting.shown(name), shown(identity)))
 
 
-def begun_in(disk: disk_image.Image) -> Dict[bytes, int]:
-    """The ids of the physical volumes in a disk, and the bytes at which they begin."""
-    members = chosen_parts(disk, None)
+def begun_in(place: paths.Place) -> Dict[bytes, int]:
+    """The ids of the physical volumes in a disk, or of what begins at a place in it, and the bytes at which they begin."""
+    members = chosen_parts(disk_image.image_at(place), 0 if place.is_said else None, PLACES)
     for each in members:
         check_mirrored(each)
     return {label.identity: it.base for it in map(taken_from_array, members) for label in label_of(it)[:1] if label}

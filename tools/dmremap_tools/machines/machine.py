@@ -39,9 +39,10 @@ from dmremap_tools.base import disk_image, listings, numbers, paths, quoting, st
 from dmremap_tools.base.refusal import Refusal, WrongWords
 from dmremap_tools.machines.found import NOT_ASKED, Found, leave_others, leave_unknown, read_status, read_tables
 from dmremap_tools.machines.kernel_names import is_disk, is_partition
-from dmremap_tools.machines.pictured import GIVE, sectors_at
+from dmremap_tools.machines.pictured import sectors_at
 from dmremap_tools.machines.placed import partitioned
 from dmremap_tools.machines.stack import Stack
+from dmremap_tools.metadata.ways import GIVE
 
 EXAMPLE = "dmremap-tools machine --disks disks ls.txt status.txt lsblk.txt concise.txt > tables"
 
@@ -104,7 +105,7 @@ def length_in(path: str, number: str, known: Optional[int], sector: int) -> int:
     lsblk says."""
     place = paths.place_of(path)
     length = sectors_at(place, sector)
-    if place.start or length == known:
+    if place.is_said or length == known:
         if known not in (None, length):
             raise Refusal(quoting.shown(path), "lsblk says that %s has %d sectors, and there it has %d" % (quoting.shown(number), known, length))
         return length

@@ -10,9 +10,6 @@ from dmremap_tools.metadata.chosen_part import part_of, table_in
 from dmremap_tools.metadata.physical_volume import label_of
 from dmremap_tools.metadata.volumes_within import superblocks
 
-# What is said where the image of a whole disk is given for a partition.
-GIVE = "give the partition that it is, as IMAGE?offset=BYTES"
-
 
 class Pictured(NamedTuple):
     """An image: its length in sectors, what its partition table is called, or nothing, its partitions, the ids of physical

@@ -10,17 +10,18 @@ from dmremap_tools.base.partition_table import Partition
 from dmremap_tools.base.paths import Place
 from dmremap_tools.base.refusal import Refusal
 from dmremap_tools.machines.disks import begun_in, names_by_id
-from dmremap_tools.machines.pictured import GIVE
 from dmremap_tools.metadata.chosen_part import table_in
+from dmremap_tools.metadata.ways import GIVE
 
 
-def by_ids(text: Optional[str], places: Dict[str, Place], sizes: Dict[str, int], images: Sequence[str] = ()) -> Dict[str, Place]:
+def by_ids(text: Optional[str], places: Dict[str, Place], sizes: Dict[str, int], images: Sequence[Place] = ()) -> Dict[str, Place]:
     """The places of disks, of which some may be whole disks that have a physical volume on a partition, and of those that these
     images are. Without `text`, the metadata of their group, they are what was given. `sizes` has the sectors of each disk."""
     named = names_by_id(text) if text is not None else {}
     found, decided = dict(places), set()
-    for path in dict.fromkeys([it.path for it in places.values()] + list(images)):
-        volumes = volumes_in(path) if named and (path in images or os.path.exists(path)) else {}
+    given, bare = [*places.values(), *images], {it.path for it in images}
+    for path in dict.fromkeys(it.path for it in given):
+        volumes = volumes_in(path, given) if named and (path in bare or os.path.exists(path)) else {}
         wanted = {name for name, place in places.items() if place.path == path}
         lost = [identity for identity, name in named.items() if volumes and name in wanted and identity not in volumes]
         if lost:
@@ -28,13 +29,13 @@ def by_ids(text: Optional[str], places: Dict[str, Place], sizes: Dict[str, int],
                           % (quoting.shown(named[lost[0]]), shown(lost[0]), " or ".join(map(shown, volumes))))
         for identity in volumes:
             name = named.get(identity)
-            if name in wanted or name and path in images and name not in found:
+            if name in wanted or name and path in bare and name not in found:
                 found[name] = Place(path, volumes[identity])
                 decided.add(name)
-        if path in images and path not in (it.path for it in found.values()):
+        if path in bare and path not in (it.path for it in found.values()):
             raise Refusal(quoting.shown(path), "no physical volume of the group is in it that isn't elsewhere: none of its labels has such an id")
     for name in places:
-        if name in sizes and name not in decided and not places[name].start:
+        if name in sizes and name not in decided and not places[name].is_said:
             check_partition(name, places[name].path, sizes[name])
     return found
 
@@ -66,10 +67,16 @@ def partitioned(image: disk_image.Image, sector: int = SECTOR) -> Tuple[str, Lis
     return (table.kind, table.partitions) if table else ("", [])
 
 
-def volumes_in(path: str) -> Dict[bytes, int]:
-    """The ids of the physical volumes in a disk, and the bytes at which they begin. Where they can't be read, it is taken as it is."""
+def volumes_in(path: str, given: List[Place]) -> Dict[bytes, int]:
+    """The ids of the physical volumes in a disk, and the bytes at which they begin. Where they can't be read, it is taken as it is,
+    and where it doesn't say which of its parts they are, the places that were given in it do."""
     try:
-        return begun_in(disk_image.raw_image(path))
+        return begun_in(Place(path))
     except disk_image.Unreadable as fault:
         streams.tell("nothing says which disk it is: %s" % fault)
         return {}
+    except Refusal:
+        here = [it for it in given if it.path == path]
+        if not all(it.is_said for it in here):
+            raise
+    return {identity: start for it in here for identity, start in begun_in(it).items()}

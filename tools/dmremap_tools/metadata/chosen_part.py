@@ -9,6 +9,7 @@ from dmremap_tools.base.partition_table import DamagedTable, Partition, Table, b
 from dmremap_tools.base.refusal import Refusal
 from dmremap_tools.metadata.physical_volume import label_of
 from dmremap_tools.metadata.volumes_within import array_data, where_volumes_begin
+from dmremap_tools.metadata.ways import Ways
 
 # How much of a partition is to be fetched: its label, and most areas.
 HEAD = 1 << 20
@@ -16,17 +17,17 @@ HEAD = 1 << 20
 LARGE_SECTOR = 4096
 
 
-def chosen_parts(disk: Image, number: Optional[int]) -> List[Image]:
-    """The physical volumes: the image itself, or the partition of it with this number, or each that is one."""
+def chosen_parts(disk: Image, number: Optional[int], ways: Ways) -> List[Image]:
+    """The physical volumes: the image itself, for 0, or the partition of it with this number, or each that is one."""
     if number == 0:
         return [disk]
     try:
         table = table_in(disk)
     except DamagedTable as damaged:
-        raise Refusal(disk.path, damaged.why + where_volumes_begin(disk))
+        raise Refusal(disk.path, damaged.why + where_volumes_begin(disk, ways))
     if number is not None:
         return [part_of(disk, partition_of(disk, table, number))]
-    return [disk] if table is None else volumes_of(disk, table)
+    return [disk] if table is None else volumes_of(disk, table, ways)
 
 
 def partition_of(disk: Image, table: Optional[Table], number: int) -> Partition:
@@ -47,11 +48,11 @@ def part_of(disk: Image, partition: Partition) -> Image:
     return disk.part(partition.start, partition.size)
 
 
-def volumes_of(disk: Image, table: Table) -> List[Image]:
+def volumes_of(disk: Image, table: Table, ways: Ways) -> List[Image]:
     """The partitions of a whole disk that are physical volumes, which is told, or why there is none."""
     if label_of(disk)[0]:
-        raise Refusal(disk.path, "there are both a partition table (%s) and the label of a physical volume, which lvm2 doesn't take then: "
-                      "--partition N takes a partition, and --partition 0 the disk itself" % table.kind)
+        raise Refusal(disk.path, "there are both a partition table (%s) and the label of a physical volume, which lvm2 doesn't take then: %s"
+                      % (table.kind, ways.both))
     there = [it for it in table.partitions if it.start < disk.size]
     volumes = with_volumes(disk, there)
     if not volumes and table.kind == "MBR":
@@ -59,7 +60,7 @@ def volumes_of(disk: Image, table: Table) -> List[Image]:
         larger = table_of(disk, LARGE_SECTOR)
         volumes = with_volumes(disk, larger.partitions if larger else [])
     if not volumes:
-        raise Refusal(disk.path, no_volume(disk, table, len(there)))
+        raise Refusal(disk.path, no_volume(disk, table, len(there), ways))
     which = "partitions %s are physical volumes: these are" if len(volumes) > 1 else "partition %s is a physical volume: that is"
     streams.tell("%s: the image of a whole disk (%s), whose %s read" % (disk.path, table.kind, which % numbers_of(volumes)))
     return [part_of(disk, it) for it in volumes]
@@ -71,16 +72,16 @@ def table_in(disk: Image, sector: int = SECTOR) -> Optional[Table]:
     return table_of(disk, sector) or (backup_of(disk) if label_of(disk)[0] is None else None)
 
 
-def no_volume(disk: Image, table: Table, there: int) -> str:
+def no_volume(disk: Image, table: Table, there: int, ways: Ways) -> str:
     """Why no partition is a physical volume, of which so many are there, and what to try."""
     found = "the image of a whole disk (%s)" % table.kind
     if there < len(table.partitions):
         first = next(it for it in table.partitions if it.start >= disk.size)
         others = ["%d from sector %d on" % (it.number, it.start // SECTOR) for it in table.partitions]
-        return ("%s, which ends before its partitions do (%s): fetch the head of the one that you want, and take that as HEAD; "
-                "for %d it is %s" % (found, quoting.some(others), first.number, dd(disk, "head.img", first.start, HEAD)))
-    return ("%s, none of whose partitions (%s) has a sound label: take --partition N for one, or cut it out%s"
-            % (found, numbers_of(table.partitions) or "-", where_volumes_begin(disk)))
+        fetched = ways.beyond % {"number": first.number, "dd": dd(disk, "head.img", first.start, HEAD)}
+        return "%s, which ends before its partitions do (%s): %s" % (found, quoting.some(others), fetched)
+    return ("%s, none of whose partitions (%s) has a sound label: %s%s"
+            % (found, numbers_of(table.partitions) or "-", ways.unlabelled, where_volumes_begin(disk, ways)))
 
 
 def with_volumes(disk: Image, partitions: List[Partition]) -> List[Partition]:

@@ -34,6 +34,7 @@ from dmremap_tools.metadata.group_text import summary, without_time
 from dmremap_tools.metadata.older_texts import text_at, text_with, texts_in
 from dmremap_tools.metadata.valid_text import areas_of, valid_text, with_fetched
 from dmremap_tools.metadata.volumes_within import taken_from_array
+from dmremap_tools.metadata.ways import OPTIONS
 
 EXAMPLE = "dmremap-tools metadata vg0-head.img > vg0.backup && dmremap table lvm vg0.backup"
 
@@ -76,7 +77,7 @@ def volumes_in(path: str, words: argparse.Namespace) -> List[Image]:
     """The physical volumes in a HEAD."""
     disk = open_image(path)
     if words.start is None:
-        return [taken_from_array(it) for it in chosen_parts(disk, words.partition)]
+        return [taken_from_array(it) for it in chosen_parts(disk, words.partition, OPTIONS)]
     if words.start * SECTOR >= disk.size:
         raise Refusal(disk.path, "it ends before sector %d" % words.start)
     return [taken_from_array(disk.part(words.start * SECTOR, disk.size))]

@@ -11,6 +11,7 @@ from dmremap_tools.metadata.group_text import beginning_of, summary, without_tim
 from dmremap_tools.metadata.physical_volume import (EMPTY, MISSING, MOST_AREAS, SEARCHED, Area, area_at, header_fault, label_of,
                                                     listed_area)
 from dmremap_tools.metadata.volumes_within import where_volumes_begin
+from dmremap_tools.metadata.ways import OPTIONS
 
 OTHER = "try another physical volume of the group, or a file in /etc/lvm/backup"
 LUKS, ENCRYPTED = b"LUKS\xba\xbe", "it is encrypted with LUKS: open it with cryptsetup, and take what is opened"
@@ -47,7 +48,7 @@ def searched_areas(image: Image, faults: List[str]) -> List[Area]:
     said = quoting.some(why, "; ")
     if not areas:
         raise Refusal(image.path, "%s, and no metadata area is in the first or last %d MiB%s"
-                      % (said, SEARCHED >> 20, where_volumes_begin(image) or ": " + what_else(image)))
+                      % (said, SEARCHED >> 20, where_volumes_begin(image, OPTIONS) or ": " + what_else(image)))
     streams.tell("%s: %s: metadata areas were looked for in the first and last %d MiB" % (image.path, said, SEARCHED >> 20))
     return areas
 

@@ -10,6 +10,7 @@ from dmremap_tools.base.disk_image import Image
 from dmremap_tools.base.numbers import SECTOR
 from dmremap_tools.base.refusal import Refusal
 from dmremap_tools.metadata.physical_volume import LABEL, LABEL_SECTORS, label_fault, label_of
+from dmremap_tools.metadata.ways import Ways
 
 # The superblock of an md array, of the two versions that lie before the data, where it says of which level the array is, and
 # in which sector the data begins.
@@ -74,11 +75,12 @@ def volumes_in(image: Image) -> Iterator[int]:
             streams.show_progress("labels are searched: MiB %d of %d" % (at >> 20, image.size >> 20))
 
 
-def where_volumes_begin(image: Image) -> str:
+def where_volumes_begin(image: Image, ways: Ways) -> str:
     """What is said of the physical volumes that are found by their labels, or nothing."""
-    found = [str((image.base + it) // SECTOR) for it in itertools.islice(volumes_in(image), quoting.MOST_NAMED + 1)]
+    found = [(image.base + it) // SECTOR for it in itertools.islice(volumes_in(image), quoting.MOST_NAMED + 1)]
     if not found:
         return ""
     if len(found) == 1:
-        return "; the label of one that begins at sector %s is sound: take it with --start %s" % (found[0], found[0])
-    return "; labels of some that begin at the sectors %s are sound: take one with --start SECTOR" % quoting.some(found)
+        one = ways.one % {"sector": found[0], "byte": found[0] * SECTOR}
+        return "; the label of one that begins at sector %d is sound: %s" % (found[0], one)
+    return "; labels of some that begin at the sectors %s are sound: %s" % (quoting.some(list(map(str, found))), ways.several)
