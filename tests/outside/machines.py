@@ -252,7 +252,7 @@ def check_containers(tally, program, top):
         ("a disk with two", two, [], "the image of a whole disk (GPT), of which the partitions 1, 2 have one: give --partition N"),
         ("a partition that isn't there", two, ["--partition", "3"], "there is no partition 3: there are 1, 2"),
         ("a partition after the disk", physical_volumes.gpt((64, 127), (256, 4223)), ["--length", "256", "--partition", "2"],
-         "partition 2 begins after the end of this image: fetch its head, and take that as HEAD: dd if=DISK of=head.img bs=512 skip=256 count=2048"),
+         "partition 2 begins after the end of this image: fetch its head, and take that in its place: dd if=DISK of=head.img bs=512 skip=256 count=2048"),
         ("a partition of no disk", second, ["--partition", "1"], "there is no partition table: leave --partition out"),
         ("an image that is compressed", b"\x1f\x8b\x08\0", [], "it is compressed (gzip)"),
         ("an image of another form", b"KDMV" + second[4:], [], "it is an image of VMDK: convert it with qemu-img convert -O raw"),

@@ -367,7 +367,7 @@ NO_PARTITIONS = [
     ("a partition that isn't there", GPT_DISK, 2, "there is no partition 2: there are 1, 3"),
     ("a partition of a physical volume", ONE_AREA, 1, "there is no partition table: leave --partition out"),
     ("a partition after the image", MBR_DISK[:100 * SECTOR], 2, "partition 2 begins after the end of this image: fetch its head, "
-     "and take that as HEAD: dd if=DISK of=head.img bs=512 skip=128 count=2048"),
+     "and take that in its place: dd if=DISK of=head.img bs=512 skip=128 count=2048"),
     ("a partition that the image has in part", MBR_DISK[:136 * SECTOR + 100], 2, ONE + "the image ends before it does: fetch it, and "
      "run this again with --area area.img: dd if=DISK of=area.img bs=512 skip=136 count=8"),
     ("a partition without a physical volume", GPT_DISK, 1, "there is no label in the first four sectors" + NOT_FOUND + FROM_FIRST),

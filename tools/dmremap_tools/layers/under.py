@@ -36,8 +36,12 @@ def run(words: Namespace) -> None:
     """Prints both as one."""
     numbers.check_sector_size(words.sector_size)
     upper, is_upper_concise = tables.read(words.upper)
-    parted = devices_in(words.lower, words.sector_size or numbers.SECTOR, is_upper_concise) if disk_image.is_image(words.lower) else {}
-    lower, is_lower_concise = (list(parted.values()), is_upper_concise) if parted else tables.read(words.lower)
+    parted: Dict[str, tables.Device] = {}
+    if disk_image.is_image(words.lower):
+        parted = devices_in(words.lower, words.sector_size or numbers.SECTOR, is_upper_concise)
+        lower, is_lower_concise = list(parted.values()), is_upper_concise
+    else:
+        lower, is_lower_concise = tables.read(words.lower)
     both = {it.name for it in upper} & {it.name for it in lower}
     if both:
         raise Refusal(streams.name_of(words.lower), "%s has a device %s, too"
@@ -46,7 +50,7 @@ def run(words: Namespace) -> None:
     for disk, word in words.disk:
         name = names.Names().device(word, names.Word("DEVICE"))
         if name not in devices:
-            others = "partition %s: there are %s" % (name, quoting.some(list(parted))) if parted else "device " + name
+            others = "partition %s: there are %s" % (name, quoting.some([it.name for it in lower])) if parted else "device " + name
             raise Refusal(streams.name_of(words.lower), "it has no " + others)
         _put_under(words.upper, upper, disk, devices[name])
     streams.out.write(tables.text_of(lower + upper, is_upper_concise or is_lower_concise))

@@ -4,7 +4,7 @@ Have: TEXT, the metadata of a group, for tables that were printed from it; or PA
 each physical volume or path, with its name as dmremap has it and its length in sectors. With --image, which may be given
 several times, a line NAME PATH for each physical volume in an image, as --paths takes it: the id in its label says which it
 is, whatever its path was. One on a partition of the image of a whole disk, or in a member of an md array, has
-PATH?offset=BYTES, which says in IMAGE, too, where one begins. Physical volumes without an image are told.
+PATH?offset=BYTES; IMAGE may say so, too, where one begins. Physical volumes without an image are told.
 
 Refuses a text that is no metadata of a group, physical volumes of which it has no length, images of others, and that of a
 whole disk at PATHS for a partition.

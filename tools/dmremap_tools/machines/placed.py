@@ -21,7 +21,8 @@ def by_ids(text: Optional[str], places: Dict[str, Place], sizes: Dict[str, int],
     found, decided = dict(places), set()
     given, bare = [*places.values(), *images], {it.path for it in images}
     for path in dict.fromkeys(it.path for it in given):
-        volumes = volumes_in(path, given) if named and (path in bare or os.path.exists(path)) else {}
+        here = [it for it in given if it.path == path]
+        volumes = volumes_in(path, here) if named and (path in bare or os.path.exists(path)) else {}
         wanted = {name for name, place in places.items() if place.path == path}
         lost = [identity for identity, name in named.items() if volumes and name in wanted and identity not in volumes]
         if lost:
@@ -69,14 +70,13 @@ def partitioned(image: disk_image.Image, sector: int = SECTOR) -> Tuple[str, Lis
 
 def volumes_in(path: str, given: List[Place]) -> Dict[bytes, int]:
     """The ids of the physical volumes in a disk, and the bytes at which they begin. Where they can't be read, it is taken as it is,
-    and where it doesn't say which of its parts they are, the places that were given in it do."""
+    and where it doesn't say which of its parts they are, the places in it that were given do."""
     try:
         return begun_in(Place(path))
     except disk_image.Unreadable as fault:
         streams.tell("nothing says which disk it is: %s" % fault)
         return {}
     except Refusal:
-        here = [it for it in given if it.path == path]
-        if not all(it.is_said for it in here):
+        if not all(it.is_said for it in given):
             raise
-    return {identity: start for it in here for identity, start in begun_in(it).items()}
+    return {identity: start for it in given for identity, start in begun_in(it).items()}

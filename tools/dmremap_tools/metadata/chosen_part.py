@@ -38,7 +38,7 @@ def partition_of(disk: Image, table: Optional[Table], number: int) -> Partition:
     if not chosen:
         raise Refusal(disk.path, "there is no partition %d: there are %s" % (number, numbers_of(table.partitions)))
     if chosen[0].start >= disk.size:
-        raise Refusal(disk.path, "partition %d begins after the end of this image: fetch its head, and take that as HEAD: %s"
+        raise Refusal(disk.path, "partition %d begins after the end of this image: fetch its head, and take that in its place: %s"
                       % (number, dd(disk, "head.img", chosen[0].start, HEAD)))
     return chosen[0]
 
