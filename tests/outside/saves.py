@@ -266,6 +266,13 @@ def check_labels(tally, program, top):
         if not what and tally.holds("a file by labels, " + name, os.path.exists(target), "it isn't there"):
             tally.holds("what is saved by labels, " + name, read(target) == image[begin * SECTOR:(begin + 8) * SECTOR], "it is another")
             os.unlink(target)
+    for figures, told in ((18, LOST % (8, 0)), (19, LOST % (8, 0) + "missing: p: No such file or directory\n")):
+        target = os.path.join(program.room, "save", "far %d" % figures)
+        words = [program.file("save/table", "v: 0 8 linear p 0\n"), program.file("save/disks", "p 64\n")]
+        listed = program.file("save/paths", "p %s?offset=%s\n" % (path, "9" * figures))
+        got = tool_calls.call(top, ["save", "--program", program.path, "--paths", listed, "v", target, "table", *words])
+        tally.holds("saving from a place of %d figures" % figures, (got.status, sorted(got.err.decode().splitlines(True))) == (4, sorted(told.splitlines(True))),
+                    "status %s, %r" % (got.status, got.err))
 
 
 def check_file(tally, program, top):

@@ -8,7 +8,8 @@ from dmremap_tools.base import quoting, streams
 from dmremap_tools.base.refusal import Refusal
 
 
-PLACED = re.compile(r"(.*)\?offset=([0-9]{1,19})", re.S)
+# With more figures, a system couldn't say where a sector after it is.
+PLACED = re.compile(r"(.*)\?offset=([0-9]{1,18})", re.S)
 
 
 class Place(NamedTuple):
