@@ -5,7 +5,7 @@ use Rattle.dm_table.specs.declared.requests.request.Op.{Op}
 use Rattle.dm_stack.specs.declared.lines.found_line.FoundLine.{FoundLine}
 use Rattle.dm_stack.specs.declared.checks.graph.TheConstants.{MOST_DEPTH}
 use Rattle.dm_stack.specs.declared.id.Lower.{Lower}
-use Rattle.dm_stack.specs.declared.id.Lower.TheVariants.{Device, Disk}
+use Rattle.dm_stack.specs.declared.id.Lower.TheVariants.{Disk}
 use Rattle.dm_stack.specs.declared.lines.leg.Beneath.TheVariants.{Lies}
 use Rattle.dm_stack.specs.Description.{Description}
 use Rattle.dm_stack.specs.lines.Below.{IsLineOf}
@@ -16,7 +16,7 @@ use Rattle.dm_map.specs.pieces.Units.{BlockUnit, units_in}
 use Rattle.dm_map.specs.state.Snapshots.{read_over}
 use Rattle.dm_map.specs.state.State.{taken_at}
 use Rattle.dm_map.specs.state.Walker.{WalkerView}
-use Rattle.dm_map.specs.walk.Bound.{IsMapped, Mapping, found_mapping, range_mapping, target_mapping}
+use Rattle.dm_map.specs.walk.Bound.{IsMapped, Mapping, found_mapping, range_mapping}
 use Rattle.dm_map.specs.walk.Home.{HasTakenOrIsHome, IsHome, handed}
 use Rattle.dm_map.specs.walk.Range.{disk_unit, range_step, refuses, IsLegOf, IsWalked}
 use Rattle.dm_map.specs.walk.Steps.{Step, keep}

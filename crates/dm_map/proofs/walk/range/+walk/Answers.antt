@@ -1,21 +1,18 @@
-use Rattle.std.proofs.Common.{rules, ◌≡◌, ℕ, ◌+◌, ◌-◌, ◌^◌, ◌≤◌, List, Some, refl, sym, ap, subst, ◌∙◌, arith}
+use Rattle.std.proofs.Common.{rules, ◌≡◌, ℕ, ◌+◌, ◌-◌, ◌^◌, ◌≤◌, Some, refl, sym, ap, subst, ◌∙◌, arith}
 use Rattle.dm_table.specs.declared.requests.request.Op.{Op}
 use Rattle.dm_stack.specs.declared.lines.found_line.FoundLine.{FoundLine}
 use Rattle.dm_stack.specs.declared.lines.found_line.FoundTarget.{FoundTarget}
 use Rattle.dm_stack.specs.declared.lines.found_line.FoundTarget.TheVariants.{Snapshot, Origin}
-use Rattle.dm_stack.specs.declared.id.Lower.{Lower}
 use Rattle.dm_stack.specs.declared.lines.leg.Beneath.{Beneath}
 use Rattle.dm_stack.specs.lines.Leg.{AreInside, LegsView}
-use Rattle.dm_stack.specs.declared.id.Lower.TheVariants.{Device, Disk}
+use Rattle.dm_stack.specs.declared.id.Lower.TheVariants.{Device}
 use Rattle.dm_stack.specs.lines.Below.{IsLineOf, IsOriginSound, IsSnapshotSound, IsTargetSound, found_at}
 use Rattle.dm_stack.specs.Description.{Description, lower_len}
 use Rattle.dm_map.specs.walk.Bound.{IsMapped, origin_mapping, range_mapping, target_mapping}
-use Rattle.dm_map.specs.pieces.Units.{BlockUnit, units_in}
 use Rattle.dm_map.specs.state.Snapshots.{read_over}
 use Rattle.dm_map.specs.state.State.{taken_at}
-use Rattle.dm_map.specs.walk.Steps.{keep}
-use Rattle.dm_map.specs.state.Walker.{StackState, WalkerView}
-use Rattle.dm_map.specs.walk.Range.{disk_unit, origin_step, range_step, line_step, AreAsked, AreAskedOfChunk, AreAskedOfOrigin, HasRoomFor, IsAtLine, IsLegOf}
+use Rattle.dm_map.specs.state.Walker.{StackState}
+use Rattle.dm_map.specs.walk.Range.{origin_step, range_step, line_step, AreAsked, AreAskedOfChunk, AreAskedOfOrigin, HasRoomFor, IsAtLine, IsLegOf}
 use Rattle.dm_stack.proofs.InStack.{device_there, lower_small}
 use Rattle.dm_stack.proofs.StripeLemmas.{other_chunk}
 use Rattle.dm_map.proofs.state.FoundLines.{first_line}
@@ -23,7 +20,7 @@ use Rattle.dm_map.proofs.walk.Bounds.{lines_apart, mapped_below, mapped_line, ma
 use Rattle.dm_map.proofs.walk.Chunks.{chunk_read, in_one_chunk, in_snapshot, lost_read, same_chunk, write_line_step}
 use Rattle.dm_map.proofs.walk.HomeLemmas.{disk_step}
 use Rattle.dm_map.proofs.walk.LineRanges.{leg_at, leg_of, leg_within, line_sectors}
-use Rattle.dm_map.proofs.walk.Ranges.{beneath_as, leg_errors, leg_lies, leg_zeros, line_served, origin_read, range_deepest, range_disk, range_refused}
+use Rattle.dm_map.proofs.walk.Ranges.{beneath_as, leg_errors, leg_lies, leg_zeros, line_served, origin_read, range_deepest, range_refused}
 use Rattle.dm_map.proofs.walk.OriginParts.{line_overs, part_mapped, serve_failed}
 use Rattle.dm_map.proofs.walk.Rows.{walked_as, walked_piece}
 use Rattle.dm_map.proofs.walk.Spans.{below_is}

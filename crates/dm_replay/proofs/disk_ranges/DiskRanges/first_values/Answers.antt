@@ -1,4 +1,3 @@
-use Rattle.dm_replay.specs.declared.value.Value.TheVariants as value
 use Rattle.dm_replay.proofs.StoredLemmas.{bare_hold, first_held}
 use Rattle.dm_replay.proofs.disk_ranges.DiskRanges.first_values.Goals as goal
 
