@@ -60,7 +60,7 @@ PLACES = {
     ("dmremap/printing", "print_report", "check_report(alloc, stack), at Err(_)"): OURS,
     ("dmremap/replay_run", "replay_stack", "Replay::<TrieTaken>::new(alloc, stack), at Err(_)"):
         "claims that meet have an arm of their own, and by its contract it fails for nothing else",
-    ("power_cut/main", "run", "!has_stack_room(rt)"): "the limit of the stack is lower than what the program may take",
+    ("power_cut/main", "begin", "!has_stack_room(rt)"): "the limit of the stack is lower than what the program may take",
     ("power_cut/cut", "begin", "Replay::new(alloc, stack), at Err(_)"):
         "claims that meet have an arm of their own, and by its contract it fails for nothing else",
     ("power_cut/fault", "unplayed", "fault, at _"):

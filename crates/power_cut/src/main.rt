@@ -33,17 +33,23 @@ use std::io;
 use std::process::ExitCode;
 
 fn main(rt: HostRuntime) -> ExitCode {
-    match run(&rt) {
+    match begin(&rt) {
         Ok(()) => ExitCode::SUCCESS,
         Err(fault) => ExitCode::from(fault.tell(&mut Counted::new(rt.stderr()))),
     }
 }
 
-/// Does what the words ask for, or says why not.
-fn run(rt: &HostRuntime) -> Result<(), Fault> {
+/// Asks first whether there is room for the stack that the rest takes.
+fn begin(rt: &HostRuntime) -> Result<(), Fault> {
     if !has_stack_room(rt) {
         return Err(Fault::Memory);
     }
+    run(rt)
+}
+
+/// Does what the words ask for, or says why not. Its room on the stack is taken when it is called.
+#[inline(never)]
+fn run(rt: &HostRuntime) -> Result<(), Fault> {
     let words = words_of(rt)?;
     let [_, file, disks, units] = words.as_slice() else {
         return Err(Fault::Words);
