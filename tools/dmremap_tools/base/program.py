@@ -13,7 +13,6 @@ from dmremap_tools.base.refusal import Refusal
 OUTPUT_FAILED = 5
 # The statuses with which dmremap refuses words, texts or requests, or is out of memory.
 REFUSALS = (1, 2, 3, 4, 6)
-ADMINISTRATION = "/usr/local/sbin:/usr/sbin:/sbin"
 
 
 def add_words(parser: ArgumentParser) -> None:
@@ -43,7 +42,9 @@ def ask(words: Sequence[str], most: int = streams.MOST_TEXT, given: Optional[int
 
 def found(name: str) -> str:
     """The path of a program, which may stand where only the administrator's programs do."""
-    return shutil.which(name) or shutil.which(name, path=ADMINISTRATION) or name
+    folders = (os.environ.get("PATH", "") + os.pathsep + os.defpath).split(os.pathsep)
+    beside = [os.path.join(os.path.dirname(it), "sbin") for it in folders if os.path.basename(it) == "bin"]
+    return shutil.which(name) or shutil.which(name, path=os.pathsep.join(beside)) or name
 
 
 def ask_quietly(words: Sequence[str], most: int = streams.MOST_TEXT, given: Optional[int] = None) -> "tuple[str, str]":
