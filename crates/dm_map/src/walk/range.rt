@@ -92,7 +92,7 @@ pub(crate) fn map_top<S: Sink, T: Taken>(
             return Ok(Some(home));
         }
         if is_snapshot(line) {
-            // What the line is has been asked here, so that this is the call of `map_snapshot` alone.
+            // It is inlined here, where the line is known to be a snapshot's: the call of `map_snapshot` is left.
             return handed(map_line(walker, op, MOST_DEPTH, device, line, sector, len, sink));
         }
     }
