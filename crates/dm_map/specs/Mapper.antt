@@ -4,7 +4,7 @@ use Rattle.dm_table.specs.declared.requests.request.Op.TheVariants.{Read}
 use Rattle.dm_table.specs.declared.requests.request.Request.{Request}
 use Rattle.dm_stack.specs.checks.Depth.{stack_depth}
 use Rattle.dm_stack.specs.Description.{Description}
-use Rattle.dm_map.specs.pieces.Sink.{OfBeginning, SinkView}
+use Rattle.dm_map.specs.pieces.Sink.{OfBeginning, SinkPast}
 use Rattle.dm_map.specs.pieces.Units.{BlockUnit}
 use Rattle.dm_map.specs.state.Counts.{Counts, grown_by, most_comparisons}
 use Rattle.dm_map.specs.state.Fitting.{IsWithinPlaces}
@@ -45,19 +45,19 @@ OnTried (Err (faults.Sink fault)) P = P
 OnTried (Err faults.Stopped) P = Unit {0}
 
 -- a sink failed at a beginning of these units, and with it the mapper
-pub record HasFailed {S : Type 0} (leaves : S → List BlockUnit → S → Type 0) (view : S → SinkView) (old new : S) (before after : MapperView) (units : List BlockUnit) : Type 0 where
-  pub left : OfBeginning leaves old units new
-  pub faults : (view new).faults ≡ (view old).faults + 1
+pub record HasFailed {S : Type 0} (past : SinkPast S) (old new : S) (before after : MapperView) (units : List BlockUnit) : Type 0 where
+  pub left : OfBeginning past.left old units new
+  pub faults : (past.view new).faults ≡ (past.view old).faults + 1
   pub going : before.failed ≡ false
   pub failed : after.failed ≡ true
 
 -- what came of a request of a device: the sink took its units, and the mapper is in the state after it; or both failed; or the mapper had failed before, and nothing changed. A mapper that had not failed counted its searches, of which a read makes at most one a level for each stretch
-pub record HasMapped {S R F : Type 0} (takes leaves : S → List BlockUnit → S → Type 0) (view : S → SinkView) (result : Result R (MapFault F)) (old new : S) (before after : MapperView) (request : Request) (device : ℕ) : Type 0 where
-  pub took : OnOk result (takes old (step_for before.stack request device before.state).units new)
+pub record HasMapped {S R F : Type 0} (past : SinkPast S) (result : Result R (MapFault F)) (old new : S) (before after : MapperView) (request : Request) (device : ℕ) : Type 0 where
+  pub took : OnOk result (past.took old (step_for before.stack request device before.state).units new)
   pub state : OnOk result (after.state ≡ (step_for before.stack request device before.state).state)
-  pub kept : OnOk result (((view new).stack ≡ (view old).stack) × ((view new).faults ≡ (view old).faults))
+  pub kept : OnOk result (((past.view new).stack ≡ (past.view old).stack) × ((past.view new).faults ≡ (past.view old).faults))
   pub going : OnOk result ((before.failed ≡ false) × (after.failed ≡ false))
-  pub failed : OnSinkFault result (HasFailed leaves view old new before after (step_for before.stack request device before.state).units)
+  pub failed : OnSinkFault result (HasFailed past old new before after (step_for before.stack request device before.state).units)
   pub stopped : OnStopped result ((before.failed ≡ true) × (after ≡ before) × (new ≡ old))
   pub counted : OnTried result (after.looked ≡ grown_by before.looked after.last)
   pub few : OnTried result (after.last.comparisons ≤ most_comparisons * after.last.searches)

@@ -17,7 +17,7 @@ ghost use Rattle.dm_map.specs.walk.Path.{read_stretches};
 ghost use Rattle.dm_map.specs.state.State.{start_state, taken_at};
 ghost use Rattle.dm_map.specs.state.Tables.{snapshot_at};
 ghost use Rattle.dm_map.specs.state.Usage.{usage_of};
-ghost use Rattle.dm_map.specs.walk.Home.{HasTakenOrIsHome};
+ghost use Rattle.dm_map.specs.walk.Home.{or_home};
 ghost use Rattle.dm_map.specs.walk.Range.{HasRoomFor, IsWalked};
 
 use crate::pieces::sink::Sink;
@@ -131,9 +131,8 @@ impl<'s, T: Taken> Mapper<'s, T> {
         sink: &mut S,
     ) -> Result<(), MapFault<S::Fault>>
         requires device { device < length self.old.stack.devices }
-        requires sink { HasRoomFor S.view sink.old self.old.stack request.now.len }
-        ensures { HasMapped S.took S.left S.view
-            result sink.old sink.new self.old self.new request.now device }
+        requires sink { HasRoomFor S.past sink.old self.old.stack request.now.len }
+        ensures { HasMapped S.past result sink.old sink.new self.old self.new request.now device }
     {
         let Some(home) = self.request_or_home(request, device, &mut *sink)? else {
             return Ok(());
@@ -158,9 +157,9 @@ impl<'s, T: Taken> Mapper<'s, T> {
         sink: &mut S,
     ) -> Result<Option<Home>, MapFault<S::Fault>>
         requires device { device < length self.old.stack.devices }
-        requires sink { HasRoomFor S.view sink.old self.old.stack request.now.len }
-        ensures { HasMapped (HasTakenOrIsHome S.took self.old.stack request.now.op request.now.len result)
-            S.left S.view result sink.old sink.new self.old self.new request.now device }
+        requires sink { HasRoomFor S.past sink.old self.old.stack request.now.len }
+        ensures { HasMapped (or_home S.past self.old.stack request.now.op request.now.len result) result
+            sink.old sink.new self.old self.new request.now device }
     {
         if self.failed {
             self.walker.recall_places();
@@ -256,10 +255,9 @@ fn map_request<S: Sink, T: Taken>(
 ) -> Result<Option<Home>, S::Fault>
     requires some { 1 ≤ len }
     requires device { device < length walker.old.stack.devices }
-    requires sink { HasRoomFor S.view sink.old walker.old.stack len }
-    ensures walked { IsWalked (HasTakenOrIsHome S.took walker.old.stack op len result) S.left S.view
-        result sink.old sink.new walker.old walker.new
-        (request_step walker.old.stack op device start len walker.old.state) len }
+    requires sink { HasRoomFor S.past sink.old walker.old.stack len }
+    ensures walked { IsWalked (or_home S.past walker.old.stack op len result) result sink.old sink.new
+        walker.old walker.new (request_step walker.old.stack op device start len walker.old.state) len }
     ensures bounded { op ≡ Read → walker.new.looked.searches ≤ walker.old.looked.searches
         + stack_depth walker.old.stack * read_stretches walker.old.stack walker.old.state device start len }
 {

@@ -90,15 +90,15 @@ impl Sink for Halting<'_> {
 
     type Fault = ();
 
-    ghost view = { λ sink. record {
-      stack = sink.player.stack.now;
-      room = 2 ^ 64;
-      faults = sink.player.faults;
+    ghost past = { record {
+      view = λ sink. record {
+        stack = sink.player.stack.now;
+        room = 2 ^ 64;
+        faults = sink.player.faults;
+      };
+      took = HasTaken;
+      left = λ old units new. old.halted ≡ false → new.halted ≡ true → HasHalted old units new;
     } };
-
-    ghost took = { λ old units new. HasTaken old units new };
-
-    ghost left = { λ old units new. old.halted ≡ false → new.halted ≡ true → HasHalted old units new };
 
     /// Plays the piece. It fails where more units came than were left, or where it is out of memory.
     fn piece(&mut self, piece: Piece) -> Result<(), ()> {
@@ -111,10 +111,10 @@ impl Sink for Halting<'_> {
         }
     }
 
-    ghost took_nothing = { λ s. taken_nothing s };
-
-    ghost took_then_took = { λ a b c us vs first second. taken_both a b c us vs first second };
-
-    ghost took_then_left = { λ a b c us vs first second. λ going halted. taken_halted a b c us vs first
-        (second (first.halted ∙ going) halted) };
+    ghost lawful = { record {
+      nothing = taken_nothing;
+      took = taken_both;
+      left = λ a b c us vs first second. λ going halted. taken_halted a b c us vs first
+          (second (first.halted ∙ going) halted);
+    } };
 }

@@ -134,16 +134,16 @@ impl Sink for Player<'_> {
 
     type Fault = AllocError;
 
-    ghost view = { λ player. record {
-      stack = player.stack.now;
-      room = 2 ^ 64;
-      faults = player.faults;
+    ghost past = { record {
+      view = λ player. record {
+        stack = player.stack.now;
+        room = 2 ^ 64;
+        faults = player.faults;
+      };
+      took = λ old units new. HasPlayed old.playing units new.playing
+          × AreUnitsOf (length old.stack.now.disks) units × (new.stack.now ≡ old.stack.now);
+      left = λ old units new. Unit {0};
     } };
-
-    ghost took = { λ old units new. HasPlayed old.playing units new.playing
-        × AreUnitsOf (length old.stack.now.disks) units × (new.stack.now ≡ old.stack.now) };
-
-    ghost left = { λ old units new. Unit {0} };
 
     /// Plays the piece, or fails where it is out of memory.
     fn piece(&mut self, piece: Piece) -> Result<(), AllocError> {
@@ -156,14 +156,14 @@ impl Sink for Player<'_> {
         }
     }
 
-    ghost took_nothing = { λ s. (played_nothing s.playing, tt, refl) };
-
-    ghost took_then_took = { λ a b c us vs first second. (
-      played_both a.playing b.playing c.playing us vs first.0 second.0,
-      units_of-append (length a.stack.now.disks) us vs first.1
-          (subst (λ (stack : Description). AreUnitsOf (length stack.disks) vs) first.2 second.1),
-      second.2 ∙ first.2,
-    ) };
-
-    ghost took_then_left = { λ a b c us vs first second. tt };
+    ghost lawful = { record {
+      nothing = λ s. (played_nothing s.playing, tt, refl);
+      took = λ a b c us vs first second. (
+        played_both a.playing b.playing c.playing us vs first.0 second.0,
+        units_of-append (length a.stack.now.disks) us vs first.1
+            (subst (λ (stack : Description). AreUnitsOf (length stack.disks) vs) first.2 second.1),
+        second.2 ∙ first.2,
+      );
+      left = λ a b c us vs first second. tt;
+    } };
 }

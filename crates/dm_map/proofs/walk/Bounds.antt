@@ -14,8 +14,7 @@ use Rattle.dm_stack.specs.lines.Below.{Below, Lies, below_target, chunk_at, foun
 use Rattle.dm_stack.specs.Description.{Description, device_len}
 use Rattle.dm_stack.specs.checks.Depth.{stack_depth}
 use Rattle.dm_stack.specs.checks.Soundness.{IsSound, depth_of}
-use Rattle.dm_map.specs.pieces.Sink.{SinkView}
-use Rattle.dm_map.specs.pieces.Units.{BlockUnit}
+use Rattle.dm_map.specs.pieces.Sink.{SinkPast}
 use Rattle.dm_map.specs.walk.Bound.{IsMapped, found_mapping, range_mapping, target_mapping, target_path}
 use Rattle.dm_map.specs.walk.Path.{PathStep, is_same_path, path, read_stretches, stretches}
 use Rattle.dm_map.specs.walk.Reads.{by_below}
@@ -32,11 +31,11 @@ use Rattle.dm_map.proofs.walk.Rows.{walked_as}
 -- A line, by what lies below it
 
 -- each of these sectors lies on the next one of a device or a disk, and they are in one chunk
-pub mapped_below : {S R F : Type 0} {took left : S → List BlockUnit → S → Type 0} {view : S → SinkView} {result : Result R F} {old new : S} {before after : WalkerView} {step : Description → State → ℕ → Step} {sector n : ℕ}
+pub mapped_below : {S R F : Type 0} {past : SinkPast S} {result : Result R F} {old new : S} {before after : WalkerView} {step : Description → State → ℕ → Step} {sector n : ℕ}
     (op : Op) (levels device start distance at : ℕ) (line : FoundLine) (target : FoundTarget) (to : Lower) → found_at before.stack device at ≡ Some line → line.target ≡ target → 1 ≤ n
     → ((i : ℕ) → i < n → below_target (read_over (taken_at before.state device)) target (distance + i) ≡ Lies to (sector + i)) → ((i : ℕ) → i < n → chunk_at target (distance + i) ≡ chunk_at target distance)
     → steps (step before.stack) before.state sector n ≡ line_step before.stack op levels device target before.state distance n
-    → IsMapped took left view result old new before after (record (range_mapping op levels to) { step = step }) sector n → IsMapped took left view result old new before after (target_mapping op levels device start target) distance n
+    → IsMapped past result old new before after (record (range_mapping op levels to) { step = step }) sector n → IsMapped past result old new before after (target_mapping op levels device start target) distance n
 mapped_below {before} {after} {sector} {n} op levels device start distance at line target to found kind some below chunk same mapped =
     let stack = before.stack in let state = before.state in let here : PathStep = record { device = device; start = start; chunk = chunk_at target distance } in
     record {
@@ -52,11 +51,11 @@ mapped_below {before} {after} {sector} {n} op levels device start distance at li
     }
 
 -- a line that is said in another way
-pub mapped_target : {S F : Type 0} {took left : S → List BlockUnit → S → Type 0} {view : S → SinkView} {result : Result (Unit {0}) F} {old new : S} {before after : WalkerView} {distance n : ℕ} (op : Op) (levels device : ℕ) (start other : ℕ) (target is : FoundTarget)
-    → start ≡ other → target ≡ is → IsMapped took left view result old new before after (target_mapping op levels device other is) distance n → IsMapped took left view result old new before after (target_mapping op levels device start target) distance n
-mapped_target {took} {left} {view} {result} {old} {new} {before} {after} {distance} {n} op levels device start other target is same kind mapped =
-    subst (λ (s : ℕ). IsMapped took left view result old new before after (target_mapping op levels device s target) distance n) (sym same)
-    (subst (λ (t : FoundTarget). IsMapped took left view result old new before after (target_mapping op levels device other t) distance n) (sym kind) mapped)
+pub mapped_target : {S F : Type 0} {past : SinkPast S} {result : Result (Unit {0}) F} {old new : S} {before after : WalkerView} {distance n : ℕ} (op : Op) (levels device : ℕ) (start other : ℕ) (target is : FoundTarget)
+    → start ≡ other → target ≡ is → IsMapped past result old new before after (target_mapping op levels device other is) distance n → IsMapped past result old new before after (target_mapping op levels device start target) distance n
+mapped_target {past} {result} {old} {new} {before} {after} {distance} {n} op levels device start other target is same kind mapped =
+    subst (λ (s : ℕ). IsMapped past result old new before after (target_mapping op levels device s target) distance n) (sym same)
+    (subst (λ (t : FoundTarget). IsMapped past result old new before after (target_mapping op levels device other t) distance n) (sym kind) mapped)
 
 -- another chunk of it is another path
 abbrev lower_path : Description → State → (levels device : ℕ) → FoundTarget → (distance : ℕ) → List PathStep
@@ -74,9 +73,9 @@ unfolding path
 line_at stack state levels fewer device sector line more found = rw (more, found) refl
 
 -- what it hands over, and its searches, and that which found the line
-pub mapped_line : {S R F : Type 0} {took left : S → List BlockUnit → S → Type 0} {view : S → SinkView} {result : Result R F} {old new : S} {before after : WalkerView} (op : Op) (levels fewer device sector n : ℕ) (line : FoundLine)
+pub mapped_line : {S R F : Type 0} {past : SinkPast S} {result : Result R F} {old new : S} {before after : WalkerView} (op : Op) (levels fewer device sector n : ℕ) (line : FoundLine)
     → levels ≡ suc fewer → refuses before.stack op device ≡ false → IsLineOf before.stack device line sector → 1 ≤ n → sector + n ≤ line.start + line.len
-    → IsMapped took left view result old new before after (target_mapping op fewer device line.start line.target) (sector - line.start) n → IsMapped took left view result old new before after (found_mapping op levels device) sector n
+    → IsMapped past result old new before after (target_mapping op fewer device line.start line.target) (sector - line.start) n → IsMapped past result old new before after (found_mapping op levels device) sector n
 mapped_line {before} {after} op levels fewer device sector n line more passes of some inside mapped =
     let stack = before.stack in let state = before.state in let paths = path stack state levels (Device device) in let lower = target_path stack state fewer device line.start line.target in
     let each : (i : ℕ) → i < n → found_at stack device (sector + i) ≡ Some line = λ i within. of.is.all (sector + i) (omega (arith, of.from)) (omega (arith, inside, within)) in
@@ -106,9 +105,9 @@ lines_apart stack state levels fewer device at n line next more some of end afte
 
 -- A request inside its device
 
-pub request_bound : {S R F : Type 0} {took left : S → List BlockUnit → S → Type 0} {view : S → SinkView} {result : Result R F} {old new : S} {before after : WalkerView} (op : Op) (device start len : ℕ)
+pub request_bound : {S R F : Type 0} {past : SinkPast S} {result : Result R F} {old new : S} {before after : WalkerView} (op : Op) (device start len : ℕ)
     → IsSound before.stack → device < length before.stack.devices → nat_lt (device_len before.stack device) (start + len) ≡ false
-    → IsMapped took left view result old new before after (range_mapping op MOST_DEPTH (Device device)) start len → op ≡ Read → after.looked.searches ≤ before.looked.searches + stack_depth before.stack * read_stretches before.stack before.state device start len
+    → IsMapped past result old new before after (range_mapping op MOST_DEPTH (Device device)) start len → op ≡ Read → after.looked.searches ≤ before.looked.searches + stack_depth before.stack * read_stretches before.stack before.state device start len
 request_bound {before} {after} op device start len sound there inside mapped is =
     let runs = stretches (path before.stack before.state MOST_DEPTH (Device device)) start len in
     let more : depth_of before.stack device * runs ≤ stack_depth before.stack * runs = mul-le-mul_right runs (depth_most before.stack device there) in

@@ -15,7 +15,7 @@ use Rattle.dm_map.specs.state.Snapshots.{store_sector}
 use Rattle.dm_map.specs.walk.SnapshotWrites.{any_error, copy_to, home_in_store, is_error, read, reads_all, row, write_to}
 use Rattle.dm_map.specs.walk.Steps.{keep}
 use Rattle.dm_map.specs.walk.Stretch.{ground_unit, IsFirst, IsGroundInStack}
-use Rattle.dm_map.specs.pieces.Sink.{SinkView}
+use Rattle.dm_map.specs.pieces.Sink.{SinkPast}
 use Rattle.dm_map.specs.pieces.Units.{BlockUnit, WriteOf, units_in}
 use Rattle.dm_map.specs.state.Walker.{StackState, WalkerView, stack_state}
 use Rattle.dm_map.specs.walk.Range.{range_step}
@@ -24,12 +24,12 @@ use Rattle.dm_map.proofs.walk.Rows.{none_added}
 use Rattle.dm_map.proofs.walk.UnitRows.{copy_row, errors_on, first_reads, row_front, write_row}
 
 -- between pieces, a sink and a walk are where they were, but for the units that the sink took and what was looked up
-pub record IsGoingOn {S : Type 0} (view : S → SinkView) (old new : S) (before after : WalkerView) : Type 0 where
+pub record IsGoingOn {S : Type 0} (past : SinkPast S) (old new : S) (before after : WalkerView) : Type 0 where
   pub same : stack_state after ≡ stack_state before
   pub looked : AreAdded before.looked after.looked
-  pub stack : (view new).stack ≡ (view old).stack
-  pub room : (view old).room ≤ (view new).room
-  pub faults : (view new).faults ≡ (view old).faults
+  pub stack : (past.view new).stack ≡ (past.view old).stack
+  pub room : (past.view old).room ≤ (past.view new).room
+  pub faults : (past.view new).faults ≡ (past.view old).faults
 
 -- a first stretch is one for any walker of the same stack in the same state
 pub first_seen : (walk before after : WalkerView) (lower : Lower) (sector len : ℕ) (stretch : Stretch) → stack_state before ≡ stack_state walk → IsFirst before after (range_step before.stack Read MOST_DEPTH lower before.state sector) len stretch

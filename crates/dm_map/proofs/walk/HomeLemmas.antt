@@ -11,13 +11,13 @@ use Rattle.dm_stack.specs.Description.{Description}
 use Rattle.dm_stack.specs.lines.Below.{IsLineOf}
 use Rattle.dm_stack.proofs.InStack.{disk_there}
 use Rattle.dm_map.specs.declared.walk.home.Home.{Home}
-use Rattle.dm_map.specs.pieces.Sink.{SinkView}
+use Rattle.dm_map.specs.pieces.Sink.{SinkPast}
 use Rattle.dm_map.specs.pieces.Units.{BlockUnit, units_in}
 use Rattle.dm_map.specs.state.Snapshots.{read_over}
 use Rattle.dm_map.specs.state.State.{taken_at}
 use Rattle.dm_map.specs.state.Walker.{WalkerView}
 use Rattle.dm_map.specs.walk.Bound.{IsMapped, Mapping, found_mapping, range_mapping}
-use Rattle.dm_map.specs.walk.Home.{HasTakenOrIsHome, IsHome, handed}
+use Rattle.dm_map.specs.walk.Home.{IsHome, handed, or_home}
 use Rattle.dm_map.specs.walk.Range.{disk_unit, range_step, refuses, IsLegOf, IsWalked}
 use Rattle.dm_map.specs.walk.Steps.{Step, keep}
 use Rattle.dm_map.proofs.walk.Bounds.{mapped_below, mapped_line}
@@ -33,36 +33,36 @@ disk_step w op levels lower disk sector len units is units_is =
 
 -- Units that were handed over
 
-over : {S F : Type 0} {took left : S → List BlockUnit → S → Type 0} {view : S → SinkView} {old new : S} {before after : WalkerView} {step : Step} {len : ℕ} (stack : Description) (op : Op) (n : ℕ) (result : Result (Unit {0}) F)
-    → IsWalked took left view result old new before after step len → IsWalked (HasTakenOrIsHome took stack op n (handed result)) left view (handed result) old new before after step len
+over : {S F : Type 0} {past : SinkPast S} {old new : S} {before after : WalkerView} {step : Step} {len : ℕ} (stack : Description) (op : Op) (n : ℕ) (result : Result (Unit {0}) F)
+    → IsWalked past result old new before after step len → IsWalked (or_home past stack op n (handed result)) (handed result) old new before after step len
 over stack op n (Ok done) walked = record { took = walked.took; state = walked.state; kept = walked.kept; room = walked.room; left = tt; faults = walked.faults; stack = walked.stack; looked = walked.looked }
 over stack op n (Err fault) walked = record { took = tt; state = tt; kept = tt; room = tt; left = walked.left; faults = walked.faults; stack = walked.stack; looked = walked.looked }
 
-pub walked_over : {S F : Type 0} {took left : S → List BlockUnit → S → Type 0} {view : S → SinkView} {old new : S} {before after : WalkerView} {step : Step} {len : ℕ} {result : Result (Unit {0}) F} {answer : Result (Option Home) F} (stack : Description) (op : Op) (n : ℕ)
-    → answer ≡ handed result → IsWalked took left view result old new before after step len → IsWalked (HasTakenOrIsHome took stack op n answer) left view answer old new before after step len
-walked_over {took} {left} {view} {old} {new} {before} {after} {step} {len} {result} stack op n is walked =
-    subst (λ a. IsWalked (HasTakenOrIsHome took stack op n a) left view a old new before after step len) (sym is) (over stack op n result walked)
+pub walked_over : {S F : Type 0} {past : SinkPast S} {old new : S} {before after : WalkerView} {step : Step} {len : ℕ} {result : Result (Unit {0}) F} {answer : Result (Option Home) F} (stack : Description) (op : Op) (n : ℕ)
+    → answer ≡ handed result → IsWalked past result old new before after step len → IsWalked (or_home past stack op n answer) answer old new before after step len
+walked_over {past} {old} {new} {before} {after} {step} {len} {result} stack op n is walked =
+    subst (λ a. IsWalked (or_home past stack op n a) a old new before after step len) (sym is) (over stack op n result walked)
 
-pub mapped_over : {S F : Type 0} {took left : S → List BlockUnit → S → Type 0} {view : S → SinkView} {old new : S} {before after : WalkerView} {mapping : Mapping} {first len : ℕ} {result : Result (Unit {0}) F} {answer : Result (Option Home) F} (stack : Description) (op : Op) (n : ℕ)
-    → answer ≡ handed result → IsMapped took left view result old new before after mapping first len → IsMapped (HasTakenOrIsHome took stack op n answer) left view answer old new before after mapping first len
+pub mapped_over : {S F : Type 0} {past : SinkPast S} {old new : S} {before after : WalkerView} {mapping : Mapping} {first len : ℕ} {result : Result (Unit {0}) F} {answer : Result (Option Home) F} (stack : Description) (op : Op) (n : ℕ)
+    → answer ≡ handed result → IsMapped past result old new before after mapping first len → IsMapped (or_home past stack op n answer) answer old new before after mapping first len
 mapped_over stack op n is mapped = record { walked = walked_over stack op n is mapped.walked; bounded = mapped.bounded }
 
 -- Sectors that are not handed over
 
-pub home_mapped : {S F : Type 0} (took left : S → List BlockUnit → S → Type 0) (view : S → SinkView) (sink : S) (w : WalkerView) (op : Op) (device sector len : ℕ) (line : FoundLine) (home : Home) (stack : Description) → stack ≡ w.stack
+pub home_mapped : {S F : Type 0} (past : SinkPast S) (sink : S) (w : WalkerView) (op : Op) (device sector len : ℕ) (line : FoundLine) (home : Home) (stack : Description) → stack ≡ w.stack
     → refuses w.stack op device ≡ false → IsLineOf w.stack device line sector → 1 ≤ len → sector + len ≤ line.start + line.len → IsLegOf w.stack device line (sector - line.start) (record { below = Lies (Disk home.disk) home.start; len = len })
-    → IsMapped {F = F} (HasTakenOrIsHome {F = F} took stack op len (Ok (Some home))) left view (Ok (Some home)) sink sink w w (found_mapping op MOST_DEPTH device) sector len
-home_mapped {S} {F} took left view sink w op device sector len line home stack is passes of some inside leg =
-    let taken = HasTakenOrIsHome {S = S} {F = F} took w.stack op len (Ok (Some home)) in let distance = sector - line.start in
+    → IsMapped {F = F} (or_home {F = F} past stack op len (Ok (Some home))) (Ok (Some home)) sink sink w w (found_mapping op MOST_DEPTH device) sector len
+home_mapped {S} {F} past sink w op device sector len line home stack is passes of some inside leg =
+    let there_past = or_home {S = S} {F = F} past w.stack op len (Ok (Some home)) in let distance = sector - line.start in
     let there = disk_there w.stack home.disk home.start (omega (arith, some, leg.lies)) in
     let here : IsHome w.stack op len home (units_in (disk_unit op home.disk home.start) len) = record { units = refl; lies = record { there = there; inside = leg.lies } } in
-    let base : IsMapped taken left view (Ok (Some home)) sink sink w w (range_mapping op 31 (Disk home.disk)) home.start len =
+    let base : IsMapped there_past (Ok (Some home)) sink sink w w (range_mapping op 31 (Disk home.disk)) home.start len =
     record {
-      walked = walked_piece (disk_step w op 31 (Disk home.disk) home.disk home.start len _ refl refl) (let few : 0 ≤ len = omega arith in few) (here, refl) tt (let f : (view sink).faults ≡ (view sink).faults + 0 = omega arith in f) refl (let r : (view sink).room ≤ (view sink).room + 0 = omega arith in r);
+      walked = walked_piece (disk_step w op 31 (Disk home.disk) home.disk home.start len _ refl refl) (let few : 0 ≤ len = omega arith in few) (record { took = (here, refl); left = tt; faults = omega arith; stack = refl; room = omega arith });
       bounded = λ read sound. omega arith;
     } in
     let below = mapped_below op 31 device line.start distance line.start line line.target (Disk home.disk) (leg.of.all line.start (omega arith) (omega (arith, some, leg.inside))) refl some
     (λ i within. below_is (read_over (taken_at w.state device)) line.target (distance + i) leg.is.plain ∙ leg.is.below i within) leg.is.chunk
     (sym (leg_lies w.stack op 31 device line.target (Disk home.disk) distance home.start len w.state leg.is)) base in
-    subst (λ (s : Description). IsMapped {F = F} (HasTakenOrIsHome {F = F} took s op len (Ok (Some home))) left view (Ok (Some home)) sink sink w w (found_mapping op MOST_DEPTH device) sector len) (sym is)
+    subst (λ (s : Description). IsMapped {F = F} (or_home {F = F} past s op len (Ok (Some home))) (Ok (Some home)) sink sink w w (found_mapping op MOST_DEPTH device) sector len) (sym is)
     (mapped_line op MOST_DEPTH 31 device sector len line refl passes of some inside below)

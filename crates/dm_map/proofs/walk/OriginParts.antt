@@ -11,10 +11,9 @@ use Rattle.dm_stack.specs.lines.Over.{snapshots_over}
 use Rattle.dm_stack.specs.checks.Soundness.{IsSound}
 use Rattle.dm_map.specs.walk.Mapping.{sector_step}
 use Rattle.dm_map.specs.walk.Serving.{AreSettled, IsOver, serve}
-use Rattle.dm_map.specs.pieces.Sink.{OfBeginning, SinkView}
+use Rattle.dm_map.specs.pieces.Sink.{IsLawful, OfBeginning, SinkPast}
 use Rattle.dm_map.specs.state.State.{State}
 use Rattle.dm_map.specs.walk.Steps.{Step, steps}
-use Rattle.dm_map.specs.pieces.Units.{BlockUnit}
 use Rattle.dm_map.specs.state.Walker.{WalkerView}
 use Rattle.dm_map.specs.walk.Bound.{IsMapped, origin_mapping, range_mapping}
 use Rattle.dm_map.specs.walk.Range.{IsWalked, range_step, served_sector}
@@ -34,10 +33,10 @@ served_is : (stack : Description) (origin : FoundOrigin) (over : List FoundOver)
 served_is stack origin over at state list = ap (λ (xs : List FoundOver). serve stack xs at state) list
 
 -- the sink failed at what serving gives
-pub serve_failed : {S F : Type 0} {took left : S → List BlockUnit → S → Type 0} {view : S → SinkView} {fault : F} {old new : S} {before after : WalkerView} {over : List FoundOver} (levels at n : ℕ) (origin : FoundOrigin) → over ≡ origin.over → 1 ≤ n
-    → IsWalked {R = Unit {0}} took left view (Err fault) old new before after (serve before.stack over at before.state) 0 → IsMapped {R = Unit {0}} took left view (Err fault) old new before after (origin_mapping ops.Write levels origin) at n
+pub serve_failed : {S F : Type 0} {past : SinkPast S} {fault : F} {old new : S} {before after : WalkerView} {over : List FoundOver} (levels at n : ℕ) (origin : FoundOrigin) → over ≡ origin.over → 1 ≤ n
+    → IsWalked {R = Unit {0}} past (Err fault) old new before after (serve before.stack over at before.state) 0 → IsMapped {R = Unit {0}} past (Err fault) old new before after (origin_mapping ops.Write levels origin) at n
 serve_failed levels at zero origin list some walk = absurd (omega (arith, some))
-serve_failed {left} {old} {new} {before} {over} levels at (suc k) origin list some walk =
+serve_failed {past} {old} {new} {before} {over} levels at (suc k) origin list some walk =
     let first = serve before.stack origin.over at before.state in
     let plain = sector_step before.stack ops.Write levels origin.to first.state at in
     let rest = steps (served_sector before.stack ops.Write levels origin) plain.state (suc at) k in
@@ -47,7 +46,7 @@ serve_failed {left} {old} {new} {before} {over} levels at (suc k) origin list so
         state = tt;
         kept = tt;
         room = tt;
-        left = left_more left old new first.units (plain.units ++ rest.units) ((first.units ++ plain.units) ++ rest.units) (sym (append_assoc first.units plain.units rest.units)) (subst (λ (x : Step). OfBeginning left old x.units new) (served_is before.stack origin over at before.state list) walk.left);
+        left = left_more past.left old new first.units (plain.units ++ rest.units) ((first.units ++ plain.units) ++ rest.units) (sym (append_assoc first.units plain.units rest.units)) (subst (λ (x : Step). OfBeginning past.left old x.units new) (served_is before.stack origin over at before.state list) walk.left);
         faults = walk.faults;
         stack = walk.stack;
         looked = walk.looked;
@@ -56,12 +55,11 @@ serve_failed {left} {old} {new} {before} {over} levels at (suc k) origin list so
     }
 
 -- or it took it, and the sectors are written
-pub part_mapped : {S F G : Type 0} {took left : S → List BlockUnit → S → Type 0} {view : S → SinkView} {result : Result (Unit {0}) F} {fine : Unit {0}} {old middle new : S} {before between after : WalkerView} {over : List FoundOver} (both : (a b c : S) (us vs : List BlockUnit) → took a us b → took b vs c → took a (us ++ vs) c)
-    (cut : (a b c : S) (us vs : List BlockUnit) → took a us b → left b vs c → left a (us ++ vs) c) (levels at n : ℕ) (origin : FoundOrigin) → over ≡ origin.over → 1 ≤ n
-    → IsWalked {F = G} took left view (Ok fine) old middle before between (serve before.stack over at before.state) 0 → ((i : ℕ) → i < n → AreSettled between.state over (at + i))
-    → IsMapped took left view result middle new between after (range_mapping ops.Write levels origin.to) at n → IsMapped took left view result old new before after (origin_mapping ops.Write levels origin) at n
-part_mapped both cut levels at zero origin list some one each two = absurd (omega (arith, some))
-part_mapped {took} {left} {view} {result} {old} {middle} {new} {before} {between} {after} {over} both cut levels at (suc k) origin list some one each two =
+pub part_mapped : {S F G : Type 0} {past : SinkPast S} {result : Result (Unit {0}) F} {fine : Unit {0}} {old middle new : S} {before between after : WalkerView} {over : List FoundOver} → IsLawful past → (levels at n : ℕ) (origin : FoundOrigin) → over ≡ origin.over → 1 ≤ n
+    → IsWalked {F = G} past (Ok fine) old middle before between (serve before.stack over at before.state) 0 → ((i : ℕ) → i < n → AreSettled between.state over (at + i))
+    → IsMapped past result middle new between after (range_mapping ops.Write levels origin.to) at n → IsMapped past result old new before after (origin_mapping ops.Write levels origin) at n
+part_mapped lawful levels at zero origin list some one each two = absurd (omega (arith, some))
+part_mapped {before} {between} {over} lawful levels at (suc k) origin list some one each two =
     let stack = before.stack in let plain = sector_step stack ops.Write levels origin.to in
     let first = serve stack origin.over at before.state in
     let here : serve stack over at before.state ≡ first = served_is stack origin over at before.state list in
@@ -73,7 +71,6 @@ part_mapped {took} {left} {view} {result} {old} {middle} {new} {before} {between
     ap (λ (s : State). steps plain s at (suc k)) (sym state_is) ∙ ap (λ (s : Description). range_step s ops.Write levels origin.to between.state at (suc k)) (sym one.stack) in
     record {
       walked = walked_as (sym (part stack origin.over plain before.state at k keeps settled))
-          (walked_then took left view result old middle new before between after first (range_step between.stack ops.Write levels origin.to between.state at (suc k)) (λ later. steps plain later at (suc k)) (suc k) (suc k) both cut
-          (subst (λ (x : Step). took old x.units middle) here one.took) next (omega arith) one.kept (omega (arith, one.room)) (omega (arith, one.faults)) one.stack one.looked two.walked);
+          (walked_then lawful (λ later. steps plain later at (suc k)) next (let e : suc k ≤ suc k = omega arith in e) (walked_as here one) two.walked);
       bounded = λ is. absurd cc;
     }

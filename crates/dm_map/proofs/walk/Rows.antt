@@ -4,11 +4,10 @@ use Rattle.std.proofs.lemmas.List.{append-nil}
 use Rattle.std.specs.Result.{IsErr}
 use Rattle.std.specs.Prelude.{nat_lt, true, ◌≤◌, replicate, Result, Ok, Err, OnOk, OnErr}
 use Rattle.dm_table.specs.declared.requests.request.Op.{Op}
-use Rattle.dm_table.specs.io.DeviceIo.{fault_of}
 use Rattle.dm_stack.specs.Description.{Description, device_len}
 use Rattle.dm_map.specs.state.Counts.{AreAdded, Counts}
 use Rattle.dm_map.specs.pieces.Units.{BlockUnit, Fails, next_unit, units_in}
-use Rattle.dm_map.specs.pieces.Sink.{OfBeginning, SinkView}
+use Rattle.dm_map.specs.pieces.Sink.{IsHanded, IsLawful, OfBeginning, SinkPast}
 use Rattle.dm_map.specs.state.State.{State}
 use Rattle.dm_map.specs.walk.Steps.{Step, keep, and_then, steps}
 use Rattle.dm_map.specs.walk.Mapping.{request_step}
@@ -44,18 +43,18 @@ on_ok_then (Ok x) P Q f p = f p
 on_ok_then (Err e) P Q f p = tt
 
 -- a walk whose step is said in another way
-pub walked_as : {S R F : Type 0} {took left : S → List BlockUnit → S → Type 0} {view : S → SinkView} {result : Result R F} {old new : S} {before after : WalkerView} {step other : Step} {len : ℕ} → step ≡ other
-    → IsWalked took left view result old new before after step len → IsWalked took left view result old new before after other len
-walked_as {took} {left} {view} {result} {old} {new} {before} {after} {len} same walked = subst (λ (x : Step). IsWalked took left view result old new before after x len) same walked
+pub walked_as : {S R F : Type 0} {past : SinkPast S} {result : Result R F} {old new : S} {before after : WalkerView} {step other : Step} {len : ℕ} → step ≡ other
+    → IsWalked past result old new before after step len → IsWalked past result old new before after other len
+walked_as {past} {result} {old} {new} {before} {after} {len} same walked = subst (λ (x : Step). IsWalked past result old new before after x len) same walked
 
 -- a walk of fewer sectors without a disk
-pub walked_within : {S R F : Type 0} {took left : S → List BlockUnit → S → Type 0} {view : S → SinkView} {result : Result R F} {old new : S} {before after : WalkerView} {step : Step} {few len : ℕ} → few ≤ len
-    → IsWalked took left view result old new before after step few → IsWalked took left view result old new before after step len
-walked_within {view} {result} {old} {new} {few} {len} within walked = record {
+pub walked_within : {S R F : Type 0} {past : SinkPast S} {result : Result R F} {old new : S} {before after : WalkerView} {step : Step} {few len : ℕ} → few ≤ len
+    → IsWalked past result old new before after step few → IsWalked past result old new before after step len
+walked_within {past} {result} {old} {new} {few} {len} within walked = record {
   took = walked.took;
   state = walked.state;
   kept = walked.kept;
-  room = on_ok_then result ((view old).room ≤ (view new).room + few) ((view old).room ≤ (view new).room + len) (λ low. omega (arith, low, within)) walked.room;
+  room = on_ok_then result ((past.view old).room ≤ (past.view new).room + few) ((past.view old).room ≤ (past.view new).room + len) (λ low. omega (arith, low, within)) walked.room;
   left = walked.left;
   faults = walked.faults;
   stack = walked.stack;
@@ -63,44 +62,41 @@ walked_within {view} {result} {old} {new} {few} {len} within walked = record {
 }
 
 -- one piece as a walk
-pub walked_piece : {S R F : Type 0} {took left : S → List BlockUnit → S → Type 0} {view : S → SinkView} {result : Result R F} {old new : S} {walk : WalkerView} {units : List BlockUnit} {step : Step} {diskless len : ℕ}
-    → keep units walk.state ≡ step → diskless ≤ len → OnOk result (took old units new) → OnErr result (left old units new) → (view new).faults ≡ (view old).faults + fault_of result → OnOk result ((view new).stack ≡ (view old).stack) → OnOk result ((view old).room ≤ (view new).room + diskless)
-    → IsWalked took left view result old new walk walk step len
-walked_piece {left} {view} {result} {old} {new} {walk} {units} {diskless} {len} same few took_is left_is faults_is kept_is room_is =
+pub walked_piece : {S R F : Type 0} {past : SinkPast S} {result : Result R F} {old new : S} {walk : WalkerView} {units : List BlockUnit} {step : Step} {diskless len : ℕ}
+    → keep units walk.state ≡ step → diskless ≤ len → IsHanded past result old new units diskless → IsWalked past result old new walk walk step len
+walked_piece {past} {result} {old} {new} {walk} {units} {diskless} {len} same few piece =
     walked_as same (record {
-      took = took_is;
+      took = piece.took;
       state = on_ok result (walk.state ≡ walk.state) refl;
-      kept = kept_is;
-      room = on_ok_then result ((view old).room ≤ (view new).room + diskless) ((view old).room ≤ (view new).room + len) (λ low. omega (arith, low, few)) room_is;
-      left = on_err_then result (left old units new) (OfBeginning left old units new) (λ failed. record { front = units; rest = []; whole = append-nil units; holds = failed }) left_is;
-      faults = faults_is;
+      kept = piece.stack;
+      room = on_ok_then result ((past.view old).room ≤ (past.view new).room + diskless) ((past.view old).room ≤ (past.view new).room + len) (λ low. omega (arith, low, few)) piece.room;
+      left = on_err_then result (past.left old units new) (OfBeginning past.left old units new) (λ failed. record { front = units; rest = []; whole = append-nil units; holds = failed }) piece.left;
+      faults = piece.faults;
       stack = refl;
       looked = none_added walk.looked;
     })
 
 -- a walk that the sink cut short
-pub walked_cut : {S R F : Type 0} (took left : S → List BlockUnit → S → Type 0) (view : S → SinkView) (result : Result R F) (old new : S) (before after : WalkerView) (step : Step) (len : ℕ)
-    → IsErr result → OfBeginning left old step.units new → (view new).faults ≡ (view old).faults + 1 → after.stack ≡ before.stack → AreAdded before.looked after.looked → IsWalked took left view result old new before after step len
-walked_cut took left view (Ok done) old new before after step len is_err cut one same looked = absurd cc
-walked_cut took left view (Err fault) old new before after step len is_err cut one same looked = record { took = tt; state = tt; kept = tt; room = tt; left = cut; faults = one; stack = same; looked = looked }
+pub walked_cut : {S R F : Type 0} (past : SinkPast S) (result : Result R F) (old new : S) (before after : WalkerView) (step : Step) (len : ℕ)
+    → IsErr result → OfBeginning past.left old step.units new → (past.view new).faults ≡ (past.view old).faults + 1 → after.stack ≡ before.stack → AreAdded before.looked after.looked → IsWalked past result old new before after step len
+walked_cut past (Ok done) old new before after step len is_err cut one same looked = absurd cc
+walked_cut past (Err fault) old new before after step len is_err cut one same looked = record { took = tt; state = tt; kept = tt; room = tt; left = cut; faults = one; stack = same; looked = looked }
 
 -- a walk after another one, which took its units
-pub walked_then : {S F : Type 0} (took left : S → List BlockUnit → S → Type 0) (view : S → SinkView) (result : Result (Unit {0}) F) (old middle new : S) (before between after : WalkerView) (first second : Step) (next : State → Step) (m n : ℕ)
-    → ((a b c : S) (us vs : List BlockUnit) → took a us b → took b vs c → took a (us ++ vs) c) → ((a b c : S) (us vs : List BlockUnit) → took a us b → left b vs c → left a (us ++ vs) c)
-    → took old first.units middle → next first.state ≡ second → m ≤ n → (view middle).stack ≡ (view old).stack → (view old).room ≤ (view middle).room → (view middle).faults ≡ (view old).faults → between.stack ≡ before.stack → AreAdded before.looked between.looked
-    → IsWalked took left view result middle new between after second m → IsWalked took left view result old new before after (and_then first next) n
-walked_then took left view (Ok done) old middle new before between after first second next m n took_took took_left taken same few kept_is room_is faults_is stack_is looked_is walk =
+pub walked_then : {S R F G : Type 0} {past : SinkPast S} {result : Result (Unit {0}) F} {fine : R} {old middle new : S} {before between after : WalkerView} {first second : Step} {m n : ℕ} → IsLawful past → (next : State → Step) → next first.state ≡ second → m ≤ n
+    → IsWalked {F = G} past (Ok fine) old middle before between first 0 → IsWalked past result middle new between after second m → IsWalked past result old new before after (and_then first next) n
+walked_then {result = Ok done} {old} {middle} {new} {before} {between} {after} {first} {second} lawful next same few one walk =
     rw same (record {
-      took = took_took old middle new first.units second.units taken walk.took;
+      took = lawful.took old middle new first.units second.units one.took walk.took;
       state = walk.state;
-      kept = walk.kept ∙ kept_is;
-      room = omega (arith, room_is, walk.room, few);
+      kept = walk.kept ∙ one.kept;
+      room = omega (arith, one.room, walk.room, few);
       left = tt;
-      faults = omega (arith, walk.faults, faults_is);
-      stack = walk.stack ∙ stack_is;
-      looked = added_then before.looked between.looked after.looked looked_is walk.looked;
+      faults = omega (arith, walk.faults, one.faults);
+      stack = walk.stack ∙ one.stack;
+      looked = added_then before.looked between.looked after.looked one.looked walk.looked;
     })
-walked_then took left view (Err fault) old middle new before between after first second next m n took_took took_left taken same few kept_is room_is faults_is stack_is looked_is walk =
+walked_then {result = Err fault} {old} {middle} {new} {before} {between} {after} {first} lawful next same few one walk =
     rw same (record {
       took = tt;
       state = tt;
@@ -110,11 +106,11 @@ walked_then took left view (Err fault) old middle new before between after first
         front = first.units ++ walk.left.front;
         rest = walk.left.rest;
         whole = append_assoc first.units walk.left.front walk.left.rest ∙ ap (λ (us : List BlockUnit). first.units ++ us) walk.left.whole;
-        holds = took_left old middle new first.units walk.left.front taken walk.left.holds;
+        holds = lawful.left old middle new first.units walk.left.front one.took walk.left.holds;
       };
-      faults = omega (arith, walk.faults, faults_is);
-      stack = walk.stack ∙ stack_is;
-      looked = added_then before.looked between.looked after.looked looked_is walk.looked;
+      faults = omega (arith, walk.faults, one.faults);
+      stack = walk.stack ∙ one.stack;
+      looked = added_then before.looked between.looked after.looked one.looked walk.looked;
     })
 
 -- what is a beginning of the units is one of more units

@@ -15,7 +15,7 @@ use Rattle.dm_map.specs.walk.Serving.{AreSettled, IsOver, serve, served_step}
 use Rattle.dm_map.specs.walk.SnapshotWrites.{is_settled, take_chunk}
 use Rattle.dm_map.specs.state.State.{State, Taken, taken_at}
 use Rattle.dm_map.specs.walk.Steps.{Step, keep, and_then, steps}
-use Rattle.dm_map.specs.pieces.Sink.{SinkView}
+use Rattle.dm_map.specs.pieces.Sink.{IsLawful, SinkPast}
 use Rattle.dm_map.specs.pieces.Units.{BlockUnit}
 use Rattle.dm_map.specs.state.Walker.{WalkerView}
 use Rattle.dm_map.specs.walk.Range.{IsWalked}
@@ -149,24 +149,23 @@ over_there stack state len (one ∷ over) count some all =
 -- A walk over the list
 
 -- those before were served, and then one more
-pub served_on : {S F : Type 0} (took left : S → List BlockUnit → S → Type 0) (view : S → SinkView) (both : (a b c : S) (us vs : List BlockUnit) → took a us b → took b vs c → took a (us ++ vs) c)
-    (cut : (a b c : S) (us vs : List BlockUnit) → took a us b → left b vs c → left a (us ++ vs) c) (result : Result (Unit {0}) F) (old middle new : S) (before between after : WalkerView) (over : List FoundOver) (i sector : ℕ) (one : FoundOver) → i < length over → one ≡ get_or over i one
-    → IsWalked took left view going_on old middle before between (serve before.stack (take i over) sector before.state) 0 → IsWalked took left view result middle new between after (take_chunk_one between.stack one sector between.state) 0
-    → IsWalked took left view result old new before after (serve before.stack (take (i + 1) over) sector before.state) 0
-served_on took left view both cut result old middle new before between after over i sector one within is so_far next =
+pub served_on : {S F : Type 0} {past : SinkPast S} → IsLawful past → (result : Result (Unit {0}) F) (old middle new : S) (before between after : WalkerView) (over : List FoundOver) (i sector : ℕ) (one : FoundOver) → i < length over → one ≡ get_or over i one
+    → IsWalked past going_on old middle before between (serve before.stack (take i over) sector before.state) 0 → IsWalked past result middle new between after (take_chunk_one between.stack one sector between.state) 0
+    → IsWalked past result old new before after (serve before.stack (take (i + 1) over) sector before.state) 0
+served_on lawful result old middle new before between after over i sector one within is so_far next =
     let first = serve before.stack (take i over) sector before.state in
     let second = take_chunk_one between.stack one sector between.state in
     let list : take (i + 1) over ≡ take i over ++ one ∷ [] = take_more over i one within ∙ ap (λ (x : FoundOver). take i over ++ x ∷ []) (sym is) in
     let here : take_chunk_one before.stack one sector first.state ≡ second = ap (λ (s : Description). take_chunk_one s one sector first.state) (sym so_far.stack) ∙ ap (λ (state : State). take_chunk_one between.stack one sector state) (sym so_far.state) in
     walked_as (sym (ap (λ (xs : List FoundOver). serve before.stack xs sector before.state) list ∙ serve_more before.stack (take i over) one sector before.state))
-    (walked_then took left view result old middle new before between after first second (λ later. take_chunk_one before.stack one sector later) 0 0 both cut so_far.took here (omega arith) so_far.kept (omega (arith, so_far.room)) (omega (arith, so_far.faults)) so_far.stack so_far.looked next)
+    (walked_then lawful (λ later. take_chunk_one before.stack one sector later) here (let e : 0 ≤ 0 = omega arith in e) so_far next)
 
 -- or the sink failed at it
-pub served_cut : {S F : Type 0} (took left : S → List BlockUnit → S → Type 0) (view : S → SinkView) (fault : F) (result : Result (Unit {0}) F) (old new : S) (before after : WalkerView) (over : List FoundOver) (i sector : ℕ) → IsErr result
-    → IsWalked {R = Unit {0}} took left view (Err fault) old new before after (serve before.stack (take i over) sector before.state) 0 → IsWalked took left view result old new before after (serve before.stack over sector before.state) 0
-served_cut took left view fault result old new before after over i sector is_err walk =
+pub served_cut : {S F : Type 0} (past : SinkPast S) (fault : F) (result : Result (Unit {0}) F) (old new : S) (before after : WalkerView) (over : List FoundOver) (i sector : ℕ) → IsErr result
+    → IsWalked {R = Unit {0}} past (Err fault) old new before after (serve before.stack (take i over) sector before.state) 0 → IsWalked past result old new before after (serve before.stack over sector before.state) 0
+served_cut past fault result old new before after over i sector is_err walk =
     let first = serve before.stack (take i over) sector before.state in
-    walked_cut took left view result old new before after (serve before.stack over sector before.state) 0 is_err
-    (left_more left old new first.units (serve before.stack (drop i over) sector first.state).units (serve before.stack over sector before.state).units
+    walked_cut past result old new before after (serve before.stack over sector before.state) 0 is_err
+    (left_more past.left old new first.units (serve before.stack (drop i over) sector first.state).units (serve before.stack over sector before.state).units
     (ap (λ (step : Step). step.units) (sym (serve_append before.stack (take i over) (drop i over) sector before.state)) ∙ ap (λ (xs : List FoundOver). (serve before.stack xs sector before.state).units) (take-append-drop i over)) walk.left)
     walk.faults walk.stack walk.looked

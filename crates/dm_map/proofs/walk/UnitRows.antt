@@ -7,7 +7,7 @@ use Rattle.dm_stack.specs.declared.id.Lower.{Lower}
 use Rattle.dm_stack.specs.Description.{Description}
 use Rattle.dm_map.specs.walk.Homes.{Home, GoOn}
 use Rattle.dm_map.specs.walk.Reads.{read_unit}
-use Rattle.dm_map.specs.pieces.Sink.{OfBeginning}
+use Rattle.dm_map.specs.pieces.Sink.{IsLawful, OfBeginning, SinkPast}
 use Rattle.dm_map.specs.walk.SnapshotWrites.{row, read, is_error, any_error, copy_to, write_to}
 use Rattle.dm_map.specs.state.State.{State}
 use Rattle.dm_map.specs.walk.Steps.{Step, keep}
@@ -55,14 +55,12 @@ row_front f sector (suc m) (suc n) unit same few =
 
 -- What a sink took and left of a row
 
-pub took_row : {S : Type 0} (took : S → List BlockUnit → S → Type 0) (both : (a b c : S) (us vs : List BlockUnit) → took a us b → took b vs c → took a (us ++ vs) c)
-    (a b c : S) (f : ℕ → BlockUnit) (sector m n : ℕ) (units : List BlockUnit) → row f (sector + m) n ≡ units → took a (row f sector m) b → took b units c → took a (row f sector (m + n)) c
-took_row took both a b c f sector m n units is first second =
-    subst (λ (us : List BlockUnit). took a us c) (sym (row-append f sector m n ∙ ap (λ (us : List BlockUnit). row f sector m ++ us) is)) (both a b c (row f sector m) units first second)
+pub took_row : {S : Type 0} {past : SinkPast S} → IsLawful past → (a b c : S) (f : ℕ → BlockUnit) (sector m n : ℕ) (units : List BlockUnit) → row f (sector + m) n ≡ units → past.took a (row f sector m) b → past.took b units c → past.took a (row f sector (m + n)) c
+took_row {past} lawful a b c f sector m n units is first second =
+    subst (λ (us : List BlockUnit). past.took a us c) (sym (row-append f sector m n ∙ ap (λ (us : List BlockUnit). row f sector m ++ us) is)) (lawful.took a b c (row f sector m) units first second)
 
-pub left_row : {S : Type 0} (took left : S → List BlockUnit → S → Type 0) (both : (a b c : S) (us vs : List BlockUnit) → took a us b → left b vs c → left a (us ++ vs) c)
-    (a b c : S) (f : ℕ → BlockUnit) (sector m n len : ℕ) (units : List BlockUnit) → m + n ≤ len → row f (sector + m) n ≡ units → took a (row f sector m) b → left b units c → OfBeginning left a (row f sector len) c
-left_row took left both a b c f sector m n len units within is first second =
+pub left_row : {S : Type 0} {past : SinkPast S} → IsLawful past → (a b c : S) (f : ℕ → BlockUnit) (sector m n len : ℕ) (units : List BlockUnit) → m + n ≤ len → row f (sector + m) n ≡ units → past.took a (row f sector m) b → past.left b units c → OfBeginning past.left a (row f sector len) c
+left_row lawful a b c f sector m n len units within is first second =
     let tail = row f (sector + (m + n)) (len - (m + n)) in
     record {
       front = row f sector m ++ units;
@@ -70,7 +68,7 @@ left_row took left both a b c f sector m n len units within is first second =
       whole = ap (λ (us : List BlockUnit). us ++ tail) (ap (λ (us : List BlockUnit). row f sector m ++ us) (sym is) ∙ sym (row-append f sector m n))
           ∙ sym (row-append f sector (m + n) (len - (m + n)))
           ∙ ap (λ (k : ℕ). row f sector k) (let e : m + n + (len - (m + n)) ≡ len = omega arith in e);
-      holds = both a b c (row f sector m) units first second;
+      holds = lawful.left a b c (row f sector m) units first second;
     }
 
 -- Errors

@@ -9,14 +9,14 @@ use Rattle.dm_stack.specs.declared.id.Lower.{Lower}
 use Rattle.dm_stack.specs.Description.{Description}
 use Rattle.dm_stack.specs.checks.Soundness.{IsSound}
 use Rattle.dm_map.specs.state.Counts.{AreAdded}
-use Rattle.dm_map.specs.pieces.Sink.{OfBeginning, SinkView}
+use Rattle.dm_map.specs.pieces.Sink.{IsHanded, IsLawful, OfBeginning, SinkPast}
 use Rattle.dm_map.specs.state.State.{State}
 use Rattle.dm_map.specs.walk.Bound.{IsMapped, Mapping, range_mapping, target_mapping}
 use Rattle.dm_map.specs.walk.Path.{is_same_path, stretches}
 use Rattle.dm_map.specs.walk.Steps.{Step, keep, steps}
 use Rattle.dm_map.specs.pieces.Units.{BlockUnit}
 use Rattle.dm_map.specs.state.Walker.{StackState, WalkerView, stack_state}
-use Rattle.dm_map.specs.walk.Range.{IsHanded, IsWalked}
+use Rattle.dm_map.specs.walk.Range.{IsWalked}
 use Rattle.dm_map.proofs.walk.Paths.{searches_more, searches_on}
 use Rattle.dm_map.proofs.walk.Rows.{added_then, none_added, steps-append, walked_as, walked_piece}
 
@@ -25,16 +25,15 @@ abbrev pub going_on : Result (Unit {0}) (Unit {0})
 going_on = Ok tt
 
 -- one that has not begun
-pub walked_none : {S : Type 0} (took left : S → List BlockUnit → S → Type 0) (view : S → SinkView) (sink : S) (walk : WalkerView) → took sink [] sink → IsWalked took left view going_on sink sink walk walk (keep [] walk.state) 0
-walked_none took left view sink walk taken = record { took = taken; state = refl; kept = refl; room = omega arith; left = tt; faults = omega arith; stack = refl; looked = none_added walk.looked }
+pub walked_none : {S : Type 0} {past : SinkPast S} {sink : S} {walk : WalkerView} → IsLawful past → IsWalked past going_on sink sink walk walk (keep [] walk.state) 0
+walked_none {sink} {walk} lawful = record { took = lawful.nothing sink; state = refl; kept = refl; room = omega arith; left = tt; faults = omega arith; stack = refl; looked = none_added walk.looked }
 
 -- a sink that took the first part of a row, and then the next one
-took_on : {S : Type 0} (took : S → List BlockUnit → S → Type 0) (both : (a b c : S) (us vs : List BlockUnit) → took a us b → took b vs c → took a (us ++ vs) c)
-    (a b c : S) (step : State → ℕ → Step) (state after : State) (sector m n : ℕ) → after ≡ (steps step state sector m).state → took a (steps step state sector m).units b → took b (steps step after (sector + m) n).units c
-    → took a (steps step state sector (m + n)).units c
-took_on took both a b c step state after sector m n is first second =
-    subst (λ (row : Step). took a row.units c) (sym (steps-append step state sector m n))
-    (both a b c _ _ first (subst (λ (s : State). took b (steps step s (sector + m) n).units c) is second))
+took_on : {S : Type 0} (past : SinkPast S) → IsLawful past → (a b c : S) (step : State → ℕ → Step) (state after : State) (sector m n : ℕ) → after ≡ (steps step state sector m).state → past.took a (steps step state sector m).units b → past.took b (steps step after (sector + m) n).units c
+    → past.took a (steps step state sector (m + n)).units c
+took_on past lawful a b c step state after sector m n is first second =
+    subst (λ (row : Step). past.took a row.units c) (sym (steps-append step state sector m n))
+    (lawful.took a b c _ _ first (subst (λ (s : State). past.took b (steps step s (sector + m) n).units c) is second))
 
 -- the state after both parts
 state_on : (step : State → ℕ → Step) (state after last : State) (sector m n : ℕ) → after ≡ (steps step state sector m).state → last ≡ (steps step after (sector + m) n).state → last ≡ (steps step state sector (m + n)).state
@@ -42,11 +41,10 @@ state_on step state after last sector m n is second =
     second ∙ ap (λ (s : State). (steps step s (sector + m) n).state) is ∙ ap (λ (row : Step). row.state) (sym (steps-append step state sector m n))
 
 -- or it failed in the next one
-left_on : {S : Type 0} (took left : S → List BlockUnit → S → Type 0) (both : (a b c : S) (us vs : List BlockUnit) → took a us b → left b vs c → left a (us ++ vs) c)
-    (a b c : S) (step : State → ℕ → Step) (state after : State) (sector m n len : ℕ) → m + n ≤ len → after ≡ (steps step state sector m).state → took a (steps step state sector m).units b
-    → OfBeginning left b (steps step after (sector + m) n).units c → OfBeginning left a (steps step state sector len).units c
-left_on took left both a b c step state after sector m n len within is first second =
-    let cut = subst (λ (s : State). OfBeginning left b (steps step s (sector + m) n).units c) is second in
+left_on : {S : Type 0} (past : SinkPast S) → IsLawful past → (a b c : S) (step : State → ℕ → Step) (state after : State) (sector m n len : ℕ) → m + n ≤ len → after ≡ (steps step state sector m).state → past.took a (steps step state sector m).units b
+    → OfBeginning past.left b (steps step after (sector + m) n).units c → OfBeginning past.left a (steps step state sector len).units c
+left_on past lawful a b c step state after sector m n len within is first second =
+    let cut = subst (λ (s : State). OfBeginning past.left b (steps step s (sector + m) n).units c) is second in
     let front = (steps step state sector m).units in let middle = (steps step (steps step state sector m).state (sector + m) n).units in
     let tail = (steps step (steps step state sector (m + n)).state (sector + (m + n)) (len - (m + n))).units in
     record {
@@ -58,7 +56,7 @@ left_on took left both a b c step state after sector m n len within is first sec
           ∙ ap (λ (row : Step). row.units ++ tail) (sym (steps-append step state sector m n))
           ∙ ap (λ (row : Step). row.units) (sym (steps-append step state sector (m + n) (len - (m + n))))
           ∙ ap (λ (k : ℕ). (steps step state sector k).units) (let e : m + n + (len - (m + n)) ≡ len = omega arith in e);
-      holds = both a b c _ _ first cut.holds;
+      holds = lawful.left a b c _ _ first cut.holds;
     }
 
 -- A read keeps the state
@@ -83,38 +81,38 @@ abbrev pub Turns : Mapping → WalkerView → (at : ℕ) → Type 0
 Turns mapping walk at = is_same_path (mapping.path walk.stack walk.state (at - 1)) (mapping.path walk.stack walk.state at) ≡ false
 
 -- of len sectors from the first one on as many are left, from this one on, and those before it were mapped
-pub record IsMappedTo {S : Type 0} (took left : S → List BlockUnit → S → Type 0) (view : S → SinkView) (old new : S) (before after : WalkerView) (mapping : Mapping) (first len at rest : ℕ) : Type 0 where
-  pub mapped : IsMapped took left view going_on old new before after mapping first (len - rest)
+pub record IsMappedTo {S : Type 0} (past : SinkPast S) (old new : S) (before after : WalkerView) (mapping : Mapping) (first len at rest : ℕ) : Type 0 where
+  pub mapped : IsMapped past going_on old new before after mapping first (len - rest)
   pub within : rest ≤ len
   pub position : at + rest ≡ first + len
   pub turns : mapping.op ≡ Read → 0 < len - rest → 0 < rest → Turns mapping before at
 
 -- none of them
-pub mapped_none : {S : Type 0} {took left : S → List BlockUnit → S → Type 0} {view : S → SinkView} {sink : S} {walk : WalkerView} {mapping : Mapping} {first len : ℕ} → took sink [] sink → mapping.found ≡ 0 → IsMappedTo took left view sink sink walk walk mapping first len first len
-mapped_none {took} {left} {view} {sink} {walk} {mapping} {first} {len} taken none =
-    let nothing : IsMapped took left view going_on sink sink walk walk mapping first 0 = record { walked = walked_none took left view sink walk taken; bounded = λ is sound. omega (arith, none) } in
+pub mapped_none : {S : Type 0} {past : SinkPast S} {sink : S} {walk : WalkerView} {mapping : Mapping} {first len : ℕ} → IsLawful past → mapping.found ≡ 0 → IsMappedTo past sink sink walk walk mapping first len first len
+mapped_none {past} {sink} {walk} {mapping} {first} {len} lawful none =
+    let nothing : IsMapped past going_on sink sink walk walk mapping first 0 = record { walked = walked_none lawful; bounded = λ is sound. omega (arith, none) } in
     record {
-      mapped = subst (λ (n : ℕ). IsMapped took left view going_on sink sink walk walk mapping first n) (let e : 0 ≡ len - len = omega arith in e) nothing;
+      mapped = subst (λ (n : ℕ). IsMapped past going_on sink sink walk walk mapping first n) (let e : 0 ≡ len - len = omega arith in e) nothing;
       within = omega arith;
       position = refl;
       turns = λ is some more. absurd (omega (arith, some));
     }
 
 -- a piece without a disk
-pub mapped_handed : {S F : Type 0} {took left : S → List BlockUnit → S → Type 0} {view : S → SinkView} {result : Result (Unit {0}) F} {old new : S} {walk : WalkerView} {units : List BlockUnit} {first len : ℕ} (mapping : Mapping) → mapping.found ≡ 0
-    → keep units walk.state ≡ steps (mapping.step walk.stack) walk.state first len → IsHanded took left view result old new units len → IsMapped took left view result old new walk walk mapping first len
-mapped_handed {walk} mapping none same p = record { walked = walked_piece same (omega arith) p.took p.left p.faults p.stack p.room; bounded = λ is sound. omega (arith, none) }
+pub mapped_handed : {S F : Type 0} {past : SinkPast S} {result : Result (Unit {0}) F} {old new : S} {walk : WalkerView} {units : List BlockUnit} {first len : ℕ} (mapping : Mapping) → mapping.found ≡ 0
+    → keep units walk.state ≡ steps (mapping.step walk.stack) walk.state first len → IsHanded past result old new units len → IsMapped past result old new walk walk mapping first len
+mapped_handed {walk} mapping none same p = record { walked = walked_piece same (omega arith) p; bounded = λ is sound. omega (arith, none) }
 
 -- the step of the next ones
-next_step : {S : Type 0} {took left : S → List BlockUnit → S → Type 0} {view : S → SinkView} {old middle : S} {before between : WalkerView} {mapping : Mapping} {first len at rest : ℕ} (n : ℕ) → IsMappedTo took left view old middle before between mapping first len at rest
+next_step : {S : Type 0} {past : SinkPast S} {old middle : S} {before between : WalkerView} {mapping : Mapping} {first len at rest : ℕ} (n : ℕ) → IsMappedTo past old middle before between mapping first len at rest
     → steps (mapping.step between.stack) between.state at n ≡ steps (mapping.step before.stack) between.state (first + (len - rest)) n
 next_step {before} {between} {mapping} {first} {len} {at} {rest} n one =
     ap (λ (s : Description). steps (mapping.step s) between.state at n) one.mapped.walked.stack
     ∙ ap (λ (p : ℕ). steps (mapping.step before.stack) between.state p n) (let e : at ≡ first + (len - rest) = omega (arith, one.position, one.within) in e)
 
 -- the searches of those so far and of the next ones
-searches_next : {S F : Type 0} {took left : S → List BlockUnit → S → Type 0} {view : S → SinkView} {result : Result (Unit {0}) F} {old middle new : S} {before between after : WalkerView} {mapping : Mapping} {found first len at rest n : ℕ}
-    → Keeps mapping → 1 ≤ n → n ≤ rest → IsMappedTo took left view old middle before between mapping first len at rest → IsMapped took left view result middle new between after (record mapping { found = found }) at n
+searches_next : {S F : Type 0} {past : SinkPast S} {result : Result (Unit {0}) F} {old middle new : S} {before between after : WalkerView} {mapping : Mapping} {found first len at rest n : ℕ}
+    → Keeps mapping → 1 ≤ n → n ≤ rest → IsMappedTo past old middle before between mapping first len at rest → IsMapped past result middle new between after (record mapping { found = found }) at n
     → mapping.op ≡ Read → IsSound before.stack → after.looked.searches + found ≤ before.looked.searches + mapping.depth before.stack * stretches (mapping.path before.stack before.state) first (len - rest + n)
 searches_next {before} {between} {after} {mapping} {found} {first} {len} {at} {rest} {n} keeps some few one two is sound =
     let done = len - rest in let depth = mapping.depth before.stack in let paths = mapping.path before.stack before.state in let walked = one.mapped.walked in
@@ -130,14 +128,14 @@ searches_next {before} {between} {after} {mapping} {found} {first} {len} {at} {r
     (subst (λ (p : ℕ). after.looked.searches + found ≤ between.looked.searches + depth * stretches paths p n) position more)
 
 -- the next ones too
-pub mapped_on : {S F : Type 0} {took left : S → List BlockUnit → S → Type 0} {view : S → SinkView} {fine : Unit {0}} {old middle new : S} {before between after : WalkerView} {mapping : Mapping} {found first len at rest n : ℕ} → ((a b c : S) (us vs : List BlockUnit) → took a us b → took b vs c → took a (us ++ vs) c)
-    → Keeps mapping → IsMappedTo took left view old middle before between mapping first len at rest → IsMapped {F = F} took left view (Ok fine) middle new between after (record mapping { found = found }) at n → 1 ≤ n → n ≤ rest → (mapping.op ≡ Read → n < rest → Turns mapping before (at + n))
-    → IsMappedTo took left view old new before after (record mapping { found = found }) first len (at + n) (rest - n)
-mapped_on {took} {left} {view} {old} {middle} {new} {before} {between} {after} {mapping} {found} {first} {len} {at} {rest} {n} both keeps one two some few turns =
+pub mapped_on : {S F : Type 0} {past : SinkPast S} {fine : Unit {0}} {old middle new : S} {before between after : WalkerView} {mapping : Mapping} {found first len at rest n : ℕ}
+    → IsLawful past → Keeps mapping → IsMappedTo past old middle before between mapping first len at rest → IsMapped {F = F} past (Ok fine) middle new between after (record mapping { found = found }) at n → 1 ≤ n → n ≤ rest → (mapping.op ≡ Read → n < rest → Turns mapping before (at + n))
+    → IsMappedTo past old new before after (record mapping { found = found }) first len (at + n) (rest - n)
+mapped_on {past} {old} {middle} {new} {before} {between} {after} {mapping} {found} {first} {len} {at} {rest} {n} lawful keeps one two some few turns =
     let done = len - rest in let step = mapping.step before.stack in let first_walk = one.mapped.walked in let walk = walked_as (next_step n one) two.walked in
-    let on : IsMapped took left view going_on old new before after (record mapping { found = found }) first (done + n) = record {
+    let on : IsMapped past going_on old new before after (record mapping { found = found }) first (done + n) = record {
       walked = record {
-        took = took_on took both old middle new step before.state between.state first done n first_walk.state first_walk.took walk.took;
+        took = took_on past lawful old middle new step before.state between.state first done n first_walk.state first_walk.took walk.took;
         state = state_on step before.state between.state after.state first done n first_walk.state walk.state;
         kept = walk.kept ∙ first_walk.kept;
         room = omega (arith, first_walk.room, walk.room);
@@ -149,25 +147,25 @@ mapped_on {took} {left} {view} {old} {middle} {new} {before} {between} {after} {
       bounded = searches_next keeps some few one two;
     } in
     record {
-      mapped = subst (λ (k : ℕ). IsMapped took left view going_on old new before after (record mapping { found = found }) first k) (let e : done + n ≡ len - (rest - n) = omega (arith, few, one.within) in e) on;
+      mapped = subst (λ (k : ℕ). IsMapped past going_on old new before after (record mapping { found = found }) first k) (let e : done + n ≡ len - (rest - n) = omega (arith, few, one.within) in e) on;
       within = omega (arith, one.within);
       position = omega (arith, one.position, few);
       turns = λ is later more. turns is (omega (arith, more));
     }
 
 -- all of them
-pub mapped_whole : {S F : Type 0} {took left : S → List BlockUnit → S → Type 0} {view : S → SinkView} {fine : Unit {0}} {old new : S} {before after : WalkerView} {mapping : Mapping} {first len at rest : ℕ} → IsMappedTo took left view old new before after mapping first len at rest → rest ≤ 0
-    → IsMapped {F = F} took left view (Ok fine) old new before after mapping first len
-mapped_whole {F} {took} {left} {view} {fine} {old} {new} {before} {after} {mapping} {first} {len} {rest} one none =
+pub mapped_whole : {S F : Type 0} {past : SinkPast S} {fine : Unit {0}} {old new : S} {before after : WalkerView} {mapping : Mapping} {first len at rest : ℕ} → IsMappedTo past old new before after mapping first len at rest → rest ≤ 0
+    → IsMapped {F = F} past (Ok fine) old new before after mapping first len
+mapped_whole {F} {past} {fine} {old} {new} {before} {after} {mapping} {first} {len} {rest} one none =
     let walk = one.mapped.walked in
-    subst (λ (k : ℕ). IsMapped {F = F} took left view (Ok fine) old new before after mapping first k) (let e : len - rest ≡ len = omega (arith, none) in e)
+    subst (λ (k : ℕ). IsMapped {F = F} past (Ok fine) old new before after mapping first k) (let e : len - rest ≡ len = omega (arith, none) in e)
     (record { walked = record { took = walk.took; state = walk.state; kept = walk.kept; room = walk.room; left = tt; faults = walk.faults; stack = walk.stack; looked = walk.looked }; bounded = one.mapped.bounded })
 
 -- or a beginning of the next ones, and then a fault
-pub mapped_cut : {S F : Type 0} {took left : S → List BlockUnit → S → Type 0} {view : S → SinkView} {fault : F} {result : Result (Unit {0}) F} {old middle new : S} {before between after : WalkerView} {mapping : Mapping} {found first len at rest n : ℕ} → ((a b c : S) (us vs : List BlockUnit) → took a us b → left b vs c → left a (us ++ vs) c)
-    → Keeps mapping → IsErr result → IsMappedTo took left view old middle before between mapping first len at rest → IsMapped {R = Unit {0}} took left view (Err fault) middle new between after (record mapping { found = found }) at n → 1 ≤ n → n ≤ rest → IsMapped took left view result old new before after (record mapping { found = found }) first len
-mapped_cut {result = Ok done} both keeps is_err one two some few = absurd cc
-mapped_cut {took} {left} {result = Err cause} {old} {middle} {new} {before} {between} {after} {mapping} {found} {first} {len} {at} {rest} {n} both keeps is_err one two some few =
+pub mapped_cut : {S F : Type 0} {past : SinkPast S} {fault : F} {result : Result (Unit {0}) F} {old middle new : S} {before between after : WalkerView} {mapping : Mapping} {found first len at rest n : ℕ}
+    → IsLawful past → Keeps mapping → IsErr result → IsMappedTo past old middle before between mapping first len at rest → IsMapped {R = Unit {0}} past (Err fault) middle new between after (record mapping { found = found }) at n → 1 ≤ n → n ≤ rest → IsMapped past result old new before after (record mapping { found = found }) first len
+mapped_cut {result = Ok done} lawful keeps is_err one two some few = absurd cc
+mapped_cut {past} {result = Err cause} {old} {middle} {new} {before} {between} {after} {mapping} {found} {first} {len} {at} {rest} {n} lawful keeps is_err one two some few =
     let done = len - rest in let first_walk = one.mapped.walked in let walk = walked_as (next_step n one) two.walked in
     record {
       walked = record {
@@ -175,7 +173,7 @@ mapped_cut {took} {left} {result = Err cause} {old} {middle} {new} {before} {bet
         state = tt;
         kept = tt;
         room = tt;
-        left = left_on took left both old middle new (mapping.step before.stack) before.state between.state first done n len (omega (arith, few, one.within)) first_walk.state first_walk.took walk.left;
+        left = left_on past lawful old middle new (mapping.step before.stack) before.state between.state first done n len (omega (arith, few, one.within)) first_walk.state first_walk.took walk.left;
         faults = omega (arith, first_walk.faults, walk.faults);
         stack = walk.stack ∙ first_walk.stack;
         looked = added_then before.looked between.looked after.looked first_walk.looked walk.looked;
@@ -184,16 +182,16 @@ mapped_cut {took} {left} {result = Err cause} {old} {middle} {new} {before} {bet
     }
 
 -- the last ones, whatever came of them
-pub mapped_last : {S F : Type 0} {took left : S → List BlockUnit → S → Type 0} {view : S → SinkView} {result : Result (Unit {0}) F} {old middle new : S} {before between after : WalkerView} {mapping : Mapping} {found first len at rest : ℕ} → ((a b c : S) (us vs : List BlockUnit) → took a us b → took b vs c → took a (us ++ vs) c)
-    → ((a b c : S) (us vs : List BlockUnit) → took a us b → left b vs c → left a (us ++ vs) c) → Keeps mapping → IsMappedTo took left view old middle before between mapping first len at rest → IsMapped took left view result middle new between after (record mapping { found = found }) at rest → 1 ≤ rest
-    → IsMapped took left view result old new before after (record mapping { found = found }) first len
-mapped_last {result = Ok done} both cut keeps one two some = mapped_whole (mapped_on both keeps one two some (omega arith) (λ is more. absurd (omega (arith, more)))) (omega arith)
-mapped_last {result = Err fault} both cut keeps one two some = mapped_cut {fault = fault} cut keeps refl one two some (omega arith)
+pub mapped_last : {S F : Type 0} {past : SinkPast S} {result : Result (Unit {0}) F} {old middle new : S} {before between after : WalkerView} {mapping : Mapping} {found first len at rest : ℕ}
+    → IsLawful past → Keeps mapping → IsMappedTo past old middle before between mapping first len at rest → IsMapped past result middle new between after (record mapping { found = found }) at rest → 1 ≤ rest
+    → IsMapped past result old new before after (record mapping { found = found }) first len
+mapped_last {result = Ok done} lawful keeps one two some = mapped_whole (mapped_on lawful keeps one two some (omega arith) (λ is more. absurd (omega (arith, more)))) (omega arith)
+mapped_last {result = Err fault} lawful keeps one two some = mapped_cut {fault = fault} lawful keeps refl one two some (omega arith)
 
 -- A look changes nothing but the counts, and is at most one search
 
-pub mapped_after_look : {S R F : Type 0} {took left : S → List BlockUnit → S → Type 0} {view : S → SinkView} {result : Result R F} {old new : S} {before looked after : WalkerView} {first len : ℕ} (mapping : Mapping) → mapping.found ≡ 0
-    → stack_state looked ≡ stack_state before → AreAdded before.looked looked.looked → looked.looked.searches ≤ before.looked.searches + 1 → IsMapped took left view result old new looked after (record mapping { found = 1 }) first len → IsMapped took left view result old new before after mapping first len
+pub mapped_after_look : {S R F : Type 0} {past : SinkPast S} {result : Result R F} {old new : S} {before looked after : WalkerView} {first len : ℕ} (mapping : Mapping) → mapping.found ≡ 0
+    → stack_state looked ≡ stack_state before → AreAdded before.looked looked.looked → looked.looked.searches ≤ before.looked.searches + 1 → IsMapped past result old new looked after (record mapping { found = 1 }) first len → IsMapped past result old new before after mapping first len
 mapped_after_look {before} {looked} {after} {first} {len} mapping none same added one mapped =
     let walk = walked_as (ap (λ (v : StackState). steps (mapping.step v.stack) v.state first len) same) mapped.walked in
     record {
@@ -213,8 +211,8 @@ mapped_after_look {before} {looked} {after} {first} {len} mapping none same adde
           omega (arith, few, one, none);
     }
 
-pub mapped_before_look : {S : Type 0} {took left : S → List BlockUnit → S → Type 0} {view : S → SinkView} {old new : S} {before after looked : WalkerView} {first len at rest : ℕ} (mapping : Mapping) → mapping.found ≡ 0
-    → stack_state looked ≡ stack_state after → AreAdded after.looked looked.looked → looked.looked.searches ≤ after.looked.searches + 1 → IsMappedTo took left view old new before after (record mapping { found = 1 }) first len at rest → IsMappedTo took left view old new before looked mapping first len at rest
+pub mapped_before_look : {S : Type 0} {past : SinkPast S} {old new : S} {before after looked : WalkerView} {first len at rest : ℕ} (mapping : Mapping) → mapping.found ≡ 0
+    → stack_state looked ≡ stack_state after → AreAdded after.looked looked.looked → looked.looked.searches ≤ after.looked.searches + 1 → IsMappedTo past old new before after (record mapping { found = 1 }) first len at rest → IsMappedTo past old new before looked mapping first len at rest
 mapped_before_look {before} {after} {looked} mapping none same added one so_far =
     let walk = so_far.mapped.walked in
     record {

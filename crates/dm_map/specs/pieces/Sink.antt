@@ -1,5 +1,6 @@
--- What a mapper knows of a sink, and what relates two states of it.
-use Rattle.std.specs.Prelude.{ℕ, ◌≡◌, List, ◌++◌}
+-- What a mapper knows of a sink: what it can take, and what relates two states of it.
+use Rattle.std.specs.Prelude.{ℕ, ◌≡◌, ◌+◌, ◌≤◌, List, [], ◌++◌, Result, OnOk, OnErr}
+use Rattle.dm_table.specs.io.DeviceIo.{fault_of}
 use Rattle.dm_stack.specs.Description.{Description}
 use Rattle.dm_map.specs.pieces.Units.{BlockUnit}
 
@@ -8,6 +9,26 @@ pub record SinkView : Type 0 where
   pub stack : Description
   pub room : ℕ
   pub faults : ℕ
+
+-- a state of a sink as a mapper sees it; between two states it took these units; or it took a part of them, and then failed
+pub record SinkPast (S : Type 0) : Type 1 where
+  pub view : S → SinkView
+  pub took : S → List BlockUnit → S → Type 0
+  pub left : S → List BlockUnit → S → Type 0
+
+-- if nothing changes, it took no units; if it took some and then others, it took them all in that order; if it took some and then failed at others, it failed at them all
+pub record IsLawful {S : Type 0} (past : SinkPast S) : Type 0 where
+  pub nothing : (s : S) → past.took s [] s
+  pub took : (a b c : S) (us vs : List BlockUnit) → past.took a us b → past.took b vs c → past.took a (us ++ vs) c
+  pub left : (a b c : S) (us vs : List BlockUnit) → past.took a us b → past.left b vs c → past.left a (us ++ vs) c
+
+-- a sink took these units of a piece, and its room is lower by at most len; or it failed at them
+pub record IsHanded {S R F : Type 0} (past : SinkPast S) (result : Result R F) (old new : S) (units : List BlockUnit) (len : ℕ) : Type 0 where
+  pub took : OnOk result (past.took old units new)
+  pub left : OnErr result (past.left old units new)
+  pub faults : (past.view new).faults ≡ (past.view old).faults + fault_of result
+  pub stack : OnOk result ((past.view new).stack ≡ (past.view old).stack)
+  pub room : OnOk result ((past.view old).room ≤ (past.view new).room + len)
 
 -- the relation holds of a beginning of the units, which may be none or all of them
 pub record OfBeginning {S : Type 0} (R : S → List BlockUnit → S → Type 0) (old : S) (units : List BlockUnit) (new : S) : Type 0 where

@@ -10,8 +10,7 @@ use Rattle.dm_stack.specs.lines.Below.{below_target, chunk_at}
 use Rattle.dm_stack.specs.checks.Depth.{lower_depth}
 use Rattle.dm_stack.specs.Description.{Description}
 use Rattle.dm_stack.specs.checks.Soundness.{IsSound, depth_of}
-use Rattle.dm_map.specs.pieces.Sink.{SinkView}
-use Rattle.dm_map.specs.pieces.Units.{BlockUnit}
+use Rattle.dm_map.specs.pieces.Sink.{SinkPast}
 use Rattle.dm_map.specs.state.Snapshots.{read_over}
 use Rattle.dm_map.specs.state.State.{State, taken_at}
 use Rattle.dm_map.specs.state.Walker.{WalkerView}
@@ -52,6 +51,6 @@ target_mapping op levels device start target =
     record { op = op; step = λ stack. target_step stack op levels device target; path = λ stack state. target_path stack state levels device start target; depth = λ stack. depth_of stack device - 1; found = 0 }
 
 -- len sectors from the first one on were mapped in this way. A read searched at most once a level for each stretch of their paths, with the searches that were made before
-pub record IsMapped {S R F : Type 0} (takes leaves : S → List BlockUnit → S → Type 0) (view : S → SinkView) (result : Result R F) (old new : S) (before after : WalkerView) (mapping : Mapping) (first len : ℕ) : Type 0 where
-  pub walked : IsWalked takes leaves view result old new before after (steps (mapping.step before.stack) before.state first len) len
+pub record IsMapped {S R F : Type 0} (past : SinkPast S) (result : Result R F) (old new : S) (before after : WalkerView) (mapping : Mapping) (first len : ℕ) : Type 0 where
+  pub walked : IsWalked past result old new before after (steps (mapping.step before.stack) before.state first len) len
   pub bounded : mapping.op ≡ Read → IsSound before.stack → after.looked.searches + mapping.found ≤ before.looked.searches + mapping.depth before.stack * stretches (mapping.path before.stack before.state) first len

@@ -3,6 +3,7 @@ use Rattle.std.specs.Prelude.{ℕ, ◌≡◌, List, Option, None, Some, Result, 
 use Rattle.dm_table.specs.declared.requests.request.Op.{Op}
 use Rattle.dm_stack.specs.Description.{Description}
 use Rattle.dm_map.specs.declared.walk.home.Home.{Home}
+use Rattle.dm_map.specs.pieces.Sink.{SinkPast}
 use Rattle.dm_map.specs.pieces.Units.{BlockUnit, IsOnDisk, units_in}
 use Rattle.dm_map.specs.walk.Range.{disk_unit}
 
@@ -16,6 +17,10 @@ abbrev pub HasTakenOrIsHome : {S F : Type 0} → (S → List BlockUnit → S →
 HasTakenOrIsHome takes stack op len (Ok (Some home)) old units new = IsHome stack op len home units × (new ≡ old)
 HasTakenOrIsHome takes stack op len (Ok None) old units new = takes old units new
 HasTakenOrIsHome takes stack op len (Err fault) old units new = Unit {0}
+
+-- a sink to which the units may not have been handed over
+abbrev pub or_home : {S F : Type 0} → SinkPast S → Description → Op → ℕ → Result (Option Home) F → SinkPast S
+or_home past stack op len result = record past { took = HasTakenOrIsHome past.took stack op len result }
 
 -- the result where all units were handed over
 abbrev pub handed : {F : Type 0} → Result (Unit {0}) F → Result (Option Home) F

@@ -1,5 +1,5 @@
 -- What a walk down a stack hands over: the steps of ranges and of lines.
-use Rattle.std.specs.Prelude.{ℕ, ◌≡◌, ◌+◌, ◌≤◌, Bool, false, List, [], ◌∷◌, Result, OnOk, OnErr}
+use Rattle.std.specs.Prelude.{ℕ, ◌≡◌, ◌+◌, ◌≤◌, Bool, false, [], ◌∷◌, Result, OnOk, OnErr}
 use Rattle.dm_table.specs.declared.requests.request.Op.{Op}
 use Rattle.dm_table.specs.declared.requests.request.Op.TheVariants as ops
 use Rattle.dm_table.specs.io.DeviceIo.{fault_of}
@@ -14,7 +14,7 @@ use Rattle.dm_stack.specs.lines.Below.{Below, below_target, IsLine, IsLineOf}
 use Rattle.dm_stack.specs.lines.Leg.{AreInside, IsBeneath}
 use Rattle.dm_stack.specs.lines.Over.{snapshots_over}
 use Rattle.dm_map.specs.state.Counts.{AreAdded}
-use Rattle.dm_map.specs.pieces.Sink.{OfBeginning, SinkView}
+use Rattle.dm_map.specs.pieces.Sink.{OfBeginning, SinkPast}
 use Rattle.dm_map.specs.walk.Chunk.{AreInChunk}
 use Rattle.dm_map.specs.walk.Reads.{by_below, read_unit}
 use Rattle.dm_map.specs.walk.Serving.{served_step}
@@ -68,26 +68,26 @@ refuses stack ops.Read device = false
 refuses stack ops.Write device = is_ro_at stack device
 
 -- a sink is one of this stack, and has room for len sectors
-pub record HasRoomFor {S : Type 0} (view : S → SinkView) (sink : S) (of : Description) (len : ℕ) : Type 0 where
-  pub stack : (view sink).stack ≡ of
-  pub room : len ≤ (view sink).room
+pub record HasRoomFor {S : Type 0} (past : SinkPast S) (sink : S) (of : Description) (len : ℕ) : Type 0 where
+  pub stack : (past.view sink).stack ≡ of
+  pub room : len ≤ (past.view sink).room
 
 -- len sectors are asked of a device or a disk: there are some, it has them, and the sink has room for them
-pub record AreAsked {S : Type 0} (view : S → SinkView) (taker : S) (stack : Description) (lower : Lower) (sector len : ℕ) : Type 0 where
+pub record AreAsked {S : Type 0} (past : SinkPast S) (taker : S) (stack : Description) (lower : Lower) (sector len : ℕ) : Type 0 where
   pub some : 1 ≤ len
   pub inside : sector + len ≤ lower_len stack lower
-  pub sink : HasRoomFor view taker stack len
+  pub sink : HasRoomFor past taker stack len
 
 -- they are asked of an origin's device, whose line lists the snapshots of what it names
-pub record AreAskedOfOrigin {S : Type 0} (view : S → SinkView) (taker : S) (stack : Description) (origin : FoundOrigin) (sector len : ℕ) : Type 0 where
+pub record AreAskedOfOrigin {S : Type 0} (past : SinkPast S) (taker : S) (stack : Description) (origin : FoundOrigin) (sector len : ℕ) : Type 0 where
   pub over : origin.over ≡ snapshots_over stack origin.to
-  pub asked : AreAsked view taker stack origin.to sector len
+  pub asked : AreAsked past taker stack origin.to sector len
 
 -- they are asked of one chunk of a snapshot
-pub record AreAskedOfChunk {S : Type 0} (view : S → SinkView) (taker : S) (stack : Description) (device : ℕ) (snapshot : FoundSnapshot) (sector len : ℕ) : Type 0 where
+pub record AreAskedOfChunk {S : Type 0} (past : SinkPast S) (taker : S) (stack : Description) (device : ℕ) (snapshot : FoundSnapshot) (sector len : ℕ) : Type 0 where
   pub some : 1 ≤ len
   pub chunk : AreInChunk stack device snapshot sector len
-  pub sink : HasRoomFor view taker stack len
+  pub sink : HasRoomFor past taker stack len
 
 -- a walk comes to a sector of this line, of a device that does not refuse it and is not below the last level
 pub record IsAtLine (stack : Description) (op : Op) (levels device : ℕ) (line : FoundLine) (sector : ℕ) : Type 0 where
@@ -104,20 +104,12 @@ pub record IsLegOf (stack : Description) (device : ℕ) (line : FoundLine) (dist
   pub lies : AreInside stack leg.len leg.below
 
 -- a sink took the units of a step of len sectors, and the walk is in the state after it; or the sink failed at a beginning of them
-pub record IsWalked {S R F : Type 0} (takes leaves : S → List BlockUnit → S → Type 0) (view : S → SinkView) (result : Result R F) (old new : S) (before after : WalkerView) (step : Step) (len : ℕ) : Type 0 where
-  pub took : OnOk result (takes old step.units new)
+pub record IsWalked {S R F : Type 0} (past : SinkPast S) (result : Result R F) (old new : S) (before after : WalkerView) (step : Step) (len : ℕ) : Type 0 where
+  pub took : OnOk result (past.took old step.units new)
   pub state : OnOk result (after.state ≡ step.state)
-  pub kept : OnOk result ((view new).stack ≡ (view old).stack)
-  pub room : OnOk result ((view old).room ≤ (view new).room + len)
-  pub left : OnErr result (OfBeginning leaves old step.units new)
-  pub faults : (view new).faults ≡ (view old).faults + fault_of result
+  pub kept : OnOk result ((past.view new).stack ≡ (past.view old).stack)
+  pub room : OnOk result ((past.view old).room ≤ (past.view new).room + len)
+  pub left : OnErr result (OfBeginning past.left old step.units new)
+  pub faults : (past.view new).faults ≡ (past.view old).faults + fault_of result
   pub stack : after.stack ≡ before.stack
   pub looked : AreAdded before.looked after.looked
-
--- a sink took these units of a piece of len sectors without a disk, or failed at them
-pub record IsHanded {S F : Type 0} (takes leaves : S → List BlockUnit → S → Type 0) (view : S → SinkView) (result : Result (Unit {0}) F) (old new : S) (units : List BlockUnit) (len : ℕ) : Type 0 where
-  pub took : OnOk result (takes old units new)
-  pub left : OnErr result (leaves old units new)
-  pub faults : (view new).faults ≡ (view old).faults + fault_of result
-  pub stack : OnOk result ((view new).stack ≡ (view old).stack)
-  pub room : OnOk result ((view old).room ≤ (view new).room + len)

@@ -15,24 +15,24 @@ impl Sink for Discard<'_> {
 
     type Fault = ();
 
-    ghost view = { λ sink. record {
-      stack = sink.stack.now;
-      room = 2 ^ 64;
-      faults = 0;
+    ghost past = { record {
+      view = λ sink. record {
+        stack = sink.stack.now;
+        room = 2 ^ 64;
+        faults = 0;
+      };
+      took = λ old units new. Unit {0};
+      left = λ old units new. ⊥;
     } };
-
-    ghost took = { λ old units new. Unit {0} };
-
-    ghost left = { λ old units new. ⊥ };
 
     /// Does nothing, and never fails.
     fn piece(&mut self, _piece: Piece) -> Result<(), ()> {
         Ok(())
     }
 
-    ghost took_nothing = { λ s. tt };
-
-    ghost took_then_took = { λ a b c us vs first second. tt };
-
-    ghost took_then_left = { λ a b c us vs first second. second };
+    ghost lawful = { record {
+      nothing = λ s. tt;
+      took = λ a b c us vs first second. tt;
+      left = λ a b c us vs first second. second;
+    } };
 }

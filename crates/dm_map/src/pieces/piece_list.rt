@@ -59,15 +59,15 @@ impl Sink for PieceList<'_> {
 
     type Fault = AllocError;
 
-    ghost view = { λ list. record {
-      stack = list.stack;
-      room = 2 ^ 64;
-      faults = list.faults;
+    ghost past = { record {
+      view = λ list. record {
+        stack = list.stack;
+        room = 2 ^ 64;
+        faults = list.faults;
+      };
+      took = Appends;
+      left = OfBeginning Appends;
     } };
-
-    ghost took = { λ old units new. Appends old units new };
-
-    ghost left = { λ old units new. OfBeginning Appends old units new };
 
     /// Keeps the piece, or none of it if an allocation is refused.
     fn piece(&mut self, piece: Piece) -> Result<(), AllocError> {
@@ -80,9 +80,9 @@ impl Sink for PieceList<'_> {
         }
     }
 
-    ghost took_nothing = { λ s. appends_nothing s };
-
-    ghost took_then_took = { λ a b c us vs first second. appends_both a b c us vs first second };
-
-    ghost took_then_left = { λ a b c us vs first second. appends_beginning a b c us vs first second };
+    ghost lawful = { record {
+      nothing = appends_nothing;
+      took = appends_both;
+      left = appends_beginning;
+    } };
 }

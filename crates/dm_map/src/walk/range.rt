@@ -20,10 +20,11 @@ ghost use Rattle.dm_map.specs.walk.Bound.{found_mapping, origin_mapping, range_m
 ghost use Rattle.dm_map.specs.walk.Bound.{IsMapped};
 ghost use Rattle.dm_map.specs.pieces.Units.{diskless_len, piece_len, units_in, units_of};
 ghost use Rattle.dm_map.specs.pieces.Units.{Fails, IsOnDisk, IsOnDisks};
-ghost use Rattle.dm_map.specs.walk.Home.{HasTakenOrIsHome};
+ghost use Rattle.dm_map.specs.walk.Home.{or_home};
 ghost use Rattle.dm_map.specs.walk.Range.{disk_unit, zero_unit, refuses};
 ghost use Rattle.dm_map.specs.walk.Range.{AreAsked, AreAskedOfChunk, AreAskedOfOrigin};
-ghost use Rattle.dm_map.specs.walk.Range.{HasRoomFor, IsAtLine, IsHanded, IsLegOf, IsWalked};
+ghost use Rattle.dm_map.specs.pieces.Sink.{IsHanded};
+ghost use Rattle.dm_map.specs.walk.Range.{HasRoomFor, IsAtLine, IsLegOf};
 ghost use Rattle.dm_map.specs.walk.Chunk.{AreInSnapshot};
 
 use crate::pieces::piece::Piece;
@@ -58,8 +59,8 @@ pub(crate) fn map_range<S: Sink, T: Taken>(
     len: u64,
     sink: &mut S,
 ) -> Result<(), S::Fault>
-    requires { AreAsked S.view sink.old walker.old.stack lower sector len }
-    ensures { IsMapped S.took S.left S.view result sink.old sink.new walker.old walker.new
+    requires { AreAsked S.past sink.old walker.old.stack lower sector len }
+    ensures { IsMapped S.past result sink.old sink.new walker.old walker.new
         (range_mapping op levels lower) sector len }
 {
     match lower {
@@ -79,8 +80,8 @@ pub(crate) fn map_top<S: Sink, T: Taken>(
     len: u64,
     sink: &mut S,
 ) -> Result<Option<Home>, S::Fault>
-    requires { AreAsked S.view sink.old walker.old.stack (Device device) sector len }
-    ensures { IsMapped (HasTakenOrIsHome S.took walker.old.stack op len result) S.left S.view result sink.old sink.new
+    requires { AreAsked S.past sink.old walker.old.stack (Device device) sector len }
+    ensures { IsMapped (or_home S.past walker.old.stack op len result) result sink.old sink.new
         walker.old walker.new (range_mapping op MOST_DEPTH (Device device)) sector len }
 {
     if refuses(walker, op, device) {
@@ -120,8 +121,8 @@ fn map_device<S: Sink, T: Taken>(
     len: u64,
     sink: &mut S,
 ) -> Result<(), S::Fault>
-    requires { AreAsked S.view sink.old walker.old.stack (Device device) sector len }
-    ensures { IsMapped S.took S.left S.view result sink.old sink.new walker.old walker.new
+    requires { AreAsked S.past sink.old walker.old.stack (Device device) sector len }
+    ensures { IsMapped S.past result sink.old sink.new walker.old walker.new
         (range_mapping op levels (Device device)) sector len }
 {
     if levels == 0 || refuses(walker, op, device) {
@@ -152,8 +153,8 @@ fn map_lines<S: Sink, T: Taken>(
     sink: &mut S,
 ) -> Result<(), S::Fault>
     requires at { IsAtLine walker.old.stack op levels device first.now sector }
-    requires asked { AreAsked S.view sink.old walker.old.stack (Device device) sector len }
-    ensures { IsMapped S.took S.left S.view result sink.old sink.new walker.old walker.new
+    requires asked { AreAsked S.past sink.old walker.old.stack (Device device) sector len }
+    ensures { IsMapped S.past result sink.old sink.new walker.old walker.new
         (found_mapping op levels device) sector len }
 {
     let mut line = first;
@@ -188,8 +189,8 @@ fn map_line<S: Sink, T: Taken>(
     requires at { IsAtLine walker.old.stack op levels device line.now sector }
     requires some { 1 ≤ len }
     requires inside { sector + len ≤ line.now.start + line.now.len }
-    requires sink { HasRoomFor S.view sink.old walker.old.stack len }
-    ensures { IsMapped S.took S.left S.view result sink.old sink.new walker.old walker.new
+    requires sink { HasRoomFor S.past sink.old walker.old.stack len }
+    ensures { IsMapped S.past result sink.old sink.new walker.old walker.new
         (found_mapping op levels device) sector len }
 {
     walker.recall_soundness();
@@ -221,8 +222,8 @@ fn map_legs<S: Sink, T: Taken>(
     requires inside { distance + len ≤ line.now.len }
     requires line { IsLine walker.old.stack device line.now }
     requires striped { is_striped line.now.target ≡ true }
-    requires sink { HasRoomFor S.view sink.old walker.old.stack len }
-    ensures { IsMapped S.took S.left S.view result sink.old sink.new walker.old walker.new
+    requires sink { HasRoomFor S.past sink.old walker.old.stack len }
+    ensures { IsMapped S.past result sink.old sink.new walker.old walker.new
         (target_mapping op levels device line.now.start line.now.target) distance len }
 {
     walker.recall_soundness();
@@ -249,9 +250,9 @@ fn map_leg<S: Sink, T: Taken>(
     sink: &mut S,
 ) -> Result<(), S::Fault>
     requires leg { (line : FoundLine) × IsLegOf walker.old.stack device line distance leg.now }
-    requires sink { HasRoomFor S.view sink.old walker.old.stack leg.now.len }
+    requires sink { HasRoomFor S.past sink.old walker.old.stack leg.now.len }
     ensures { (line : FoundLine) → IsLegOf walker.old.stack device line distance leg.now
-        → IsMapped S.took S.left S.view result sink.old sink.new walker.old walker.new
+        → IsMapped S.past result sink.old sink.new walker.old walker.new
         (target_mapping op levels device line.start line.target) distance leg.now.len }
 {
     let len = leg.len;
@@ -284,8 +285,8 @@ fn map_snapshot<S: Sink, T: Taken>(
 ) -> Result<(), S::Fault>
     requires inside { AreInSnapshot walker.old.stack device snapshot.now sector len }
     requires small { sector + len ≤ MOST_LENGTH }
-    requires sink { HasRoomFor S.view sink.old walker.old.stack len }
-    ensures { IsMapped S.took S.left S.view result sink.old sink.new walker.old walker.new
+    requires sink { HasRoomFor S.past sink.old walker.old.stack len }
+    ensures { IsMapped S.past result sink.old sink.new walker.old walker.new
         (target_mapping op levels device 0 (Snapshot snapshot.now)) sector len }
 {
     let mut from = sector;
@@ -312,8 +313,8 @@ fn map_chunk<S: Sink, T: Taken>(
     len: u64,
     sink: &mut S,
 ) -> Result<(), S::Fault>
-    requires { AreAskedOfChunk S.view sink.old walker.old.stack device snapshot.now sector len }
-    ensures { IsMapped S.took S.left S.view result sink.old sink.new walker.old walker.new
+    requires { AreAskedOfChunk S.past sink.old walker.old.stack device snapshot.now sector len }
+    ensures { IsMapped S.past result sink.old sink.new walker.old walker.new
         (target_mapping op levels device 0 (Snapshot snapshot.now)) sector len }
 {
     match op {
@@ -340,8 +341,8 @@ fn map_origin<S: Sink, T: Taken>(
     len: u64,
     sink: &mut S,
 ) -> Result<(), S::Fault>
-    requires { AreAskedOfOrigin S.view sink.old walker.old.stack origin.now sector len }
-    ensures { IsMapped S.took S.left S.view result sink.old sink.new walker.old walker.new
+    requires { AreAskedOfOrigin S.past sink.old walker.old.stack origin.now sector len }
+    ensures { IsMapped S.past result sink.old sink.new walker.old walker.new
         (origin_mapping op levels origin.now) sector len }
 {
     match op {
@@ -364,8 +365,8 @@ fn write_origin<S: Sink, T: Taken>(
     len: u64,
     sink: &mut S,
 ) -> Result<(), S::Fault>
-    requires { AreAskedOfOrigin S.view sink.old walker.old.stack origin.now sector len }
-    ensures { IsMapped S.took S.left S.view result sink.old sink.new walker.old walker.new
+    requires { AreAskedOfOrigin S.past sink.old walker.old.stack origin.now sector len }
+    ensures { IsMapped S.past result sink.old sink.new walker.old walker.new
         (origin_mapping Write levels origin.now) sector len }
 {
     walker.recall_soundness();
@@ -389,9 +390,8 @@ fn write_origin<S: Sink, T: Taken>(
 #[inline(never)]
 pub(crate) fn fail<S: Sink>(len: u64, sink: &mut S) -> Result<(), S::Fault>
     requires some { 1 ≤ len }
-    requires room { len ≤ (S.view sink.old).room }
-    ensures { IsHanded S.took S.left S.view
-        result sink.old sink.new (units_in Fails len) len }
+    requires room { len ≤ (S.past.view sink.old).room }
+    ensures { IsHanded S.past result sink.old sink.new (units_in Fails len) len }
 {
     sink.piece(Piece::Error { len })
 }
@@ -400,9 +400,8 @@ pub(crate) fn fail<S: Sink>(len: u64, sink: &mut S) -> Result<(), S::Fault>
 #[inline(never)]
 fn hand_zeros<S: Sink>(op: Op, len: u64, sink: &mut S) -> Result<(), S::Fault>
     requires some { 1 ≤ len }
-    requires room { len ≤ (S.view sink.old).room }
-    ensures { IsHanded S.took S.left S.view
-        result sink.old sink.new (units_in (zero_unit op) len) len }
+    requires room { len ≤ (S.past.view sink.old).room }
+    ensures { IsHanded S.past result sink.old sink.new (units_in (zero_unit op) len) len }
 {
     sink.piece(zero_piece(op, len))
 }

@@ -27,9 +27,8 @@ pub(crate) fn serve<S: Sink, T: Taken>(
     sink: &mut S,
 ) -> Result<(), S::Fault>
     requires over { All (IsOver walker.old.stack (sector + 1)) over.now }
-    requires sink { HasRoomFor S.view sink.old walker.old.stack 0 }
-    ensures walked { IsWalked S.took S.left S.view
-        result sink.old sink.new walker.old walker.new
+    requires sink { HasRoomFor S.past sink.old walker.old.stack 0 }
+    ensures walked { IsWalked S.past result sink.old sink.new walker.old walker.new
         (serve walker.old.stack over.now sector walker.old.state) 0 }
     ensures settled { OnOk result (AreSettled walker.new.state over.now sector) }
 {

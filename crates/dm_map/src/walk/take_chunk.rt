@@ -56,9 +56,8 @@ pub(crate) fn take_chunk<S: Sink, T: Taken>(
     requires sound { IsSnapshotSound walker.old.stack device 0 (device_len walker.old.stack device)
         snapshot.now }
     requires inside { first_of snapshot.now chunk < device_len walker.old.stack device }
-    requires sink { HasRoomFor S.view sink.old walker.old.stack 0 }
-    ensures { IsWalked S.took S.left S.view
-        result sink.old sink.new walker.old walker.new
+    requires sink { HasRoomFor S.past sink.old walker.old.stack 0 }
+    ensures { IsWalked S.past result sink.old sink.new walker.old walker.new
         (take_chunk walker.old.stack snapshot.now device chunk walker.old.state) 0 }
 {
     if is_settled(walker, device, chunk) {
@@ -85,9 +84,8 @@ pub(crate) fn take_new_chunk<S: Sink, T: Taken>(
     requires inside { first_of snapshot.now chunk < device_len walker.old.stack device }
     requires fresh { is_settled (taken_at walker.old.state device) chunk ≡ false }
     requires number { number ≡ length (taken_at walker.old.state device).chunks }
-    requires sink { HasRoomFor S.view sink.old walker.old.stack 0 }
-    ensures walked { IsWalked S.took S.left S.view
-        result sink.old sink.new walker.old walker.new
+    requires sink { HasRoomFor S.past sink.old walker.old.stack 0 }
+    ensures walked { IsWalked S.past result sink.old sink.new walker.old walker.new
         (take_chunk walker.old.stack snapshot.now device chunk walker.old.state) 0 }
     ensures taken { IfOk result (λ made. IfSome made (λ home.
         IsTakenAs walker.old.stack walker.new.state device snapshot.now chunk number home)) }
@@ -181,9 +179,8 @@ fn copy_chunk<S: Sink, T: Taken>(
     requires first { IsFirst walker.old walker.old
         (range_step walker.old.stack Read MOST_DEPTH snapshot.now.origin walker.old.state sector) len
         first }
-    requires sink { HasRoomFor S.view sink.old walker.old.stack 0 }
-    ensures walked { IsWalked S.took S.left S.view
-        result sink.old sink.new walker.old walker.new
+    requires sink { HasRoomFor S.past sink.old walker.old.stack 0 }
+    ensures walked { IsWalked S.past result sink.old sink.new walker.old walker.new
         (keep (copies walker.old.stack walker.old.state snapshot.now number sector len)
         walker.old.state) 0 }
     ensures home { IfOk result (λ home. IsFirstHomes walker.old.stack snapshot.now.store

@@ -33,9 +33,8 @@ pub(crate) fn write_chunk<S: Sink, T: Taken>(
     len: u64,
     sink: &mut S,
 ) -> Result<(), S::Fault>
-    requires { AreAskedOfChunk S.view sink.old walker.old.stack device snapshot.now sector len }
-    ensures { IsWalked S.took S.left S.view
-        result sink.old sink.new walker.old walker.new
+    requires { AreAskedOfChunk S.past sink.old walker.old.stack device snapshot.now sector len }
+    ensures { IsWalked S.past result sink.old sink.new walker.old walker.new
         (steps (write_snapshot walker.old.stack snapshot.now device) walker.old.state sector len) len }
 {
     if !walker.is_valid(device) {
@@ -61,11 +60,10 @@ fn write_new_chunk<S: Sink, T: Taken>(
     len: u64,
     sink: &mut S,
 ) -> Result<(), S::Fault>
-    requires asked { AreAskedOfChunk S.view sink.old walker.old.stack device snapshot.now sector len }
+    requires asked { AreAskedOfChunk S.past sink.old walker.old.stack device snapshot.now sector len }
     requires valid { (taken_at walker.old.state device).valid ≡ true }
     requires fresh { number_in (sector / snapshot.now.chunk) (taken_at walker.old.state device).chunks ≡ None }
-    ensures { IsWalked S.took S.left S.view
-        result sink.old sink.new walker.old walker.new
+    ensures { IsWalked S.past result sink.old sink.new walker.old walker.new
         (steps (write_snapshot walker.old.stack snapshot.now device) walker.old.state sector len) len }
 {
     walker.recall_soundness();
@@ -112,9 +110,8 @@ fn write_store<S: Sink, T: Taken>(
 ) -> Result<(), S::Fault>
     requires inside { sector + len ≤ lower_len walker.old.stack store.now }
     requires store { IsStore walker.old.stack store.now }
-    requires sink { HasRoomFor S.view sink.old walker.old.stack 0 }
-    ensures { IsWalked S.took S.left S.view
-        result sink.old sink.new walker.old walker.new
+    requires sink { HasRoomFor S.past sink.old walker.old.stack 0 }
+    ensures { IsWalked S.past result sink.old sink.new walker.old walker.new
         (keep (store_writes walker.old.stack store.now sector len) walker.old.state) 0 }
 {
     walker.recall_soundness();

@@ -117,34 +117,34 @@ impl<'s, W: Output> Join<'s, W> {
 impl<W: Output> Sink for Join<'_, W> {
     type Fault = OutFault;
 
-    ghost view = { λ join. record {
-      stack = join.held.stack;
-      room = 2 ^ 64 - 1 - held_diskless join.held.piece;
-      faults = (W.past join.writer.now).faults;
+    ghost past = { record {
+      view = λ join. record {
+        stack = join.held.stack;
+        room = 2 ^ 64 - 1 - held_diskless join.held.piece;
+        faults = (W.past join.writer.now).faults;
+      };
+      took = λ old units new. HasTaken old.held new.held units (W.past old.writer.now).written
+          (W.past new.writer.now).written
+          × HasWrittenTo W.past old.writer new.writer 0;
+      left = λ old units new. HasLeft old.held new.held units (W.past old.writer.now).written
+          (W.past new.writer.now).written
+          × HasWrittenTo W.past old.writer new.writer 1;
     } };
 
-    ghost took = { λ old units new. HasTaken old.held new.held units (W.past old.writer.now).written
-        (W.past new.writer.now).written
-        × HasWrittenTo W.past old.writer new.writer 0 };
-
-    ghost left = { λ old units new. HasLeft old.held new.held units (W.past old.writer.now).written
-        (W.past new.writer.now).written
-        × HasWrittenTo W.past old.writer new.writer 1 };
-
-    ghost took_nothing = { λ s.
-        (took_none s.held (W.past s.writer.now).written, written_to_none W.past s.writer) };
-
-    ghost took_then_took = { λ a b c us vs first second. (
-      took_more a.held b.held c.held us vs _ _ _ first.1.moved.appends second.1.moved.appends first.0
-          second.0,
-      written_to_more W.past a.writer b.writer c.writer 0 first.1 second.1,
-    ) };
-
-    ghost took_then_left = { λ a b c us vs first second. (
-      left_more a.held b.held c.held us vs _ _ _ first.1.moved.appends second.1.moved.appends first.0
-          second.0,
-      written_to_more W.past a.writer b.writer c.writer 1 first.1 second.1,
-    ) };
+    ghost lawful = { record {
+      nothing = λ s.
+          (took_none s.held (W.past s.writer.now).written, written_to_none W.past s.writer);
+      took = λ a b c us vs first second. (
+        took_more a.held b.held c.held us vs _ _ _ first.1.moved.appends second.1.moved.appends first.0
+            second.0,
+        written_to_more W.past a.writer b.writer c.writer 0 first.1 second.1,
+      );
+      left = λ a b c us vs first second. (
+        left_more a.held b.held c.held us vs _ _ _ first.1.moved.appends second.1.moved.appends first.0
+            second.0,
+        written_to_more W.past a.writer b.writer c.writer 1 first.1 second.1,
+      );
+    } };
 
     #[inline(always)]
     fn piece(&mut self, piece: Piece) -> Result<(), OutFault> {

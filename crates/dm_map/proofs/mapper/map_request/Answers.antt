@@ -11,7 +11,7 @@ returns-then-passes_end-clause-walked g c =
     let a = c.args in let m = a.walker.now in let f = c.fail in
     let past : nat_lt (device_len m.stack a.device) (a.start + a.len) ≡ true = ap (λ end. nat_lt end (a.start + a.len)) (sym c.len-end.ensures.len) ∙ sym c.if-passes_end.ensures in
     walked_over m.stack a.op a.len c.handed.ensures (walked_piece (step_past_end m.stack a.op a.device a.start a.len m.state past) (omega arith)
-    f.ensures.took f.ensures.left f.ensures.faults f.ensures.stack f.ensures.room)
+    f.ensures)
 
 pub returns-clause-walked : goal.returns-clause-walked
 returns-clause-walked g c =

@@ -34,7 +34,7 @@ pub map_range-returns-in-Disk : goal.map_range-returns-in-Disk
 map_range-returns-in-Disk g t c =
     let a = c.args in let p = c.piece in
     record {
-      walked = walked_piece (disk_step a.walker.now a.op a.levels a.lower c.in-Disk.disk a.sector a.len _ c.in-Disk.is c.disk_piece.ensures.units) (omega (arith, c.disk_piece.ensures.diskless)) p.ensures.took p.ensures.left p.ensures.faults p.ensures.stack p.ensures.room;
+      walked = walked_piece (disk_step a.walker.now a.op a.levels a.lower c.in-Disk.disk a.sector a.len _ c.in-Disk.is c.disk_piece.ensures.units) (omega (arith, c.disk_piece.ensures.diskless)) p.ensures;
       bounded = λ is sound. omega arith;
     }
 
@@ -56,7 +56,7 @@ map_device-map_lines-requires g t c κs within =
     let a = c.args in let look = c.look-line.ensures in let line = c.look-line.result.now in
     let stack : c.look-line.new.self.stack ≡ a.walker.now.stack = ap (λ (v : StackState). v.stack) look.same in
     let at = subst (λ (v : StackState). IsAtLine v.stack a.op a.levels a.device line a.sector) (sym look.same) (record { deep = omega (arith, c.if-levels-eq0.false); passes = sym c.refuses.ensures ∙ c.if-refuses.false; of = look.line }) in
-    let asked = subst (λ (s : Description). AreAsked g.S.Sink.view a.sink.now s (Device a.device) a.sector a.len) (sym stack) c.requires in
+    let asked = subst (λ (s : Description). AreAsked g.S.Sink.past a.sink.now s (Device a.device) a.sector a.len) (sym stack) c.requires in
     search rules
 
 pub map_device-map_line-requires : goal.map_device-map_line-requires
@@ -65,7 +65,7 @@ map_device-map_line-requires g t c κs within =
     let stack : c.look-line.new.self.stack ≡ a.walker.now.stack = ap (λ (v : StackState). v.stack) look.same in
     let at = subst (λ (v : StackState). IsAtLine v.stack a.op a.levels a.device line a.sector) (sym look.same) (record { deep = omega (arith, c.if-levels-eq0.false); passes = sym c.refuses.ensures ∙ c.if-refuses.false; of = look.line }) in
     let inside : a.sector + a.len ≤ line.start + line.len = omega (arith, c.if-len-line.true, look.line.from, look.line.before) in
-    let sink = subst (λ (s : Description). HasRoomFor g.S.Sink.view a.sink.now s a.len) (sym stack) c.requires.sink in
+    let sink = subst (λ (s : Description). HasRoomFor g.S.Sink.past a.sink.now s a.len) (sym stack) c.requires.sink in
     search rules
 
 pub map_device-returns-then-len-line : goal.map_device-returns-then-len-line
@@ -81,12 +81,12 @@ map_device-returns g t c =
 pub map_lines-returns-then-part-left : goal.map_lines-returns-then-part-left
 map_lines-returns-then-part-left g t c =
     let a = c.args in let l = c.lines in
-    mapped_last g.met.S.Sink.took_then_took g.met.S.Sink.took_then_left (range_keeps a.op a.levels (Device a.device)) l.invariant.so_far c.map_line.ensures l.invariant.some
+    mapped_last g.met.S.Sink.lawful (range_keeps a.op a.levels (Device a.device)) l.invariant.so_far c.map_line.ensures l.invariant.some
 
 pub map_lines-returns-in_err-map_line : goal.map_lines-returns-in_err-map_line
 map_lines-returns-in_err-map_line g t c =
     let a = c.args in let l = c.lines in let line = l.invariant.line in
-    mapped_cut g.met.S.Sink.took_then_left (range_keeps a.op a.levels (Device a.device)) c.from_residual.ensures.0 l.invariant.so_far c.in_err-map_line.ensures
+    mapped_cut g.met.S.Sink.lawful (range_keeps a.op a.levels (Device a.device)) c.from_residual.ensures.0 l.invariant.so_far c.in_err-map_line.ensures
     (omega (arith, c.part_in-part.ensures, l.invariant.some, line.from, line.before)) (omega (arith, c.part_in-part.ensures))
 
 pub map_lines-lines-preserved : goal.map_lines-lines-preserved
@@ -97,7 +97,7 @@ map_lines-lines-preserved g t c =
     let line = subst (λ (s : Description). IsLineOf s a.device next.result.now (l.at + n)) stack next.ensures.line in
     record {
       so_far = mapped_before_look mapping refl next.ensures.same next.ensures.looked next.ensures.one
-          (mapped_on g.met.S.Sink.took_then_took (range_keeps a.op a.levels (Device a.device)) l.invariant.so_far c.in_ok-map_line.ensures some (omega (arith, c.part_in-part.ensures))
+          (mapped_on g.met.S.Sink.lawful (range_keeps a.op a.levels (Device a.device)) l.invariant.so_far c.in_ok-map_line.ensures some (omega (arith, c.part_in-part.ensures))
           (λ is more. lines_apart w.stack w.state a.levels (a.levels - 1) a.device l.at n l.line.now next.result.now (omega (arith, c.requires.at.deep)) some one (omega (arith, c.part_in-part.ensures, more, one.from, one.before)) line));
       some = omega (arith, c.part_in-part.ensures, l.invariant.some, c.if-part-left.false);
       line = line;
@@ -121,7 +121,7 @@ map_line-returns-then-leg-len g t c =
     let a = c.args in let w = a.walker.now in let walk = c.map_leg in let line = a.line.now in
     let leg = leg_of w.stack a.device (a.sector - line.start) a.len line c.leg-leg.result c.requires.at.of.is (omega (arith, c.requires.inside, c.requires.at.of.from)) c.leg-leg.ensures.leg c.leg-leg.ensures.inside in
     mapped_line a.op a.levels (a.levels - 1) a.device a.sector a.len line (omega (arith, c.requires.at.deep)) c.requires.at.passes c.requires.at.of c.requires.some c.requires.inside
-    (subst (λ (n : ℕ). IsMapped g.S.Sink.took g.S.Sink.left g.S.Sink.view walk.result a.sink.now walk.new.sink w walk.new.walker (target_mapping a.op (a.levels - 1) a.device line.start line.target) (a.sector - line.start) n) c.if-leg-len.true (walk.ensures line leg))
+    (subst (λ (n : ℕ). IsMapped g.S.Sink.past walk.result a.sink.now walk.new.sink w walk.new.walker (target_mapping a.op (a.levels - 1) a.device line.start line.target) (a.sector - line.start) n) c.if-leg-len.true (walk.ensures line leg))
 
 pub map_line-returns : goal.map_line-returns
 map_line-returns g t c =
@@ -137,8 +137,8 @@ pub map_legs-legs-init : goal.map_legs-legs-init
 map_legs-legs-init g t c =
     let a = c.args in let made = c.legs-legs.ensures in
     record {
-      so_far = subst (λ (n : ℕ). IsMappedTo g.S.Sink.took g.S.Sink.left g.S.Sink.view a.sink.now a.sink.now a.walker.now a.walker.now (target_mapping a.op a.levels a.device a.line.now.start a.line.now.target) a.distance a.len a.distance n)
-          (sym (ap (λ (v : LegsView). v.left) made)) (mapped_none (g.met.S.Sink.took_nothing a.sink.now) refl);
+      so_far = subst (λ (n : ℕ). IsMappedTo g.S.Sink.past a.sink.now a.sink.now a.walker.now a.walker.now (target_mapping a.op a.levels a.device a.line.now.start a.line.now.target) a.distance a.len a.distance n)
+          (sym (ap (λ (v : LegsView). v.left) made)) (mapped_none g.met.S.Sink.lawful refl);
       target = ap (λ (v : LegsView). v.target) made;
       here = ap (λ (v : LegsView). v.distance) made;
     }
@@ -148,8 +148,8 @@ map_legs-map_leg-requires g t c κs within =
     let a = c.args in let l = c.legs in let leg = c.in-Some.leg in let so_far = l.invariant.so_far in let walked = so_far.mapped.walked in
     let is = leg_at a.line.now.target l.legs.target l.legs.distance l.at l.legs.left leg l.invariant.target l.invariant.here c.in-Some.ensures.leg in
     let of : (line : FoundLine) × IsLegOf l.walker.stack a.device line l.at leg = (a.line.now, leg_within l.walker.stack a.walker.now.stack a.device l.at l.legs.left a.line.now leg walked.stack c.requires.line (omega (arith, so_far.position, c.requires.inside)) is) in
-    let stack : (g.S.Sink.view l.sink).stack ≡ l.walker.stack = walked.kept ∙ c.requires.sink.stack ∙ sym walked.stack in
-    let room : leg.len ≤ (g.S.Sink.view l.sink).room = omega (arith, is.within, c.requires.sink.room, walked.room, so_far.within) in
+    let stack : (g.S.Sink.past.view l.sink).stack ≡ l.walker.stack = walked.kept ∙ c.requires.sink.stack ∙ sym walked.stack in
+    let room : leg.len ≤ (g.S.Sink.past.view l.sink).room = omega (arith, is.within, c.requires.sink.room, walked.room, so_far.within) in
     search rules
 
 pub map_legs-returns-in_err-map_leg : goal.map_legs-returns-in_err-map_leg
@@ -157,7 +157,7 @@ map_legs-returns-in_err-map_leg g t c =
     let a = c.args in let l = c.legs in let leg = c.in-Some.ensures.leg in let so_far = l.invariant.so_far in
     let is = leg_at a.line.now.target l.legs.target l.legs.distance l.at l.legs.left c.in-Some.leg l.invariant.target l.invariant.here leg in
     let of = leg_within l.walker.stack a.walker.now.stack a.device l.at l.legs.left a.line.now c.in-Some.leg so_far.mapped.walked.stack c.requires.line (omega (arith, so_far.position, c.requires.inside)) is in
-    mapped_cut g.met.S.Sink.took_then_left (target_keeps a.op a.levels a.device a.line.now.start a.line.now.target) c.from_residual.ensures.0 so_far (c.in_err-map_leg.ensures a.line.now of) leg.some leg.within
+    mapped_cut g.met.S.Sink.lawful (target_keeps a.op a.levels a.device a.line.now.start a.line.now.target) c.from_residual.ensures.0 so_far (c.in_err-map_leg.ensures a.line.now of) leg.some leg.within
 
 pub map_legs-legs-preserved : goal.map_legs-legs-preserved
 map_legs-legs-preserved g t c =
@@ -166,9 +166,9 @@ map_legs-legs-preserved g t c =
     let is = leg_at line.target l.legs.target l.legs.distance l.at l.legs.left c.in-Some.leg l.invariant.target l.invariant.here leg in
     let of = leg_within l.walker.stack w.stack a.device l.at l.legs.left line c.in-Some.leg so_far.mapped.walked.stack c.requires.line (omega (arith, so_far.position, c.requires.inside)) is in
     record {
-      so_far = subst (λ (left : ℕ). IsMappedTo g.S.Sink.took g.S.Sink.left g.S.Sink.view a.sink.now c.map_leg.new.sink w c.map_leg.new.walker (target_mapping a.op a.levels a.device line.start line.target) a.distance a.len (l.at + n) left)
+      so_far = subst (λ (left : ℕ). IsMappedTo g.S.Sink.past a.sink.now c.map_leg.new.sink w c.map_leg.new.walker (target_mapping a.op a.levels a.device line.start line.target) a.distance a.len (l.at + n) left)
           (sym (ap (λ (v : LegsView). v.left) after))
-          (mapped_on g.met.S.Sink.took_then_took (target_keeps a.op a.levels a.device line.start line.target) so_far (c.in_ok-map_leg.ensures line of) leg.some leg.within
+          (mapped_on g.met.S.Sink.lawful (target_keeps a.op a.levels a.device line.start line.target) so_far (c.in_ok-map_leg.ensures line of) leg.some leg.within
           (λ read more. parts_apart w.stack w.state a.levels a.device line.start (l.at + n) line.target (is.next more)));
       target = ap (λ (v : LegsView). v.target) after ∙ l.invariant.target;
       here = ap (λ (v : LegsView). v.distance) after ∙ ap (λ (p : ℕ). p + n) l.invariant.here;
@@ -179,7 +179,7 @@ map_legs-legs-preserved g t c =
 pub map_leg-map_range-requires : goal.map_leg-map_range-requires
 map_leg-map_range-requires g t c κs within =
     let a = c.args in let of = c.requires.leg.1 in
-    let asked : AreAsked g.S.Sink.view a.sink.now a.walker.now.stack c.in-Lies.to c.in-Lies.sector a.leg.now.len =
+    let asked : AreAsked g.S.Sink.past a.sink.now a.walker.now.stack c.in-Lies.to c.in-Lies.sector a.leg.now.len =
     record { some = of.some; inside = subst (λ (b : Beneath). AreInside a.walker.now.stack a.leg.now.len b) c.in-Lies.is of.lies; sink = c.requires.sink } in
     search rules
 
@@ -223,7 +223,7 @@ map_leg-map_origin-requires g t c κs within =
     let a = c.args in let line = c.requires.leg.0 in let of = c.requires.leg.1 in let origin = c.in-Origin.origin.now in
     let kind = beneath_as line.target a.distance a.leg.now.len _ _ c.in-Origin.is of.is in
     let sound : IsOriginSound a.walker.now.stack a.device line.start line.len origin = subst (λ (t : FoundTarget). IsTargetSound a.walker.now.stack a.device line.start line.len t) kind of.of.target in
-    let asked : AreAskedOfOrigin g.S.Sink.view a.sink.now a.walker.now.stack origin a.distance a.leg.now.len =
+    let asked : AreAskedOfOrigin g.S.Sink.past a.sink.now a.walker.now.stack origin a.distance a.leg.now.len =
     record { over = sound.over; asked = record { some = of.some; inside = omega (arith, sound.same, of.inside); sink = c.requires.sink } } in
     search rules
 
@@ -240,7 +240,7 @@ map_leg-returns-in-Origin g t c line of =
 pub map_snapshot-map_chunk-requires : goal.map_snapshot-map_chunk-requires
 map_snapshot-map_chunk-requires g t c κs within =
     let a = c.args in let l = c.loop-left in let part = c.part_of_chunk-part.ensures in let walked = l.invariant.mapped.walked in
-    let asked : AreAskedOfChunk g.S.Sink.view l.sink l.walker.stack a.device a.snapshot.now l.from c.part_of_chunk-part.result = record {
+    let asked : AreAskedOfChunk g.S.Sink.past l.sink l.walker.stack a.device a.snapshot.now l.from c.part_of_chunk-part.result = record {
       some = omega (arith, part, c.loop-left-test.true, c.requires.inside.sound.chunk_some);
       chunk = in_one_chunk a.walker.now.stack l.walker.stack a.device a.sector a.len l.from l.left c.part_of_chunk-part.result a.snapshot.now c.requires.inside walked.stack l.invariant.position part;
       sink = record { stack = walked.kept ∙ c.requires.sink.stack ∙ sym walked.stack; room = omega (arith, part, c.requires.sink.room, walked.room, l.invariant.within) };
@@ -250,13 +250,13 @@ map_snapshot-map_chunk-requires g t c κs within =
 pub map_snapshot-returns-in_err-map_chunk : goal.map_snapshot-returns-in_err-map_chunk
 map_snapshot-returns-in_err-map_chunk g t c =
     let a = c.args in let l = c.loop-left in let part = c.part_of_chunk-part.ensures in
-    mapped_cut g.met.S.Sink.took_then_left (target_keeps a.op a.levels a.device 0 (Snapshot a.snapshot.now)) c.from_residual.ensures.0 l.invariant c.in_err-map_chunk.ensures
+    mapped_cut g.met.S.Sink.lawful (target_keeps a.op a.levels a.device 0 (Snapshot a.snapshot.now)) c.from_residual.ensures.0 l.invariant c.in_err-map_chunk.ensures
     (omega (arith, part, c.loop-left-test.true, c.requires.inside.sound.chunk_some)) (omega (arith, part))
 
 pub map_snapshot-loop-left-preserved : goal.map_snapshot-loop-left-preserved
 map_snapshot-loop-left-preserved g t c =
     let a = c.args in let w = a.walker.now in let l = c.loop-left in let part = c.part_of_chunk-part.ensures in let n = c.part_of_chunk-part.result in let chunk_some = c.requires.inside.sound.chunk_some in
-    mapped_on g.met.S.Sink.took_then_took (target_keeps a.op a.levels a.device 0 (Snapshot a.snapshot.now)) l.invariant c.in_ok-map_chunk.ensures (omega (arith, part, c.loop-left-test.true, chunk_some)) (omega (arith, part))
+    mapped_on g.met.S.Sink.lawful (target_keeps a.op a.levels a.device 0 (Snapshot a.snapshot.now)) l.invariant c.in_ok-map_chunk.ensures (omega (arith, part, c.loop-left-test.true, chunk_some)) (omega (arith, part))
     (λ is more. parts_apart w.stack w.state a.levels a.device 0 (l.from + n) (Snapshot a.snapshot.now) (other_chunk a.snapshot.now.chunk l.from n chunk_some (omega (arith, part, more))))
 
 -- A chunk of it
@@ -285,7 +285,7 @@ map_chunk-returns-in-None g t c =
     record {
       walked = walked_piece
           (sym (lost_read w.stack a.levels a.device a.sector a.len a.snapshot.now w.state c.in-None.ensures.lost) ∙ ap (λ (op : Op). line_step w.stack op a.levels a.device (Snapshot a.snapshot.now) w.state a.sector a.len) (sym c.in-Read.is)) (omega arith)
-          p.ensures.took p.ensures.left p.ensures.faults p.ensures.stack p.ensures.room;
+          p.ensures;
       bounded = λ is sound. omega arith;
     }
 
@@ -304,12 +304,12 @@ map_origin-returns-in-Read g t c =
 pub map_origin-returns-in-Write : goal.map_origin-returns-in-Write
 map_origin-returns-in-Write g t c =
     let a = c.args in let walk = c.write_origin in
-    subst (λ (op : Op). IsMapped g.S.Sink.took g.S.Sink.left g.S.Sink.view walk.result a.sink.now walk.new.sink a.walker.now walk.new.walker (origin_mapping op a.levels a.origin.now) a.sector a.len) (sym c.in-Write.is) walk.ensures
+    subst (λ (op : Op). IsMapped g.S.Sink.past walk.result a.sink.now walk.new.sink a.walker.now walk.new.walker (origin_mapping op a.levels a.origin.now) a.sector a.len) (sym c.in-Write.is) walk.ensures
 
 -- A write of it, part by part
 
 pub write_origin-loop-left-init : goal.write_origin-loop-left-init
-write_origin-loop-left-init g t c = record { so_far = mapped_none (g.met.S.Sink.took_nothing c.args.sink.now) refl; some = c.requires.asked.some }
+write_origin-loop-left-init g t c = record { so_far = mapped_none g.met.S.Sink.lawful refl; some = c.requires.asked.some }
 
 pub write_origin-serve-requires : goal.write_origin-serve-requires
 write_origin-serve-requires g t c =
@@ -322,7 +322,7 @@ write_origin-serve-requires g t c =
 pub write_origin-returns-in_err-serve : goal.write_origin-returns-in_err-serve
 write_origin-returns-in_err-serve g t c =
     let a = c.args in let l = c.loop-left in
-    mapped_cut g.met.S.Sink.took_then_left (λ is. absurd cc) c.from_residual.ensures.0 l.invariant.so_far (serve_failed a.levels l.from l.left a.origin.now c.as_slice-over.ensures (omega (arith, c.loop-left-test.true)) c.in_err-serve.ensures.walked)
+    mapped_cut g.met.S.Sink.lawful (λ is. absurd cc) c.from_residual.ensures.0 l.invariant.so_far (serve_failed a.levels l.from l.left a.origin.now c.as_slice-over.ensures (omega (arith, c.loop-left-test.true)) c.in_err-serve.ensures.walked)
     (omega (arith, c.loop-left-test.true)) (omega arith)
 
 pub write_origin-settled_part-part-requires : goal.write_origin-settled_part-part-requires
@@ -341,7 +341,7 @@ write_origin-map_range-requires g t c κs within =
     let a = c.args in let l = c.loop-left in let s = c.settled_part-part.ensures in let n = c.settled_part-part.result in let sink = c.requires.asked.sink in
     let so_far = l.invariant.so_far in let walked = so_far.mapped.walked in let served = c.in_ok-serve.ensures.walked in
     let stack : c.serve.new.walker.stack ≡ a.walker.now.stack = served.stack ∙ walked.stack in
-    let asked : AreAsked g.S.Sink.view c.serve.new.sink c.serve.new.walker.stack a.origin.now.to l.from n = record {
+    let asked : AreAsked g.S.Sink.past c.serve.new.sink c.serve.new.walker.stack a.origin.now.to l.from n = record {
       some = s.some;
       inside = subst (λ (d : Description). l.from + n ≤ lower_len d a.origin.now.to) (sym stack) (omega (arith, s.most, c.min.ensures, c.requires.asked.inside, so_far.position));
       sink = record { stack = served.kept ∙ walked.kept ∙ sink.stack ∙ sym stack; room = omega (arith, s.most, c.min.ensures, sink.room, walked.room, served.room, so_far.within) };
@@ -351,8 +351,8 @@ write_origin-map_range-requires g t c κs within =
 pub write_origin-returns-in_err-map_range : goal.write_origin-returns-in_err-map_range
 write_origin-returns-in_err-map_range g t c =
     let a = c.args in let l = c.loop-left in let s = c.settled_part-part.ensures in
-    mapped_cut g.met.S.Sink.took_then_left (λ is. absurd cc) c.from_residual-in_err-map_range.ensures.0 l.invariant.so_far
-    (part_mapped g.met.S.Sink.took_then_took g.met.S.Sink.took_then_left a.levels l.from c.settled_part-part.result a.origin.now c.as_slice-over.ensures s.some c.in_ok-serve.ensures.walked s.settled c.in_err-map_range.ensures) s.some (omega (arith, s.most, c.min.ensures))
+    mapped_cut g.met.S.Sink.lawful (λ is. absurd cc) c.from_residual-in_err-map_range.ensures.0 l.invariant.so_far
+    (part_mapped g.met.S.Sink.lawful a.levels l.from c.settled_part-part.result a.origin.now c.as_slice-over.ensures s.some c.in_ok-serve.ensures.walked s.settled c.in_err-map_range.ensures) s.some (omega (arith, s.most, c.min.ensures))
 
 pub write_origin-overflow_add-from : goal.write_origin-overflow_add-from
 write_origin-overflow_add-from g t c =
@@ -368,7 +368,7 @@ pub write_origin-loop-left-preserved : goal.write_origin-loop-left-preserved
 write_origin-loop-left-preserved g t c =
     let a = c.args in let l = c.loop-left in let s = c.settled_part-part.ensures in
     record {
-      so_far = mapped_on g.met.S.Sink.took_then_took (λ is. absurd cc) l.invariant.so_far
-          (part_mapped g.met.S.Sink.took_then_took g.met.S.Sink.took_then_left a.levels l.from c.settled_part-part.result a.origin.now c.as_slice-over.ensures s.some c.in_ok-serve.ensures.walked s.settled c.in_ok-map_range.ensures) s.some (omega (arith, s.most, c.min.ensures)) (λ is. absurd cc);
+      so_far = mapped_on g.met.S.Sink.lawful (λ is. absurd cc) l.invariant.so_far
+          (part_mapped g.met.S.Sink.lawful a.levels l.from c.settled_part-part.result a.origin.now c.as_slice-over.ensures s.some c.in_ok-serve.ensures.walked s.settled c.in_ok-map_range.ensures) s.some (omega (arith, s.most, c.min.ensures)) (λ is. absurd cc);
       some = omega (arith, s.some);
     }

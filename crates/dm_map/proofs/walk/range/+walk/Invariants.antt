@@ -39,7 +39,7 @@ decreases-map_device g l = 8 * l.levels + 1
 
 abbrev pub invariant-map_lines-lines : goal.invariant-map_lines-lines
 invariant-map_lines-lines g l = record {
-  so_far : IsMappedTo g.S.Sink.took g.S.Sink.left g.S.Sink.view l.fn.sink l.sink l.fn.walker l.walker (range_mapping l.op l.levels (Device l.device)) l.sector l.len l.at l.left;
+  so_far : IsMappedTo g.S.Sink.past l.fn.sink l.sink l.fn.walker l.walker (range_mapping l.op l.levels (Device l.device)) l.sector l.len l.at l.left;
   some : 1 ≤ l.left;
   line : IsLineOf l.fn.walker.stack l.device l.line l.at;
 }
@@ -49,7 +49,7 @@ decreases-map_lines-lines g l = l.left
 
 abbrev pub invariant-map_legs-legs : goal.invariant-map_legs-legs
 invariant-map_legs-legs g l = record {
-  so_far : IsMappedTo g.S.Sink.took g.S.Sink.left g.S.Sink.view l.fn.sink l.sink l.fn.walker l.walker (target_mapping l.op l.levels l.device l.line.start l.line.target) l.distance l.len l.at l.legs.left;
+  so_far : IsMappedTo g.S.Sink.past l.fn.sink l.sink l.fn.walker l.walker (target_mapping l.op l.levels l.device l.line.start l.line.target) l.distance l.len l.at l.legs.left;
   target : l.legs.target ≡ l.line.target;
   here : l.legs.distance ≡ l.at;
 }
@@ -59,14 +59,14 @@ decreases-map_legs-legs g l = l.legs.left
 
 abbrev pub invariant-map_snapshot-loop-left : goal.invariant-map_snapshot-loop-left
 invariant-map_snapshot-loop-left g l =
-    IsMappedTo g.S.Sink.took g.S.Sink.left g.S.Sink.view l.fn.sink l.sink l.fn.walker l.walker (target_mapping l.op l.levels l.device 0 (Snapshot l.snapshot)) l.sector l.len l.from l.left
+    IsMappedTo g.S.Sink.past l.fn.sink l.sink l.fn.walker l.walker (target_mapping l.op l.levels l.device 0 (Snapshot l.snapshot)) l.sector l.len l.from l.left
 
 abbrev pub decreases-map_snapshot-loop-left : goal.decreases-map_snapshot-loop-left
 decreases-map_snapshot-loop-left g l = l.left
 
 abbrev pub invariant-write_origin-loop-left : goal.invariant-write_origin-loop-left
 invariant-write_origin-loop-left g l = record {
-  so_far : IsMappedTo g.S.Sink.took g.S.Sink.left g.S.Sink.view l.fn.sink l.sink l.fn.walker l.walker (origin_mapping Write l.levels l.origin) l.sector l.len l.from l.left;
+  so_far : IsMappedTo g.S.Sink.past l.fn.sink l.sink l.fn.walker l.walker (origin_mapping Write l.levels l.origin) l.sector l.len l.from l.left;
   some : 1 ≤ l.most;
 }
 

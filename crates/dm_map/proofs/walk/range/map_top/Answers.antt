@@ -29,7 +29,7 @@ map_lines-requires g c =
     let stack : c.look-line.new.self.stack ≡ a.walker.now.stack = ap (λ (v : StackState). v.stack) look.same in
     record {
       at = subst (λ (v : StackState). IsAtLine v.stack a.op MOST_DEPTH a.device line a.sector) (sym look.same) (record { deep = omega arith; passes = sym c.refuses.ensures ∙ c.if-refuses.false; of = look.line });
-      asked = subst (λ (s : Description). AreAsked g.S.Sink.view a.sink.now s (Device a.device) a.sector a.len) (sym stack) c.requires;
+      asked = subst (λ (s : Description). AreAsked g.S.Sink.past a.sink.now s (Device a.device) a.sector a.len) (sym stack) c.requires;
     }
 
 pub returns-then-is_snapshot : goal.returns-then-is_snapshot
@@ -41,7 +41,7 @@ returns-in-Some g c =
     let a = c.args in let look = c.look-line.ensures in let line = c.look-line.result.now in let w = c.look-line.new.self in
     let stack : w.stack ≡ a.walker.now.stack = ap (λ (v : StackState). v.stack) look.same in
     mapped_after_look (range_mapping a.op MOST_DEPTH (Device a.device)) refl look.same look.looked look.one
-    (home_mapped g.S.Sink.took g.S.Sink.left g.S.Sink.view a.sink.now w a.op a.device a.sector a.len line c.in-Some.home a.walker.now.stack (sym stack)
+    (home_mapped g.S.Sink.past a.sink.now w a.op a.device a.sector a.len line c.in-Some.home a.walker.now.stack (sym stack)
     (subst (λ (s : Description). refuses s a.op a.device ≡ false) (sym stack) (sym c.refuses.ensures ∙ c.if-refuses.false))
     (subst (λ (s : Description). IsLineOf s a.device line a.sector) (sym stack) look.line) c.requires.some
     (omega (arith, c.if-len-line.true, look.line.from, look.line.before)) c.in-Some.ensures)
@@ -54,7 +54,7 @@ map_line-requires g c =
       at = subst (λ (v : StackState). IsAtLine v.stack a.op MOST_DEPTH a.device line a.sector) (sym look.same) (record { deep = omega arith; passes = sym c.refuses.ensures ∙ c.if-refuses.false; of = look.line });
       some = c.requires.some;
       inside = omega (arith, c.if-len-line.true, look.line.from, look.line.before);
-      sink = subst (λ (s : Description). HasRoomFor g.S.Sink.view a.sink.now s a.len) (sym stack) c.requires.sink;
+      sink = subst (λ (s : Description). HasRoomFor g.S.Sink.past a.sink.now s a.len) (sym stack) c.requires.sink;
     }
 
 pub returns : goal.returns

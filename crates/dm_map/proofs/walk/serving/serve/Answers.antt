@@ -12,7 +12,7 @@ use Rattle.dm_map.proofs.walk.serving.serve.Goals as goal
 
 pub loop-one-init : goal.loop-one-init
 unfolding serve
-loop-one-init g c = walked_none g.S.Sink.took g.S.Sink.left g.S.Sink.view c.args.sink.now c.args.walker.now (g.met.S.Sink.took_nothing c.args.sink.now)
+loop-one-init g c = walked_none g.met.S.Sink.lawful
 
 pub nonzero_div-chunk : goal.nonzero_div-chunk
 nonzero_div-chunk g c =
@@ -28,13 +28,13 @@ take_chunk-requires-clause-sound g c =
 pub returns-in_err-take_chunk-clause-walked : goal.returns-in_err-take_chunk-clause-walked
 returns-in_err-take_chunk-clause-walked g c =
     let a = c.args in let w = a.walker.now in let l = c.loop-one in let one = c.one-item.result in
-    served_cut g.S.Sink.took g.S.Sink.left g.S.Sink.view _ c.from_residual.result a.sink.now c.take_chunk.new.sink w c.take_chunk.new.walker a.over.now (l.one-index + 1) a.sector c.from_residual.ensures.0
-    (served_on g.S.Sink.took g.S.Sink.left g.S.Sink.view g.met.S.Sink.took_then_took g.met.S.Sink.took_then_left _ a.sink.now l.sink c.take_chunk.new.sink w l.walker c.take_chunk.new.walker a.over.now l.one-index a.sector one c.loop-one-test.true c.one-item.is l.invariant c.in_err-take_chunk.ensures)
+    served_cut g.S.Sink.past _ c.from_residual.result a.sink.now c.take_chunk.new.sink w c.take_chunk.new.walker a.over.now (l.one-index + 1) a.sector c.from_residual.ensures.0
+    (served_on g.met.S.Sink.lawful _ a.sink.now l.sink c.take_chunk.new.sink w l.walker c.take_chunk.new.walker a.over.now l.one-index a.sector one c.loop-one-test.true c.one-item.is l.invariant c.in_err-take_chunk.ensures)
 
 pub loop-one-preserved : goal.loop-one-preserved
 loop-one-preserved g c =
     let a = c.args in let w = a.walker.now in let l = c.loop-one in let one = c.one-item.result in
-    let on = served_on g.S.Sink.took g.S.Sink.left g.S.Sink.view g.met.S.Sink.took_then_took g.met.S.Sink.took_then_left _ a.sink.now l.sink c.take_chunk.new.sink w l.walker c.take_chunk.new.walker a.over.now l.one-index a.sector one c.loop-one-test.true c.one-item.is l.invariant c.in_ok-take_chunk.ensures in
+    let on = served_on g.met.S.Sink.lawful _ a.sink.now l.sink c.take_chunk.new.sink w l.walker c.take_chunk.new.walker a.over.now l.one-index a.sector one c.loop-one-test.true c.one-item.is l.invariant c.in_ok-take_chunk.ensures in
     record { took = on.took; state = on.state; kept = on.kept; room = on.room; left = tt; faults = on.faults; stack = on.stack; looked = on.looked }
 
 pub returns-clause-settled : goal.returns-clause-settled

@@ -41,7 +41,7 @@ copies-init g c =
     let a = c.args in let h = c.first_homes-home.ensures in
     let none : a.len - a.len ≡ 0 = omega arith in
     record {
-      taken = rw none (g.met.S.Sink.took_nothing a.sink.now);
+      taken = rw none (g.met.S.Sink.lawful.nothing a.sink.now);
       within = omega arith;
       from = refl;
       to = ap (λ (s : ℕ). s + a.len) (begins_at _ _ c.store_start-to.ensures c.requires.begins);
@@ -67,8 +67,8 @@ returns-in_err-piece-clause-walked g c =
     let a = c.args in let w = a.walker.now in let l = c.copies in let n = c.min-part.result in let done = a.len - l.left in
     let few_read : n ≤ l.source.len = omega (arith, c.min-part.ensures) in let few_home : n ≤ l.target.len = omega (arith, c.min-part.ensures) in
     let next = copy_next w a.snapshot.now a.number a.sector a.len l.left l.from l.to n l.source l.target c.requires.chunk c.requires.part l.invariant.within l.invariant.from l.invariant.to l.invariant.source l.invariant.target few_read few_home in
-    walked_cut g.S.Sink.took g.S.Sink.left g.S.Sink.view c.from_residual.result a.sink.now c.piece.new.self w l.walker (keep (copies w.stack w.state a.snapshot.now a.number a.sector a.len) w.state) 0 c.from_residual.ensures.0
-    (left_row g.S.Sink.took g.S.Sink.left g.met.S.Sink.took_then_left a.sink.now l.sink c.piece.new.self (copy_of w a.snapshot.now a.number) a.sector done n a.len (units_of c.copy_piece.result)
+    walked_cut g.S.Sink.past c.from_residual.result a.sink.now c.piece.new.self w l.walker (keep (copies w.stack w.state a.snapshot.now a.number a.sector a.len) w.state) 0 c.from_residual.ensures.0
+    (left_row g.met.S.Sink.lawful a.sink.now l.sink c.piece.new.self (copy_of w a.snapshot.now a.number) a.sector done n a.len (units_of c.copy_piece.result)
     (omega (arith, few_home, l.invariant.target.most, l.invariant.within)) (next ∙ sym c.copy_piece.ensures.units) l.invariant.taken c.in_err-piece.ensures.left)
     (omega (arith, c.in_err-piece.ensures.faults, l.invariant.going_on.faults)) (ap (λ (v : StackState). v.stack) l.invariant.going_on.same) l.invariant.going_on.looked
 
@@ -78,7 +78,7 @@ returns-then-left-eq0-clause-walked g c =
     let few_read : n ≤ l.source.len = omega (arith, c.min-part.ensures) in let few_home : n ≤ l.target.len = omega (arith, c.min-part.ensures) in
     let next = copy_next w a.snapshot.now a.number a.sector a.len l.left l.from l.to n l.source l.target c.requires.chunk c.requires.part l.invariant.within l.invariant.from l.invariant.to l.invariant.source l.invariant.target few_read few_home in
     let all : done + n ≡ a.len = omega (arith, few_home, l.invariant.target.most, l.invariant.within, c.if-left-eq0.true) in
-    let taken = took_row g.S.Sink.took g.met.S.Sink.took_then_took a.sink.now l.sink c.piece.new.self (copy_of w a.snapshot.now a.number) a.sector done n (units_of c.copy_piece.result) (next ∙ sym c.copy_piece.ensures.units) l.invariant.taken c.in_ok-piece.ensures.took in
+    let taken = took_row g.met.S.Sink.lawful a.sink.now l.sink c.piece.new.self (copy_of w a.snapshot.now a.number) a.sector done n (units_of c.copy_piece.result) (next ∙ sym c.copy_piece.ensures.units) l.invariant.taken c.in_ok-piece.ensures.took in
     let same = l.invariant.going_on.same in
     record {
       took = rw all at taken;
@@ -115,7 +115,7 @@ copies-preserved g c =
     let next = copy_next w a.snapshot.now a.number a.sector a.len l.left l.from l.to n l.source l.target c.requires.chunk c.requires.part l.invariant.within l.invariant.from l.invariant.to l.invariant.source l.invariant.target few_read few_home in
     let s = c.first_stretch-source in let h = c.first_homes-target in
     let on : done + n ≡ a.len - (l.left - n) = omega (arith, few_home, l.invariant.target.most, l.invariant.within) in
-    let taken = took_row g.S.Sink.took g.met.S.Sink.took_then_took a.sink.now l.sink c.piece.new.self (copy_of w a.snapshot.now a.number) a.sector done n (units_of c.copy_piece.result) (next ∙ sym c.copy_piece.ensures.units) l.invariant.taken c.in_ok-piece.ensures.took in
+    let taken = took_row g.met.S.Sink.lawful a.sink.now l.sink c.piece.new.self (copy_of w a.snapshot.now a.number) a.sector done n (units_of c.copy_piece.result) (next ∙ sym c.copy_piece.ensures.units) l.invariant.taken c.in_ok-piece.ensures.took in
     let same = l.invariant.going_on.same in let some : 1 ≤ n = omega (arith, c.min-part.ensures, l.invariant.source.some, l.invariant.target.some) in
     let seen = s.ensures.same ∙ same in
     record {

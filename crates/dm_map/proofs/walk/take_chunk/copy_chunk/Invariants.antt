@@ -11,14 +11,14 @@ use Rattle.dm_map.proofs.walk.take_chunk.copy_chunk.Given as goal
 
 abbrev pub invariant-copies : goal.invariant-copies
 invariant-copies g l = record {
-  taken : g.S.Sink.took l.fn.sink (copies l.fn.walker.stack l.fn.walker.state l.snapshot l.number l.sector (l.len - l.left)) l.sink;
+  taken : g.S.Sink.past.took l.fn.sink (copies l.fn.walker.stack l.fn.walker.state l.snapshot l.number l.sector (l.len - l.left)) l.sink;
   within : l.left ≤ l.len;
   from : l.from + l.left ≡ l.sector + l.len;
   to : l.to + l.left ≡ store_sector l.snapshot l.number l.sector + l.len;
   reads : reads_all l.fn.walker.stack l.fn.walker.state l.snapshot.origin l.from l.left ≡ true;
   source : IsFirst l.fn.walker l.fn.walker (range_step l.fn.walker.stack Read MOST_DEPTH l.snapshot.origin l.fn.walker.state l.from) l.left l.source;
   target : IsFirstHomes l.fn.walker.stack l.snapshot.store l.to l.left l.target;
-  going_on : IsGoingOn g.S.Sink.view l.fn.sink l.sink l.fn.walker l.walker;
+  going_on : IsGoingOn g.S.Sink.past l.fn.sink l.sink l.fn.walker l.walker;
 }
 
 abbrev pub decreases-copies : goal.decreases-copies

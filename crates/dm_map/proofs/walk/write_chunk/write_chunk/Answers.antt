@@ -20,7 +20,7 @@ returns-then-not-is_valid g c =
     let lost = sym c.is_valid.ensures.valid ∙ c.if-not-is_valid.true in
     let settled : is_settled (taken_at w.state a.device) (a.sector / a.snapshot.now.chunk) ≡ true = rw lost refl in
     walked_piece (ap (λ (us : List BlockUnit). keep us w.state) (sym (row_lost w.stack a.snapshot.now a.device a.sector a.len w.state lost)) ∙ settled_written w.stack a.snapshot.now a.device a.sector a.len w.state c.requires.chunk settled)
-    (omega arith) p.ensures.took p.ensures.left p.ensures.faults p.ensures.stack p.ensures.room
+    (omega arith) p.ensures
 
 pub store_sector-at-requires-clause-small : goal.store_sector-at-requires-clause-small
 store_sector-at-requires-clause-small g c =

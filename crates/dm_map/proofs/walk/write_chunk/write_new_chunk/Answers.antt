@@ -1,4 +1,4 @@
-use Rattle.std.proofs.Common.{◌≡◌, ℕ, ◌/◌, ◌<◌, ◌≤◌, Bool, false, true, List, ◌++◌, Option, Some, None, length, refl, sym, ap, ◌∙◌, arith}
+use Rattle.std.proofs.Common.{◌≡◌, ℕ, ◌/◌, ◌<◌, ◌≤◌, Bool, false, true, List, Option, Some, None, length, refl, sym, ap, ◌∙◌, arith}
 use Rattle.std.specs.Prelude.{◌&&◌, not, IfNone, Result, Ok}
 use Rattle.std.proofs.lemmas.Bool.{leb-true}
 use Rattle.dm_stack.specs.declared.lines.found_line.FoundSnapshot.{FoundSnapshot}
@@ -11,7 +11,7 @@ use Rattle.dm_map.specs.walk.Chunk.{AreInChunk}
 use Rattle.dm_map.specs.walk.Range.{IsWalked}
 use Rattle.dm_map.specs.walk.SnapshotWrites.{is_keeping, is_refused, take_chunk, row, store_writes, unit_in_store, write_snapshot}
 use Rattle.dm_map.specs.walk.Steps.{keep, steps}
-use Rattle.dm_map.specs.pieces.Sink.{SinkView}
+use Rattle.dm_map.specs.pieces.Sink.{IsLawful, SinkPast}
 use Rattle.dm_map.specs.pieces.Units.{BlockUnit}
 use Rattle.dm_map.proofs.walk.Chunks.{chunk_refused, chunk_written, first_inside, left_taking, row_lost, row_numbered, row_taken}
 use Rattle.dm_map.proofs.walk.ChunkTaking.{not_settled, refused_as}
@@ -24,16 +24,14 @@ passing : (stack : Description) (snapshot : FoundSnapshot) (taken : Taken) (chun
 passing stack snapshot taken chunk refused valid fresh is = refused_as stack snapshot taken chunk (not_settled taken chunk valid fresh) ∙ sym is
 
 -- once it is taken, what is done at its sectors
-taken_then : {S R F : Type 0} {took left : S → List BlockUnit → S → Type 0} {view : S → SinkView} {result : Result (Unit {0}) F} {made : R} {old middle new : S} {walk after last : WalkerView} (both : (a b c : S) (us vs : List BlockUnit) → took a us b → took b vs c → took a (us ++ vs) c)
-    (cut : (a b c : S) (us vs : List BlockUnit) → took a us b → left b vs c → left a (us ++ vs) c) (snapshot : FoundSnapshot) (device sector len m : ℕ) (units : List BlockUnit) → AreInChunk walk.stack device snapshot sector len → 1 ≤ len → length walk.state ≡ length walk.stack.devices
-    → is_refused walk.stack snapshot (taken_at walk.state device) (sector / snapshot.chunk) ≡ false → IsWalked {F = F} took left view (Ok made) old middle walk after (take_chunk walk.stack snapshot device (sector / snapshot.chunk) walk.state) 0
-    → row (unit_in_store walk.stack snapshot device after.state) sector len ≡ units → m ≤ len → IsWalked took left view result middle new after last (keep units after.state) m → IsWalked took left view result old new walk last (steps (write_snapshot walk.stack snapshot device) walk.state sector len) len
-taken_then {took} {left} {view} {result} {old} {middle} {new} {walk} {after} {last} both cut snapshot device sector len m units chunk some count passes made is few next =
+taken_then : {S R F : Type 0} {past : SinkPast S} {result : Result (Unit {0}) F} {made : R} {old middle new : S} {walk after last : WalkerView} → IsLawful past → (snapshot : FoundSnapshot) (device sector len m : ℕ) (units : List BlockUnit) → AreInChunk walk.stack device snapshot sector len → 1 ≤ len → length walk.state ≡ length walk.stack.devices
+    → is_refused walk.stack snapshot (taken_at walk.state device) (sector / snapshot.chunk) ≡ false → IsWalked {F = F} past (Ok made) old middle walk after (take_chunk walk.stack snapshot device (sector / snapshot.chunk) walk.state) 0
+    → row (unit_in_store walk.stack snapshot device after.state) sector len ≡ units → m ≤ len → IsWalked past result middle new after last (keep units after.state) m → IsWalked past result old new walk last (steps (write_snapshot walk.stack snapshot device) walk.state sector len) len
+taken_then {walk} {after} lawful snapshot device sector len m units chunk some count passes made is few next =
     let there : device < length walk.state = omega (arith, device_there walk.stack device sector (omega (arith, chunk.whole.inside, some)), count) in
     walked_as (chunk_written walk.stack snapshot device sector len walk.state chunk some there passes)
-    (walked_then took left view result old middle new walk after last (take_chunk walk.stack snapshot device (sector / snapshot.chunk) walk.state) (keep units after.state) (λ state. keep (row (unit_in_store walk.stack snapshot device state) sector len) state) m len both cut
-    made.took (ap (λ (s : State). keep (row (unit_in_store walk.stack snapshot device s) sector len) s) (sym made.state) ∙ ap (λ (us : List BlockUnit). keep us after.state) is) few
-    made.kept (omega (arith, made.room)) (omega (arith, made.faults)) made.stack made.looked next)
+    (walked_then lawful (λ state. keep (row (unit_in_store walk.stack snapshot device state) sector len) state)
+    (ap (λ (s : State). keep (row (unit_in_store walk.stack snapshot device s) sector len) s) (sym made.state) ∙ ap (λ (us : List BlockUnit). keep us after.state) is) few made next)
 
 pub is_refused-requires : goal.is_refused-requires
 is_refused-requires g c =
@@ -43,7 +41,7 @@ is_refused-requires g c =
 pub returns-then-is_refused : goal.returns-then-is_refused
 returns-then-is_refused g c =
     let a = c.args in let w = a.walker.now in let p = c.piece.ensures in let refused = passing w.stack a.snapshot.now (taken_at w.state a.device) (a.sector / a.snapshot.now.chunk) c.is_refused.result c.requires.valid c.requires.fresh c.is_refused.ensures ∙ c.if-is_refused.true in
-    walked_piece (chunk_refused w.stack a.snapshot.now a.device a.sector a.len w.state c.requires.asked.chunk refused) (omega arith) p.took p.left p.faults p.stack p.room
+    walked_piece (chunk_refused w.stack a.snapshot.now a.device a.sector a.len w.state c.requires.asked.chunk refused) (omega arith) p
 
 pub count-number-requires : goal.count-number-requires
 count-number-requires g c = device_there c.args.walker.now.stack c.args.device c.args.sector (omega (arith, c.requires.asked.chunk.whole.inside, c.requires.asked.some))
@@ -63,8 +61,8 @@ take_new_chunk-requires g c =
 pub returns-in_err-home : goal.returns-in_err-home
 returns-in_err-home g c =
     let a = c.args in let w = a.walker.now in let walk = c.in_err-home.ensures.walked in let passes = passing w.stack a.snapshot.now (taken_at w.state a.device) (a.sector / a.snapshot.now.chunk) c.is_refused.result c.requires.valid c.requires.fresh c.is_refused.ensures ∙ c.if-is_refused.false in
-    walked_cut g.S.Sink.took g.S.Sink.left g.S.Sink.view c.from_residual.result a.sink.now c.take_new_chunk.new.sink w c.take_new_chunk.new.walker (steps (write_snapshot w.stack a.snapshot.now a.device) w.state a.sector a.len) a.len c.from_residual.ensures.0
-    (left_taking g.S.Sink.left a.sink.now c.take_new_chunk.new.sink w.stack a.snapshot.now a.device a.sector a.len w.state c.requires.asked.some passes walk.left) walk.faults walk.stack walk.looked
+    walked_cut g.S.Sink.past c.from_residual.result a.sink.now c.take_new_chunk.new.sink w c.take_new_chunk.new.walker (steps (write_snapshot w.stack a.snapshot.now a.device) w.state a.sector a.len) a.len c.from_residual.ensures.0
+    (left_taking g.S.Sink.past.left a.sink.now c.take_new_chunk.new.sink w.stack a.snapshot.now a.device a.sector a.len w.state c.requires.asked.some passes walk.left) walk.faults walk.stack walk.looked
 
 none_then : {X : Type 0} (o : Option X) (P : Type 0) → ((x : X) → o ≡ Some x → ⊥) → IfNone o P → P
 none_then None P none p = p
@@ -74,8 +72,8 @@ pub returns-in_default : goal.returns-in_default
 returns-in_default g c =
     let a = c.args in let w = a.walker.now in let after = c.take_new_chunk.new.walker in let p = c.piece-in_default.ensures in let passes = passing w.stack a.snapshot.now (taken_at w.state a.device) (a.sector / a.snapshot.now.chunk) c.is_refused.result c.requires.valid c.requires.fresh c.is_refused.ensures ∙ c.if-is_refused.false in
     let units = row_lost w.stack a.snapshot.now a.device a.sector a.len after.state (none_then c.in_ok-home.field-0 _ c.in_default.not-Some c.in_ok-home.ensures.lost) in
-    taken_then g.met.S.Sink.took_then_took g.met.S.Sink.took_then_left a.snapshot.now a.device a.sector a.len a.len _ c.requires.asked.chunk c.requires.asked.some c.recall_tables.ensures passes c.in_ok-home.ensures.walked units (omega arith)
-    (walked_piece refl (omega arith) p.took p.left p.faults p.stack p.room)
+    taken_then g.met.S.Sink.lawful a.snapshot.now a.device a.sector a.len a.len _ c.requires.asked.chunk c.requires.asked.some c.recall_tables.ensures passes c.in_ok-home.ensures.walked units (omega arith)
+    (walked_piece refl (omega arith) p)
 
 pub overflow_add-home : goal.overflow_add-home
 overflow_add-home g c =
@@ -88,8 +86,8 @@ returns-then-distance-len g c =
     let a = c.args in let w = a.walker.now in let after = c.take_new_chunk.new.walker in let p = c.piece-then-distance-len.ensures in let passes = passing w.stack a.snapshot.now (taken_at w.state a.device) (a.sector / a.snapshot.now.chunk) c.is_refused.result c.requires.valid c.requires.fresh c.is_refused.ensures ∙ c.if-is_refused.false in
     let taken = rw c.in-Some.is at c.in_ok-home.ensures.taken in
     let units = row_taken w.stack a.snapshot.now a.device a.sector a.len c.count-number.result after.state c.in-Some.home c.requires.asked.chunk taken c.if-distance-len.true in
-    taken_then g.met.S.Sink.took_then_took g.met.S.Sink.took_then_left a.snapshot.now a.device a.sector a.len 0 _ c.requires.asked.chunk c.requires.asked.some c.recall_tables.ensures passes c.in_ok-home.ensures.walked units (omega arith)
-    (walked_piece refl (omega arith) p.took p.left p.faults p.stack p.room)
+    taken_then g.met.S.Sink.lawful a.snapshot.now a.device a.sector a.len 0 _ c.requires.asked.chunk c.requires.asked.some c.recall_tables.ensures passes c.in_ok-home.ensures.walked units (omega arith)
+    (walked_piece refl (omega arith) p)
 
 pub store_sector-at-requires-clause-small : goal.store_sector-at-requires-clause-small
 store_sector-at-requires-clause-small g c =
@@ -104,4 +102,4 @@ returns g c =
     let units : row (unit_in_store w.stack snapshot a.device after.state) a.sector a.len ≡ store_writes after.stack snapshot.store c.store_sector-at.result a.len =
     row_numbered w.stack snapshot a.device a.sector a.len c.count-number.result after.state c.requires.asked.chunk taken.valid taken.is
     ∙ ap (λ (at : ℕ). store_writes w.stack snapshot.store at a.len) (sym c.store_sector-at.ensures) ∙ ap (λ (s : Description). store_writes s snapshot.store c.store_sector-at.result a.len) (sym c.in_ok-home.ensures.walked.stack) in
-    taken_then g.met.S.Sink.took_then_took g.met.S.Sink.took_then_left snapshot a.device a.sector a.len 0 _ c.requires.asked.chunk c.requires.asked.some c.recall_tables.ensures passes c.in_ok-home.ensures.walked units (omega arith) c.write_store.ensures
+    taken_then g.met.S.Sink.lawful snapshot a.device a.sector a.len 0 _ c.requires.asked.chunk c.requires.asked.some c.recall_tables.ensures passes c.in_ok-home.ensures.walked units (omega arith) c.write_store.ensures

@@ -18,8 +18,8 @@ pub returns-in_err-piece : goal.returns-in_err-piece
 returns-in_err-piece g c =
     let a = c.args in let w = a.walker.now in let l = c.loop-left in let h = c.first_homes-home in let n = h.result.len in let done = a.len - l.left in
     let next = next_writes w l.walker a.store.now a.sector a.len l.at l.left h.result l.invariant.going_on.same l.invariant.within l.invariant.position h.ensures.is in
-    walked_cut g.S.Sink.took g.S.Sink.left g.S.Sink.view c.from_residual.result a.sink.now c.piece.new.self w h.new.walker (keep (store_writes w.stack a.store.now a.sector a.len) w.state) 0 c.from_residual.ensures.0
-    (left_row g.S.Sink.took g.S.Sink.left g.met.S.Sink.took_then_left a.sink.now l.sink c.piece.new.self (writes_to w a.store.now) a.sector done n a.len (units_in (WriteOf h.result.disk h.result.start) n)
+    walked_cut g.S.Sink.past c.from_residual.result a.sink.now c.piece.new.self w h.new.walker (keep (store_writes w.stack a.store.now a.sector a.len) w.state) 0 c.from_residual.ensures.0
+    (left_row g.met.S.Sink.lawful a.sink.now l.sink c.piece.new.self (writes_to w a.store.now) a.sector done n a.len (units_in (WriteOf h.result.disk h.result.start) n)
     (omega (arith, h.ensures.is.most, l.invariant.within)) next l.invariant.taken c.in_err-piece.ensures.left)
     (omega (arith, c.in_err-piece.ensures.faults, l.invariant.going_on.faults)) (ap (λ (v : StackState). v.stack) (h.ensures.same ∙ l.invariant.going_on.same))
     (added_then w.looked l.walker.looked h.new.walker.looked l.invariant.going_on.looked h.ensures.looked)
@@ -34,7 +34,7 @@ loop-left-preserved g c =
     let a = c.args in let w = a.walker.now in let l = c.loop-left in let h = c.first_homes-home in let n = h.result.len in let done = a.len - l.left in
     let next = next_writes w l.walker a.store.now a.sector a.len l.at l.left h.result l.invariant.going_on.same l.invariant.within l.invariant.position h.ensures.is in
     let on : done + n ≡ a.len - (l.left - n) = omega (arith, h.ensures.is.most, l.invariant.within) in
-    let taken = took_row g.S.Sink.took g.met.S.Sink.took_then_took a.sink.now l.sink c.piece.new.self (writes_to w a.store.now) a.sector done n (units_in (WriteOf h.result.disk h.result.start) n) next l.invariant.taken c.in_ok-piece.ensures.took in
+    let taken = took_row g.met.S.Sink.lawful a.sink.now l.sink c.piece.new.self (writes_to w a.store.now) a.sector done n (units_in (WriteOf h.result.disk h.result.start) n) next l.invariant.taken c.in_ok-piece.ensures.took in
     record {
       taken = rw on at taken;
       within = omega (arith, l.invariant.within);

@@ -5,10 +5,10 @@ use Rattle.dm_map.proofs.walk.write_chunk.write_store.Given as goal
 
 abbrev pub invariant-loop-left : goal.invariant-loop-left
 invariant-loop-left g l = record {
-  taken : g.S.Sink.took l.fn.sink (store_writes l.fn.walker.stack l.store l.sector (l.len - l.left)) l.sink;
+  taken : g.S.Sink.past.took l.fn.sink (store_writes l.fn.walker.stack l.store l.sector (l.len - l.left)) l.sink;
   within : l.left ≤ l.len;
   position : l.at + l.left ≡ l.sector + l.len;
-  going_on : IsGoingOn g.S.Sink.view l.fn.sink l.sink l.fn.walker l.walker;
+  going_on : IsGoingOn g.S.Sink.past l.fn.sink l.sink l.fn.walker l.walker;
 }
 
 abbrev pub decreases-loop-left : goal.decreases-loop-left
