@@ -1,5 +1,5 @@
 -- A number's digits by threes, of which the first may have zeros before them.
-use Rattle.std.proofs.Common.{rules, ◌≡◌, ℕ, ◌+◌, ◌-◌, ◌/◌, ◌%◌, ◌^◌, ◌<◌, ◌≤◌, ◌++◌, [], ◌∷◌, inl, inr, List, length, take, drop, decimal, sym, ap, subst, ◌∙◌, append_assoc, arith, length-take}
+use Rattle.std.proofs.Common.{rules, ◌≡◌, ℕ, ◌+◌, ◌-◌, ◌/◌, ◌%◌, ◌^◌, ◌<◌, ◌≤◌, ◌++◌, [], ◌∷◌, inl, inr, List, length, take, drop, decimal, append_assoc, arith, length-take}
 use Rattle.std.proofs.Math.Seq.{take-add, take-append-add, take-append_seam}
 use Rattle.std.proofs.lemmas.List.{drop-drop, drop-append-le}
 use Rattle.std.proofs.lemmas.Bool.{cases_lt}
@@ -26,20 +26,19 @@ last_digits n below =
       | inl few ↦
           let is : n % 10 ≡ n = omega arith in
           let same : (48 + n % 10) ∷ [] ≡ (48 + n) ∷ [] = cc in
-          subst (λ (digits : List ℕ). IsLast n digits) (sym (decimal_digit n few)) same
+          rw decimal_digit same
       | inr more ↦
           elim (cases_lt n 100) [
             | inl few ↦
                 let is : n / 10 % 10 ≡ n / 10 = omega arith in
                 let same : (48 + n / 10 % 10) ∷ (48 + n % 10) ∷ [] ≡ pair n = cc in
-                subst (λ (digits : List ℕ). IsLast n digits) (sym (decimal_two n more few)) same
+                rw decimal_two same
             | inr hundreds ↦
                 let first : n / 100 % 10 ≡ n / 100 = omega arith in
                 let second : n / 10 % 10 ≡ n % 100 / 10 = omega arith in
                 let last : n % 10 ≡ n % 100 % 10 = omega arith in
                 let same : (48 + n / 100 % 10) ∷ (48 + n / 10 % 10) ∷ (48 + n % 10) ∷ [] ≡ (48 + n / 100) ∷ pair (n % 100) = cc in
-                subst (λ (digits : List ℕ). IsLast n digits) (sym (decimal_pair n hundreds (omega arith)))
-                (subst (λ (digits : List ℕ). IsLast n (digits ++ pair (n % 100))) (sym (decimal_digit (n / 100) (omega arith))) same)
+                rw (decimal_pair n hundreds (omega arith), decimal_digit (n / 100) (omega arith)) same
           ]
     ]
 
@@ -52,26 +51,15 @@ pub digits_up_to : (n to : ℕ) (new rest : List ℕ) → n < 1000 → 3 ≤ to 
 digits_up_to n to new rest below after written =
     let few = length_last n below in
     let place : to - 3 + (3 - length (decimal n)) ≡ to - length (decimal n) = omega (arith, few) in
-    ap (λ (k : ℕ). drop k new) (sym place)
-    ∙ sym (drop-drop (3 - length (decimal n)) (to - 3) new)
-    ∙ ap (λ (text : List ℕ). drop (3 - length (decimal n)) text) written
-    ∙ drop-append-le (3 - length (decimal n)) (three_digits n) rest (omega arith)
-    ∙ ap (λ (text : List ℕ). text ++ rest) (last_digits n below)
+    cc (drop-drop (3 - length (decimal n)) (to - 3) new, drop-append-le (3 - length (decimal n)) (three_digits n) rest (omega arith), last_digits n below)
 
 -- what a block holds once the bytes before the digits are put back
 pub put_back : (at : ℕ) (new old mid before digits rest : List ℕ) → 4 ≤ at → at ≤ length old → take (at - 4) mid ≡ take (at - 4) old → drop at mid ≡ digits ++ rest → before ≡ take 4 (drop (at - 4) old) → new ≡ take (at - 4) mid ++ (before ++ drop at mid) → take (at + length digits) new ≡ take at old ++ digits
 put_back at new old mid before digits rest after within kept written is put =
     let all : at - 4 + 4 ≡ at = omega arith in
     let front : take (at - 4) old ++ before ≡ take at old =
-    ap (λ (text : List ℕ). take (at - 4) old ++ text) is ∙ sym (take-add (at - 4) 4 old) ∙ ap (λ (k : ℕ). take k old) all in
+    rw (is, ← take-add, all) in
     let whole : new ≡ take at old ++ (digits ++ rest) =
-    put
-    ∙ ap (λ (text : List ℕ). text ++ (before ++ drop at mid)) kept
-    ∙ ap (λ (text : List ℕ). take (at - 4) old ++ (before ++ text)) written
-    ∙ sym (append_assoc (take (at - 4) old) before (digits ++ rest))
-    ∙ ap (λ (text : List ℕ). text ++ (digits ++ rest)) front in
+    rw (put, kept, written, ← append_assoc, front) in
     let long : length (take at old) ≡ at = omega (arith, length-take at old) in
-    ap (λ (k : ℕ). take (k + length digits) new) (sym long)
-    ∙ ap (λ (text : List ℕ). take (length (take at old) + length digits) text) whole
-    ∙ take-append-add (take at old) (digits ++ rest) (length digits)
-    ∙ ap (λ (text : List ℕ). take at old ++ text) (take-append_seam digits rest)
+    cc (take-append-add (take at old) (digits ++ rest) (length digits), take-append_seam digits rest)

@@ -16,7 +16,7 @@ quiet_since old new held e = rw (since_is old new [] e) (sym (append-nil held))
 -- the first of some bytes are a beginning of them
 pub front_beginning : (old new bytes : List ℕ) (at : ℕ) → new ≡ old ++ take at bytes → IsBeginning bytes (since old new)
 front_beginning old new bytes at e =
-    (drop at bytes, sym (take-append-drop at bytes) ∙ ap (λ xs. xs ++ drop at bytes) (sym (since_is old new (take at bytes) e)))
+    (drop at bytes, cc (take-append-drop at bytes, since_is old new (take at bytes) e))
 
 -- where others are left, they cut the text short
 pub front_cut : (old new bytes rest : List ℕ) (at : ℕ) → new ≡ old ++ take at bytes → rest ≡ drop at bytes → 0 < length rest → IsCutShort bytes (since old new)
@@ -24,7 +24,7 @@ front_cut old new bytes [] at e is some = absurd (omega (arith, some))
 front_cut old new bytes (byte ∷ more) at e is some = (
   byte,
   more,
-  sym (take-append-drop at bytes) ∙ ap (λ xs. xs ++ drop at bytes) (sym (since_is old new (take at bytes) e)) ∙ ap (λ xs. since old new ++ xs) (sym is),
+  cc (take-append-drop at bytes, since_is old new (take at bytes) e),
 )
 
 -- how many bytes stand before a rest of them
@@ -49,7 +49,7 @@ rest_step bytes rest n within few is =
 pub write_step : (old mid new bytes rest : List ℕ) (n : ℕ) → length rest ≤ length bytes → n ≤ length rest → rest ≡ drop (before bytes rest) bytes → mid ≡ old ++ take (before bytes rest) bytes → new ≡ mid ++ take n rest → new ≡ old ++ take (before bytes (rest_after rest n)) bytes
 write_step old mid new bytes rest n within few is e f =
     let at = before bytes rest in
-    rw (before_rest_after bytes rest n within few, take-add at n bytes) (f ∙ ap (λ xs. mid ++ take n xs) is ∙ ap (λ xs. xs ++ take n (drop at bytes)) e ∙ append_assoc old (take at bytes) (take n (drop at bytes)))
+    rw (before_rest_after bytes rest n within few, take-add at n bytes) (rw (← append_assoc, ← e, ← is) f)
 
 -- how far some bytes are written: those before a rest of them, and nothing failed
 abbrev pub IsSent : (old new : OutputPast) (bytes rest : List ℕ) → Type 0
@@ -70,8 +70,8 @@ pub sent_further : (old mid new : OutputPast) (bytes rest : List ℕ) (n : ℕ) 
 sent_further old mid new bytes rest n so_far few is = record {
   within = rest_after_within bytes rest n so_far.within;
   rest = rest_step bytes rest n so_far.within few so_far.rest;
-  written = write_step _ _ _ bytes rest n so_far.within few so_far.rest so_far.written (ap (λ (past : OutputPast). past.written) is);
-  waiting = write_step _ _ _ bytes rest n so_far.within few so_far.rest so_far.waiting (ap (λ (past : OutputPast). past.waiting) is);
+  written = write_step _ _ _ bytes rest n so_far.within few so_far.rest so_far.written (cc);
+  waiting = write_step _ _ _ bytes rest n so_far.within few so_far.rest so_far.waiting (cc);
   faults = rw is (add-zero _ ∙ so_far.faults);
   flushes = rw is so_far.flushes;
 }
@@ -87,7 +87,7 @@ sent_moved old new sent failed more held fails flushed =
 pub sent_whole : {E : Type 0} (old new : OutputPast) (bytes rest : List ℕ) → IsSent old new bytes rest → length rest ≡ 0
     → Wrote {E = E} old new (Ok tt) bytes
 sent_whole old new bytes [] so_far none =
-    let all : take (before bytes []) bytes ≡ bytes = sym (append-nil _) ∙ ap (λ xs. take (before bytes []) bytes ++ xs) so_far.rest ∙ take-append-drop (before bytes []) bytes in
+    let all : take (before bytes []) bytes ≡ bytes = cc (append-nil _, take-append-drop (before bytes []) bytes) in
     record {
       moved = sent_moved old new (take (before bytes []) bytes) 0 so_far.written so_far.waiting (so_far.faults ∙ sym (add-zero _)) so_far.flushes;
       ok = since_is old.written new.written _ so_far.written ∙ all;
@@ -102,8 +102,8 @@ sent_cut old mid new fault bytes rest so_far some is =
     let more = ap (λ (past : OutputPast). past.written) is ∙ append-nil _ ∙ so_far.written in
     record {
       moved =
-          sent_moved old new (take at bytes) 1 more (ap (λ (past : OutputPast). past.waiting) is ∙ append-nil _ ∙ so_far.waiting)
-          (ap (λ (past : OutputPast). past.faults) is ∙ ap (λ n. n + 1) so_far.faults) (ap (λ (past : OutputPast). past.flushes) is ∙ so_far.flushes);
+          sent_moved old new (take at bytes) 1 more (cc (append-nil _))
+          (cc) (cc);
       ok = tt;
       left = front_cut old.written new.written bytes rest at more so_far.rest some;
     }
@@ -115,10 +115,10 @@ wrote_nothing old new fault (byte ∷ rest) some is =
     let more = ap (λ (past : OutputPast). past.written) is ∙ sym (append-nil old.written) in
     record {
       moved =
-          sent_moved old new [] 1 more (ap (λ (past : OutputPast). past.waiting) is ∙ sym (append-nil old.waiting))
-          (ap (λ (past : OutputPast). past.faults) is) (ap (λ (past : OutputPast). past.flushes) is);
+          sent_moved old new [] 1 more (rw (is, append-nil))
+          (cc) (cc);
       ok = tt;
-      left = (byte, rest, ap (λ (xs : List ℕ). xs ++ byte ∷ rest) (sym (since_is old.written new.written [] more)));
+      left = (byte, rest, cc (since_is old.written new.written [] more));
     }
 
 -- a fact is one at an error

@@ -1,12 +1,12 @@
 -- Texts written part by part.
-use Rattle.std.proofs.Common.{◌≡◌, ℕ, ◌+◌, ◌-◌, ◌<◌, ◌≤◌, map, arith, List, [], ◌∷◌, ◌++◌, length, take, drop, get_or, Result, Ok, Err, IsErr, IsErrAnd, inl, inr, refl, sym, ap, subst, ◌∙◌, append_assoc, take-append-drop}
+use Rattle.std.proofs.Common.{◌≡◌, ℕ, ◌+◌, ◌-◌, ◌<◌, ◌≤◌, map, arith, List, [], ◌∷◌, ◌++◌, length, take, drop, get_or, Result, Ok, Err, IsErr, IsErrAnd, inl, inr, refl, sym, ◌∙◌, append_assoc, take-append-drop}
 use Rattle.std.specs.List.{flat_map, join_with_byte}
 use Rattle.std.proofs.Math.Seq.{take-add}
 use Rattle.std.proofs.lemmas.Grind.{flat_map-append}
 use Rattle.std.proofs.lemmas.List.{drop_more, append-nil, take_rest}
 use Rattle.std.proofs.lemmas.Result.{err_from_is_err_and}
 use Rattle.std.specs.Prelude.{decimal}
-use Rattle.dm_table.specs.io.DeviceIo.{OutputPast, after_flush, written_since}
+use Rattle.dm_table.specs.io.DeviceIo.{OutputPast, after_flush}
 use Rattle.dm_table.specs.laws.Progress.{written_more}
 use Rattle.dm_table.specs.io.Progress.{IsClosedAfter, Wrote}
 use Rattle.dm_table.specs.declared.tables.table.Line.{Line}
@@ -22,7 +22,7 @@ pub wrote_stop : {E : Type 0} (old new : OutputPast) (fault : E) (first rest tex
 wrote_stop old new fault first rest text is h = record {
   moved = h.moved;
   ok = tt;
-  left = (h.left.0, h.left.1 ++ rest, is ∙ ap (λ (t : List ℕ). t ++ rest) h.left.2 ∙ append_assoc (written_since old new) (h.left.0 ∷ h.left.1) rest);
+  left = (h.left.0, h.left.1 ++ rest, rw (is, h.left.2, append_assoc));
 }
 
 -- one part written, and the next
@@ -40,7 +40,7 @@ wrote_then old mid new (Err fault) first next text is a b =
     record {
       moved = written_more old mid new 1 a.moved b.moved;
       ok = tt;
-      left = (b.left.0, b.left.1, is ∙ ap (λ (t : List ℕ). first ++ t) b.left.2 ∙ sym (append_assoc first (written_since mid new) (b.left.0 ∷ b.left.1)) ∙ ap (λ (t : List ℕ). t ++ b.left.0 ∷ b.left.1) (sym (more ∙ ap (λ (t : List ℕ). t ++ written_since mid new) a.ok)));
+      left = (b.left.0, b.left.1, rw (more, a.ok, append_assoc, ← b.left.2, ← is));
     }
 
 -- ---- an output that is closed
@@ -64,7 +64,7 @@ closed_unflushed old new fault text wrote = record {
 -- all was written, and a flush was asked for
 pub closed_flushed : {E : Type 0} (old mid new : OutputPast) (result : Result (Unit {0}) E) (text : List ℕ) → Wrote {E = E} old mid (Ok tt) text → new ≡ after_flush mid result → IsClosedAfter old new (IsErr result) text
 closed_flushed {E = E} old mid new result text wrote is =
-    subst (λ (past : OutputPast). IsClosedAfter old past (IsErr result) text) (sym is) (flushed result)
+    rw is (flushed result)
   where
     flushed : (r : Result (Unit {0}) E) → IsClosedAfter old (after_flush mid r) (IsErr r) text
     flushed (Ok done) = record {
@@ -76,7 +76,7 @@ closed_flushed {E = E} old mid new result text wrote is =
         once = omega (arith, wrote.moved.unflushed);
         still_waiting = λ err less. absurd cc;
       };
-      whole = λ well. (sym wrote.ok, (refl, ap (λ (n : ℕ). n + 1) wrote.moved.unflushed));
+      whole = λ well. (sym wrote.ok, (refl, cc));
       failed = λ err. absurd cc;
     }
     flushed (Err fault) = record {
@@ -89,7 +89,7 @@ closed_flushed {E = E} old mid new result text wrote is =
         still_waiting = λ err less. wrote.moved.waits;
       };
       whole = λ well. absurd (well refl);
-      failed = λ err. inr (ap (λ (n : ℕ). n + 1) wrote.moved.unflushed, sym wrote.ok);
+      failed = λ err. inr (cc, sym wrote.ok);
     }
 
 -- The same, as answers cite them
@@ -115,13 +115,13 @@ fault_in result is h = let given = err_from_is_err_and result is in rw (given.1,
 pub flat_map_at : {X : Type 0} (f : X → List ℕ) (xs : List X) (i : ℕ) (x : X) → i < length xs → x ≡ get_or xs i x → flat_map f xs ≡ flat_map f (take i xs) ++ (f x ++ flat_map f (drop (i + 1) xs))
 flat_map_at f xs i x below is =
     let rest : drop i xs ≡ x ∷ drop (i + 1) xs = rw is (drop_more xs i x below) in
-    ap (flat_map f) (sym (take-append-drop i xs)) ∙ flat_map-append f (take i xs) (drop i xs) ∙ ap (λ ys. flat_map f (take i xs) ++ flat_map f ys) rest
+    cc (take-append-drop i xs, flat_map-append f (take i xs) (drop i xs))
 
 -- up to the next one
 pub flat_map_next : {X : Type 0} (f : X → List ℕ) (xs : List X) (i : ℕ) (x : X) → i < length xs → x ≡ get_or xs i x → flat_map f (take (i + 1) xs) ≡ flat_map f (take i xs) ++ f x
 flat_map_next f xs i x below is =
     let rest : drop i xs ≡ x ∷ drop (i + 1) xs = rw is (drop_more xs i x below) in
-    rw (← append-nil (f x)) (ap (flat_map f) (take-add i 1 xs ∙ ap (λ ys. take i xs ++ take 1 ys) rest) ∙ flat_map-append f (take i xs) (x ∷ []))
+    rw (← append-nil (f x)) (rw (take-add, rest, flat_map-append))
 
 -- a fault at one of the elements
 pub each_stopped : {A E : Type 0} {old mid new : OutputPast} {fault : E} (f : A → List ℕ) (xs : List A) (i : ℕ) (x : A) (result : Result (Unit {0}) E)

@@ -43,9 +43,9 @@ noted_all part is_row has_values has_names seen n (x ∷ xs) rest =
     rw place (elim (cases_Bool (is_row x)) [
       | inr r ↦ rw r (rw r at more ∙ either_more seen.syntax (fault_at part Syntax n) _)
       | inl r ↦ elim (cases_Bool (has_values x)) [
-        | inr l ↦ rw (r, l) (rw (r, l) at more ∙ ap (λ (later : Option LoadFault). either seen.syntax (first_or syntax later)) (either_more seen.field (fault_at part Field n) _))
+        | inr l ↦ rw (r, l) (rw (rw (r, l) at more, either_more))
         | inl l ↦ elim (cases_Bool (has_names x)) [
-          | inr h ↦ rw (r, l, h) (rw (r, l, h) at more ∙ ap (λ (later : Option LoadFault). either seen.syntax (first_or syntax (either seen.field (first_or field later)))) (either_more seen.name (fault_at part Name n) _))
+          | inr h ↦ rw (r, l, h) (rw (rw (r, l, h) at more, either_more))
           | inl h ↦ rw (r, l, h) (rw (r, l, h) at more)
         ]
       ]

@@ -194,7 +194,7 @@ row_op : (row : List (List ℕ)) → has_form row ≡ true → (op : Op) × ((re
 row_op ((b ∷ []) ∷ device ∷ start ∷ len ∷ []) form =
     let letter = letter_of b (and_parts (is_op (b ∷ [])) _ form).0 in
     let rest = join_with_byte 32 (device ∷ start ∷ len ∷ []) in
-    (letter.0, (rest, ap (λ (b : ℕ). b ∷ 32 ∷ rest) letter.1))
+    (letter.0, (rest, cc))
 row_op [] form = absurd cc
 row_op (op ∷ []) form = absurd cc
 row_op (op ∷ device ∷ []) form = absurd cc
@@ -217,7 +217,7 @@ op_fields Write rest = refl
 pub op_first : (line rest : List ℕ) (op : Op) → 1 ≤ length line → get_or line 0 0 ≡ op_text op → line ≡ take 1 line ++ 32 ∷ rest
     → fields line ≡ (op_text op ∷ []) ∷ fields rest
 op_first [] rest op some letter cut = absurd (omega arith)
-op_first (b ∷ line) rest op some letter cut = ap fields (cut ∙ ap (λ (b : ℕ). b ∷ 32 ∷ rest) letter) ∙ op_fields op rest
+op_first (b ∷ line) rest op some letter cut = cc (op_fields op rest)
 
 -- A number, and a name, that a space ends
 

@@ -1,5 +1,5 @@
 -- The body of a line and its fields: fields that the tests pass are those of a body, and the fields of a body pass them.
-use Rattle.std.proofs.Common.{◌≡◌, inl, inr, ℕ, ◌*◌, ◌^◌, ◌<◌, ◌≤◌, Bool, true, false, eqb, nat_le, nat_lt, nat_eq, ◌&&◌, List, [], ◌∷◌, ◌++◌, length, drop, Option, Some, None, refl, subst, sym, ap, ◌∙◌, append_assoc, arith}
+use Rattle.std.proofs.Common.{◌≡◌, inl, inr, ℕ, ◌*◌, ◌^◌, ◌<◌, ◌≤◌, Bool, true, false, eqb, nat_le, nat_lt, nat_eq, ◌&&◌, List, [], ◌∷◌, ◌++◌, length, drop, Option, Some, None, refl, sym, ap, ◌∙◌, append_assoc, arith}
 use Rattle.std.specs.Prelude.{decimal, codes, is_some, if◌then◌else◌}
 use Rattle.std.specs.Cmp.Lexicographic.{pointwise}
 use Rattle.std.specs.Char.{is_ascii_digit}
@@ -166,7 +166,7 @@ striped_says (count ∷ chunk ∷ columns) target h =
 -- a flag that is the word of a kind, or else one of the words after it
 by_flag : (flag : List ℕ) (first kind : StoreKind) (later : Option StoreKind) → (later ≡ Some kind → kind_text kind ≡ flag) → (if pointwise nat_eq flag (kind_text first) then Some first else later) ≡ Some kind → kind_text kind ≡ flag
 by_flag flag first kind later others h = elim (cases_Bool (pointwise nat_eq flag (kind_text first))) [
-  | inl e ↦ (let is : Some first ≡ Some kind = rw e at h in let same : first ≡ kind = cc in subst (λ (k : StoreKind). kind_text k ≡ flag) same (sym (same_name flag (kind_text first) e)))
+  | inl e ↦ (let is : Some first ≡ Some kind = rw e at h in let same : first ≡ kind = cc in rw same at (sym (same_name flag (kind_text first) e)))
   | inr e ↦ others (rw e at h)
 ]
 

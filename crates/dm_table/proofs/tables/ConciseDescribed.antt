@@ -82,7 +82,7 @@ described text h =
       parts = parts;
       spelled = elim (newline_cases text) [
         | inl e ↦ inl (e ∙ sym whole)
-        | inr e ↦ inr (e ∙ ap (λ (t : List ℕ). t ++ 10 ∷ []) (sym whole))
+        | inr e ↦ inr (cc)
       ];
       said = devices_said 1 parts
           (faults_from-nil Source Syntax (λ device. not (is_device device)) 1 parts (append-nil_both _ [] none.1.0).0)

@@ -1,7 +1,7 @@
 -- The text of a body in the concise form and its fields, and the text of a device and its entries.
-use Rattle.std.proofs.Common.{◌≡◌, ◌⊎◌, inl, inr, ℕ, ◌≤◌, Bool, true, false, not, eqb, nat_le, nat_lt, ◌&&◌, ◌||◌, List, [], ◌∷◌, ◌++◌, length, drop, Option, Some, refl, sym, ap, ◌∙◌, arith}
+use Rattle.std.proofs.Common.{◌≡◌, ◌⊎◌, inl, inr, ℕ, ◌≤◌, Bool, true, false, not, eqb, nat_le, nat_lt, ◌&&◌, ◌||◌, List, [], ◌∷◌, ◌++◌, length, drop, Some, refl, sym, ap, ◌∙◌, arith}
 use Rattle.std.specs.Prelude.{codes, decimal}
-use Rattle.std.specs.List.{cons_option, list_all, join_with_byte, AllByRecursion}
+use Rattle.std.specs.List.{list_all, join_with_byte, AllByRecursion}
 use Rattle.std.proofs.lemmas.Bool.{and_parts, and_from, cases_Bool, eqb-true}
 use Rattle.std.proofs.lemmas.Bool.Decides.{nat_tests}
 use Rattle.std.proofs.lemmas.List.{length-append}
@@ -51,8 +51,8 @@ body_writes at text line r l =
         | inr f ↦ inr (inl (whole ∙ ap (join_with_byte 32) (sym (f ∙ e)) ∙ led))
       ]
       | inr e ↦ elim (first_cases (row_fields text)) [
-        | inl f ↦ inl (inr (whole ∙ ap (join_with_byte 32) (sym (ap (λ (fs : List (List ℕ)). fs ++ [] ∷ []) f ∙ e)) ∙ spaced_after bs r ∙ ap (λ (t : List ℕ). t ++ 32 ∷ []) spelled))
-        | inr f ↦ inr (inr (whole ∙ ap (join_with_byte 32) (sym (ap (λ (fs : List (List ℕ)). fs ++ [] ∷ []) f ∙ e)) ∙ space_joined [] bs ∙ ap (λ (t : List ℕ). t ++ 32 ∷ []) led))
+        | inl f ↦ inl (inr (cc (spaced_after bs r)))
+        | inr f ↦ inr (inr (cc (space_joined [] bs)))
       ]
     ]
 
@@ -78,11 +78,11 @@ fields_again text whole f fs is h w =
     elim w [
       | inl a ↦ elim a [
         | inl e ↦ ap body_fields (e ∙ sym is) ∙ ap without_first_space (row_kept f fs h) ∙ kept
-        | inr e ↦ ap body_fields (e ∙ ap (λ (t : List ℕ). t ++ 32 ∷ []) (sym is)) ∙ ap without_first_space (row_kept_spaced f fs h) ∙ kept
+        | inr e ↦ cc (row_kept_spaced f fs h)
       ]
       | inr a ↦ elim a [
-        | inl e ↦ ap body_fields (e ∙ ap (λ (t : List ℕ). 32 ∷ t) (sym is)) ∙ ap without_first_space (led_kept f fs h)
-        | inr e ↦ ap body_fields (e ∙ ap (λ (t : List ℕ). 32 ∷ t ++ 32 ∷ []) (sym is)) ∙ ap without_first_space (led_kept_spaced f fs h)
+        | inl e ↦ cc (led_kept f fs h)
+        | inr e ↦ cc (led_kept_spaced f fs h)
       ]
     ]
 
@@ -272,7 +272,7 @@ lines_pass n (text ∷ texts) (line ∷ lines) s =
       rows = and_from _ _ (ap is_body_row read ∙ body_row_passes line s.1) more.rows;
       values = and_from _ _ (ap is_body read ∙ body_passes line s.1) more.values;
       names = and_from _ _ (ap has_body_names read ∙ body_names_pass line s.1) more.names;
-      again = rw more.again (ap (λ (said : Option Line). cons_option said lines) (ap (line_in (place_of n)) read ∙ line_again (place_of n) line s.1 s.2));
+      again = rw more.again (cc (line_again (place_of n) line s.1 s.2));
     }
 
 said_lines : (n : ℕ) (text : List ℕ) (device : DeviceSpec) (s : SaysDevice n text device) → AreLines (device.name ∷ s.uuid ∷ s.minor ∷ s.flags ∷ s.bodies)

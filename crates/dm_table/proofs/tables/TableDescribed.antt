@@ -1,7 +1,7 @@
 -- Table text in which no check finds anything describes the devices that are read from it, and text that describes devices is read as them.
-use Rattle.std.proofs.Common.{◌≡◌, ℕ, suc, ◌+◌, Bool, true, false, not, List, [], ◌∷◌, ◌++◌, length, map, Option, None, Result, refl, ap, ◌∙◌}
+use Rattle.std.proofs.Common.{◌≡◌, ℕ, suc, ◌+◌, Bool, true, false, not, List, [], ◌∷◌, ◌++◌, length, map, None, Result, refl, ap, ◌∙◌}
 use Rattle.std.specs.Global.{Vec}
-use Rattle.std.specs.List.{AllByRecursion, cons_option}
+use Rattle.std.specs.List.{AllByRecursion}
 use Rattle.std.proofs.lemmas.Bool.{not-false, not_from_true}
 use Rattle.dm_table.specs.declared.tables.table.DeviceSpec.{DeviceSpec}
 use Rattle.dm_table.specs.declared.load.place.Part.TheVariants.{Source}
@@ -11,7 +11,7 @@ use Rattle.dm_table.specs.words.Fields.{parts_at, all_but_last, last_or, lines_o
 use Rattle.dm_table.specs.load.LoadFault.{Answers, first_fault, faults_from, is_printable, not_text, unended}
 use Rattle.dm_table.specs.load.Parsed.{IsParsed}
 use Rattle.dm_table.specs.tables.TableText.{NamedLine, Says, DescribesTable, named_lines, is_row, has_values, has_names, table_checks}
-use Rattle.dm_table.specs.tables.TableReading.{named_in, named_from, joined, devices_from, read_table}
+use Rattle.dm_table.specs.tables.TableReading.{named_from, joined, devices_from, read_table}
 use Rattle.dm_table.proofs.words.ByteLemmas.{is_shown, is_shown-clear, is_shown-printed}
 use Rattle.dm_table.proofs.load.FaultLemmas.{first_fault-none, first_fault-all, faults_from-nil, faults_from-good, append-nil_both, unended-nil}
 use Rattle.dm_table.proofs.load.Parsing.{parsed}
@@ -90,8 +90,7 @@ named_again n [] [] s = refl
 named_again n [] (named ∷ ns) s = absurd s
 named_again n (line ∷ ls) [] s = absurd s
 named_again n (line ∷ ls) (named ∷ ns) s =
-    ap (cons_option (named_in n (row_for named))) (named_again (suc n) ls ns s.2)
-    ∙ ap (λ (one : Option NamedLine). cons_option one ns) (line_again n named s.1)
+    cc (named_again (suc n) ls ns s.2, line_again n named s.1)
 
 lines_clear : (ls : List (List ℕ)) → AllByRecursion (λ line. is_shown line ≡ true) ls → AllByRecursion (IsClearOf 10) ls
 lines_clear [] h = tt

@@ -31,18 +31,18 @@ named_of name lines = map (λ line. record { name = name; line = line }) lines
 -- What joined lines say
 
 name_taken : (named : NamedLine) (name : List ℕ) (lines : List Line) (b : Bool) → pointwise nat_eq named.name name ≡ b → b ≡ true → named_of name (named.line ∷ lines) ≡ named ∷ named_of name lines
-name_taken named name lines b e t = ap (λ (x : List ℕ). let n : NamedLine = record { name = x; line = named.line } in n ∷ named_of name lines) (sym (same_name named.name name (e ∙ t)))
+name_taken named name lines b e t = rw (same_name named.name name (e ∙ t))
 
 lines_of_join : (named : NamedLine) (ds : List DeviceSpec) → named_lines (join_line named ds) ≡ named ∷ named_lines ds
 lines_of_join named [] = refl
 lines_of_join named (d ∷ ds) = elim (cases_Bool (pointwise nat_eq named.name d.name)) [
-  | inl e ↦ rw e (ap (λ (ns : List NamedLine). ns ++ named_lines ds) (name_taken named d.name d.lines true e refl))
+  | inl e ↦ rw e (cc (name_taken named d.name d.lines true e refl))
   | inr e ↦ rw e refl
 ]
 
 pub lines_of_joined : (ns : List NamedLine) → named_lines (joined ns) ≡ ns
 lines_of_joined [] = refl
-lines_of_joined (n ∷ ns) = lines_of_join n (joined ns) ∙ ap (λ (ms : List NamedLine). n ∷ ms) (lines_of_joined ns)
+lines_of_joined (n ∷ ns) = cc (lines_of_join n (joined ns), lines_of_joined ns)
 
 each_join : (named : NamedLine) (ds : List DeviceSpec) → AllByRecursion IsDescribed ds → AllByRecursion IsDescribed (join_line named ds)
 each_join named [] h = (record { writable = refl; at = refl }, tt)
@@ -105,5 +105,4 @@ pub devices_again : (ds : List DeviceSpec) → AllByRecursion IsDescribed ds →
 devices_again [] each apart = refl
 devices_again (d ∷ ds) each apart =
     let rest : joined (named_lines ds) ≡ ds = devices_again ds each.1 (apart_rest d ds apart) in
-    device_again d.name d.ro d.lines d.at (named_lines ds) each.0.writable each.0.at (rw rest (begins_other d ds apart))
-    ∙ ap (λ (more : List DeviceSpec). d ∷ more) rest
+    cc (device_again d.name d.ro d.lines d.at (named_lines ds) each.0.writable each.0.at (rw rest (begins_other d ds apart)))

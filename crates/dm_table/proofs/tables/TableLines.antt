@@ -54,7 +54,7 @@ add_join : (one : NamedLine) (ds : List DeviceSpec) (named : NamedLine) → add_
 add_join one [] named = elim (cases_Bool (pointwise nat_eq one.name named.name)) [
   | inl h ↦
       let back : pointwise nat_eq named.name one.name ≡ true = is_same_name named.name one.name (sym (same_name one.name named.name h)) in
-      rw (h, back) (ap (λ (name : List ℕ). let d : DeviceSpec = record { name = name; ro = false; lines = one.line ∷ named.line ∷ []; at = one.line.at } in d ∷ []) (same_name one.name named.name h))
+      rw (h, back) (cc (same_name one.name named.name h))
   | inr h ↦
       let back : pointwise nat_eq named.name one.name ≡ false = is_other_name named.name one.name (λ e. other_name one.name named.name h (sym e)) in
       rw (h, back)

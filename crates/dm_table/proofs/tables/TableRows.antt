@@ -34,8 +34,8 @@ space_cases [] = inl refl
 space_cases ([] ∷ []) = inr refl
 space_cases ((b ∷ bs) ∷ []) = inl refl
 space_cases (f ∷ g ∷ fs) = elim (space_cases (g ∷ fs)) [
-  | inl e ↦ inl (ap (λ (rest : List (List ℕ)). f ∷ rest) e)
-  | inr e ↦ inr (ap (λ (rest : List (List ℕ)). f ∷ rest) e)
+  | inl e ↦ inl (cc)
+  | inr e ↦ inr (cc)
 ]
 
 pub space_dropped : (fs : List (List ℕ)) → without_last_space (fs ++ [] ∷ []) ≡ fs
@@ -58,7 +58,7 @@ label_spelled : (label : List ℕ) → is_label label ≡ true → name_in label
 label_spelled label h =
     let a = and_parts (nat_lt 1 (length label)) (eqb (last_or 0 label) 58) h in
     let long : 1 < length label = ltb-true 1 (length label) a.0 in
-    sym (last_split label (omega arith) ∙ ap (λ (b : ℕ). all_but_last label ++ b ∷ []) (eqb-true (last_or 0 label) 58 a.1))
+    cc (eqb-true (last_or 0 label) 58 a.1, last_split label (omega arith))
 
 -- the line that a row says, where its values are valid
 pub row_there : (n : ℕ) (row : List (List ℕ)) → has_values row ≡ true → (named : NamedLine) × (named_in n row ≡ Some named)
@@ -97,7 +97,7 @@ line_writes n line named r l =
     let spelled : join_with_byte 32 (row_fields line) ≡ line_text named = ap (join_with_byte 32) (sym (row_again n (row_fields line) named r l)) ∙ line_joined named in
     elim (space_cases (fields line)) [
       | inl e ↦ inl (whole ∙ ap (join_with_byte 32) (sym e) ∙ spelled)
-      | inr e ↦ inr (whole ∙ ap (join_with_byte 32) (sym e) ∙ row_begins (row_fields line) r ∙ ap (λ (t : List ℕ). t ++ 32 ∷ []) spelled)
+      | inr e ↦ inr (cc (row_begins (row_fields line) r))
     ]
 
 -- From a line to its row
@@ -141,7 +141,7 @@ row_written n text named w h =
     let inked = row_inked n named h in
     elim w [
       | inl e ↦ ap row_fields (e ∙ sym (line_joined named)) ∙ row_kept (label_for named) (body_fields named.line) inked
-      | inr e ↦ ap row_fields (e ∙ ap (λ (t : List ℕ). t ++ 32 ∷ []) (sym (line_joined named))) ∙ row_kept_spaced (label_for named) (body_fields named.line) inked
+      | inr e ↦ rw (e, ← line_joined, row_kept_spaced)
     ]
 
 joined_text : (f : List ℕ) (fs : List (List ℕ)) → AllByRecursion IsInked (f ∷ fs) → is_shown (join_with_byte 32 (f ∷ fs)) ≡ true

@@ -71,13 +71,13 @@ pub cut_more : (c : ℕ) (parts : List (Bor (List ℕ))) (part : Bor (List ℕ))
     → texts (parts ++ part ∷ []) ++ parts_at c (take (length after - 1) (drop 1 after)) ≡ all
 cut_more c parts part rest after n all found is_part is_after so_far =
     let left : take (length after - 1) (drop 1 after) ≡ drop (n + 1) rest = take_rest after 1 ∙ ap (drop 1) is_after ∙ drop-drop 1 n rest in
-    let pushed : texts (parts ++ part ∷ []) ≡ texts parts ++ take n rest ∷ [] = map_push _ parts part ∙ ap (λ (text : List ℕ). texts parts ++ text ∷ []) is_part in
-    rw (left, pushed, append_assoc) (ap (λ (more : List (List ℕ)). texts parts ++ more) (sym (parts_at-found c rest n found)) ∙ so_far)
+    let pushed : texts (parts ++ part ∷ []) ≡ texts parts ++ take n rest ∷ [] = rw (map_push, is_part) in
+    rw (left, pushed, append_assoc) (cc (parts_at-found c rest n found))
 
 -- and its end: the rest is the last part
 pub cut_last : (c : ℕ) (parts : List (Bor (List ℕ))) (rest : Bor (List ℕ)) (all : List (List ℕ))
     → IsFirstByte (is_byte c) rest.now None → texts parts ++ parts_at c rest.now ≡ all → texts (parts ++ rest ∷ []) ≡ all
-cut_last c parts rest all none so_far = map_push _ parts rest ∙ ap (λ (more : List (List ℕ)). texts parts ++ more) (sym (parts_at-nowhere c rest.now none)) ∙ so_far
+cut_last c parts rest all none so_far = rw (← so_far, parts_at-nowhere) (map_push _ parts rest)
 
 -- All but the last part, and the last
 

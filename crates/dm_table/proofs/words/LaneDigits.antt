@@ -1,5 +1,5 @@
 -- Digits as lanes, and the numbers that they are of.
-use Rattle.std.proofs.Common.{◌≡◌, ℕ, suc, ◌+◌, ◌*◌, ◌%◌, ◌^◌, ◌<◌, ◌≤◌, inl, inr, true, false, not, List, [], ◌∷◌, ◌++◌, get_or, length, map, take, refl, sym, ap, subst, arith, add-mul, mul_assoc}
+use Rattle.std.proofs.Common.{◌≡◌, ℕ, suc, ◌+◌, ◌*◌, ◌%◌, ◌^◌, ◌<◌, ◌≤◌, inl, inr, true, false, not, List, [], ◌∷◌, ◌++◌, get_or, length, map, take, refl, ap, arith, add-mul, mul_assoc}
 use Rattle.std.specs.Prelude.{nat_lt}
 use Rattle.std.specs.Char.{digit_value, is_ascii_digit}
 use Rattle.std.specs.Int.Digits.{number_from_digits, number_from_digits_after, AllBelowBase}
@@ -66,7 +66,7 @@ front_each (x ∷ xs) = elim (cases_lt 9 x) [
   | inr within ↦
       let more = prefix_len (λ y. not (nat_lt 9 y)) xs in
       let next : 1 + more ≡ suc more = omega arith in
-      rw (small x within) (subst (λ (k : ℕ). Each1 (λ digit. digit < 10) (take k (x ∷ xs))) (sym next) (omega arith, front_each xs))
+      rw (small x within) (rw next (omega arith, front_each xs))
 ]
 
 pub some_other : (xs : List ℕ) → 0 < mask_l (map (λ x. nat_lt 9 x) xs) → prefix_len (λ x. not (nat_lt 9 x)) xs < length xs

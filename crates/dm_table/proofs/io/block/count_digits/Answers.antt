@@ -1,5 +1,5 @@
 -- A number from one power of ten to below the next has one digit more than the power.
-use Rattle.std.proofs.Common.{◌≡◌, ◌+◌, ◌*◌, ◌/◌, ◌^◌, ◌<◌, ◌≤◌, ℕ, zero, suc, length, decimal, sym, ap, ◌∙◌, arith}
+use Rattle.std.proofs.Common.{◌≡◌, ◌+◌, ◌*◌, ◌/◌, ◌^◌, ◌<◌, ◌≤◌, ℕ, zero, suc, length, decimal, sym, arith}
 use Rattle.std.proofs.Math.Nat.{pow-succ'}
 use Rattle.itoa.proofs.Decimal.{length_one, length_step_wide}
 use Rattle.dm_table.proofs.io.block.count_digits.Goals as goal
@@ -20,4 +20,4 @@ pub returns-in-Some : goal.returns-in-Some
 returns-in-Some c = sym (length_by_power c.in-Some.power c.args.number c.in-Some.ensures.power_le c.in-Some.ensures.next_power_gt (omega arith))
 
 pub returns-in-None : goal.returns-in-None
-returns-in-None c = sym (ap (λ (number : ℕ). length (decimal number)) c.in-None.ensures.none ∙ length_one 0 (omega arith))
+returns-in-None c = cc (length_one 0 (omega arith), c.in-None.ensures.none)

@@ -1,4 +1,4 @@
-use Rattle.std.proofs.Common.{rules, ◌≡◌, ◌+◌, ◌-◌, ◌≤◌, ◌++◌, List, ℕ, length, take, drop, decimal, ap, subst, ◌∙◌, arith}
+use Rattle.std.proofs.Common.{rules, ◌≡◌, ◌+◌, ◌-◌, ◌≤◌, ◌++◌, length, take, drop, decimal, arith}
 use Rattle.std.proofs.lemmas.Fmt.{length-decimal-le}
 use Rattle.std.proofs.lemmas.List.{drop-drop}
 use borrow.Rule.Slice.PartMut.{put_mid}
@@ -30,12 +30,12 @@ returns-clause-put c =
     let start : at + c.count_digits.result - length digits ≡ at = omega arith in
     let four : at - (at - 4) ≡ 4 = omega arith in
     let all : at - 4 + (at - (at - 4)) ≡ at = omega arith in
-    let kept : take (at - 4) mid ≡ take (at - 4) old = subst (λ (k : ℕ). take (k - 4) mid ≡ take (k - 4) old) start c.put_padded.ensures.before in
-    let written : drop at mid ≡ digits ++ drop (at + c.count_digits.result) old = subst (λ (k : ℕ). drop k mid ≡ digits ++ drop (at + c.count_digits.result) old) start c.put_padded.ensures.written in
-    let is : place ≡ take 4 (drop (at - 4) old) = c.set_room.ensures ∙ c.as_room.ensures ∙ ap (λ (k : ℕ). take k (drop (at - 4) old)) four in
-    let put : put_mid (at - 4) (at - (at - 4)) mid place ≡ take (at - 4) mid ++ (place ++ drop at mid) = ap (λ (bytes : List ℕ). take (at - 4) mid ++ (place ++ bytes)) (drop-drop (at - (at - 4)) (at - 4) mid ∙ ap (λ (k : ℕ). drop k mid) all) in
+    let kept : take (at - 4) mid ≡ take (at - 4) old = rw start at c.put_padded.ensures.before in
+    let written : drop at mid ≡ digits ++ drop (at + c.count_digits.result) old = rw start at c.put_padded.ensures.written in
+    let is : place ≡ take 4 (drop (at - 4) old) = cc in
+    let put : put_mid (at - 4) (at - (at - 4)) mid place ≡ take (at - 4) mid ++ (place ++ drop at mid) = rw (drop-drop, all) in
     let held = put_back at (put_mid (at - 4) (at - (at - 4)) mid place) old mid place digits (drop (at + c.count_digits.result) old) c.requires.after (omega (arith, c.requires.within)) kept written is put in
     record {
-      ends = ap (λ (k : ℕ). at + k) c.count_digits.ensures;
-      holds = ap (λ (k : ℕ). take (at + k) (put_mid (at - 4) (at - (at - 4)) mid place)) c.count_digits.ensures ∙ held;
+      ends = cc;
+      holds = cc;
     }

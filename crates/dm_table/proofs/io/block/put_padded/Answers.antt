@@ -1,11 +1,11 @@
-use Rattle.std.proofs.Common.{◌≡◌, ◌+◌, ◌-◌, ◌*◌, ◌/◌, ◌%◌, ◌≤◌, ◌++◌, List, ℕ, length, take, drop, decimal, sym, ap, ◌∙◌, append_assoc, arith, length-append}
+use Rattle.std.proofs.Common.{◌≡◌, ◌+◌, ◌-◌, ◌*◌, ◌/◌, ◌%◌, ◌≤◌, ◌++◌, List, ℕ, length, take, drop, decimal, ap, ◌∙◌, append_assoc, arith, length-append}
 use Rattle.std.proofs.lemmas.List.{take-take}
 use Rattle.dm_table.specs.io.Threes.{three_digits}
 use Rattle.dm_table.proofs.io.DigitLemmas.{decimal_threes, digits_up_to, length_last}
 use Rattle.dm_table.proofs.io.block.put_padded.Goals as goal
 
 shorter : (k n : ℕ) (xs ys : List ℕ) → k ≤ n → take n xs ≡ take n ys → take k xs ≡ take k ys
-shorter k n xs ys within same = sym (take-take k n xs within) ∙ ap (λ (text : List ℕ). take k text) same ∙ take-take k n ys within
+shorter k n xs ys within same = cc (take-take k n xs within, take-take k n ys within)
 
 pub groups-preserved : goal.groups-preserved
 groups-preserved c =
@@ -15,17 +15,14 @@ groups-preserved c =
     let digits = decimal_threes l.left c.groups-test.true l.auto.left-fits.fits in
     let last : l.left - l.left / 1000 * 1000 ≡ l.left % 1000 = omega arith in
     let written : drop (l.to - 3) c.put_up_to.new.block ≡ three ++ drop l.to l.block =
-    c.put_up_to.ensures.written ∙ ap (λ (n : ℕ). three_digits n ++ drop l.to l.block) last in
+    cc in
     let long : length (decimal l.left) ≡ length first + 3 = ap length digits ∙ length-append first three in
     record {
       within = omega (arith, l.invariant.within);
       place = omega (arith, long, l.invariant.place);
       before = shorter (l.to - 3 - 1) (l.to - 4) c.put_up_to.new.block l.block (omega arith) c.put_up_to.ensures.before ∙ shorter (l.to - 3 - 1) (l.to - 1) l.block c.args.block.now (omega arith) l.invariant.before;
       written =
-          ap (λ (text : List ℕ). first ++ text) written
-          ∙ sym (append_assoc first three (drop l.to l.block))
-          ∙ ap (λ (text : List ℕ). text ++ drop l.to l.block) (sym digits)
-          ∙ l.invariant.written;
+          cc (append_assoc first three (drop l.to l.block));
     }
 
 pub returns-clause-before : goal.returns-clause-before
@@ -41,6 +38,4 @@ returns-clause-written c =
     let l = c.groups in
     let few = length_last l.left c.groups-test.false in
     let place : c.args.end - length (decimal c.args.number) ≡ l.to - length (decimal l.left) = omega (arith, few, l.invariant.place) in
-    ap (λ (k : ℕ). drop k c.put_up_to-2.new.block) place
-    ∙ digits_up_to l.left l.to c.put_up_to-2.new.block (drop l.to l.block) c.groups-test.false (omega (arith, l.invariant.place)) c.put_up_to-2.ensures.written
-    ∙ l.invariant.written
+    cc (digits_up_to l.left l.to c.put_up_to-2.new.block (drop l.to l.block) c.groups-test.false (omega (arith, l.invariant.place)) c.put_up_to-2.ensures.written)

@@ -1,4 +1,4 @@
-use Rattle.std.proofs.Common.{refl, ◌≡◌, ◌+◌, ◌-◌, ◌++◌, List, ℕ, drop, take, length, rules, subst, arith}
+use Rattle.std.proofs.Common.{refl, ◌≡◌, ◌+◌, ◌-◌, drop, take, length, rules, arith}
 use Rattle.dm_table.proofs.io.BlockLemmas.{next_part, room_text}
 use Rattle.dm_table.proofs.io.block.put_room.Goals as goal
 
@@ -15,7 +15,7 @@ sixteens-preserved g c =
     let ends : c.put_known-end.result ≡ c.args.at + (c.sixteens.done + 16) = omega (arith, c.put_known-middle.ensures.ends, c.put_known-end.ensures.ends, eight, others) in
     record {
       within = omega (arith, c.sixteens-test.true);
-      put = subst (λ (n : ℕ). take n c.put_known-end.new.block ≡ front ++ take (c.sixteens.done + 16) bytes) ends second;
+      put = rw ends at second;
     }
 
 pub returns-clause-put : goal.returns-clause-put
@@ -29,6 +29,5 @@ returns-clause-put g c =
     let ends : c.put_any-end.result ≡ c.args.at + g.row.ROOM = omega (arith, rest, c.put_any-end.ensures.ends, c.sixteens.invariant.within) in
     record {
       ends = search (rules, c.requires.text);
-      holds = subst (λ (room : List ℕ). take (c.args.at + c.args.len) c.put_any-end.new.block ≡ front ++ take c.args.len room) c.as_slice-bytes.ensures
-          (room_text c.args.at c.put_any-end.result g.row.ROOM c.args.len c.put_any-end.new.block front bytes before ends c.requires.text whole);
+      holds = rw c.as_slice-bytes.ensures at (room_text c.args.at c.put_any-end.result g.row.ROOM c.args.len c.put_any-end.new.block front bytes before ends c.requires.text whole);
     }

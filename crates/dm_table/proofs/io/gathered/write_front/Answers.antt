@@ -12,9 +12,9 @@ rest-preserved g c =
     let few : taken ≤ len - sent = omega (arith, c.in-Ok.ensures.within, length-take (len - sent) (drop sent block)) in
     record {
       within = omega (arith, few);
-      written = sent_more start.written old.written new.written block sent len taken few c.rest.invariant.written (ap (λ (p : OutputPast). p.written) past);
-      waiting = sent_more start.waiting old.waiting new.waiting block sent len taken few c.rest.invariant.waiting (ap (λ (p : OutputPast). p.waiting) past);
-      faults = ap (λ (p : OutputPast). p.faults) past ∙ add-zero _ ∙ c.rest.invariant.faults;
+      written = sent_more start.written old.written new.written block sent len taken few c.rest.invariant.written (rw past);
+      waiting = sent_more start.waiting old.waiting new.waiting block sent len taken few c.rest.invariant.waiting (rw past);
+      faults = rw (past, add-zero) c.rest.invariant.faults;
     }
 
 pub returns-in-Err-clause-grows : goal.returns-in-Err-clause-grows

@@ -1,4 +1,4 @@
-use Rattle.std.proofs.Common.{◌≡◌, ◌+◌, ◌-◌, [], suc, List, ℕ, length, map, take, drop, sym, ap, ◌∙◌, refl, arith}
+use Rattle.std.proofs.Common.{◌≡◌, ◌+◌, ◌-◌, [], suc, length, map, take, drop, sym, ap, ◌∙◌, refl, arith}
 use Rattle.dm_table.specs.words.Fields.{texts, lines_of, rest_of}
 use Rattle.dm_table.specs.load.Reading.{with_rows}
 use Rattle.dm_table.specs.load.RowFaults.{no_faults, noted_rows, row_fault}
@@ -19,7 +19,7 @@ loop-end-preserved g c =
     let cut = texts c.deref.result.now in
     let a = line_found text after c.in-Some.end c.in-Some.ensures c.split_at.ensures.back in
     let next : n + 1 ≡ suc n = omega arith in
-    let len : length (lines_of text) ≡ suc (length (lines_of more)) = ap (λ (lines : List (List ℕ)). length lines) a.0 in
+    let len : length (lines_of text) ≡ suc (length (lines_of more)) = rw a.0 in
     let first = ap (map form.row_of) a.0 in
     let is : cut ≡ form.row_of line = ap texts c.deref.ensures.value ∙ c.in_ok-cut_line.ensures ∙ ap form.row_of c.split_at.ensures.front in
     record {
@@ -40,7 +40,7 @@ returns-clause-faults g c =
     let fault = row_fault form.is_row form.has_values form.has_names in
     let none = no_line_found c.loop-end.rest.now c.in_default.ensures in
     let faults : c.loop-end.reading.faults ≡ noted_rows c.args.part fault no_faults 1 (map form.row_of (lines_of c.args.text.now)) = rw none.0 at c.loop-end.invariant.faults in
-    let len : length (lines_of c.loop-end.rest.now) ≡ 0 = ap (λ (lines : List (List ℕ)). length lines) none.0 in
+    let len : length (lines_of c.loop-end.rest.now) ≡ 0 = cc in
     let number : c.loop-end.number ≡ length (lines_of c.args.text.now) + 1 = omega (arith, len, c.loop-end.invariant.number) in
     let rest : c.loop-end.rest.now ≡ rest_of c.args.text.now = sym none.1 ∙ c.loop-end.invariant.rest in
     c.note_rest.ensures ∙ rw (faults, number, rest) refl

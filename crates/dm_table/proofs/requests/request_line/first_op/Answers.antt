@@ -1,5 +1,5 @@
 -- A line of that form begins with an operation and its space.
-use Rattle.std.proofs.Common.{List, ℕ, get_or, drop, length, ap, arith}
+use Rattle.std.proofs.Common.{drop, length, ap, arith}
 use Rattle.dm_table.proofs.requests.RequestLemmas.{no_op, op_first}
 use Rattle.dm_table.proofs.requests.request_line.first_op.Goals as goal
 
@@ -8,7 +8,7 @@ returns-then-line-lt2-clause-other c = no_op c.args.line.now (λ op rest e. absu
 
 pub returns-in_err-op-clause-other : goal.returns-in_err-op-clause-other
 returns-in_err-op-clause-other c =
-    rw c.from_residual.ensures (no_op c.args.line.now (λ op rest e. c.in_err-op.ensures.other op (ap (λ (line : List ℕ). get_or line 0 0) e)))
+    rw c.from_residual.ensures (no_op c.args.line.now (λ op rest e. c.in_err-op.ensures.other op (cc)))
 
 pub returns-in_err-rest-clause-other : goal.returns-in_err-rest-clause-other
 returns-in_err-rest-clause-other c =

@@ -1,6 +1,6 @@
 -- The first field and what follows its space are the two.
 use Rattle.std.proofs.Common.{◌≡◌, sym, ap, ◌∙◌, []}
-use Rattle.std.proofs.Common.{List, ℕ, Some, ◌∷◌}
+use Rattle.std.proofs.Common.{Some, ◌∷◌}
 use Rattle.std.specs.List.{join_with_byte}
 use Rattle.dm_table.specs.words.Fields.{fields}
 use Rattle.dm_table.specs.words.Number.{number_of}
@@ -27,7 +27,7 @@ returns-clause-cut c =
     record {
       start = first.0;
       len = rest;
-      two = first.1 ∙ ap (λ (fs : List (List ℕ)). first.0 ∷ fs) (number_whole rest c.in_ok-len.len last);
+      two = cc (number_whole rest c.in_ok-len.len last);
       first = first.2;
       last = last;
     }

@@ -1,10 +1,6 @@
 -- A refusal by the first check is that of all; else the parts of the text are read.
-use Rattle.std.proofs.Common.{List, Result, Err, ap, subst}
-use Rattle.dm_table.specs.declared.tables.table.DeviceSpec.{DeviceSpec}
-use Rattle.dm_table.specs.declared.load.place.Part.TheVariants.{Source}
-use Rattle.dm_table.specs.declared.load.load_fault.LoadFault.{LoadFault}
+use Rattle.std.proofs.Common.{Err}
 use Rattle.dm_table.specs.words.Fields.{texts}
-use Rattle.dm_table.specs.load.LoadFault.{Answers}
 use Rattle.dm_table.proofs.tables.ConciseDescribed.{read_as_promised, read_concise-parts, read_concise-refused}
 use Rattle.dm_table.proofs.tables.concise_text.parse_concise.Goals as goal
 
@@ -15,8 +11,8 @@ returns-in-Err c =
 pub returns-in-Ok : goal.returns-in-Ok
 returns-in-Ok c =
     let same = read_concise-parts c.args.text.now c.without_newline-text.result.now (texts c.deref.result.now) c.in_default.field-0 c.without_newline-text.ensures (rw c.deref.ensures.value c.in-Ok.ensures) c.in_default.ensures in
-    read_as_promised c.args.text.now c.read_parts.result (subst (λ (x : Result (List DeviceSpec) LoadFault). Answers Source (λ v. v.items) c.read_parts.result x) same c.read_parts.ensures)
+    read_as_promised c.args.text.now c.read_parts.result (rw same at c.read_parts.ensures)
 
 pub returns-in-Err-parts_of : goal.returns-in-Err-parts_of
 returns-in-Err-parts_of c =
-    read_as_promised c.args.text.now (Err c.memory.result) (λ memory. c.memory.ensures, λ other. absurd (other (ap (λ (f : LoadFault). f.kind) c.memory.ensures)))
+    read_as_promised c.args.text.now (Err c.memory.result) (λ memory. c.memory.ensures, λ other. absurd (other (cc)))

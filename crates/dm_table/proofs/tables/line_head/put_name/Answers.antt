@@ -1,4 +1,4 @@
-use Rattle.std.proofs.Common.{◌≤◌, ◌++◌, ℕ, List, length, take, ap, ◌∙◌, append_assoc, arith}
+use Rattle.std.proofs.Common.{◌≤◌, length, take, ap, ◌∙◌, append_assoc, arith}
 use Rattle.dm_table.specs.words.Name.{mapper}
 use Rattle.dm_table.proofs.words.ByteLemmas.{device_name_len}
 use Rattle.dm_table.proofs.tables.line_head.put_name.Goals as goal
@@ -12,7 +12,7 @@ returns-in-Device c =
     rw c.in-Device.is (record {
       put = record {
         ends = omega (arith, ap length known, c.put_bytes-at.ensures.ends, c.put_bytes.ensures.ends);
-        holds = c.put_bytes.ensures.holds ∙ ap (λ (t : List ℕ). t ++ bytes) c.put_bytes-at.ensures.holds ∙ append_assoc before mapper bytes ∙ ap (λ (name : List ℕ). before ++ (mapper ++ name)) known;
+        holds = cc (append_assoc before mapper bytes);
       };
       few = omega (arith, short, c.put_bytes-at.ensures.ends, c.put_bytes.ensures.ends);
     })

@@ -1,17 +1,16 @@
-use Rattle.std.proofs.Common.{◌≡◌, ℕ, ◌%◌, ◌^◌, ◌<◌, cond, not, List, length, map, take, replicate, sym, ap, subst, ◌∙◌, arith, w8, pos_of_ne-zero}
+use Rattle.std.proofs.Common.{◌≡◌, ℕ, ◌%◌, ◌^◌, ◌<◌, cond, not, List, length, map, replicate, ap, ◌∙◌, arith, w8, pos_of_ne-zero}
 use Rattle.std.specs.Prelude.{nat_lt}
 use Rattle.std.specs.List.{prefix_len}
 use Rattle.std.proofs.lemmas.List.{length-map}
 use Rattle.std.proofs.lemmas.Simd.{mask_l-mod, tops_compared, trailing_mask_l, zip2_splat_left}
 use lib.Count.{count_trailing_zeros}
-use lib.Lanes.{Each1, mask_l, top, zip2}
+use lib.Lanes.{mask_l, top, zip2}
 use Rattle.dm_table.proofs.words.LaneDigits.{front_each, some_other}
 use Rattle.dm_table.proofs.words.front_digits.digits_ahead.Goals as goal
 
 others_are : (digits : List ℕ) → length digits ≡ 16 → mask_l (map (top 7) (zip2 (λ a b. cond (nat_lt a b) 255 0) (replicate 16 9) digits)) % 2 ^ 64 ≡ mask_l (map (λ x. nat_lt 9 x) digits)
 others_are digits long =
-    ap (λ bits. mask_l bits % 2 ^ 64) (tops_compared w8 nat_lt (replicate 16 9) digits ∙ zip2_splat_left nat_lt 9 16 digits long)
-    ∙ mask_l-mod (map (λ x. nat_lt 9 x) digits) 64 (omega (arith, length-map digits (λ x. nat_lt 9 x), long))
+    cc (tops_compared w8 nat_lt (replicate 16 9) digits, zip2_splat_left nat_lt 9 16 digits long, mask_l-mod (map (λ x. nat_lt 9 x) digits) 64 (omega (arith, length-map digits (λ x. nat_lt 9 x), long)))
 
 -- how many come before the first other one, and that there is one
 ahead_are : (digits : List ℕ) → length digits ≡ 16 → (mask_l (map (top 7) (zip2 (λ a b. cond (nat_lt a b) 255 0) (replicate 16 9) digits)) % 2 ^ 64 ≡ 0 → ⊥) → (count_trailing_zeros 64 (mask_l (map (top 7) (zip2 (λ a b. cond (nat_lt a b) 255 0) (replicate 16 9) digits)) % 2 ^ 64) ≡ prefix_len (λ x. not (nat_lt 9 x)) digits) × (prefix_len (λ x. not (nat_lt 9 x)) digits < 16)
@@ -25,9 +24,9 @@ ahead_are digits long others =
 pub returns-clause-within : goal.returns-clause-within
 returns-clause-within c =
     let ahead = ahead_are c.args.digits c.requires c.if-others-eq0.false in
-    subst (λ (n : ℕ). n < 16) (sym ahead.0) ahead.1
+    rw ahead.0 ahead.1
 
 pub returns-clause-digits : goal.returns-clause-digits
 returns-clause-digits c =
     let ahead = ahead_are c.args.digits c.requires c.if-others-eq0.false in
-    subst (λ (n : ℕ). Each1 (λ digit. digit < 10) (take n c.args.digits)) (sym ahead.0) (front_each c.args.digits)
+    rw ahead.0 (front_each c.args.digits)

@@ -1,9 +1,8 @@
-use Rattle.std.proofs.Common.{◌≡◌, ℕ, zero, suc, ◌+◌, ◌-◌, ◌*◌, ◌^◌, ◌<◌, ◌++◌, List, get_or, length, take, drop, refl, sym, ap, subst, ◌∙◌, arith, length-drop, length-take-le}
+use Rattle.std.proofs.Common.{◌≡◌, ℕ, zero, suc, ◌+◌, ◌-◌, ◌*◌, ◌^◌, ◌<◌, ◌++◌, List, get_or, length, take, drop, refl, sym, arith, length-drop, length-take-le}
 use Rattle.std.specs.Int.Digits.{number_from_digits}
 use Rattle.std.proofs.Math.Seq.{take-add}
 use Rattle.std.proofs.lemmas.Int.Digits.{number_after_append}
 use Rattle.std.proofs.lemmas.List.{take-take}
-use lib.Lanes.{Each1}
 use Rattle.dm_table.specs.declared.words.front_digits.TheConstants.{POWERS}
 use Rattle.dm_table.proofs.words.LaneDigits.{each_part, number_after}
 use Rattle.dm_table.proofs.words.front_digits.number_ahead.Goals as goal
@@ -21,31 +20,31 @@ powers (suc (suc (suc (suc (suc (suc (suc (suc k)))))))) few = absurd (omega ari
 
 -- some digits are the first eight of them and the others
 in_two : (len : ℕ) (digits : List ℕ) → 8 < len → take len digits ≡ take 8 digits ++ take (len - 8) (drop 8 digits)
-in_two len digits more = let all : 8 + (len - 8) ≡ len = omega arith in ap (λ (k : ℕ). take k digits) (sym all) ∙ take-add 8 (len - 8) digits
+in_two len digits more = let all : 8 + (len - 8) ≡ len = omega arith in rw (← take-add, all)
 
 pub number_in_word-requires-clause-digits : goal.number_in_word-requires-clause-digits
 number_in_word-requires-clause-digits c =
     let first : c.as_room-first.result.now ≡ take 8 c.args.digits.now = c.as_room-first.ensures in
-    subst (λ (xs : List ℕ). Each1 (λ digit. digit < 10) xs) (sym (ap (λ (xs : List ℕ). take c.args.len xs) first ∙ take-take c.args.len 8 c.args.digits.now c.if-len-le8.true)) c.requires.digits
+    rw (first, take-take c.args.len 8 c.args.digits.now c.if-len-le8.true) c.requires.digits
 
 pub returns-then-len-le8 : goal.returns-then-len-le8
 returns-then-len-le8 c =
     let first : c.as_room-first.result.now ≡ take 8 c.args.digits.now = c.as_room-first.ensures in
-    c.number_in_word.ensures.number ∙ ap (number_from_digits 10) (ap (λ (xs : List ℕ). take c.args.len xs) first ∙ take-take c.args.len 8 c.args.digits.now c.if-len-le8.true)
+    cc (take-take c.args.len 8 c.args.digits.now c.if-len-le8.true)
 
 pub number_in_word-requires-2-clause-digits : goal.number_in_word-requires-2-clause-digits
 number_in_word-requires-2-clause-digits c =
     let digits = c.args.digits.now in
     let first : c.as_room-first.result.now ≡ take 8 digits = c.as_room-first.ensures in
-    let parts = each_part (take 8 digits) (take (c.args.len - 8) (drop 8 digits)) (subst (λ (xs : List ℕ). Each1 (λ digit. digit < 10) xs) (in_two c.args.len digits c.if-len-le8.false) c.requires.digits) in
-    subst (λ (xs : List ℕ). Each1 (λ digit. digit < 10) xs) (sym (ap (λ (xs : List ℕ). take 8 xs) first ∙ take-take 8 8 digits (omega arith))) parts.0
+    let parts = each_part (take 8 digits) (take (c.args.len - 8) (drop 8 digits)) (rw (← in_two c.args.len digits c.if-len-le8.false) c.requires.digits) in
+    rw (first, take-take 8 8 digits (omega arith)) parts.0
 
 pub number_in_word-requires-3-clause-digits : goal.number_in_word-requires-3-clause-digits
 number_in_word-requires-3-clause-digits c =
     let digits = c.args.digits.now in
     let last : c.as_room-last.result.now ≡ take 8 (drop 8 digits) = c.as_room-last.ensures in
-    let parts = each_part (take 8 digits) (take (c.args.len - 8) (drop 8 digits)) (subst (λ (xs : List ℕ). Each1 (λ digit. digit < 10) xs) (in_two c.args.len digits c.if-len-le8.false) c.requires.digits) in
-    subst (λ (xs : List ℕ). Each1 (λ digit. digit < 10) xs) (sym (ap (λ (xs : List ℕ). take (c.args.len - 8) xs) last ∙ take-take (c.args.len - 8) 8 (drop 8 digits) (omega (arith, c.requires.within)))) parts.1
+    let parts = each_part (take 8 digits) (take (c.args.len - 8) (drop 8 digits)) (rw (← in_two c.args.len digits c.if-len-le8.false) c.requires.digits) in
+    rw (last, take-take (c.args.len - 8) 8 (drop 8 digits) (omega (arith, c.requires.within))) parts.1
 
 pub returns : goal.returns
 returns c =
@@ -56,12 +55,9 @@ returns c =
     let first : c.as_room-first.result.now ≡ front = c.as_room-first.ensures in
     let last : c.as_room-last.result.now ≡ take 8 (drop 8 digits) = c.as_room-last.ensures in
     let long : length rest ≡ more = length-take-le more (drop 8 digits) (omega (arith, length-drop 8 digits, c.told-digits, c.requires.within)) in
-    let one : c.number_in_word-2.result ≡ number_from_digits 10 front = c.number_in_word-2.ensures.number ∙ ap (number_from_digits 10) (ap (λ (xs : List ℕ). take 8 xs) first ∙ take-take 8 8 digits (omega arith)) in
-    let other : c.number_in_word-3.result ≡ number_from_digits 10 rest = c.number_in_word-3.ensures.number ∙ ap (number_from_digits 10) (ap (λ (xs : List ℕ). take more xs) last ∙ take-take more 8 (drop 8 digits) (omega (arith, c.requires.within))) in
+    let one : c.number_in_word-2.result ≡ number_from_digits 10 front = cc (take-take 8 8 digits (omega arith)) in
+    let other : c.number_in_word-3.result ≡ number_from_digits 10 rest = cc (take-take more 8 (drop 8 digits) (omega (arith, c.requires.within))) in
     let power = powers more (omega (arith, c.requires.within)) in
     let whole : number_from_digits 10 (take c.args.len digits) ≡ number_from_digits 10 front * 10 ^ more + number_from_digits 10 rest =
-    ap (number_from_digits 10) (in_two c.args.len digits c.if-len-le8.false)
-    ∙ number_after_append 10 0 front rest
-    ∙ number_after (number_from_digits 10 front) rest
-    ∙ ap (λ (k : ℕ). number_from_digits 10 front * 10 ^ k + number_from_digits 10 rest) long in
+    cc (in_two c.args.len digits c.if-len-le8.false, number_after_append 10 0 front rest, number_after (number_from_digits 10 front) rest) in
     rw (one, other, power) (sym whole)

@@ -1,19 +1,18 @@
-use Rattle.std.proofs.Common.{◌≡◌, ℕ, ◌-◌, ◌*◌, ◌%◌, ◌^◌, ◌<◌, length, take, sym, ap, subst, ◌∙◌, arith, length-take-le}
+use Rattle.std.proofs.Common.{◌≡◌, ℕ, ◌-◌, ◌*◌, ◌%◌, ◌^◌, ◌<◌, length, take, arith, length-take-le}
 use Rattle.std.specs.Int.Digits.{number_from_digits}
 use Rattle.std.proofs.lemmas.Int.Digits.{number_lt}
 use Rattle.dm_table.proofs.words.LaneDigits.{each_below}
-use Rattle.dm_table.proofs.words.WordLemmas.{front_value, pairs_of, pairs_value}
+use Rattle.dm_table.proofs.words.WordLemmas.{front_value}
 use Rattle.dm_table.proofs.words.front_digits.number_in_word.Goals as goal
 
 pub returns-clause-number : goal.returns-clause-number
 returns-clause-number c =
     let moved = λ (word : ℕ). word * 2 ^ (64 - 8 * c.args.len) % 2 ^ 64 in
-    ap (λ (word : ℕ). pairs_value (pairs_of (moved word))) c.from_le_bytes.ensures
-    ∙ front_value c.args.len c.args.digits.now c.told-digits c.fits-digits c.requires.some c.requires.within c.requires.digits
+    cc (front_value c.args.len c.args.digits.now c.told-digits c.fits-digits c.requires.some c.requires.within c.requires.digits)
 
 pub returns-clause-below : goal.returns-clause-below
 returns-clause-below c =
     let digits = take c.args.len c.args.digits.now in
     let long : length digits ≡ c.args.len = length-take-le c.args.len c.args.digits.now (omega (arith, c.told-digits)) in
-    let below : number_from_digits 10 digits < 10 ^ c.args.len = subst (λ (k : ℕ). number_from_digits 10 digits < 10 ^ k) long (number_lt 10 digits (each_below digits c.requires.digits)) in
-    subst (λ (n : ℕ). n < 10 ^ c.args.len) (sym (returns-clause-number c)) below
+    let below : number_from_digits 10 digits < 10 ^ c.args.len = rw long at (number_lt 10 digits (each_below digits c.requires.digits)) in
+    rw returns-clause-number below

@@ -1,4 +1,4 @@
-use Rattle.std.proofs.Common.{Some, ◌≡◌, ◌≢◌, ℕ, zero, suc, ◌+◌, ◌%◌, ◌<◌, ◌≤◌, inl, inr, List, [], ◌∷◌, get_or, length, map, take, sym, ap, subst, ◌∙◌, arith, length-take-le}
+use Rattle.std.proofs.Common.{Some, ◌≡◌, ◌≢◌, ℕ, zero, suc, ◌+◌, ◌%◌, ◌<◌, ◌≤◌, inl, inr, List, [], ◌∷◌, get_or, length, map, take, sym, ap, ◌∙◌, arith, length-take-le}
 use Rattle.std.specs.Int.Digits.{number_from_digits}
 use Rattle.std.proofs.lemmas.Grind.{elements}
 use Rattle.std.proofs.lemmas.Int.Digits.{digits_value_is}
@@ -19,13 +19,13 @@ bytes_in_front (suc n) (byte ∷ text) all (suc i) = bytes_in_front n text (λ k
 number_of-lanes : (text front lanes : List ℕ) (len value : ℕ) → front ≡ take 16 text → lanes ≡ map (λ byte. (byte + 208) % 256) front → ((i : ℕ) → get_or text i 0 < 256) → 16 ≤ length text → 1 ≤ len → len < 16 → Each1 (λ digit. digit < 10) (take len lanes) → value ≡ number_from_digits 10 (take len lanes) → (1 < len → get_or front 0 0 ≢ 48) → number_of (take len text) ≡ Some value
 number_of-lanes text front lanes len value front_is lanes_are within room some few digits is lead =
     let less = λ (byte : ℕ). (byte + 208) % 256 in
-    let same : take len front ≡ take len text = ap (λ (xs : List ℕ). take len xs) front_is ∙ take-take len 16 text (omega arith) in
-    let bytes : take len lanes ≡ map less (take len text) = ap (λ (xs : List ℕ). take len xs) lanes_are ∙ take-map less len front ∙ ap (λ (xs : List ℕ). map less xs) same in
-    let all = digits_from_lanes (take len text) (bytes_in_front len text within) (subst (λ (xs : List ℕ). Each1 (λ digit. digit < 10) xs) bytes digits) in
+    let same : take len front ≡ take len text = cc (take-take len 16 text (omega arith)) in
+    let bytes : take len lanes ≡ map less (take len text) = cc (take-map less len front) in
+    let all = digits_from_lanes (take len text) (bytes_in_front len text within) (rw bytes at digits) in
     let long : length (take len text) ≡ len = length-take-le len text (omega arith) in
     let first : get_or (take len text) 0 0 ≡ get_or text 0 0 = grind (arith, elements) in
     let second : get_or (take 16 text) 0 0 ≡ get_or text 0 0 = grind (arith, elements) in
-    number_of-digits (take len text) (omega arith) (omega arith) (λ more zero_first. lead (omega (arith, long, more)) (ap (λ (xs : List ℕ). get_or xs 0 0) front_is ∙ second ∙ sym first ∙ zero_first)) all
+    number_of-digits (take len text) (omega arith) (omega arith) (λ more zero_first. lead (omega (arith, long, more)) (cc)) all
     ∙ ap Some (sym (is ∙ ap (number_from_digits 10) (bytes ∙ values_from_lanes (take len text) all) ∙ sym (digits_value_is 10 (take len text))))
 
 pub returns-clause-number : goal.returns-clause-number

@@ -1,5 +1,5 @@
 -- Texts with the same first bytes and the same last bytes, of which there are enough for all.
-use Rattle.std.proofs.Common.{◌≡◌, ◌-◌, ◌≤◌, ◌++◌, ℕ, Bool, true, false, ◌&&◌, List, length, take, drop, sym, ap, ◌∙◌, arith}
+use Rattle.std.proofs.Common.{◌≡◌, ◌-◌, ◌≤◌, ℕ, Bool, true, false, ◌&&◌, List, length, take, drop, sym, ap, ◌∙◌, arith}
 use Rattle.std.specs.Bool.{OnTrue}
 use Rattle.std.proofs.lemmas.List.{take-take, take-append-drop, take_rest}
 use Rattle.dm_table.proofs.words.same_bytes.ends_same.Goals as goal
@@ -8,7 +8,7 @@ use Rattle.dm_table.proofs.words.same_bytes.ends_same.Goals as goal
 joined : (left right : List ℕ) (len from : ℕ) → from ≤ len → take len left ≡ take len right → drop from left ≡ drop from right → left ≡ right
 joined left right len from meet fronts ends =
     let front : take from left ≡ take from right = sym (take-take from len left meet) ∙ ap (take from) fronts ∙ take-take from len right meet in
-    sym (take-append-drop from left) ∙ ap (λ (text : List ℕ). text ++ drop from left) front ∙ ap (λ (text : List ℕ). take from right ++ text) ends ∙ take-append-drop from right
+    cc (take-append-drop from left, take-append-drop from right)
 
 both : {A B C : Type 0} (a b : Bool) → OnTrue a A → OnTrue b B → (A → B → C) → OnTrue (a && b) C
 both true true x y from = from x y

@@ -1,5 +1,3 @@
-use Rattle.std.proofs.Common.{◌∙◌, ap}
-use Rattle.dm_table.specs.io.Gathered.{Gathering, past_of}
 use Rattle.dm_table.proofs.io.BlockLemmas.{passed_on}
 use Rattle.dm_table.specs.laws.Progress.{same_output}
 use Rattle.dm_table.proofs.io.gathered.Gathered.pass_on.Goals as goal
@@ -9,8 +7,6 @@ returns-clause-past g c =
     let inside = c.self.inside in let sent = c.write_front-sent in
     let old = g.W.Output.past inside.output in let new = g.W.Output.past sent.new.output in
     same_output _ _
-    (passed_on old.written new.written inside.block c.move_to_front.new.block sent.result inside.len sent.ensures.within sent.ensures.bytes c.move_to_front.ensures
-    ∙ ap (λ (h : Gathering). (past_of h).written) c.self.view_is)
-    (passed_on old.waiting new.waiting inside.block c.move_to_front.new.block sent.result inside.len sent.ensures.within sent.ensures.waiting c.move_to_front.ensures
-    ∙ ap (λ (h : Gathering). (past_of h).waiting) c.self.view_is)
-    (ap (λ (h : Gathering). h.faults) c.self.view_is) (ap (λ (h : Gathering). h.flushes) c.self.view_is)
+    (rw (← c.self.view_is) (passed_on old.written new.written inside.block c.move_to_front.new.block sent.result inside.len sent.ensures.within sent.ensures.bytes c.move_to_front.ensures))
+    (rw (← c.self.view_is) (passed_on old.waiting new.waiting inside.block c.move_to_front.new.block sent.result inside.len sent.ensures.within sent.ensures.waiting c.move_to_front.ensures))
+    (cc) (cc)

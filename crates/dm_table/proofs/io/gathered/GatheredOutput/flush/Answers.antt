@@ -24,9 +24,9 @@ returns-in-Err-clause-minds g c =
     let minds = c.empty.ensures.minds in
     let after = (g.W.Output.past c.flush.new.self).faults in
     let more : after ≡ c.empty.new.self.behind.faults + 1 = ap (λ (past : OutputPast). past.faults) c.in-Err.ensures ∙ ap (λ (g : Gathering). g.behind.faults + 1) c.self-2.view_is in
-    let first = first_fault old c.empty.new.self _ _ after (ap (λ (g : Gathering). g.broken) c.self.view_is) (ap (λ (g : Gathering). g.behind.faults) c.self.view_is) minds.broken minds.grows (not_true _ c.in_ok-empty.ensures.fails.1) more in
+    let first = first_fault old c.empty.new.self _ _ after (cc) (rw (← c.self.view_is)) minds.broken minds.grows (not_true _ c.in_ok-empty.ensures.fails.1) more in
     record {
       grows = omega (arith, first.1);
-      broken = sym (ap (λ (b : Bool). b || nat_lt old.behind.faults after) first.0 ∙ lt-ltb old.behind.faults after first.1);
+      broken = rw (lt-ltb old.behind.faults after first.1, first.0);
       left_alone = λ broken. absurd (cc (first.0, broken));
     }

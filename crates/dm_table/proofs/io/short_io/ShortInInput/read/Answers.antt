@@ -1,4 +1,4 @@
-use Rattle.std.proofs.Common.{rules, ◌≡◌, ◌<◌, ◌+◌, ◌++◌, ℕ, zero, suc, Bool, ◌&&◌, nat_lt, if◌then◌else◌, Ok, refl, add-zero, List, length, take, drop, sym, ap, ◌∙◌, arith, length-append, length-drop, length-take}
+use Rattle.std.proofs.Common.{rules, ◌≡◌, ◌<◌, ◌++◌, ℕ, zero, suc, Ok, refl, add-zero, List, length, take, drop, sym, ap, ◌∙◌, arith, length-append, length-drop, length-take}
 use Rattle.std.proofs.Math.Dec.{eqb-suc-zero}
 use Rattle.std.proofs.lemmas.Bool.{eqb-false}
 use Rattle.dm_table.specs.io.DeviceIo.{end_of}
@@ -47,7 +47,7 @@ moves c none roomy =
 no_end : (n room : ℕ) → (n ≡ 0 → 0 < room → ⊥) → end_of {E = InFault} (Ok n) room ≡ 0
 no_end zero zero moving = refl
 no_end zero (suc room) moving = absurd (moving refl (omega arith))
-no_end (suc n) room moving = ap (λ (b : Bool). if b && nat_lt 0 room then 1 else 0) (eqb-suc-zero n)
+no_end (suc n) room moving = rw eqb-suc-zero
 
 pub returns-clause-past : goal.returns-clause-past
 returns-clause-past c =
@@ -55,15 +55,15 @@ returns-clause-past c =
     let given = filled c in
     let old = c.args.self.now.past in
     same_input _ _
-    (handed_grows (bytes c) _ (at c) n (given_is c) ∙ ap (λ (s : Supply). s.past.handed ++ take n given) c.self.view_is)
-    (ap (λ (s : Supply). s.past.faults) c.self.view_is ∙ sym (add-zero old.faults))
-    (ap (λ (s : Supply). s.past.ends) c.self.view_is ∙ sym (add-zero old.ends) ∙ ap (λ (e : ℕ). old.ends + e) (sym (no_end n (length given) (moves c))))
+    (rw (← c.self.view_is) (handed_grows (bytes c) _ (at c) n (given_is c)))
+    (rw (add-zero, ← c.self.view_is))
+    (rw (no_end n (length given) (moves c), add-zero old.ends, ← c.self.view_is))
 
 pub returns-clause-exact : goal.returns-clause-exact
 returns-clause-exact c = record {
   fault = search rules;
   count = count_is c;
   end = λ zero roomy. absurd (moves c zero roomy);
-  left = ap (λ (s : Supply). s.left) (sym c.self.view_is) ∙ left_shrinks (bytes c) _ (at c) c.min-n.result (given_is c);
-  plan = (ap (λ (s : Supply). s.step) c.self.view_is, ap (λ (s : Supply). s.fails) c.self.view_is);
+  left = cc (left_shrinks (bytes c) _ (at c) c.min-n.result (given_is c));
+  plan = (cc, cc);
 }

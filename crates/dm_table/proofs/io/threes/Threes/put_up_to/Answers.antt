@@ -1,7 +1,6 @@
-use Rattle.std.proofs.Common.{◌≡◌, ℕ, ◌+◌, ◌-◌, ◌++◌, List, ◌∷◌, length, take, drop, ap, ◌∙◌, arith, length-take-le}
+use Rattle.std.proofs.Common.{◌≡◌, ◌+◌, ◌-◌, ◌∷◌, length, take, ◌∙◌, arith, length-take-le}
 use Rattle.std.proofs.Math.Seq.{drop-append-add}
 use Rattle.std.proofs.lemmas.List.{drop-drop}
-use borrow.Rule.Slice.PartMut.{put_mid}
 use Rattle.dm_table.specs.io.Threes.{three_digits}
 use Rattle.dm_table.proofs.io.threes.Threes.put_up_to.Goals as goal
 
@@ -14,7 +13,4 @@ returns-clause-written c =
     let front : length (take at old) ≡ at = length-take-le at old (omega (arith, c.requires.within)) in
     let from : c.args.end - 3 ≡ length (take at old) + 1 = omega (arith, front, c.requires.after) in
     let is : c.set_room.new.place ≡ 48 ∷ three_digits c.args.three = c.set_room.ensures ∙ c.args.self.now.made c.args.three c.requires.short in
-    ap (λ (k : ℕ). drop k (put_mid at size old c.set_room.new.place)) from
-    ∙ drop-append-add (take at old) (c.set_room.new.place ++ drop size (drop at old)) 1
-    ∙ ap (λ (room : List ℕ). drop 1 (room ++ drop size (drop at old))) is
-    ∙ ap (λ (rest : List ℕ). three_digits c.args.three ++ rest) (drop-drop size at old ∙ ap (λ (k : ℕ). drop k old) all)
+    rw (from, drop-append-add, is, drop-drop, all)

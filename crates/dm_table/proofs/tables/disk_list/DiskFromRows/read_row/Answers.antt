@@ -1,5 +1,3 @@
-use Rattle.std.proofs.Common.{◌++◌, [], sym, ap, ◌∙◌}
-use Rattle.std.specs.List.{cons_option}
 use Rattle.std.proofs.lemmas.Result.{err_from_is_err_and}
 use Rattle.dm_table.specs.words.Fields.{texts}
 use Rattle.dm_table.proofs.tables.DiskLemmas.{disk_read, disk_refused}
@@ -12,7 +10,7 @@ returns-in_err-read_disk-clause-fault c =
 
 pub returns-clause-values : goal.returns-clause-values
 returns-clause-values c =
-    c.in_ok-push.ensures.items ∙ ap (λ said. c.args.disks.now.items ++ cons_option said []) (sym (disk_read c.args.number (texts c.args.row.now) _ c.in_ok-read_disk.ensures).1)
+    rw (disk_read c.args.number (texts c.args.row.now) _ c.in_ok-read_disk.ensures).1 c.in_ok-push.ensures.items
 
 pub returns-clause-fault : goal.returns-clause-fault
 returns-clause-fault c = (disk_read c.args.number (texts c.args.row.now) _ c.in_ok-read_disk.ensures).0
