@@ -62,4 +62,4 @@ put_back at new old mid before digits rest after within kept written is put =
     let whole : new ≡ take at old ++ (digits ++ rest) =
     rw (put, kept, written, ← append_assoc, front) in
     let long : length (take at old) ≡ at = omega (arith, length-take at old) in
-    cc (take-append-add (take at old) (digits ++ rest) (length digits), take-append_seam digits rest)
+    cc (take-append-add (take at old) (digits ++ rest) (length digits), take-append_seam _ _)

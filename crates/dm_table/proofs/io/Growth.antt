@@ -49,7 +49,7 @@ rest_step bytes rest n within few is =
 pub write_step : (old mid new bytes rest : List ℕ) (n : ℕ) → length rest ≤ length bytes → n ≤ length rest → rest ≡ drop (before bytes rest) bytes → mid ≡ old ++ take (before bytes rest) bytes → new ≡ mid ++ take n rest → new ≡ old ++ take (before bytes (rest_after rest n)) bytes
 write_step old mid new bytes rest n within few is e f =
     let at = before bytes rest in
-    rw (before_rest_after bytes rest n within few, take-add at n bytes) (rw (← append_assoc, ← e, ← is) f)
+    rw (before_rest_after, take-add, ← append_assoc, ← e, ← is) f
 
 -- how far some bytes are written: those before a rest of them, and nothing failed
 abbrev pub IsSent : (old new : OutputPast) (bytes rest : List ℕ) → Type 0
@@ -99,7 +99,7 @@ sent_whole old new bytes (byte ∷ more) so_far none = absurd (omega (arith, non
 pub sent_cut : {E : Type 0} (old mid new : OutputPast) (fault : E) (bytes rest : List ℕ) → IsSent old mid bytes rest → 0 < length rest → new ≡ after_write mid (Err fault) rest → Wrote old new (Err fault) bytes
 sent_cut old mid new fault bytes rest so_far some is =
     let at = before bytes rest in
-    let more = ap (λ (past : OutputPast). past.written) is ∙ append-nil _ ∙ so_far.written in
+    let more : new.written ≡ old.written ++ take at bytes = rw (is, append-nil) so_far.written in
     record {
       moved =
           sent_moved old new (take at bytes) 1 more (cc (append-nil _))
@@ -112,7 +112,7 @@ sent_cut old mid new fault bytes rest so_far some is =
 pub wrote_nothing : {E : Type 0} (old new : OutputPast) (fault : E) (text : List ℕ) → 0 < length text → new ≡ with_fault {T = Unit {0}} old (Err fault) → Wrote old new (Err fault) text
 wrote_nothing old new fault [] some is = absurd (omega (arith, some))
 wrote_nothing old new fault (byte ∷ rest) some is =
-    let more = ap (λ (past : OutputPast). past.written) is ∙ sym (append-nil old.written) in
+    let more : new.written ≡ old.written ++ [] = rw (is, append-nil) in
     record {
       moved =
           sent_moved old new [] 1 more (rw (is, append-nil))

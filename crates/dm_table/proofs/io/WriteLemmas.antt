@@ -32,7 +32,7 @@ wrote_then old mid new (Ok done) first next text is a b =
     let more = since_more old.written mid.written new.written a.moved.appends b.moved.appends in
     record {
       moved = written_more old mid new 0 a.moved b.moved;
-      ok = cc (more, a.ok, b.ok, sym is);
+      ok = cc;
       left = tt;
     }
 wrote_then old mid new (Err fault) first next text is a b =
@@ -115,13 +115,13 @@ fault_in result is h = let given = err_from_is_err_and result is in rw (given.1,
 pub flat_map_at : {X : Type 0} (f : X → List ℕ) (xs : List X) (i : ℕ) (x : X) → i < length xs → x ≡ get_or xs i x → flat_map f xs ≡ flat_map f (take i xs) ++ (f x ++ flat_map f (drop (i + 1) xs))
 flat_map_at f xs i x below is =
     let rest : drop i xs ≡ x ∷ drop (i + 1) xs = rw is (drop_more xs i x below) in
-    cc (take-append-drop i xs, flat_map-append f (take i xs) (drop i xs))
+    cc (take-append-drop _ _, flat_map-append f (take i xs) (drop i xs))
 
 -- up to the next one
 pub flat_map_next : {X : Type 0} (f : X → List ℕ) (xs : List X) (i : ℕ) (x : X) → i < length xs → x ≡ get_or xs i x → flat_map f (take (i + 1) xs) ≡ flat_map f (take i xs) ++ f x
 flat_map_next f xs i x below is =
     let rest : drop i xs ≡ x ∷ drop (i + 1) xs = rw is (drop_more xs i x below) in
-    rw (← append-nil (f x)) (rw (take-add, rest, flat_map-append))
+    rw (← append-nil (f x), take-add, rest, flat_map-append)
 
 -- a fault at one of the elements
 pub each_stopped : {A E : Type 0} {old mid new : OutputPast} {fault : E} (f : A → List ℕ) (xs : List A) (i : ℕ) (x : A) (result : Result (Unit {0}) E)

@@ -80,7 +80,7 @@ pub Answers-refused : {X Y V W : Type 0} (part : Part) (view : X → Y) (whole :
     → Answers {X = X} {Y = Y} part view (Err fault) (unless (first_or faults None) y) → Answers {X = V} {Y = W} part whole (Err fault) (unless (first_or faults later) w)
 Answers-refused part view whole fault faults later y w h = (
   h.0,
-  λ other. let found = first_or-found faults later fault (unless-err (first_or faults None) y fault (h.1 other)) in rw found refl,
+  λ other. let found = first_or-found faults later fault (unless-err (first_or faults None) y fault (h.1 other)) in rw found,
 )
 
 -- what is returned unless a fault was found is the reading that this fault refuses, and that none takes
@@ -94,7 +94,7 @@ pub unless-passed : {Y W : Type 0} (faults : List LoadFault) (later : Option Loa
     → unless (first_or faults None) y ≡ Ok taken → (y ≡ taken) × (unless (first_or faults later) w ≡ unless later w)
 unless-passed faults later y taken w h =
     let a = unless-ok (first_or faults None) y taken h in
-    (a.1, rw (first_or-passed faults later a.0) refl)
+    (a.1, rw (first_or-passed faults later a.0))
 
 -- Which kinds are found
 

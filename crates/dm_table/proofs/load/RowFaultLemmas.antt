@@ -26,7 +26,7 @@ abbrev joined_faults : FirstFaults → (syntax field name : List LoadFault) → 
 joined_faults seen syntax field name = either seen.syntax (first_or syntax (either seen.field (first_or field (either seen.name (first_or name None)))))
 
 last_rest : (part : Part) (seen : FirstFaults) (n : ℕ) (rest : List ℕ) → first_noted (noted_rest part seen n rest) ≡ joined_faults seen (unended part n rest) [] []
-last_rest part seen n [] = rw (either_none seen.name) refl
+last_rest part seen n [] = rw either_none
 last_rest part seen n (byte ∷ bytes) = either_more seen.syntax (fault_at part Syntax n) (either seen.field seen.name)
 
 -- the tests of rows: that a row is one, its values, and its names
@@ -37,15 +37,12 @@ noted_all part is_row has_values has_names seen n [] rest = last_rest part seen 
 noted_all part is_row has_values has_names seen n (x ∷ xs) rest =
     let place : n + suc (length xs) ≡ suc n + length xs = omega arith in
     let more = noted_all part is_row has_values has_names (noted_at part seen n (row_fault is_row has_values has_names x)) (suc n) xs rest in
-    let syntax = faults_from part Syntax (λ x. not (is_row x)) (suc n) xs ++ unended part (suc n + length xs) rest in
-    let field = faults_from part Field (λ x. not (has_values x)) (suc n) xs in
-    let name = faults_from part Name (λ x. not (has_names x)) (suc n) xs in
     rw place (elim (cases_Bool (is_row x)) [
       | inr r ↦ rw r (rw r at more ∙ either_more seen.syntax (fault_at part Syntax n) _)
       | inl r ↦ elim (cases_Bool (has_values x)) [
-        | inr l ↦ rw (r, l) (rw (rw (r, l) at more, either_more))
+        | inr l ↦ rw (r, l, rw (r, l) at more, either_more)
         | inl l ↦ elim (cases_Bool (has_names x)) [
-          | inr h ↦ rw (r, l, h) (rw (rw (r, l, h) at more, either_more))
+          | inr h ↦ rw (r, l, h, rw (r, l, h) at more, either_more)
           | inl h ↦ rw (r, l, h) (rw (r, l, h) at more)
         ]
       ]
@@ -78,8 +75,8 @@ pub rows_answer : {X Y : Type 0} (part : Part) (is_row has_values has_names : X 
 rows_answer {Y = Y} part is_row has_values has_names rows rest seen values all answer is kept read =
     let noted = ap first_noted kept in
     Answers-unless part (λ (v : Vec Y). v.items) (first_noted seen) values answer _ is
-    (λ fault found. let a = noted_refused part is_row has_values has_names rows rest fault (sym noted ∙ found) in (a.0, rw a.1 refl))
-    (λ none. let clear : first_fault (row_checks part is_row has_values has_names rows rest) ≡ None = sym (noted_checks part is_row has_values has_names rows rest) ∙ sym noted ∙ none in rw (clear, read none) refl)
+    (λ fault found. let a = noted_refused part is_row has_values has_names rows rest fault (sym noted ∙ found) in (a.0, rw a.1))
+    (λ none. let clear : first_fault (row_checks part is_row has_values has_names rows rest) ≡ None = sym (noted_checks part is_row has_values has_names rows rest) ∙ sym noted ∙ none in rw (clear, read))
 
 -- One row
 

@@ -217,7 +217,7 @@ op_fields Write rest = refl
 pub op_first : (line rest : List ℕ) (op : Op) → 1 ≤ length line → get_or line 0 0 ≡ op_text op → line ≡ take 1 line ++ 32 ∷ rest
     → fields line ≡ (op_text op ∷ []) ∷ fields rest
 op_first [] rest op some letter cut = absurd (omega arith)
-op_first (b ∷ line) rest op some letter cut = cc (op_fields op rest)
+op_first (b ∷ line) rest op some letter cut = cc (op_fields _ _)
 
 -- A number, and a name, that a space ends
 

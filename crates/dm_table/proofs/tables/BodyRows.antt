@@ -110,7 +110,7 @@ pair_says word make written named (to ∷ offset ∷ []) target h =
     let m = mapped (λ n. make (dev_in to) n) (number_of offset) target h in
     let spelled = Spells-number_of offset m.0 m.1 in
     rw (← m.2) record {
-      again = written (dev_in to) m.0 ∙ (rw (dev_spelled to, ← spelled.digits) refl);
+      again = written (dev_in to) m.0 ∙ (rw (dev_spelled, ← spelled.digits));
       said = λ len names. named len (dev_in to) m.0 names spelled.short;
     }
 pair_says word make written named (to ∷ offset ∷ more ∷ rest) target h = absurd cc
@@ -166,7 +166,7 @@ striped_says (count ∷ chunk ∷ columns) target h =
 -- a flag that is the word of a kind, or else one of the words after it
 by_flag : (flag : List ℕ) (first kind : StoreKind) (later : Option StoreKind) → (later ≡ Some kind → kind_text kind ≡ flag) → (if pointwise nat_eq flag (kind_text first) then Some first else later) ≡ Some kind → kind_text kind ≡ flag
 by_flag flag first kind later others h = elim (cases_Bool (pointwise nat_eq flag (kind_text first))) [
-  | inl e ↦ (let is : Some first ≡ Some kind = rw e at h in let same : first ≡ kind = cc in rw same at (sym (same_name flag (kind_text first) e)))
+  | inl e ↦ (let same : first ≡ kind = cc in rw same at (sym (same_name flag (kind_text first) e)))
   | inr e ↦ others (rw e at h)
 ]
 

@@ -31,7 +31,7 @@ last_split (b ∷ c ∷ text) h = rw (last_split (c ∷ text) h)
 newline_cases : (text : List ℕ) → (text ≡ without_newline text) ⊎ (text ≡ without_newline text ++ 10 ∷ [])
 newline_cases text = elim (cases_Bool (eqb (last_or 0 text) 10)) [
   | inl e ↦ inr (rw e (sym (last_split text e)))
-  | inr e ↦ inl (rw e refl)
+  | inr e ↦ inl (rw e)
 ]
 
 last_other : (text : List ℕ) → lacks 10 text ≡ true → eqb (last_or 0 text) 10 ≡ false
@@ -156,7 +156,7 @@ again text ds d =
     first_fault-all (checks_of d.parts) (
       faults_from-good Source NotText (λ device. not (is_printable device)) 1 d.parts read.printed,
       (
-        rw (faults_from-good Source Syntax (λ device. not (is_device device)) 1 d.parts read.rows) refl,
+        rw (faults_from-good Source Syntax (λ device. not (is_device device)) 1 d.parts read.rows),
         (
           faults_from-good Source Field (λ device. not (has_values device)) 1 d.parts read.values,
           (faults_from-good Source Name (λ device. not (has_names device)) 1 d.parts read.names, tt),

@@ -105,7 +105,7 @@ pub device_read : (r : Result DeviceSpec RowFault) (n : ℕ) (text : List ℕ) (
     → Reads (λ device. device) r (entries_reading n on_a_line es) → Reads (λ device. device) r (device_reading n text)
 device_read r n text es on_a_line line cut h =
     let same : entries_reading n on_a_line es ≡ device_reading n text =
-    rw (line, cut) (rw device_fault) in
+    rw (line, cut, device_fault) in
     rw (← same) h
 
 -- Entries in hand

@@ -178,7 +178,7 @@ flags_ink text h = elim (cases_Bool (eqb (length text) 0)) [
   | inl e ↦ rw (no_length text e)
   | inr e ↦ elim (cases_Bool (is_ro text)) [
     | inl r ↦ rw (same_name text (codes "ro") r)
-    | inr r ↦ rw (same_name text (codes "rw") (rw (e, r) at h)) refl
+    | inr r ↦ rw (same_name text (codes "rw") (rw (e, r) at h))
   ]
 ]
 

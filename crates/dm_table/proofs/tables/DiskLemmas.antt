@@ -156,7 +156,7 @@ pairs_pass (disk ∷ disks) h =
 
 numbers_pass : (disks : List Disk) → AreNamed disks → AllByRecursion (λ row. no_number row ≡ false) (map disk_row disks)
 numbers_pass [] h = tt
-numbers_pass (disk ∷ disks) h = (rw (number_of-decimal disk.len h.0.1) refl, numbers_pass disks h.1)
+numbers_pass (disk ∷ disks) h = (rw (number_of-decimal disk.len h.0.1), numbers_pass disks h.1)
 
 names_pass : (disks : List Disk) → AreNamed disks → AllByRecursion (λ row. no_name row ≡ false) (map disk_row disks)
 names_pass [] h = tt
@@ -248,7 +248,7 @@ said_by true said disk h = (read_parts is_named said disk h).0
 pub disk_read : (n : ℕ) (row : List (List ℕ)) (disk : Disk) → disk_reading n row ≡ Ok disk → (unless (disk_fault row) (tt {0}) ≡ Ok (tt {0})) × (disk_in n row ≡ Some disk)
 disk_read n row disk h =
     let clear : disk_fault row ≡ None = sym (row_found n row) ∙ ap fault_in h in
-    (rw clear refl, said_by (is_pair row) (disk_in n row) disk h)
+    (rw clear, said_by (is_pair row) (disk_in n row) disk h)
 
 pub disk_refused : (n : ℕ) (row : List (List ℕ)) (fault : RowFault) → disk_reading n row ≡ Err fault → unless (disk_fault row) (tt {0}) ≡ Err fault
 disk_refused n row fault h = let found : disk_fault row ≡ Some fault = sym (row_found n row) ∙ ap fault_in h in rw found

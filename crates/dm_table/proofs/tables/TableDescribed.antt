@@ -65,7 +65,7 @@ rows_said : (n : ℕ) (ls : List (List ℕ)) (ns : List NamedLine) → Says n ls
 rows_said n [] [] s = refl
 rows_said n [] (named ∷ ns) s = absurd s
 rows_said n (line ∷ ls) [] s = absurd s
-rows_said n (line ∷ ls) (named ∷ ns) s = rw (row_written n line named s.0 s.1, rows_said (suc n) ls ns s.2) refl
+rows_said n (line ∷ ls) (named ∷ ns) s = rw (row_written n line named s.0 s.1, rows_said (suc n) ls ns s.2)
 
 rows_pass : (n : ℕ) (ls : List (List ℕ)) (ns : List NamedLine) → Says n ls ns → AllRowsPass is_row (map row_for ns)
 rows_pass n [] [] s = tt

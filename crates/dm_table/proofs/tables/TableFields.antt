@@ -103,8 +103,8 @@ taken_by : (r : Bool) (o : Option NamedLine) → fault_in (if r then reading_of 
 taken_by false o h = absurd cc
 taken_by true None h = absurd cc
 taken_by true (Some named) h = elim (cases_Bool (has_line_names named)) [
-  | inl e ↦ (named, refl, rw e refl, e)
-  | inr e ↦ absurd (let no : Some Name ≡ None = rw e at h in cc)
+  | inl e ↦ (named, refl, rw e, e)
+  | inr e ↦ absurd (cc)
 ]
 
 pub row_taken : (n : ℕ) (row : List (List ℕ)) → table_row_fault row ≡ None → IsTaken n row

@@ -37,12 +37,12 @@ lines_of_join : (named : NamedLine) (ds : List DeviceSpec) → named_lines (join
 lines_of_join named [] = refl
 lines_of_join named (d ∷ ds) = elim (cases_Bool (pointwise nat_eq named.name d.name)) [
   | inl e ↦ rw e (cc (name_taken named d.name d.lines true e refl))
-  | inr e ↦ rw e refl
+  | inr e ↦ rw e
 ]
 
 pub lines_of_joined : (ns : List NamedLine) → named_lines (joined ns) ≡ ns
 lines_of_joined [] = refl
-lines_of_joined (n ∷ ns) = cc (lines_of_join n (joined ns), lines_of_joined ns)
+lines_of_joined (n ∷ ns) = cc (lines_of_join _ _, lines_of_joined ns)
 
 each_join : (named : NamedLine) (ds : List DeviceSpec) → AllByRecursion IsDescribed ds → AllByRecursion IsDescribed (join_line named ds)
 each_join named [] h = (record { writable = refl; at = refl }, tt)
@@ -78,19 +78,19 @@ BeginsOther name (device ∷ devices) = name ≢ device.name
 
 first_joins : (name : List ℕ) (line : Line) (ds : List DeviceSpec) → BeginsOther name ds → join_line (record { name = name; line = line }) ds ≡ alone (record { name = name; line = line }) ∷ ds
 first_joins name line [] h = refl
-first_joins name line (d ∷ ds) h = rw (is_other_name name d.name h) refl
+first_joins name line (d ∷ ds) h = rw is_other_name
 
 pub run_joins : (name : List ℕ) (line : Line) (lines : List Line) (rest : List NamedLine) → BeginsOther name (joined rest)
     → joined (named_of name (line ∷ lines) ++ rest) ≡ record { name = name; ro = false; lines = line ∷ lines; at = line.at } ∷ joined rest
 run_joins name line [] rest h = first_joins name line (joined rest) h
 run_joins name line (next ∷ lines) rest h =
-    ap (join_line (record { name = name; line = line })) (run_joins name next lines rest h) ∙ rw (is_same_name name name refl) refl
+    ap (join_line (record { name = name; line = line })) (run_joins name next lines rest h) ∙ rw is_same_name
 
 -- a device is what its lines give
 device_again : (name : List ℕ) (ro : Bool) (lines : List Line) (at : Place) (rest : List NamedLine) → ro ≡ false → HasPlaceOf lines at → BeginsOther name (joined rest)
     → joined (named_of name lines ++ rest) ≡ record { name = name; ro = ro; lines = lines; at = at } ∷ joined rest
 device_again name ro [] at rest w h other = absurd h
-device_again name ro (line ∷ lines) at rest w h other = run_joins name line lines rest other ∙ rw (w, h) refl
+device_again name ro (line ∷ lines) at rest w h other = run_joins name line lines rest other ∙ rw (w, h)
 
 begins_other : (device : DeviceSpec) (ds : List DeviceSpec) → DifferInName (device ∷ ds) → BeginsOther device.name ds
 begins_other device [] h = tt

@@ -111,7 +111,7 @@ named_read n row named h =
     let clear : table_row_fault row ≡ None = row_fault_is n row (Ok named) h in
     let taken = row_taken n row clear in
     let same : taken.named ≡ named = read_ok taken.named named (sym taken.read ∙ h) in
-    (rw clear refl, taken.said ∙ ap Some same)
+    (rw clear, taken.said ∙ ap Some same)
 
 pub named_refused : (n : ℕ) (row : List (List ℕ)) (fault : RowFault) → row_reading n row ≡ Err fault → unless (table_row_fault row) (tt {0}) ≡ Err fault
 named_refused n row fault h = let found : table_row_fault row ≡ Some fault = row_fault_is n row (Err fault) h in rw found

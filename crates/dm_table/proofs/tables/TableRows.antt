@@ -65,7 +65,7 @@ pub row_there : (n : ℕ) (row : List (List ℕ)) → has_values row ≡ true �
 row_there n [] l = absurd cc
 row_there n (label ∷ fs) l =
     let line = body_there (place n) fs l in
-    (record { name = name_in label; line = line.0 }, rw line.1 refl)
+    (record { name = name_in label; line = line.0 }, rw line.1)
 
 -- a row in order is that of its line
 pub row_again : (n : ℕ) (row : List (List ℕ)) (named : NamedLine) → is_row row ≡ true → named_in n row ≡ Some named → row_for named ≡ row
@@ -73,7 +73,7 @@ row_again n [] named r l = absurd cc
 row_again n (label ∷ fs) named r l =
     let a = and_parts (is_label label) (is_body_row fs) r in
     let m = mapped (with_label label) (line_in (place n) fs) named l in
-    rw (← m.2) (rw (label_spelled label a.0, body_again (place n) fs m.0 m.1) refl)
+    rw (← m.2, label_spelled label a.0, body_again (place n) fs m.0 m.1)
 
 pub row_said : (n : ℕ) (row : List (List ℕ)) (named : NamedLine) → named_in n row ≡ Some named → has_names row ≡ true → IsSaid n named
 row_said n [] named l h = absurd cc

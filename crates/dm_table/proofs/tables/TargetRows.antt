@@ -84,15 +84,15 @@ columns_odd (f ∷ g ∷ fs) h some = absurd (omega arith)
 
 -- a fault in what is left is that of all
 pub columns_fault : (columns : List Column) (reading all : Result (List Column) RowFault) (fault : RowFault) → after_columns columns reading ≡ all → reading ≡ Err fault → all ≡ Err fault
-columns_fault columns reading all fault whole h = sym whole ∙ rw h refl
+columns_fault columns reading all fault whole h = sym whole ∙ rw h
 
 -- one column before others
 one_before : (column : Column) (more : Option (List Column)) → is_dev_ref column.to ≡ true
     → reading_of has_column_names (option_map (λ columns. column ∷ columns) more) ≡ after_columns (column ∷ []) (reading_of has_column_names more)
 one_before column None h = refl
 one_before column (Some columns) h = rw h (elim (cases_Bool (has_column_names columns)) [
-  | inl e ↦ rw e refl
-  | inr e ↦ rw e refl
+  | inl e ↦ rw e
+  | inr e ↦ rw e
 ])
 
 after_one : (columns : List Column) (column : Column) (reading : Result (List Column) RowFault) → after_columns (columns ++ column ∷ []) reading ≡ after_columns columns (after_columns (column ∷ []) reading)
@@ -114,7 +114,7 @@ column_further columns (f ∷ g ∷ fs) d e to offset h n r =
 one_unnamed : (column : Column) (more : Option (List Column)) → is_dev_ref column.to ≡ false
     → reading_of has_column_names (option_map (λ columns. column ∷ columns) more) ≡ Err (if is_some more then Name else Field)
 one_unnamed column None h = refl
-one_unnamed column (Some columns) h = rw h refl
+one_unnamed column (Some columns) h = rw h
 
 pub column_unnamed : (fs : List (Bor (List ℕ))) (d e : Bor (List ℕ)) (offset : ℕ) (fault : RowFault) → 2 ≤ length fs → number_of (slice_index_or fs 1 e).now ≡ Some offset → dev_reading (slice_index_or fs 0 d).now ≡ Err fault
     → columns_reading (texts fs) ≡ Err (fault_before fault (texts (take (length fs - 2) (drop 2 fs))))
@@ -126,13 +126,13 @@ column_unnamed (f ∷ g ∷ fs) d e offset fault h n r =
 
 -- memory that ran out stays so
 pub memory_before : (fault : RowFault) (fields : List (List ℕ)) → fault ≡ Memory → fault_before fault fields ≡ Memory
-memory_before fault fields e = rw e refl
+memory_before fault fields e = rw e
 
 -- a column whose offset is no number
 pub column_unknown : (fs : List (Bor (List ℕ))) (e : Bor (List ℕ)) → 2 ≤ length fs → number_of (slice_index_or fs 1 e).now ≡ None → columns_reading (texts fs) ≡ Err Field
 column_unknown [] e h n = absurd (omega arith)
 column_unknown (f ∷ []) e h n = absurd (omega arith)
-column_unknown (f ∷ g ∷ fs) e h n = rw n refl
+column_unknown (f ∷ g ∷ fs) e h n = rw n
 
 -- The arguments of a type
 
@@ -159,11 +159,11 @@ texts_two (f ∷ g ∷ k ∷ fs) d e h = absurd (omega arith)
 
 pub pair_unnamed : (len : ℕ) (make : DevRef → ℕ → Target) (fs : List (Bor (List ℕ))) (d e : Bor (List ℕ)) (offset : ℕ) (fault : RowFault) → NamesOne len make → length fs ≡ 2 → number_of (slice_index_or fs 1 e).now ≡ Some offset → dev_reading (slice_index_or fs 0 d).now ≡ Err fault
     → arguments_reading len (pair_in make) fs ≡ Err fault
-pair_unnamed len make fs d e offset fault one two n r = let a = dev_unnamed (slice_index_or fs 0 d).now fault r in rw (texts_two fs d e two, n, one (dev_in (slice_index_or fs 0 d).now) offset, a.0, a.1) refl
+pair_unnamed len make fs d e offset fault one two n r = let a = dev_unnamed (slice_index_or fs 0 d).now fault r in rw (texts_two fs d e two, n, one, a.0, a.1)
 
 pub pair_read : (len : ℕ) (make : DevRef → ℕ → Target) (fs : List (Bor (List ℕ))) (d e : Bor (List ℕ)) (offset : ℕ) (to : DevRef) → NamesOne len make → length fs ≡ 2 → number_of (slice_index_or fs 1 e).now ≡ Some offset → dev_reading (slice_index_or fs 0 d).now ≡ Ok to
     → arguments_reading len (pair_in make) fs ≡ Ok (make to offset)
-pair_read len make fs d e offset to one two n r = let a = dev_parts (slice_index_or fs 0 d).now to r in rw (texts_two fs d e two, n, a.1, one to offset, a.0) refl
+pair_read len make fs d e offset to one two n r = let a = dev_parts (slice_index_or fs 0 d).now to r in rw (texts_two fs d e two, n, a.1, one, a.0)
 
 pub striped_none : (len : ℕ) (fs : List (Bor (List ℕ))) → length fs < 2 → arguments_reading len striped_in fs ≡ Err Field
 striped_none len [] h = refl
@@ -177,9 +177,9 @@ with_columns chunk (Err fault) = Err fault
 
 columns_striped : (len chunk : ℕ) (columns : Option (List Column)) → reading_of (has_target_names len) (option_map (Striped chunk) columns) ≡ with_columns chunk (reading_of has_column_names columns)
 columns_striped len chunk None = refl
-columns_striped len chunk (Some columns) = rw (column_names (len / length columns) columns) (elim (cases_Bool (has_column_names columns)) [
-  | inl e ↦ rw e refl
-  | inr e ↦ rw e refl
+columns_striped len chunk (Some columns) = rw column_names (elim (cases_Bool (has_column_names columns)) [
+  | inl e ↦ rw e
+  | inr e ↦ rw e
 ])
 
 -- columns in number and a chunk: what is read is what is read of the columns
@@ -215,11 +215,11 @@ snapshot_none len (a ∷ b ∷ c ∷ f ∷ []) h = absurd (h refl)
 snapshot_none len (a ∷ b ∷ c ∷ f ∷ x ∷ fs) h = refl
 
 pub snapshot_flag : (len : ℕ) (fs : List (Bor (List ℕ))) (g : Bor (List ℕ)) → length fs ≡ 4 → kind_in (slice_index_or fs 2 g).now ≡ None → arguments_reading len snapshot_in fs ≡ Err Field
-snapshot_flag len fs g four p = rw (texts_four fs g g g g four, p) refl
+snapshot_flag len fs g four p = rw (texts_four fs g g g g four, p)
 
 pub snapshot_chunk : (len : ℕ) (fs : List (Bor (List ℕ))) (g k : Bor (List ℕ)) (kind : StoreKind) → length fs ≡ 4 → kind_in (slice_index_or fs 2 g).now ≡ Some kind → number_of (slice_index_or fs 3 k).now ≡ None
     → arguments_reading len snapshot_in fs ≡ Err Field
-snapshot_chunk len fs g k kind four p n = rw (texts_four fs g g g k four, p, n) refl
+snapshot_chunk len fs g k kind four p n = rw (texts_four fs g g g k four, p, n)
 
 second_unnamed : (first : Bool) (target : Target) → ◌≡◌ {A = Result Target RowFault} (if first && (false && true) then Ok target else Err Name) (Err Name)
 second_unnamed true target = refl
@@ -236,14 +236,14 @@ pub snapshot_store : (len : ℕ) (fs : List (Bor (List ℕ))) (d e g k : Bor (Li
 snapshot_store len fs d e g k kind chunk origin fault four p n o s =
     let a = dev_parts (slice_index_or fs 0 d).now origin o in
     let b = dev_unnamed (slice_index_or fs 1 e).now fault s in
-    rw (texts_four fs d e g k four, p, n, a.1, a.0, b.0, b.1) refl
+    rw (texts_four fs d e g k four, p, n, a.1, a.0, b.0, b.1)
 
 pub snapshot_read : (len : ℕ) (fs : List (Bor (List ℕ))) (d e g k : Bor (List ℕ)) (kind : StoreKind) (chunk : ℕ) (origin store : DevRef) → length fs ≡ 4 → kind_in (slice_index_or fs 2 g).now ≡ Some kind
     → number_of (slice_index_or fs 3 k).now ≡ Some chunk → dev_reading (slice_index_or fs 0 d).now ≡ Ok origin → dev_reading (slice_index_or fs 1 e).now ≡ Ok store → arguments_reading len snapshot_in fs ≡ Ok (Snapshot origin store kind chunk)
 snapshot_read len fs d e g k kind chunk origin store four p n o s =
     let a = dev_parts (slice_index_or fs 0 d).now origin o in
     let b = dev_parts (slice_index_or fs 1 e).now store s in
-    rw (texts_four fs d e g k four, p, n, a.1, a.0, b.1, b.0) refl
+    rw (texts_four fs d e g k four, p, n, a.1, a.0, b.1, b.0)
 
 -- one argument
 text_one : (fs : List (Bor (List ℕ))) (d : Bor (List ℕ)) → length fs ≡ 1 → texts fs ≡ (slice_index_or fs 0 d).now ∷ []
@@ -257,10 +257,10 @@ origin_none len (f ∷ []) h = absurd (h refl)
 origin_none len (f ∷ g ∷ fs) h = refl
 
 pub origin_unnamed : (len : ℕ) (fs : List (Bor (List ℕ))) (d : Bor (List ℕ)) (fault : RowFault) → length fs ≡ 1 → dev_reading (slice_index_or fs 0 d).now ≡ Err fault → arguments_reading len origin_in fs ≡ Err fault
-origin_unnamed len fs d fault one r = let a = dev_unnamed (slice_index_or fs 0 d).now fault r in rw (text_one fs d one, a.0, a.1) refl
+origin_unnamed len fs d fault one r = let a = dev_unnamed (slice_index_or fs 0 d).now fault r in rw (text_one fs d one, a.0, a.1)
 
 pub origin_read : (len : ℕ) (fs : List (Bor (List ℕ))) (d : Bor (List ℕ)) (origin : DevRef) → length fs ≡ 1 → dev_reading (slice_index_or fs 0 d).now ≡ Ok origin → arguments_reading len origin_in fs ≡ Ok (Origin origin)
-origin_read len fs d origin one r = let a = dev_parts (slice_index_or fs 0 d).now origin r in rw (text_one fs d one, a.1, a.0) refl
+origin_read len fs d origin one r = let a = dev_parts (slice_index_or fs 0 d).now origin r in rw (text_one fs d one, a.1, a.0)
 
 -- A type and its arguments
 
@@ -272,13 +272,13 @@ bare_some type (f ∷ fs) h = refl
 pub target_origin : (len : ℕ) (fs : List (Bor (List ℕ))) (d : Bor (List ℕ)) → 1 ≤ length fs → pointwise nat_eq (slice_index_or fs 0 d).now (codes "linear") ≡ false → pointwise nat_eq (slice_index_or fs 0 d).now (codes "striped") ≡ false
     → pointwise nat_eq (slice_index_or fs 0 d).now (codes "snapshot") ≡ false → pointwise nat_eq (slice_index_or fs 0 d).now (codes "snapshot-origin") ≡ true → target_reading len (texts fs) ≡ arguments_reading len origin_in (take (length fs - 1) (drop 1 fs))
 target_origin len [] d h linear striped snapshot origin = absurd (omega arith)
-target_origin len (f ∷ fs) d h linear striped snapshot origin = rw (linear, striped, snapshot, origin, take_rest (f ∷ fs) 1) refl
+target_origin len (f ∷ fs) d h linear striped snapshot origin = rw (linear, striped, snapshot, origin, take_rest)
 
 -- arguments after a type that takes none
 pub target_over : (len : ℕ) (fs : List (Bor (List ℕ))) (d : Bor (List ℕ)) → 1 ≤ length fs → pointwise nat_eq (slice_index_or fs 0 d).now (codes "linear") ≡ false → pointwise nat_eq (slice_index_or fs 0 d).now (codes "striped") ≡ false
     → pointwise nat_eq (slice_index_or fs 0 d).now (codes "snapshot") ≡ false → pointwise nat_eq (slice_index_or fs 0 d).now (codes "snapshot-origin") ≡ false → eqb (length (take (length fs - 1) (drop 1 fs))) 0 ≡ false → target_reading len (texts fs) ≡ Err Field
 target_over len [] d h linear striped snapshot origin some = absurd (omega arith)
-target_over len (f ∷ fs) d h linear striped snapshot origin some = rw (linear, striped, snapshot, origin, bare_some f.now fs (rw (take_rest (f ∷ fs) 1) at some)) refl
+target_over len (f ∷ fs) d h linear striped snapshot origin some = rw (linear, striped, snapshot, origin, bare_some f.now fs (rw take_rest at some))
 
 pub and_false : (b : Bool) → (b && false) ≡ false
 and_false true = refl
@@ -328,8 +328,8 @@ pub body_read : (at : Place) (fs : List (Bor (List ℕ))) (d e : Bor (List ℕ))
 body_read at [] d e start len target h n m r = absurd (omega arith)
 body_read at (f ∷ []) d e start len target h n m r = absurd (omega arith)
 body_read at (f ∷ g ∷ fs) d e start len target h n m r =
-    let a = read_parts (has_target_names len) (target_in (texts fs)) target (rw (take_rest (f ∷ g ∷ fs) 2) at r) in
-    rw (n, m, a.0, a.1) refl
+    let a = read_parts (has_target_names len) (target_in (texts fs)) target (rw take_rest at r) in
+    rw (n, m, a.0, a.1)
 
 pub body_none : (at : Place) (fs : List (Bor (List ℕ))) → length fs < 2 → body_reading at (texts fs) ≡ Err Field
 body_none at [] h = refl

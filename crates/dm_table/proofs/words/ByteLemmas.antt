@@ -165,7 +165,7 @@ pub record StandsFirst (test : ℕ → Bool) (text field : List ℕ) : Type 0 wh
   pub after : drop (prefix_len test text) text ≡ 32 ∷ rest
 
 prefix_at : (test : ℕ → Bool) (field rest : List ℕ) → list_all test field ≡ true → test 32 ≡ false → prefix_len test (field ++ 32 ∷ rest) ≡ length field
-prefix_at test [] rest all other = rw other refl
+prefix_at test [] rest all other = rw other
 prefix_at test (b ∷ field) rest all other = let a = and_parts (test b) (list_all test field) all in rw (a.0, prefix_at test field rest a.1 other) (omega arith)
 
 pub stands_first : (test : ℕ → Bool) (text field next : List ℕ) (more : List (List ℕ)) → parts_at 32 text ≡ field ∷ next ∷ more

@@ -5,7 +5,7 @@ use Rattle.std.specs.List.{flat_map, join_with_byte, AllByRecursion}
 use Rattle.std.specs.Prelude.{◌==◌, Bool, is_some, not}
 use Rattle.std.proofs.lemmas.Bool.{eq-eqb, false_from_ne_true, not-false, not-true, not_from_false, not_from_true}
 use Rattle.std.proofs.lemmas.Grind.{elements, common_steps}
-use Rattle.std.proofs.lemmas.List.{take-append-drop, take_rest, drop-drop, map_push, map-append, append-nil}
+use Rattle.std.proofs.lemmas.List.{take-append-drop, drop_more, take_rest, drop-drop, map_push, map-append, append-nil}
 use Rattle.std.proofs.lemmas.List.Folds.{list_all_at}
 use Rattle.std.proofs.lemmas.List.Sums.{list_all-from_AllPass}
 use Rattle.std.proofs.lemmas.List.Splits.{length-slice_split, slice_split_at, slice_split_none, join_with_byte-slice_split}
@@ -49,7 +49,7 @@ clear_before c text n le none = λ k d below.
 pub parts_at-found : (c : ℕ) (text : List ℕ) (n : ℕ) → IsFirstByte (is_byte c) text (Some n) → parts_at c text ≡ take n text ∷ parts_at c (drop (n + 1) text)
 parts_at-found c text n found =
     let below : n < length text = found.0.high in
-    let whole : text ≡ take n text ++ get_or text n 0 ∷ drop (n + 1) text = sym (take-append-drop n text) ∙ ap (λ (more : List ℕ). take n text ++ more) (rw add-one (drop-cons text n 0 below)) in
+    let whole : text ≡ take n text ++ get_or text n 0 ∷ drop (n + 1) text = cc (take-append-drop n text, drop_more text n 0 below) in
     ap (parts_at c) whole ∙ slice_split_at (λ b. eqb b c) (take n text) (get_or text n 0) (drop (n + 1) text) (clear_before c text n (omega arith) found.0.before) found.1
 
 clear_nowhere : (c : ℕ) (text : List ℕ) → IsFirstByte (is_byte c) text None → IsClearOf c text

@@ -32,8 +32,8 @@ number_after n (x ∷ xs) =
     let split = add-mul (n * 10) x power in
     let tens = mul_assoc n 10 power in
     let more : n * 10 ^ suc (length xs) ≡ n * (10 * power) = rw (pow-succ' 10 (length xs)) in
-    let alone : (0 * 10 + x) * power ≡ x * power = ap (λ (k : ℕ). k * power) (omega arith) in
-    omega (arith, all, first, split, tens, more, alone)
+    let alone : 0 * 10 + x ≡ x = omega arith in
+    omega (arith, all, rw alone at first, split, tens, more)
 
 -- Bytes less the digit zero
 
@@ -62,11 +62,11 @@ large x above = grind (arith, nat_tests)
 pub front_each : (xs : List ℕ) → Each1 (λ digit. digit < 10) (take (prefix_len (λ x. not (nat_lt 9 x)) xs) xs)
 front_each [] = tt
 front_each (x ∷ xs) = elim (cases_lt 9 x) [
-  | inl above ↦ rw (large x above) tt
+  | inl above ↦ rw large tt
   | inr within ↦
       let more = prefix_len (λ y. not (nat_lt 9 y)) xs in
       let next : 1 + more ≡ suc more = omega arith in
-      rw (small x within) (rw next (omega arith, front_each xs))
+      rw (small, next) (omega arith, front_each xs)
 ]
 
 pub some_other : (xs : List ℕ) → 0 < mask_l (map (λ x. nat_lt 9 x) xs) → prefix_len (λ x. not (nat_lt 9 x)) xs < length xs

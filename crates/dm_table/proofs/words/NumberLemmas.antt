@@ -93,7 +93,7 @@ Spells-number_of text n e =
 decimal_lead : (n : ℕ) → n < 2 ^ 64 → (not (eqb (get_or (decimal n) 0 0) 48) || eqb (length (decimal n)) 1) ≡ true
 decimal_lead n wide =
     elim (cases_eq n 0) [
-      | inl zero ↦ or_right _ _ (eq-eqb _ _ (ap (λ (k : ℕ). length (decimal k)) zero ∙ ap length (decimal_digit 0 (omega arith))))
+      | inl zero ↦ let alone : length (decimal n) ≡ 1 = rw (zero, decimal_digit 0 (omega arith)) in or_right _ _ (eq-eqb _ _ alone)
       | inr more ↦
           let above = first_decimal n (omega arith) wide in
           or_left _ _ (not_from_false _ (ne_eqb (get_or (decimal n) 0 0) 48 (λ zero. absurd (omega arith))))

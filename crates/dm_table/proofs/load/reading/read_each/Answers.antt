@@ -1,4 +1,4 @@
-use Rattle.std.proofs.Common.{◌≡◌, ◌+◌, ◌-◌, [], suc, length, map, take, drop, sym, ap, ◌∙◌, refl, arith}
+use Rattle.std.proofs.Common.{◌≡◌, ◌+◌, ◌-◌, [], suc, length, map, take, drop, sym, ap, ◌∙◌, arith}
 use Rattle.dm_table.specs.words.Fields.{texts, lines_of, rest_of}
 use Rattle.dm_table.specs.load.Reading.{with_rows}
 use Rattle.dm_table.specs.load.RowFaults.{no_faults, noted_rows, row_fault}
@@ -43,4 +43,4 @@ returns-clause-faults g c =
     let len : length (lines_of c.loop-end.rest.now) ≡ 0 = cc in
     let number : c.loop-end.number ≡ length (lines_of c.args.text.now) + 1 = omega (arith, len, c.loop-end.invariant.number) in
     let rest : c.loop-end.rest.now ≡ rest_of c.args.text.now = sym none.1 ∙ c.loop-end.invariant.rest in
-    c.note_rest.ensures ∙ rw (faults, number, rest) refl
+    c.note_rest.ensures ∙ rw (faults, number, rest)

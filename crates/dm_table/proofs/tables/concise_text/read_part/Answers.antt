@@ -1,4 +1,3 @@
-use Rattle.std.proofs.Common.{refl}
 use Rattle.std.proofs.lemmas.Result.{err_from_is_err_and}
 use Rattle.dm_table.proofs.tables.ConciseFaults.{device_taken, device_refused}
 use Rattle.dm_table.proofs.tables.concise_text.read_part.Goals as goal
@@ -9,4 +8,4 @@ returns-in_err-read_device-clause-fault c =
     rw (p.1, p.2) (λ other. device_refused c.args.number c.args.part.now c.in_err-read_device.field-0.0 (c.in_err-read_device.ensures other))
 
 pub returns-clause-devices : goal.returns-clause-devices
-returns-clause-devices c = rw (c.in_ok-push.ensures.items, (device_taken c.args.number c.args.part.now _ c.in_ok-read_device.ensures).1) refl
+returns-clause-devices c = rw (c.in_ok-push.ensures.items, (device_taken c.args.number c.args.part.now _ c.in_ok-read_device.ensures).1)

@@ -1,5 +1,4 @@
 use Rattle.std.proofs.Common.{◌≤◌, length, take, ap, ◌∙◌, append_assoc, arith}
-use Rattle.dm_table.specs.words.Name.{mapper}
 use Rattle.dm_table.proofs.words.ByteLemmas.{device_name_len}
 use Rattle.dm_table.proofs.tables.line_head.put_name.Goals as goal
 
@@ -12,7 +11,7 @@ returns-in-Device c =
     rw c.in-Device.is (record {
       put = record {
         ends = omega (arith, ap length known, c.put_bytes-at.ensures.ends, c.put_bytes.ensures.ends);
-        holds = cc (append_assoc before mapper bytes);
+        holds = cc (append_assoc _ _ _);
       };
       few = omega (arith, short, c.put_bytes-at.ensures.ends, c.put_bytes.ensures.ends);
     })

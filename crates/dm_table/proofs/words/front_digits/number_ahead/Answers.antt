@@ -29,7 +29,6 @@ number_in_word-requires-clause-digits c =
 
 pub returns-then-len-le8 : goal.returns-then-len-le8
 returns-then-len-le8 c =
-    let first : c.as_room-first.result.now ≡ take 8 c.args.digits.now = c.as_room-first.ensures in
     cc (take-take c.args.len 8 c.args.digits.now c.if-len-le8.true)
 
 pub number_in_word-requires-2-clause-digits : goal.number_in_word-requires-2-clause-digits
@@ -52,12 +51,10 @@ returns c =
     let more = c.args.len - 8 in
     let front = take 8 digits in
     let rest = take more (drop 8 digits) in
-    let first : c.as_room-first.result.now ≡ front = c.as_room-first.ensures in
-    let last : c.as_room-last.result.now ≡ take 8 (drop 8 digits) = c.as_room-last.ensures in
     let long : length rest ≡ more = length-take-le more (drop 8 digits) (omega (arith, length-drop 8 digits, c.told-digits, c.requires.within)) in
     let one : c.number_in_word-2.result ≡ number_from_digits 10 front = cc (take-take 8 8 digits (omega arith)) in
     let other : c.number_in_word-3.result ≡ number_from_digits 10 rest = cc (take-take more 8 (drop 8 digits) (omega (arith, c.requires.within))) in
     let power = powers more (omega (arith, c.requires.within)) in
     let whole : number_from_digits 10 (take c.args.len digits) ≡ number_from_digits 10 front * 10 ^ more + number_from_digits 10 rest =
-    cc (in_two c.args.len digits c.if-len-le8.false, number_after_append 10 0 front rest, number_after (number_from_digits 10 front) rest) in
+    cc (in_two c.args.len digits c.if-len-le8.false, number_after_append _ _ _ _, number_after (number_from_digits 10 front) rest) in
     rw (one, other, power) (sym whole)

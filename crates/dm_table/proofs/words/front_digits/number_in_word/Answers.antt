@@ -1,4 +1,4 @@
-use Rattle.std.proofs.Common.{◌≡◌, ℕ, ◌-◌, ◌*◌, ◌%◌, ◌^◌, ◌<◌, length, take, arith, length-take-le}
+use Rattle.std.proofs.Common.{◌≡◌, ◌^◌, ◌<◌, length, take, arith, length-take-le}
 use Rattle.std.specs.Int.Digits.{number_from_digits}
 use Rattle.std.proofs.lemmas.Int.Digits.{number_lt}
 use Rattle.dm_table.proofs.words.LaneDigits.{each_below}
@@ -7,7 +7,6 @@ use Rattle.dm_table.proofs.words.front_digits.number_in_word.Goals as goal
 
 pub returns-clause-number : goal.returns-clause-number
 returns-clause-number c =
-    let moved = λ (word : ℕ). word * 2 ^ (64 - 8 * c.args.len) % 2 ^ 64 in
     cc (front_value c.args.len c.args.digits.now c.told-digits c.fits-digits c.requires.some c.requires.within c.requires.digits)
 
 pub returns-clause-below : goal.returns-clause-below

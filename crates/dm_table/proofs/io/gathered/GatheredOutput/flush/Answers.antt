@@ -1,6 +1,5 @@
-use Rattle.std.proofs.Common.{◌≡◌, ◌+◌, ◌<◌, ◌≤◌, ◌||◌, ℕ, Bool, true, false, nat_lt, refl, sym, ap, ◌∙◌, arith}
+use Rattle.std.proofs.Common.{◌≡◌, ◌+◌, ◌<◌, ◌≤◌, ◌||◌, ℕ, Bool, true, false, nat_lt, refl, sym, ◌∙◌, arith}
 use Rattle.std.proofs.lemmas.Bool.{lt-ltb}
-use Rattle.dm_table.specs.io.DeviceIo.{OutputPast}
 use Rattle.dm_table.specs.io.Gathered.{Gathering}
 use Rattle.dm_table.proofs.io.gathered.GatheredOutput.flush.Goals as goal
 
@@ -23,10 +22,10 @@ returns-in-Err-clause-minds g c =
     let old = c.args.self.now in
     let minds = c.empty.ensures.minds in
     let after = (g.W.Output.past c.flush.new.self).faults in
-    let more : after ≡ c.empty.new.self.behind.faults + 1 = ap (λ (past : OutputPast). past.faults) c.in-Err.ensures ∙ ap (λ (g : Gathering). g.behind.faults + 1) c.self-2.view_is in
+    let more : after ≡ c.empty.new.self.behind.faults + 1 = rw (c.in-Err.ensures, ← c.self-2.view_is) in
     let first = first_fault old c.empty.new.self _ _ after (cc) (rw (← c.self.view_is)) minds.broken minds.grows (not_true _ c.in_ok-empty.ensures.fails.1) more in
     record {
       grows = omega (arith, first.1);
       broken = rw (lt-ltb old.behind.faults after first.1, first.0);
-      left_alone = λ broken. absurd (cc (first.0, broken));
+      left_alone = λ broken. absurd (cc);
     }

@@ -57,7 +57,7 @@ returns-clause-past c =
     same_input _ _
     (rw (← c.self.view_is) (handed_grows (bytes c) _ (at c) n (given_is c)))
     (rw (add-zero, ← c.self.view_is))
-    (rw (no_end n (length given) (moves c), add-zero old.ends, ← c.self.view_is))
+    (rw (no_end n (length given) (moves c), add-zero, ← c.self.view_is))
 
 pub returns-clause-exact : goal.returns-clause-exact
 returns-clause-exact c = record {
