@@ -53,10 +53,10 @@ close_run : (d n : ℕ) (b : List TokenAtLine) → run (suc d) at.Key ((Close, n
 close_run d n b =
     let lt : nat_lt 0 (suc d) ≡ true = lt-ltb _ _ (omega arith) in
     let back : suc d - 1 ≡ d = omega arith in
-    rw (lt, back) refl
+    rw (lt, back)
 
 key_run : (d n : ℕ) (k : List ℕ) (a : List TokenAtLine) → is_key k ≡ true → run d at.Key ((Word k, n) ∷ a) ≡ run d at.AfterKey a
-key_run d n k a e = rw e refl
+key_run d n k a e = rw e
 
 more_run : (ss : List Scalar) (d : ℕ) (ts more : List TokenAtLine) → ReadsMore ts ss more → run d at.After ts ≡ run d at.Key more
 more_run [] d ts more h = ap (run d at.After) h.1

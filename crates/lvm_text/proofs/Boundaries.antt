@@ -1,14 +1,14 @@
 -- Where a text is cut, a character begins.
 use Rattle.std.proofs.Common.{◌≡◌, ℕ, zero, suc, ◌<◌, ◌≤◌, true, cond, eqb, List, [], ◌∷◌, length, get_or, drop, Option, Some, None, refl, sym, subst, arith}
 use Rattle.std.specs.Prelude.{MatchOption, option_map, IsUtf8, IsCharBoundary}
-use Rattle.std.proofs.lemmas.Bool.{eqb-true}
+use Rattle.std.proofs.lemmas.Bool.{cond_both, eqb-true}
 use Rattle.std.proofs.lemmas.Bool.Decides.{nat_tests}
 use Rattle.std.proofs.lemmas.Option.{MatchOption-at_some}
 use Rattle.std.proofs.lemmas.Str.{IsUtf8-drop, IsCharBoundary-start, IsCharBoundary-before_ascii, IsCharBoundary-after_ascii}
 use Rattle.lvm_text.specs.Bytes.{code}
 use Rattle.lvm_text.specs.Spelling.{is_word_byte, is_escapable}
 use Rattle.lvm_text.specs.Scan.{line_length, word_length, raw_length}
-use Rattle.lvm_text.proofs.Cases.{cond_elim, mapped}
+use Rattle.lvm_text.proofs.Cases.{mapped}
 
 -- after an ASCII byte at the front of what a text ends with
 pub after_byte : (text rest : List ℕ) (i : ℕ) → IsUtf8 text → i < length text → get_or text i 0 < 128 → rest ≡ drop i text → get_or rest 0 0 ≡ get_or text i 0 → 0 < length rest → IsCharBoundary rest 1
@@ -33,7 +33,7 @@ later byte b bs n h = let lt : n < length bs = h.within in record { within = ome
 line_here : (bs : List ℕ) → MatchOption (line_length bs) (Unit {0}) (Here (code "\n") bs)
 line_here [] = tt
 line_here (b ∷ bs) =
-    cond_elim (eqb b (code "\n")) (λ r. MatchOption r (Unit {0}) (Here (code "\n") (b ∷ bs))) (Some 0) (option_map suc (line_length bs))
+    cond_both (eqb b (code "\n")) (Some 0) (option_map suc (line_length bs)) (λ r. MatchOption r (Unit {0}) (Here (code "\n") (b ∷ bs)))
     (λ is. record { within = omega arith; is = eqb-true b (code "\n") is })
     (λ none. mapped (line_length bs) suc (Here (code "\n") bs) (Here (code "\n") (b ∷ bs)) (later (code "\n") b bs) (line_here bs))
 
@@ -43,20 +43,20 @@ line_at bs n e = MatchOption-at_some (Unit {0}) (Here (code "\n") bs) n e (line_
 raw_here : (bs : List ℕ) → MatchOption (raw_length bs) (Unit {0}) (Here (code "\"") bs)
 raw_here [] = tt
 raw_here (b ∷ []) =
-    cond_elim (eqb b (code "\"")) (λ r. MatchOption r (Unit {0}) (Here (code "\"") (b ∷ []))) (Some 0) None
+    cond_both (eqb b (code "\"")) (Some 0) None (λ r. MatchOption r (Unit {0}) (Here (code "\"") (b ∷ [])))
     (λ is. record { within = omega arith; is = eqb-true b (code "\"") is })
     (λ none. tt)
 raw_here (b ∷ c ∷ bs) =
     let P : Option ℕ → Type 0 = λ r. MatchOption r (Unit {0}) (Here (code "\"") (b ∷ c ∷ bs)) in
     let plain : Option ℕ = option_map suc (raw_length (c ∷ bs)) in
     let escaped : Option ℕ = option_map (λ n. suc (suc n)) (raw_length bs) in
-    cond_elim (eqb b (code "\"")) P (Some 0) (cond (eqb b (code "\\")) (cond (is_escapable c) escaped None) (cond (eqb b (code "\n")) None plain))
+    cond_both (eqb b (code "\"")) (Some 0) (cond (eqb b (code "\\")) (cond (is_escapable c) escaped None) (cond (eqb b (code "\n")) None plain)) P
     (λ is. record { within = omega arith; is = eqb-true b (code "\"") is })
-    (λ e1. cond_elim (eqb b (code "\\")) P (cond (is_escapable c) escaped None) (cond (eqb b (code "\n")) None plain)
-    (λ e2. cond_elim (is_escapable c) P escaped None
+    (λ e1. cond_both (eqb b (code "\\")) (cond (is_escapable c) escaped None) (cond (eqb b (code "\n")) None plain) P
+    (λ e2. cond_both (is_escapable c) escaped None P
     (λ e3. mapped (raw_length bs) (λ n. suc (suc n)) (Here (code "\"") bs) (Here (code "\"") (b ∷ c ∷ bs)) (λ n h. later (code "\"") b (c ∷ bs) (suc n) (later (code "\"") c bs n h)) (raw_here bs))
     (λ e3. tt))
-    (λ e2. cond_elim (eqb b (code "\n")) P None plain
+    (λ e2. cond_both (eqb b (code "\n")) None plain P
     (λ e3. tt)
     (λ e3. mapped (raw_length (c ∷ bs)) suc (Here (code "\"") (c ∷ bs)) (Here (code "\"") (b ∷ c ∷ bs)) (later (code "\"") b (c ∷ bs)) (raw_here (c ∷ bs)))))
 
@@ -74,7 +74,7 @@ pub record Within (bs : List ℕ) (n : ℕ) : Type 0 where
 word_within : (bs : List ℕ) → Within bs (word_length bs)
 word_within [] = record { most = omega arith; ascii = λ k lt. absurd (omega arith) }
 word_within (b ∷ bs) =
-    cond_elim (is_word_byte b) (Within (b ∷ bs)) (suc (word_length bs)) 0
+    cond_both (is_word_byte b) (suc (word_length bs)) 0 (Within (b ∷ bs))
     (λ is. record { most = omega (arith, (word_within bs).most); ascii = λ k lt. at k is lt (word_within bs).ascii })
     (λ none. record { most = omega arith; ascii = λ k lt. absurd (omega arith) })
   where

@@ -39,7 +39,7 @@ after before t ts h = (no_hit (leads_scalar before && is_refused t.0) t.1 (numbe
 
 first_fits : (before t : Token) (n : ℕ) (ts : List TokenAtLine) (s : Scalar) → leads_scalar before ≡ true → number_lines before ((t, n) ∷ ts) ≡ [] → scalar_of t ≡ Some s → bounded_of t ≡ Some s
 first_fits before t n ts s leads h e =
-    bounded_same t s (ap (λ (b : Bool). b && is_refused t) (sym leads) ∙ (no_hit (leads_scalar before && is_refused t) n (number_lines t ts) h).0) e
+    bounded_same t s (cc (no_hit (leads_scalar before && is_refused t) n (number_lines t ts) h).0) e
 
 at_tokens : (before : Token) (ts us : List TokenAtLine) → ts ≡ us → number_lines before ts ≡ [] → number_lines before us ≡ []
 at_tokens before ts us e h = ap (number_lines before) (sym e) ∙ h

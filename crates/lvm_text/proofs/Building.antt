@@ -66,13 +66,13 @@ pub list_more : (start : List TokenAtLine) (done : List Scalar) (rest : List Tok
 list_more start done rest s a h e = λ ss b r.
     let x = h ss b r in
     let i = item_is rest x.0 b s a x.2 (sym e) in
-    (i.left, x.1 ∙ ap (λ (l : List Scalar). done ++ l) i.first ∙ sym (append_assoc done (s ∷ []) i.left), inr i.after)
+    (i.left, rw (append_assoc, ← i.first) x.1, inr i.after)
 
 pub list_ends : (start : List TokenAtLine) (done : List Scalar) (rest after : List TokenAtLine) → ListSoFar start done rest → None ≡ item_of rest → after ≡ drop 1 rest → ReadsScalars start done after
 list_ends start done rest after h e d = λ ss b r.
     let x = h ss b r in
     let n = no_item rest x.0 b x.2 (sym e) in
-    (x.1 ∙ ap (λ (l : List Scalar). done ++ l) n.0 ∙ append-nil done, sym n.1 ∙ sym d)
+    (cc (append-nil done), sym n.1 ∙ sym d)
 
 pub item_none : (ts : List code.TokenAtLine) (first : code.TokenAtLine) (rest : List code.TokenAtLine) → ts ≡ first ∷ rest → None ≡ bounded_of (token_view first.token) → None ≡ scalar_first (views ts)
 item_none ts first rest e none = sym (rw e (ap (option_map (λ s. (s, views rest))) (sym none)))

@@ -2,14 +2,14 @@
 use Rattle.std.proofs.Common.{◌≡◌, ℕ, suc, ◌+◌, true, false, cond, eqb, List, [], ◌∷◌, ◌++◌, length, take, drop, Option, Some, None, refl, sym, ap, subst, ◌∙◌, append_assoc, arith}
 use Rattle.std.specs.Prelude.{MatchOption, option_map}
 use Rattle.std.specs.List.{list_all}
-use Rattle.std.proofs.lemmas.Bool.{and_parts, eqb-true}
+use Rattle.std.proofs.lemmas.Bool.{cond_both, and_parts, eqb-true}
 use Rattle.std.proofs.lemmas.Bool.Decides.{nat_tests}
 use Rattle.std.proofs.lemmas.Option.{same_Some}
 use Rattle.lvm_text.specs.Bytes.{code}
 use Rattle.lvm_text.specs.Token.{Token, Word, Text, Open, Close, ListOpen, ListClose, Equals, Comma, TokenAtLine}
 use Rattle.lvm_text.specs.Spelling.{Element, White, Comment, Lexeme, spelling, token_spelling, IsWord, IsToken, IsElement, Begins, Cut, is_white, is_line, is_word_byte, is_end, line_after, tokens_from, put_token, newlines, Spells, IsBadToken}
 use Rattle.lvm_text.specs.Scan.{line_length, word_length, raw_length, sign_of, element_at}
-use Rattle.lvm_text.proofs.Cases.{cond_elim, mapped}
+use Rattle.lvm_text.proofs.Cases.{mapped}
 use Rattle.lvm_text.proofs.Scans.{line_again, line_none, Line, line_found, word_again, word_found, raw_again, Raw, raw_found}
 
 -- An element is found
@@ -21,7 +21,7 @@ pub record Sign (b : ℕ) (t : Token) : Type 0 where
 
 sign_if : (b n : ℕ) (t : Token) (later : Option Token) → n ∷ [] ≡ token_spelling t → ((after : List ℕ) → IsToken t after) → MatchOption later (Unit {0}) (Sign b) → MatchOption (cond (eqb b n) (Some t) later) (Unit {0}) (Sign b)
 sign_if b n t later e any h =
-    cond_elim (eqb b n) (λ r. MatchOption r (Unit {0}) (Sign b)) (Some t) later
+    cond_both (eqb b n) (Some t) later (λ r. MatchOption r (Unit {0}) (Sign b))
     (λ is. record { spelled = rw (eqb-true b n is) e; any = any })
     (λ no. h)
 
@@ -35,7 +35,7 @@ abbrev pub Found : List ℕ → Element × List ℕ → Type 0
 Found bs q = Begins bs q.0 q.1
 
 nonempty : (b : ℕ) (bs : List ℕ) → is_word_byte b ≡ true → take (word_length (b ∷ bs)) (b ∷ bs) ≡ [] → ⊥
-nonempty b bs is = cond_elim (is_word_byte b) (λ n. take n (b ∷ bs) ≡ [] → ⊥) (suc (word_length bs)) 0 (λ h e. cc) (λ no e. cc)
+nonempty b bs is = cond_both (is_word_byte b) (suc (word_length bs)) 0 (λ n. take n (b ∷ bs) ≡ [] → ⊥) (λ h e. cc) (λ no e. cc)
 
 word_is : (b : ℕ) (bs : List ℕ) → is_word_byte b ≡ true → Begins (b ∷ bs) (Lexeme (Word (take (word_length (b ∷ bs)) (b ∷ bs)))) (drop (word_length (b ∷ bs)) (b ∷ bs))
 word_is b bs is =
@@ -51,23 +51,23 @@ element_found (b ∷ bs) =
     let text : Option (Element × List ℕ) = option_map (λ n. (Lexeme (Text (take n bs)), drop (suc n) bs)) (raw_length bs) in
     let word : Option (Element × List ℕ) = Some (Lexeme (Word (take (word_length (b ∷ bs)) (b ∷ bs))), drop (word_length (b ∷ bs)) (b ∷ bs)) in
     let sign : Option (Element × List ℕ) = option_map (λ t. (Lexeme t, bs)) (sign_of b) in
-    cond_elim (is_white b) P (Some (White b, bs)) (cond (eqb b (code "#")) comment (cond (eqb b (code "\"")) text (cond (is_word_byte b) word sign)))
+    cond_both (is_white b) (Some (White b, bs)) (cond (eqb b (code "#")) comment (cond (eqb b (code "\"")) text (cond (is_word_byte b) word sign))) P
     (λ is. (refl, is))
-    (λ no. cond_elim (eqb b (code "#")) P comment (cond (eqb b (code "\"")) text (cond (is_word_byte b) word sign))
+    (λ no. cond_both (eqb b (code "#")) comment (cond (eqb b (code "\"")) text (cond (is_word_byte b) word sign)) P
     (λ is. mapped (line_length bs) (λ n. (Comment (take n bs), drop (suc n) bs)) (Line bs) (Found (b ∷ bs))
-    (λ n h. (ap (λ (x : ℕ). x ∷ bs) (eqb-true b (code "#") is) ∙ ap (λ (xs : List ℕ). code "#" ∷ xs) (h.cut ∙ sym (append_assoc (take n bs) (code "\n" ∷ []) (drop (suc n) bs))), h.line)) (line_found bs))
-    (λ no. cond_elim (eqb b (code "\"")) P text (cond (is_word_byte b) word sign)
+    (λ n h. (cc (eqb-true b (code "#") is, append_assoc (take n bs) (code "\n" ∷ []) (drop (suc n) bs)), h.line)) (line_found bs))
+    (λ no. cond_both (eqb b (code "\"")) text (cond (is_word_byte b) word sign) P
     (λ is. mapped (raw_length bs) (λ n. (Lexeme (Text (take n bs)), drop (suc n) bs)) (Raw bs) (Found (b ∷ bs))
-    (λ n h. (ap (λ (x : ℕ). x ∷ bs) (eqb-true b (code "\"") is) ∙ ap (λ (xs : List ℕ). code "\"" ∷ xs) (h.cut ∙ sym (append_assoc (take n bs) (code "\"" ∷ []) (drop (suc n) bs))), h.raw)) (raw_found bs))
-    (λ no. cond_elim (is_word_byte b) P word sign
+    (λ n h. (cc (eqb-true b (code "\"") is, append_assoc (take n bs) (code "\"" ∷ []) (drop (suc n) bs)), h.raw)) (raw_found bs))
+    (λ no. cond_both (is_word_byte b) word sign P
     (λ is. word_is b bs is)
-    (λ no. mapped (sign_of b) (λ t. (Lexeme t, bs)) (Sign b) (Found (b ∷ bs)) (λ t h. (ap (λ (xs : List ℕ). xs ++ bs) h.spelled, h.any bs)) (sign_found b)))))
+    (λ no. mapped (sign_of b) (λ t. (Lexeme t, bs)) (Sign b) (Found (b ∷ bs)) (λ t h. (cc, h.any bs)) (sign_found b)))))
 
 -- An element is found again
 
 take_front : (c r : List ℕ) → take (length c) (c ++ r) ≡ c
 take_front [] r = refl
-take_front (b ∷ c) r = rw (take_front c r) refl
+take_front (b ∷ c) r = rw (take_front c r)
 
 drop_front : (c r : List ℕ) → drop (length c) (c ++ r) ≡ r
 drop_front [] r = refl
@@ -89,19 +89,19 @@ word_again' [] after h = absurd (h.some refl)
 word_again' (b ∷ w) after h =
     let a = and_parts (is_word_byte b) (list_all is_word_byte w) h.bytes in
     let s = word_sign b a.0 in
-    rw (word_white b a.0, s.0, s.1, a.0, word_again w after a.1 h.longest, take_front w after, drop_front w after) refl
+    rw (word_white b a.0, s.0, s.1, a.0, word_again w after a.1 h.longest, take_front w after, drop_front w after)
 
 comment_again : (c after : List ℕ) → is_line c ≡ true → element_at (code "#" ∷ (c ++ code "\n" ∷ after)) ≡ Some (Comment c, after)
 unfolding element_at
-comment_again c after h = rw (line_again c after h, take_front c (code "\n" ∷ after), drop_past c (code "\n") after) refl
+comment_again c after h = rw (line_again c after h, take_front c (code "\n" ∷ after), drop_past c (code "\n") after)
 
 text_again : (t after : List ℕ) → IsToken (Text t) after → element_at (code "\"" ∷ (t ++ code "\"" ∷ after)) ≡ Some (Lexeme (Text t), after)
 unfolding element_at
-text_again t after h = rw (raw_again t after h, take_front t (code "\"" ∷ after), drop_past t (code "\"") after) refl
+text_again t after h = rw (raw_again t after h, take_front t (code "\"" ∷ after), drop_past t (code "\"") after)
 
 white_again : (b : ℕ) (after : List ℕ) → is_white b ≡ true → element_at (b ∷ after) ≡ Some (White b, after)
 unfolding element_at
-white_again b after h = rw h refl
+white_again b after h = rw h
 
 token_again : (t : Token) (after : List ℕ) → IsToken t after → element_at (token_spelling t ++ after) ≡ Some (Lexeme t, after)
 unfolding element_at
@@ -123,7 +123,7 @@ unfolding element_at
 end_none [] h = refl
 end_none (b ∷ bs) h =
     let a = and_parts (eqb b (code "#")) (is_line bs) h in
-    rw (eqb-true b (code "#") a.0, line_none bs a.1) refl
+    rw (eqb-true b (code "#") a.0, line_none bs a.1)
 
 -- One cut
 

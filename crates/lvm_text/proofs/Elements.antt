@@ -32,12 +32,12 @@ element_beyond [] h = refl
 element_beyond (b ∷ bs) h =
     let t = beyond b h in
     let s = beyond_sign b h in
-    rw (t.0, t.1, t.2, t.3, s.0, s.1, s.2, s.3, s.4, s.5) refl
+    rw (t.0, t.1, t.2, t.3, s.0, s.1, s.2, s.3, s.4, s.5)
 
 pub element_white : (bs rest : List ℕ) (b : ℕ) → 0 < length bs → b ≡ get_or bs 0 b → rest ≡ drop 1 bs → is_white b ≡ true → Some (White b, rest) ≡ element_at bs
 unfolding element_at
 element_white [] rest b lt first e white = absurd (omega arith)
-element_white (a ∷ bs) rest b lt first e white = rw (← first, white, e) refl
+element_white (a ∷ bs) rest b lt first e white = rw (← first, white, e)
 
 pub element_cons : (bs rest : List ℕ) → 0 < length bs → rest ≡ drop 1 bs → element_from (get_or bs 0 0) rest ≡ element_at bs
 unfolding element_at
@@ -75,7 +75,7 @@ line_newlines : (c : List ℕ) → is_line c ≡ true → newlines c ≡ 0
 line_newlines [] h = refl
 line_newlines (b ∷ c) h =
     let a = and_parts (not (eqb b (code "\n"))) (is_line c) h in
-    rw (not-true _ a.0, line_newlines c a.1) refl
+    rw (not-true _ a.0, line_newlines c a.1)
 
 word_byte : (b : ℕ) → is_word_byte b ≡ true → eqb b (code "\n") ≡ false
 word_byte b h = grind (arith, nat_tests)
@@ -84,7 +84,7 @@ word_newlines : (w : List ℕ) → list_all is_word_byte w ≡ true → newlines
 word_newlines [] h = refl
 word_newlines (b ∷ w) h =
     let a = and_parts (is_word_byte b) (list_all is_word_byte w) h in
-    rw (word_byte b a.0, word_newlines w a.1) refl
+    rw (word_byte b a.0, word_newlines w a.1)
 
 plain_byte : (b : ℕ) → is_plain b ≡ true → eqb b (code "\n") ≡ false
 plain_byte b h = grind (arith, nat_tests)
@@ -97,7 +97,7 @@ escapable_byte b h = grind (arith, nat_tests)
 
 raw_newlines : (t : List ℕ) → is_raw t ≡ true → newlines t ≡ 0
 raw_newlines [] h = refl
-raw_newlines (b ∷ []) h = rw (plain_byte b h) refl
+raw_newlines (b ∷ []) h = rw (plain_byte b h)
 raw_newlines (b ∷ c ∷ bs) h =
     elim (or_cases (is_plain b && is_raw (c ∷ bs)) (eqb b (code "\\") && (is_escapable c && is_raw bs)) h) [
       | inl plain ↦
@@ -108,7 +108,7 @@ raw_newlines (b ∷ c ∷ bs) h =
       | inr escaped ↦
           let a = and_parts (eqb b (code "\\")) (is_escapable c && is_raw bs) escaped in
           let e = and_parts (is_escapable c) (is_raw bs) a.1 in
-          rw (slash_byte b a.0, escapable_byte c e.0, raw_newlines bs e.1) refl
+          rw (slash_byte b a.0, escapable_byte c e.0, raw_newlines bs e.1)
     ]
 
 pub comment_newlines : (c : List ℕ) → is_line c ≡ true → newlines (code "#" ∷ (c ++ code "\n" ∷ [])) ≡ 1

@@ -4,7 +4,7 @@ use Rattle.std.specs.Prelude.{bytes_eq}
 use Rattle.std.specs.Ordering.{nat_cmp}
 use Rattle.std.specs.Cmp.Lexicographic.{slice_cmp}
 use Rattle.std.specs.BTreeMap.{BTreeMap, Updates, get_by}
-use Rattle.std.proofs.lemmas.Bool.{and_parts, cases_lt}
+use Rattle.std.proofs.lemmas.Bool.{cond_both, and_parts, cases_lt}
 use Rattle.std.proofs.lemmas.List.{drop_all, drop-append-le}
 use Rattle.std.proofs.lemmas.Slice.Eq.{bytes_eq-Decides}
 use Rattle.std.proofs.lemmas.Map.Text.{btree_map_updates_str}
@@ -13,7 +13,6 @@ use Rattle.lvm_text.specs.View.{values_of, has_line, lines_agree, node_view}
 use Rattle.lvm_text.specs.Positions.{position_of, Finds}
 use Rattle.lvm_text.specs.declared.index.TheConstants.{FEW}
 use Rattle.lvm_text.specs.declared.tree.Entry.{Entry}
-use Rattle.lvm_text.proofs.Cases.{cond_elim}
 use Rattle.lvm_text.proofs.Looks.{node_put}
 use denote.Ref.{Bor}
 
@@ -23,23 +22,23 @@ either_position None later = later
 either_position (Some at) later = Some at
 
 position_split : (n : ℕ) (es : List Entry) (key : List ℕ) (first : ℕ) → position_of key first es ≡ either_position (position_of key first (take n es)) (position_of key (first + n) (drop n es))
-position_split zero es key first = ap (λ m. position_of key m es) (sym (add-zero first))
+position_split zero es key first = rw add-zero
 position_split (suc n) [] key first = refl
 position_split (suc n) (e ∷ es) key first =
-    cond_elim (bytes_eq e.key.now key) (λ o. o ≡ either_position (cond (bytes_eq e.key.now key) (Some first) (position_of key (first + 1) (take n es))) (position_of key (first + suc n) (drop n es))) (Some first) (position_of key (first + 1) es)
-    (λ same. rw same refl)
+    cond_both (bytes_eq e.key.now key) (Some first) (position_of key (first + 1) es) (λ o. o ≡ either_position (cond (bytes_eq e.key.now key) (Some first) (position_of key (first + 1) (take n es))) (position_of key (first + suc n) (drop n es)))
+    (λ same. rw same)
     (λ other. rw other (position_split n es key (first + 1) ∙ ap (λ m. either_position (position_of key (first + 1) (take n es)) (position_of key m (drop n es))) (omega arith)))
 
 split_here : (m : ℕ) (es : List Entry) (key : List ℕ) → position_of key 0 es ≡ either_position (position_of key 0 (take m es)) (position_of key m (drop m es))
-split_here m es key = position_split m es key 0 ∙ ap (λ n. either_position (position_of key 0 (take m es)) (position_of key n (drop m es))) (zero-add m)
+split_here m es key = cc (position_split m es key 0, zero-add m)
 
 -- a key that none of the first entries has
 pub position_many : (es : List Entry) (key : List ℕ) (m : ℕ) → m ≡ min (length es) FEW → None ≡ position_of key 0 (take m es) → position_of key 0 es ≡ position_of key FEW (drop FEW es)
 position_many es key m is e =
-    let all : position_of key 0 es ≡ position_of key m (drop m es) = split_here m es key ∙ ap (λ o. either_position o (position_of key m (drop m es))) (sym e) in
+    let all : position_of key 0 es ≡ position_of key m (drop m es) = cc (split_here m es key) in
     elim (cases_lt (length es) FEW) [
       | inl lt ↦ all ∙ ap (position_of key m) (drop_all m es (omega (arith, is, lt))) ∙ sym (ap (position_of key FEW) (drop_all FEW es (omega (arith, lt))))
-      | inr le ↦ let same : m ≡ FEW = omega (arith, is, le) in all ∙ ap (λ n. position_of key n (drop n es)) same
+      | inr le ↦ let same : m ≡ FEW = omega (arith, is, le) in cc
     ]
 
 either_none : (a b : Option ℕ) → either_position a b ≡ None → b ≡ None
@@ -52,11 +51,10 @@ either_same (Some n) = refl
 
 -- a position among entries, with one more at their end
 position_push : (es : List Entry) (e : Entry) (key : List ℕ) (first : ℕ) → position_of key first (es ++ e ∷ []) ≡ either_position (position_of key first es) (cond (bytes_eq e.key.now key) (Some (first + length es)) None)
-position_push [] e key first = ap (λ m. cond (bytes_eq e.key.now key) (Some m) None) (sym (add-zero first))
+position_push [] e key first = rw add-zero
 position_push (x ∷ es) e key first =
-    cond_elim (bytes_eq x.key.now key)
-    (λ o. cond (bytes_eq x.key.now key) (Some first) (position_of key (first + 1) (es ++ e ∷ [])) ≡ either_position o (cond (bytes_eq e.key.now key) (Some (first + length (x ∷ es))) None)) (Some first) (position_of key (first + 1) es)
-    (λ same. rw same refl)
+    cond_both (bytes_eq x.key.now key) (Some first) (position_of key (first + 1) es) (λ o. cond (bytes_eq x.key.now key) (Some first) (position_of key (first + 1) (es ++ e ∷ [])) ≡ either_position o (cond (bytes_eq e.key.now key) (Some (first + length (x ∷ es))) None))
+    (λ same. rw same)
     (λ other. rw other (position_push es e key (first + 1) ∙ ap (λ m. either_position (position_of key (first + 1) es) (cond (bytes_eq e.key.now key) (Some m) None)) (omega arith)))
 
 -- the index of entries of which one more is added: the first few are not in it
@@ -67,12 +65,7 @@ finds_few es e index few finds = λ key.
 pub finds_put : (es : List Entry) (e : Entry) (old new : BTreeMap (Bor (List ℕ)) ℕ) (m : ℕ) → m ≡ length es → FEW ≤ length es → position_of e.key.now 0 es ≡ None → Finds old es
     → Updates (λ x y. slice_cmp nat_cmp x.now y.now) old new e.key (Some m) → Finds new (es ++ e ∷ [])
 finds_put es e old new m is many fresh finds updates = λ key.
-    btree_map_updates_str e.key.now old new (Some m) updates key
-    ∙ ap (λ n. cond (bytes_eq e.key.now key) (Some n) (get_by (λ k. slice_cmp nat_cmp key k.now) old)) is
-    ∙ ap (cond (bytes_eq e.key.now key) (Some (length es))) (finds key)
-    ∙ cond_elim (bytes_eq e.key.now key) (λ o. o ≡ position_of key FEW (drop FEW (es ++ e ∷ []))) (Some (length es)) (position_of key FEW (drop FEW es))
-    (λ same. sym (after key ∙ ap (λ o. either_position o (cond (bytes_eq e.key.now key) (Some (length es)) None)) (none_at key same) ∙ rw same refl))
-    (λ other. sym (after key ∙ rw other (either_same (position_of key FEW (drop FEW es)))))
+    cc (btree_map_updates_str e.key.now old new (Some m) updates key, finds key, cond_both (bytes_eq e.key.now key) (Some (length es)) (position_of key FEW (drop FEW es)) (λ o. o ≡ position_of key FEW (drop FEW (es ++ e ∷ []))) (λ same. rw (after, none_at) (sym (rw same))) (λ other. sym (after key ∙ rw other (either_same (position_of key FEW (drop FEW es))))))
   where
     after : (key : List ℕ) → position_of key FEW (drop FEW (es ++ e ∷ [])) ≡ either_position (position_of key FEW (drop FEW es)) (cond (bytes_eq e.key.now key) (Some (length es)) None)
     after key =
@@ -83,8 +76,7 @@ finds_put es e old new m is many fresh finds updates = λ key.
     none_at : (key : List ℕ) → bytes_eq e.key.now key ≡ true → position_of key FEW (drop FEW es) ≡ None
     none_at key same =
         let alike : e.key.now ≡ key = (bytes_eq-Decides e.key.now key).0 same in
-        subst (λ (k : List ℕ). position_of k FEW (drop FEW es) ≡ None) alike
-        (either_none (position_of e.key.now 0 (take FEW es)) (position_of e.key.now FEW (drop FEW es)) (sym (split_here FEW es e.key.now) ∙ fresh))
+        rw alike at (either_none (position_of e.key.now 0 (take FEW es)) (position_of e.key.now FEW (drop FEW es)) (sym (split_here FEW es e.key.now) ∙ fresh))
 
 -- a position is that of an entry, and the node of the key stands there
 pub record Stands (es : List Entry) (key : List ℕ) (first at : ℕ) : Type 0 where
@@ -106,7 +98,7 @@ stands_here e es key first at line same is = record {
   after = 0;
   is = omega (arith, is);
   within = omega arith;
-  node = λ d. node_put key e.key.now e.node.line e.node.value (values_of es) line ∙ rw same refl;
+  node = λ d. node_put key e.key.now e.node.line e.node.value (values_of es) line ∙ rw same;
 }
 
 -- a key that has a position from an entry on stands there
@@ -114,7 +106,7 @@ stands : (es : List Entry) (key : List ℕ) (first at : ℕ) → lines_agree es 
 stands [] key first at agree is = absurd cc
 stands (e ∷ es) key first at agree is =
     let a = and_parts (has_line e.node.line e.node.value) (lines_agree es) agree in
-    cond_elim (bytes_eq e.key.now key) (λ o. o ≡ Some at → Stands (e ∷ es) key first at) (Some first) (position_of key (first + 1) es)
+    cond_both (bytes_eq e.key.now key) (Some first) (position_of key (first + 1) es) (λ o. o ≡ Some at → Stands (e ∷ es) key first at)
     (λ same here. stands_here e es key first at a.0 same cc)
     (λ other later. stands_later e es key first at a.0 other (stands es key (first + 1) at a.1 later)) is
 
@@ -130,6 +122,6 @@ pub absent : (es : List Entry) (key : List ℕ) (first : ℕ) → lines_agree es
 absent [] key first agree is = refl
 absent (e ∷ es) key first agree is =
     let a = and_parts (has_line e.node.line e.node.value) (lines_agree es) agree in
-    cond_elim (bytes_eq e.key.now key) (λ o. o ≡ None → node_of key (values_of (e ∷ es)) ≡ None) (Some first) (position_of key (first + 1) es)
+    cond_both (bytes_eq e.key.now key) (Some first) (position_of key (first + 1) es) (λ o. o ≡ None → node_of key (values_of (e ∷ es)) ≡ None)
     (λ same here. absurd cc)
     (λ other later. node_put key e.key.now e.node.line e.node.value (values_of es) a.0 ∙ rw other (absent es key (first + 1) a.1 later)) is

@@ -1,6 +1,7 @@
 -- The keys of a section differ, so each section in it is the one under its key.
 use Rattle.std.proofs.Common.{◌≡◌, ◌≢◌, ℕ, Bool, true, false, ◌||◌, List, [], ◌∷◌, ◌++◌, refl, sym, ap, ◌∙◌, All, AllPairs, Some, cond, arith}
 use Rattle.std.specs.Prelude.{bytes_eq}
+use Rattle.std.proofs.lemmas.Bool.{or_right}
 use Rattle.std.proofs.lemmas.List.Elements.{All-cons, All-nil, All-tail}
 use Rattle.std.proofs.lemmas.List.Kept.{AllPairs-cons}
 use Rattle.std.proofs.lemmas.Slice.Eq.{bytes_eq-Decides}
@@ -15,16 +16,12 @@ both_nothing : (xs ys : List ℕ) → xs ++ ys ≡ [] → ys ≡ []
 both_nothing [] ys e = e
 both_nothing (x ∷ xs) ys e = absurd cc
 
-or_true : (b : Bool) → (b || true) ≡ true
-or_true true = refl
-or_true false = refl
-
 -- a key that none of these values has
 has_more : (k q : List ℕ) (ks : List (List ℕ)) → has_key q ks ≡ true → has_key q (k ∷ ks) ≡ true
-has_more k q ks h = rw h (or_true (bytes_eq k q))
+has_more k q ks h = or_right (bytes_eq k q) _ h
 
 apart_from : (k q : List ℕ) (ks : List (List ℕ)) → has_key k ks ≡ false → has_key q ks ≡ true → q ≢ k
-apart_from k q ks new old = λ e. let wrong : false ≡ true = sym new ∙ ap (λ (w : List ℕ). has_key w ks) (sym e) ∙ old in cc
+apart_from k q ks new old = λ e. let wrong : false ≡ true = cc in cc
 
 apart : (v : Values) (q : List ℕ) (ks : List (List ℕ)) → twice_lines ks v ≡ [] → has_key q ks ≡ true → All (λ k. q ≢ k) (keys_of v)
 apart Nothing q ks h old = All-nil (λ k. q ≢ k)
@@ -74,7 +71,7 @@ found_later : (k : List ℕ) (shown : Shown) (rest : Values) (s : List ℕ × Tr
 found_later k shown rest s apart found = rw (other_bytes k s.0 (bytes_eq k s.0) refl apart) found
 
 found_here : (k : List ℕ) (shown : Shown) (rest : Values) → cond (bytes_eq k k) (Some shown) (node_of k rest) ≡ Some shown
-found_here k shown rest = rw (same_bytes k) refl
+found_here k shown rest = rw (same_bytes k)
 
 -- what stands under a key is found under it
 pub sections_found : (v : Values) (ks : List (List ℕ)) → twice_lines ks v ≡ [] → All (IsFound v) (sections_of v)

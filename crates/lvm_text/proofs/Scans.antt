@@ -2,11 +2,11 @@
 use Rattle.std.proofs.Common.{◌≡◌, ℕ, suc, Bool, true, false, cond, not, ◌&&◌, ◌||◌, eqb, List, [], ◌∷◌, ◌++◌, length, take, drop, Option, Some, None, refl, ap, inl, inr}
 use Rattle.std.specs.Prelude.{MatchOption, option_map}
 use Rattle.std.specs.List.{list_all}
-use Rattle.std.proofs.lemmas.Bool.{and_parts, and_from, or_cases, not-true, not_from_false, eqb-true, or_left, or_right}
+use Rattle.std.proofs.lemmas.Bool.{cond_both, and_parts, and_from, or_cases, not-true, not_from_false, eqb-true, or_left, or_right}
 use Rattle.lvm_text.specs.Bytes.{code}
 use Rattle.lvm_text.specs.Spelling.{is_line, is_word_byte, begins_word, is_plain, is_escapable, is_raw}
 use Rattle.lvm_text.specs.Scan.{line_length, word_length, raw_length}
-use Rattle.lvm_text.proofs.Cases.{cond_elim, mapped}
+use Rattle.lvm_text.proofs.Cases.{mapped}
 
 -- Lines
 
@@ -14,13 +14,13 @@ pub line_again : (c after : List ℕ) → is_line c ≡ true → line_length (c 
 line_again [] after h = refl
 line_again (b ∷ c) after h =
     let a = and_parts (not (eqb b (code "\n"))) (is_line c) h in
-    rw (not-true _ a.0, line_again c after a.1) refl
+    rw (not-true _ a.0, line_again c after a.1)
 
 pub line_none : (c : List ℕ) → is_line c ≡ true → line_length c ≡ None
 line_none [] h = refl
 line_none (b ∷ c) h =
     let a = and_parts (not (eqb b (code "\n"))) (is_line c) h in
-    rw (not-true _ a.0, line_none c a.1) refl
+    rw (not-true _ a.0, line_none c a.1)
 
 pub record Line (bs : List ℕ) (n : ℕ) : Type 0 where
   pub cut : bs ≡ take n bs ++ code "\n" ∷ drop (suc n) bs
@@ -29,18 +29,18 @@ pub record Line (bs : List ℕ) (n : ℕ) : Type 0 where
 pub line_found : (bs : List ℕ) → MatchOption (line_length bs) (Unit {0}) (Line bs)
 line_found [] = tt
 line_found (b ∷ bs) =
-    cond_elim (eqb b (code "\n")) (λ r. MatchOption r (Unit {0}) (Line (b ∷ bs))) (Some 0) (option_map suc (line_length bs))
-    (λ is. record { cut = ap (λ (x : ℕ). x ∷ bs) (eqb-true b (code "\n") is); line = refl })
-    (λ no. mapped (line_length bs) suc (Line bs) (Line (b ∷ bs)) (λ n h. record { cut = ap (λ (xs : List ℕ). b ∷ xs) h.cut; line = and_from _ _ (not_from_false _ no) h.line }) (line_found bs))
+    cond_both (eqb b (code "\n")) (Some 0) (option_map suc (line_length bs)) (λ r. MatchOption r (Unit {0}) (Line (b ∷ bs)))
+    (λ is. record { cut = cc (eqb-true b (code "\n") is); line = refl })
+    (λ no. mapped (line_length bs) suc (Line bs) (Line (b ∷ bs)) (λ n h. record { cut = cc; line = and_from _ _ (not_from_false _ no) h.line }) (line_found bs))
 
 -- Words
 
 pub word_again : (w after : List ℕ) → list_all is_word_byte w ≡ true → begins_word after ≡ false → word_length (w ++ after) ≡ length w
 word_again [] [] h e = refl
-word_again [] (a ∷ more) h e = rw e refl
+word_again [] (a ∷ more) h e = rw e
 word_again (b ∷ w) after h e =
     let a = and_parts (is_word_byte b) (list_all is_word_byte w) h in
-    rw (a.0, word_again w after a.1 e) refl
+    rw (a.0, word_again w after a.1 e)
 
 pub record Run (bs : List ℕ) (n : ℕ) : Type 0 where
   pub cut : bs ≡ take n bs ++ drop n bs
@@ -50,8 +50,8 @@ pub record Run (bs : List ℕ) (n : ℕ) : Type 0 where
 pub word_found : (bs : List ℕ) → Run bs (word_length bs)
 word_found [] = record { cut = refl; bytes = refl; longest = refl }
 word_found (b ∷ bs) =
-    cond_elim (is_word_byte b) (Run (b ∷ bs)) (suc (word_length bs)) 0
-    (λ is. let h = word_found bs in record { cut = ap (λ (xs : List ℕ). b ∷ xs) h.cut; bytes = and_from _ _ is h.bytes; longest = h.longest })
+    cond_both (is_word_byte b) (suc (word_length bs)) 0 (Run (b ∷ bs))
+    (λ is. let h = word_found bs in record { cut = cc; bytes = and_from _ _ is h.bytes; longest = h.longest })
     (λ no. record { cut = refl; bytes = refl; longest = no })
 
 -- Strings
@@ -70,23 +70,23 @@ plain_parts b h = three (eqb b (code "\"")) (eqb b (code "\\")) (eqb b (code "\n
   three false false false h = (refl, refl, refl)
 
 plain_from : (b : ℕ) → eqb b (code "\"") ≡ false → eqb b (code "\\") ≡ false → eqb b (code "\n") ≡ false → is_plain b ≡ true
-plain_from b x y z = rw (x, y, z) refl
+plain_from b x y z = rw (x, y, z)
 
 pub raw_again : (t after : List ℕ) → is_raw t ≡ true → raw_length (t ++ code "\"" ∷ after) ≡ Some (length t)
 raw_again [] after h = quote_first after
 raw_again (b ∷ []) after h =
     let p = plain_parts b h in
-    rw (p.0, p.1, p.2, quote_first after) refl
+    rw (p.0, p.1, p.2, quote_first after)
 raw_again (b ∷ c ∷ bs) after h =
     elim (or_cases (is_plain b && is_raw (c ∷ bs)) (eqb b (code "\\") && (is_escapable c && is_raw bs)) h) [
       | inl plain ↦
           let a = and_parts (is_plain b) (is_raw (c ∷ bs)) plain in
           let p = plain_parts b a.0 in
-          rw (p.0, p.1, p.2, raw_again (c ∷ bs) after a.1) refl
+          rw (p.0, p.1, p.2, raw_again (c ∷ bs) after a.1)
       | inr escaped ↦
           let a = and_parts (eqb b (code "\\")) (is_escapable c && is_raw bs) escaped in
           let e = and_parts (is_escapable c) (is_raw bs) a.1 in
-          rw (eqb-true b (code "\\") a.0, e.0, raw_again bs after e.1) refl
+          rw (eqb-true b (code "\\") a.0, e.0, raw_again bs after e.1)
     ]
 
 pub record Raw (bs : List ℕ) (n : ℕ) : Type 0 where
@@ -101,19 +101,19 @@ raw_more b (c ∷ t) p r = or_left _ _ (and_from _ _ p r)
 pub raw_found : (bs : List ℕ) → MatchOption (raw_length bs) (Unit {0}) (Raw bs)
 raw_found [] = tt
 raw_found (b ∷ []) =
-    cond_elim (eqb b (code "\"")) (λ r. MatchOption r (Unit {0}) (Raw (b ∷ []))) (Some 0) None
+    cond_both (eqb b (code "\"")) (Some 0) None (λ r. MatchOption r (Unit {0}) (Raw (b ∷ [])))
     (λ is. record { cut = rw (eqb-true b (code "\"") is); raw = refl })
     (λ no. tt)
 raw_found (b ∷ c ∷ bs) =
     let P : Option ℕ → Type 0 = λ r. MatchOption r (Unit {0}) (Raw (b ∷ c ∷ bs)) in
     let plain : Option ℕ = option_map suc (raw_length (c ∷ bs)) in
     let escaped : Option ℕ = option_map (λ n. suc (suc n)) (raw_length bs) in
-    cond_elim (eqb b (code "\"")) P (Some 0) (cond (eqb b (code "\\")) (cond (is_escapable c) escaped None) (cond (eqb b (code "\n")) None plain))
-    (λ is. record { cut = ap (λ (x : ℕ). x ∷ c ∷ bs) (eqb-true b (code "\"") is); raw = refl })
-    (λ no34. cond_elim (eqb b (code "\\")) P (cond (is_escapable c) escaped None) (cond (eqb b (code "\n")) None plain)
-    (λ is92. cond_elim (is_escapable c) P escaped None
-    (λ esc. mapped (raw_length bs) (λ n. suc (suc n)) (Raw bs) (Raw (b ∷ c ∷ bs)) (λ n h. record { cut = ap (λ (xs : List ℕ). b ∷ c ∷ xs) h.cut; raw = or_right _ _ (and_from _ _ is92 (and_from _ _ esc h.raw)) }) (raw_found bs))
+    cond_both (eqb b (code "\"")) (Some 0) (cond (eqb b (code "\\")) (cond (is_escapable c) escaped None) (cond (eqb b (code "\n")) None plain)) P
+    (λ is. record { cut = cc (eqb-true b (code "\"") is); raw = refl })
+    (λ no34. cond_both (eqb b (code "\\")) (cond (is_escapable c) escaped None) (cond (eqb b (code "\n")) None plain) P
+    (λ is92. cond_both (is_escapable c) escaped None P
+    (λ esc. mapped (raw_length bs) (λ n. suc (suc n)) (Raw bs) (Raw (b ∷ c ∷ bs)) (λ n h. record { cut = cc; raw = or_right _ _ (and_from _ _ is92 (and_from _ _ esc h.raw)) }) (raw_found bs))
     (λ no. tt))
-    (λ no92. cond_elim (eqb b (code "\n")) P None plain
+    (λ no92. cond_both (eqb b (code "\n")) None plain P
     (λ is10. tt)
-    (λ no10. mapped (raw_length (c ∷ bs)) suc (Raw (c ∷ bs)) (Raw (b ∷ c ∷ bs)) (λ n h. record { cut = ap (λ (xs : List ℕ). b ∷ xs) h.cut; raw = raw_more b (take n (c ∷ bs)) (plain_from b no34 no92 no10) h.raw }) (raw_found (c ∷ bs)))))
+    (λ no10. mapped (raw_length (c ∷ bs)) suc (Raw (c ∷ bs)) (Raw (b ∷ c ∷ bs)) (λ n h. record { cut = cc; raw = raw_more b (take n (c ∷ bs)) (plain_from b no34 no92 no10) h.raw }) (raw_found (c ∷ bs)))))

@@ -15,13 +15,13 @@ line_first [] (Some k) h = absurd (omega (arith, h.0.high))
 line_first (b ∷ bs) None h =
     let no : eqb b (code "\n") ≡ false = false_from_ne_true _ (h 0 (omega arith) (omega arith)) in
     let rest = line_first bs None (λ k low high. h (suc k) (omega arith) (omega arith)) in
-    rw (no, ← rest) refl
-line_first (b ∷ bs) (Some zero) h = rw h.1 refl
+    rw (no, ← rest)
+line_first (b ∷ bs) (Some zero) h = rw h.1
 line_first (b ∷ bs) (Some (suc k)) h =
     let lt : suc k < suc (length bs) = h.0.high in
     let no : eqb b (code "\n") ≡ false = false_from_ne_true _ (h.0.before 0 (omega arith) (omega arith)) in
     let rest = line_first bs (Some k) (record { low = omega arith; high = omega arith; before = λ j low high. h.0.before (suc j) (omega arith) (omega arith) }, h.1) in
-    rw (no, ← rest) refl
+    rw (no, ← rest)
 
 none_suc : (o : Option ℕ) → is_none (option_map suc o) ≡ is_none o
 none_suc None = refl
@@ -62,8 +62,8 @@ raw_plain b bs h = by_tests (eqb b (code "\"")) (eqb b (code "\\")) (eqb b (code
   by_tests true y z cs e f g h = absurd cc
   by_tests false true z cs e f g h = absurd cc
   by_tests false false true cs e f g h = absurd cc
-  by_tests false false false [] e f g h = rw e refl
-  by_tests false false false (c ∷ cs) e f g h = rw (e, f, g) refl
+  by_tests false false false [] e f g h = rw e
+  by_tests false false false (c ∷ cs) e f g h = rw (e, f, g)
 
 -- the bytes before the first of the three
 pub raw_skip : (xs : List ℕ) (p : ℕ) → IsFirstByte (is_byte3 (code "\"") (code "\\") (code "\n")) xs (Some p) → raw_length xs ≡ plus p (raw_length (drop p xs))
@@ -84,8 +84,8 @@ raw_none (b ∷ bs) h =
 
 pub raw_quote : (xs : List ℕ) → 0 < length xs → get_or xs 0 0 ≡ code "\"" → raw_length xs ≡ Some 0
 raw_quote [] lt h = absurd (omega arith)
-raw_quote (b ∷ []) lt h = rw h refl
-raw_quote (b ∷ c ∷ bs) lt h = rw h refl
+raw_quote (b ∷ []) lt h = rw h
+raw_quote (b ∷ c ∷ bs) lt h = rw h
 
 pub raw_escape : (xs : List ℕ) → is_escape xs ≡ true → (raw_length xs ≡ plus 2 (raw_length (drop 2 xs))) × (2 ≤ length xs)
 raw_escape [] h = absurd cc
@@ -98,11 +98,11 @@ pub raw_stop : (xs : List ℕ) → is_byte3 (code "\"") (code "\\") (code "\n") 
 raw_stop [] h n e = refl
 raw_stop (b ∷ bs) h n e = by_tests (eqb b (code "\\")) (eqb b (code "\n")) bs refl refl (ne_eqb b (code "\"") n) h e where
   by_tests : (y z : Bool) (cs : List ℕ) → eqb b (code "\\") ≡ y → eqb b (code "\n") ≡ z → eqb b (code "\"") ≡ false → is_byte3 (code "\"") (code "\\") (code "\n") b ≡ true → is_escape (b ∷ cs) ≡ false → raw_length (b ∷ cs) ≡ None
-  by_tests y z [] f g none h e = rw none refl
+  by_tests y z [] f g none h e = rw none
   by_tests true z (c ∷ cs) f g none h e =
       let esc : is_escapable c ≡ false = rw f at e in
-      rw (none, f, esc) refl
-  by_tests false true (c ∷ cs) f g none h e = rw (none, f, g) refl
+      rw (none, f, esc)
+  by_tests false true (c ∷ cs) f g none h e = rw (none, f, g)
   by_tests false false (c ∷ cs) f g none h e =
       let wrong = rw (none, f, g) at h in
       absurd cc
@@ -116,7 +116,7 @@ none_is (Some n) false h = refl
 -- the test of the end, at a first byte
 pub is_end_comment : (bs : List ℕ) (o : Option ℕ) (r : Bool) → false ≡ eqb (length bs) 0 → get_or bs 0 0 ≡ code "#" → o ≡ line_length (take (length bs - 1) (drop 1 bs)) → is_some o ≡ not r → r ≡ is_end bs
 is_end_comment [] o r e b h n = absurd cc
-is_end_comment (x ∷ bs) o r e b h n = none_is o r n ∙ ap is_none (h ∙ ap line_length (take_rest (x ∷ bs) 1)) ∙ is_line-line_length bs ∙ rw b refl
+is_end_comment (x ∷ bs) o r e b h n = none_is o r n ∙ ap is_none (h ∙ ap line_length (take_rest (x ∷ bs) 1)) ∙ is_line-line_length bs ∙ rw b
 
 -- The search of a string's end, at position i of all its bytes
 
@@ -135,7 +135,7 @@ stop_at bs i p inv h =
     let at : drop p (drop i bs) ≡ drop (i + p) bs = drop-drop p i bs in
     let hit : is_byte3 (code "\"") (code "\\") (code "\n") (get_or (drop p (drop i bs)) 0 0) ≡ true = rw (first_of_drop (drop i bs) p) k.1 in
     record {
-      same = sym (plus_plus i p (raw_length (drop (i + p) bs))) ∙ ap (λ (xs : List ℕ). plus i (plus p (raw_length xs))) (sym at) ∙ ap (plus i) (sym (raw_skip (drop i bs) p k)) ∙ inv;
+      same = rw (← plus_plus, ← at, ← raw_skip) inv;
       within = omega (arith, length-drop i bs);
       stops = rw (← (ap (λ (xs : List ℕ). get_or xs 0 0) at ∙ first_of_drop bs (i + p))) hit;
     }
@@ -156,7 +156,7 @@ escape_at bs k h e =
     let long : 2 ≤ length (drop k bs) = x.1 in
     let within : k < length bs = h.within in (
       omega (arith, length-drop k bs),
-      sym (plus_plus k 2 (raw_length (drop (k + 2) bs))) ∙ ap (λ (xs : List ℕ). plus k (plus 2 (raw_length xs))) (sym (drop-drop 2 k bs)) ∙ ap (plus k) (sym x.0) ∙ h.same,
+      rw (← plus_plus, ← drop-drop, ← x.0) h.same,
     )
 
 pub ended_at : (bs : List ℕ) (i : ℕ) → plus i (raw_length (drop i bs)) ≡ raw_length bs → Stop bs i None → None ≡ raw_length bs

@@ -39,9 +39,9 @@ accepted_by : (text : List ℕ) (ts : List TokenAtLine) (v : Values) (r : Result
 accepted_by text ts v (Ok t) s h o = record {
   tokens = ts;
   spelled = s;
-  grammar = subst (IsText ts) (sym (ap (λ (x : Tree). x.values) o.0)) h;
-  sound = ap (fault_of ts) (ap (λ (x : Tree). x.values) o.0) ∙ o.1;
-  top = ap (λ (x : Tree). x.line) o.0;
+  grammar = subst (IsText ts) (cc) h;
+  sound = cc;
+  top = cc;
 }
 accepted_by text ts v (Err f) s h o = tt
 
@@ -89,8 +89,8 @@ tree_twice ts (fault.Number n) deep number twice v h = absurd twice
 pub tree_read : (ts rest : List TokenAtLine) (t : Tree) → None ≡ head_line (deep_lines 0 ts) → None ≡ head_line (number_lines Close ts) → t.line ≡ 1 → twice_lines [] t.values ≡ [] → ReadsValues ts t.values rest → (v : Values) → IsText ts v → TreeOf ts v (Ok t)
 tree_read ts rest t deep number line differ read v h =
     let same : v ≡ t.values = (read v [] (bounded_text ts v (no_head (number_lines Close ts) number) h) refl).0 in (
-      ap (λ (n : ℕ). let u : Tree = record { line = n; values = t.values } in u) line ∙ ap (λ (w : Values). let u : Tree = record { line = 1; values = w } in u) (sym same),
-      fault_twice ts v deep number ∙ ap (λ (ns : List ℕ). first_line (λ l. fault.KeyTwice l) ns None) (ap (twice_lines []) same ∙ differ),
+      rw (line, same),
+      rw (fault_twice, same, differ),
     )
 
 pub tree_accepted : (text : List ℕ) (ts : List TokenAtLine) (r : Result Tree TextFault) → Spells text ts → run 0 at.Key ts ≡ Some (0, at.Key) → ((v : Values) → IsText ts v → TreeOf ts v r) → IfOk r (Describes text)

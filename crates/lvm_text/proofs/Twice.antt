@@ -1,6 +1,7 @@
 -- Keys that stand twice: those of the entries read so far, and the first that a new key hits.
 use Rattle.std.proofs.Common.{◌≡◌, ℕ, ◌+◌, Bool, true, false, cond, ◌||◌, List, [], ◌∷◌, ◌++◌, Option, Some, refl, sym, ap, ◌∙◌, append_assoc}
 use Rattle.std.specs.Prelude.{bytes_eq, is_some}
+use Rattle.std.proofs.lemmas.Bool.{or_right}
 use Rattle.lvm_text.specs.Token.{Word, Open, Equals, ListOpen, TokenAtLine}
 use Rattle.lvm_text.specs.Tree.{Values, Nothing, Section, Single, Several}
 use Rattle.lvm_text.specs.Grammar.{ReadsBy}
@@ -40,15 +41,11 @@ twice_before (e ∷ es) ks left =
     let inside = inner_lines e.node.value in
     let own = twice_lines (k ∷ ks) (values_of es) in
     let after = twice_lines (keys_after es (k ∷ ks)) left in
-    rw (twice_put ks k n e.node.value (values_of es)) (twice_put ks k n e.node.value (before es left) ∙ ap (λ (xs : List ℕ). hit (has_key k ks) n (inside ++ xs)) (twice_before es (k ∷ ks) left) ∙ ap (hit (has_key k ks) n) (sym (append_assoc inside own after)) ∙ hit_append (has_key k ks) n (inside ++ own) after)
-
-or_true : (b : Bool) → (b || true) ≡ true
-or_true true = refl
-or_true false = refl
+    rw (twice_put ks k n e.node.value (values_of es)) (cc (twice_put ks k n e.node.value (before es left), twice_before es (k ∷ ks) left, append_assoc inside own after, hit_append (has_key k ks) n (inside ++ own) after))
 
 -- a key is among those of entries where it has a position
 has_step : (b : Bool) (first : ℕ) (position : Option ℕ) (old : Bool) → (is_some position || (b || old)) ≡ (is_some (cond b (Some first) position) || old)
-has_step true first position old = or_true (is_some position)
+has_step true first position old = or_right (is_some position) true refl
 has_step false first position old = refl
 
 has_after : (es : List Entry) (ks : List (List ℕ)) (key : List ℕ) (first : ℕ) → has_key key (keys_after es ks) ≡ (is_some (position_of key first es) || has_key key ks)
@@ -64,10 +61,10 @@ has_position es key b e = has_after es [] key 0 ∙ or_nothing (is_some (positio
 
 -- the values read so far
 twice_left : (es : List Entry) (left : Values) → twice_lines [] (values_of es) ≡ [] → twice_lines [] (before es left) ≡ twice_lines (keys_after es []) left
-twice_left es left h = twice_before es [] left ∙ ap (λ (xs : List ℕ). xs ++ twice_lines (keys_after es []) left) h
+twice_left es left h = rw (twice_before, h)
 
 hit_nothing : (b : Bool) (n : ℕ) (inside : List ℕ) → b ≡ false → inside ≡ [] → hit b n (inside ++ []) ≡ []
-hit_nothing b n inside e i = rw (e, i) refl
+hit_nothing b n inside e i = rw (e, i)
 
 pub differ_push : (es : List Entry) (e : Entry) → twice_lines [] (values_of es) ≡ [] → false ≡ is_some (position_of e.key.now 0 es) → inner_lines e.node.value ≡ [] → twice_lines [] (values_of (es ++ e ∷ [])) ≡ []
 differ_push es e h new inside =
@@ -78,7 +75,7 @@ differ_push es e h new inside =
 
 -- a key of entries that stands here again
 head_hit : (k key : List ℕ) (n line : ℕ) (ks : List (List ℕ)) (later : List ℕ) → k ≡ key → line ≡ n → has_key key ks ≡ true → head_line (hit (has_key k ks) n later) ≡ Some line
-head_hit k key n line ks later same at has = rw (same, sym at) (rw has refl)
+head_hit k key n line ks later same at has = rw (same, sym at, has)
 
 key_here : (key : List ℕ) (line : ℕ) (tokens : List TokenAtLine) (ks : List (List ℕ)) (left : Values) (more : List TokenAtLine) → has_key key ks ≡ true → ReadsBy bounded_of ((Word key, line) ∷ tokens) left more → begins_key more ≡ false → head_line (twice_lines ks left) ≡ Some line
 key_here key line tokens ks Nothing more has r stop = absurd (no_values key line tokens more r stop)
@@ -111,7 +108,7 @@ pub twice_inside : (start : List TokenAtLine) (es : List Entry) (rest tokens : L
 twice_inside start es rest tokens key line (fault.KeyTwice n) so_far same differ new inside = λ v more r stop.
     let x = so_far v more r stop in
     let y = inside key x.0 more (rw (← same) x.2) stop in
-    rw x.1 (ap head_line (twice_left es x.0 differ) ∙ ap (λ (w : Values). head_line (twice_lines (keys_after es []) w)) y.2 ∙ hit_later (has_key key (keys_after es [])) n line (twice_lines [] y.0) (twice_lines (key ∷ keys_after es []) y.1) (has_position es key false new) y.3)
+    rw (x.1, twice_left, y.2) (hit_later (has_key key (keys_after es [])) n line (twice_lines [] y.0) (twice_lines (key ∷ keys_after es []) y.1) (has_position es key false new) y.3)
 twice_inside start es rest tokens key line fault.Memory so_far same differ new inside = tt
 twice_inside start es rest tokens key line (fault.Token n) so_far same differ new inside = absurd inside
 twice_inside start es rest tokens key line (fault.Syntax n) so_far same differ new inside = absurd inside

@@ -179,13 +179,13 @@ syntax_read text n ts v h k =
 sound_unsound : (text : List ℕ) (t : Tree) (f : TextFault) → Describes text t → IsUnsound text f → ⊥
 sound_unsound text t f h k =
     let same = values_one text h.tokens k.tokens t.values k.values (described_read text t h) (unsound_read text f k) in
-    let wrong : None ≡ Some f = sym h.sound ∙ ap (λ (ts : List TokenAtLine). fault_of ts t.values) same.0 ∙ ap (fault_of k.tokens) same.1 ∙ k.hit in
+    let wrong : None ≡ Some f = cc in
     cc
 
 unsound_one : (text : List ℕ) (f g : TextFault) → IsUnsound text f → IsUnsound text g → f ≡ g
 unsound_one text f g h k =
     let same = values_one text h.tokens k.tokens h.values k.values (unsound_read text f h) (unsound_read text g k) in
-    same_Some f g (sym h.hit ∙ ap (λ (ts : List TokenAtLine). fault_of ts h.values) same.0 ∙ ap (fault_of k.tokens) same.1 ∙ k.hit)
+    same_Some f g (cc)
 
 syntax_one : (text : List ℕ) (m n : ℕ) → IsBadSyntax text m → IsBadSyntax text n → m ≡ n
 syntax_one text m n h k =

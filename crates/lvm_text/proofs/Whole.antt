@@ -1,5 +1,6 @@
 -- Every text says a tree, or has a fault.
 use Rattle.std.proofs.Common.{◌≡◌, ℕ, zero, suc, ◌+◌, ◌<◌, false, List, [], ◌∷◌, ◌++◌, length, Option, Some, None, refl, sym, ◌∙◌, ◌⊎◌, inl, inr, append_assoc, arith}
+use Rattle.std.proofs.lemmas.Bool.{cases_Bool}
 use Rattle.std.proofs.lemmas.List.{append-nil}
 use Rattle.lvm_text.specs.Token.{TokenAtLine}
 use Rattle.lvm_text.specs.Tree.{Values, Tree}
@@ -12,7 +13,6 @@ use Rattle.lvm_text.specs.Reading.{Describes, HasFault}
 use Rattle.lvm_text.specs.declared.syntax.Stage.TheVariants as at
 use Rattle.lvm_text.specs.declared.fault.TextFault.{TextFault}
 use Rattle.lvm_text.specs.declared.fault.TextFault.TheVariants as fault
-use Rattle.lvm_text.proofs.Cases.{bool_is}
 use Rattle.lvm_text.proofs.Cuts.{Before, before_all, before_more, spells_whole, bad_here}
 use Rattle.lvm_text.proofs.Elements.{begins, shorter}
 use Rattle.lvm_text.proofs.Beginnings.{done, text_from, last_run, broken, unfinished, over, not_over}
@@ -34,7 +34,7 @@ next_element text line tokens rest (Some q) h e p go =
 tokens_within : (n : ℕ) (text : List ℕ) (line : ℕ) (tokens : List TokenAtLine) (rest : List ℕ) → length rest < n → Before text line tokens rest → Tokens text
 tokens_within zero text line tokens rest lt h = absurd (omega arith)
 tokens_within (suc n) text line tokens rest lt h =
-    elim (bool_is (is_end rest)) [
+    elim (cases_Bool (is_end rest)) [
       | inl e ↦ inl (tokens, spells_whole text line tokens rest h e)
       | inr e ↦ next_element text line tokens rest (element_at rest) h e refl (λ l ts after less before. tokens_within n text l ts after (omega (arith, less, lt)) before)
     ]
@@ -47,7 +47,7 @@ Syntax ts end = (run 0 at.Key ts ≡ Some done) ⊎ ((n : ℕ) × IsSyntaxLine t
 
 ended : (ts : List TokenAtLine) (end : ℕ) (s : State) → run 0 at.Key ts ≡ Some s → Syntax ts end
 ended ts end s h =
-    elim (bool_is (is_over s.0 s.1)) [
+    elim (cases_Bool (is_over s.0 s.1)) [
       | inl e ↦ inl (rw (← over s.0 s.1 e) h)
       | inr e ↦ inr (end, inr (unfinished ts s h (not_over s.0 s.1 e), refl))
     ]
@@ -56,7 +56,7 @@ next_token : (before : List TokenAtLine) (t : TokenAtLine) (ts : List TokenAtLin
     → ((x : State) → run 0 at.Key (before ++ t ∷ []) ≡ Some x → Syntax ((before ++ t ∷ []) ++ ts) end) → Syntax (before ++ t ∷ ts) end
 next_token before t ts end s None h e go = inr (t.1, inl (broken before ts t.0 t.1 s h e))
 next_token before t ts end s (Some x) h e go =
-    rw (← append_assoc before (t ∷ []) ts) (go x (last_run before t s h ∙ rw e refl))
+    rw (← append_assoc before (t ∷ []) ts) (go x (last_run before t s h ∙ rw e))
 
 syntax_from : (ts before : List TokenAtLine) (end : ℕ) (s : State) → run 0 at.Key before ≡ Some s → Syntax (before ++ ts) end
 syntax_from [] before end s h = rw (append-nil before) (ended before end s h)

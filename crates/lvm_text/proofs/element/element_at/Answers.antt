@@ -11,5 +11,4 @@ returns-then-first-ge128 c = element_beyond c.args.text.now (rw (← c.as_bytes-
 
 pub returns : goal.returns
 returns c =
-    c.element_from.ensures ∙ ap (λ (bs : List ℕ). element_from (get_or bs 0 0) c.around.result.1.now) c.as_bytes-bytes.ensures.value
-    ∙ element_cons c.args.text.now c.around.result.1.now (some_bytes c.args.text.now (rw (← c.as_bytes-bytes.ensures.value) c.if-is_empty.ensures)) c.around.ensures.after
+    cc (element_cons c.args.text.now c.around.result.1.now (some_bytes c.args.text.now (rw (← c.as_bytes-bytes.ensures.value) c.if-is_empty.ensures)) c.around.ensures.after)

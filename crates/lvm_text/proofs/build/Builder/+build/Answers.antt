@@ -34,14 +34,14 @@ section_at-returns-then-is_some-clause-twice t c =
 pub section_at-returns-in_err-value-clause-twice : goal.section_at-returns-in_err-value-clause-twice
 section_at-returns-in_err-value-clause-twice t c =
     let p = err_from_is_err_and c.from_residual-in_err-value.result c.from_residual-in_err-value.ensures.1 in
-    rw p.1 (rw p.2 (twice_inside (views (drop c.args.start c.args.self.now.tokens.now)) c.loop-key.entries.items (views (drop c.loop-key.at c.args.self.now.tokens.now)) (views (drop (c.loop-key.at + 1) c.args.self.now.tokens.now)) c.in-Some.key.now c.in-Some.key_line
-    c.in_err-value.field-0.0 c.loop-key.invariant.so_far c.in-Some.ensures.0 c.loop-key.invariant.differ (rw (← c.as_slice.ensures.value) (sym c.if-is_some.false ∙ c.is_some.ensures ∙ ap is_some c.position_of.ensures)) c.in_err-value.ensures.twice))
+    rw (p.1, p.2) (twice_inside (views (drop c.args.start c.args.self.now.tokens.now)) c.loop-key.entries.items (views (drop c.loop-key.at c.args.self.now.tokens.now)) (views (drop (c.loop-key.at + 1) c.args.self.now.tokens.now)) c.in-Some.key.now c.in-Some.key_line
+    c.in_err-value.field-0.0 c.loop-key.invariant.so_far c.in-Some.ensures.0 c.loop-key.invariant.differ (rw (← c.as_slice.ensures.value) (sym c.if-is_some.false ∙ c.is_some.ensures ∙ ap is_some c.position_of.ensures)) c.in_err-value.ensures.twice)
 
 pub value_at-returns-in_err-section-clause-twice : goal.value_at-returns-in_err-section-clause-twice
 value_at-returns-in_err-section-clause-twice t c =
     let p = err_from_is_err_and c.from_residual.result c.from_residual.ensures.1 in
-    rw p.1 (rw p.2 (twice_opened c.args.line (views (drop c.args.start c.args.self.now.tokens.now)) (view c.in-Some.first) (views (drop (c.args.start + 1) c.args.self.now.tokens.now)) c.in_err-section.field-0.0
-    (ap views c.in-Some.ensures.0) (sym c.if-is_open.ensures) c.in_err-section.ensures.twice))
+    rw (p.1, p.2) (twice_opened c.args.line (views (drop c.args.start c.args.self.now.tokens.now)) (view c.in-Some.first) (views (drop (c.args.start + 1) c.args.self.now.tokens.now)) c.in_err-section.field-0.0
+    (ap views c.in-Some.ensures.0) (sym c.if-is_open.ensures) c.in_err-section.ensures.twice)
 
 pub section_at-returns-clause-read : goal.section_at-returns-clause-read
 section_at-returns-clause-read t c =

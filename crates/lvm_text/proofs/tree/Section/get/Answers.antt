@@ -8,7 +8,7 @@ position_of-requires c = subst (Finds c.self.inside.index) (sym c.as_slice.ensur
 
 pub returns-in_err-at : goal.returns-in_err-at
 returns-in_err-at c =
-    rw c.from_residual.ensures (rw (← c.self.view_is) (sym (absent c.self.inside.entries.items c.args.key.now 0 c.self.invariant.lines (ap (position_of c.args.key.now 0) (sym c.as_slice.ensures.value) ∙ sym c.in_err-at.ensures))))
+    rw (c.from_residual.ensures, ← c.self.view_is) (sym (absent c.self.inside.entries.items c.args.key.now 0 c.self.invariant.lines (ap (position_of c.args.key.now 0) (sym c.as_slice.ensures.value) ∙ sym c.in_err-at.ensures)))
 
 pub index-requires : goal.index-requires
 index-requires c =
