@@ -19,8 +19,8 @@ pub(crate) enum Node {
     Fork(u32, u32),
 }
 
-/// From here on a link leads to a fork.
-const FORKS: u32 = 1 << 31;
+/// The least code of a link that leads to a fork.
+const FIRST_FORK: u32 = 1 << 31;
 
 /// How many indices there are for the links of a fork.
 const INDICES: u32 = 1 << 25;
@@ -64,7 +64,7 @@ impl Link {
         ensures { result ≡ Fork bit pair }
     {
         Link {
-            code: FORKS + bit * INDICES + pair,
+            code: FIRST_FORK + bit * INDICES + pair,
         }
     }
 
@@ -78,8 +78,8 @@ impl Link {
     pub(super) fn node(&self) -> Node
         ensures { result ≡ self.now }
     {
-        if self.code >= FORKS {
-            let fork = self.code - FORKS;
+        if self.code >= FIRST_FORK {
+            let fork = self.code - FIRST_FORK;
             Node::Fork(fork / INDICES, fork % INDICES)
         } else if self.code == 0 {
             Node::Empty
