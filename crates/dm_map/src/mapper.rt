@@ -167,7 +167,7 @@ impl<'s, T: Taken> Mapper<'s, T> {
         }
         self.searches_before = self.walker.searches();
         self.comparisons_before = self.walker.comparisons();
-        let mapped = map_request(
+        let mapped = pieces_or_home(
             &mut self.walker,
             request.op,
             device,
@@ -245,7 +245,7 @@ impl<'s, T: Taken> Mapper<'s, T> {
 /// Hands over the units of a request, or returns where they lie. The fields are passed one by one: that keeps
 /// them in registers.
 #[inline(always)]
-fn map_request<S: Sink, T: Taken>(
+fn pieces_or_home<S: Sink, T: Taken>(
     walker: &mut Walker<'_, T>,
     op: Op,
     device: DeviceId,
