@@ -1,7 +1,7 @@
 -- Runs of taken chunks: neighbours that were taken one after the other.
 use Rattle.std.specs.Prelude.{ℕ, zero, suc, ◌≡◌, ◌<◌, ◌≤◌, ◌+◌, ◌==◌, Bool, true, not, List, [], ◌∷◌, Option, Some, None, length, take, if◌then◌else◌}
 use Rattle.std.specs.List.{flat_map, slice_index_or}
-use Rattle.dm_map.specs.declared.state.run_taken.run.Rest.{Rest}
+use Rattle.dm_map.specs.declared.state.run_taken.run.NumberRange.{NumberRange}
 use Rattle.dm_map.specs.declared.state.run_taken.run.Run.{Run}
 
 -- a chunk begins a run unless it comes right after the chunk before it
@@ -58,7 +58,7 @@ pub record RunRow : Type 0 where
   pub room : ℕ
 
 -- runs by their first chunks, and what they have beside these
-abbrev pub joined : List ℕ → List Rest → List Run
+abbrev pub joined : List ℕ → List NumberRange → List Run
 joined [] rests = []
 joined (first ∷ firsts) [] = []
 joined (first ∷ firsts) (rest ∷ rests) = record { first = first; number = rest.number; len = rest.len } ∷ joined firsts rests

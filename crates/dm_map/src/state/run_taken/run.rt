@@ -11,9 +11,9 @@ pub(crate) struct Run {
     pub(crate) len: u32,
 }
 
-/// What a run has beside its first chunk.
+/// The numbers of a run's chunks: from which one, and how many.
 #[derive(Clone, Copy)]
-pub(crate) struct Rest {
+pub(crate) struct NumberRange {
     pub(crate) number: u32,
     pub(crate) len: u32,
 }

@@ -3,7 +3,7 @@
 ghost use Rattle.std.specs.Prelude.{◌≡◌, ◌∷◌, [], ◌++◌, ◌<◌, ◌≤◌, ◌+◌, ◌-◌, ◌^◌, IfOk, length, slice_get, slice_set};
 ghost use Rattle.dm_map.specs.state.Runs.{longer, run_at};
 
-use crate::state::run_taken::run::{Rest, Run};
+use crate::state::run_taken::run::{NumberRange, Run};
 use dm_table::Reserved;
 use std::alloc::{AllocError, Global};
 use std::marker::Model;
@@ -15,7 +15,7 @@ use std::marker::Model;
 #[derive(Drop)]
 pub(crate) struct Runs {
     firsts: Reserved<u64>,
-    rests: Reserved<Rest>,
+    rests: Reserved<NumberRange>,
 }
 
 impl Model for Runs {
@@ -91,7 +91,7 @@ impl Runs {
         ensures room { self.new.room ≡ self.old.room }
     {
         self.firsts.push(run.first);
-        self.rests.push(Rest {
+        self.rests.push(NumberRange {
             number: run.number,
             len: run.len,
         });

@@ -1,6 +1,6 @@
 use Rattle.std.proofs.Common.{◌≡◌, ◌+◌, ◌-◌, ◌<◌, ℕ, ap, length, get_or, set, ◌∙◌, sym, arith}
 use Rattle.std.proofs.lemmas.List.{get_or_read}
-use Rattle.dm_map.specs.declared.state.run_taken.run.Rest.{Rest}
+use Rattle.dm_map.specs.declared.state.run_taken.run.NumberRange.{NumberRange}
 use Rattle.dm_map.specs.state.Runs.{joined, longer, run_at}
 use Rattle.dm_map.proofs.state.JoinedRuns.{joined_at, joined_set, length-runs, no_rest, runs_at, with_first}
 use Rattle.dm_map.proofs.state.run_taken.runs.Runs.lengthen.Goals.{After-index_mut}
@@ -35,7 +35,7 @@ returns-clause-items c =
     let read = (goal.at.returns-clause-items c).After-index_mut in
     let there = place_there read in
     let n = place read in
-    let new : Rest = record { number = c.index_mut.result.now.number; len = c.index_mut.result.now.len + 1 } in
+    let new : NumberRange = record { number = c.index_mut.result.now.number; len = c.index_mut.result.now.len + 1 } in
     let more : with_first (get_or firsts n 0) new ≡ longer (run_at (joined firsts rests) n) =
     ap (λ rest. longer (with_first (get_or firsts n 0) rest)) (rest_is read) ∙ ap longer (sym (joined_at firsts rests n c.self.invariant)) in
     joined_set firsts rests n new c.self.invariant (omega (arith, there.0, c.self.invariant))

@@ -1,5 +1,5 @@
 use Rattle.std.proofs.Common.{◌∷◌, [], ◌++◌, ap, length, ◌∙◌, arith}
-use Rattle.dm_map.specs.declared.state.run_taken.run.Rest.{Rest}
+use Rattle.dm_map.specs.declared.state.run_taken.run.NumberRange.{NumberRange}
 use Rattle.dm_map.specs.state.Runs.{joined}
 use Rattle.dm_map.proofs.state.JoinedRuns.{joined_push, length-joined}
 use Rattle.dm_map.proofs.state.run_taken.runs.Runs.push.Goals as goal
@@ -22,6 +22,6 @@ pub returns-clause-items : goal.returns-clause-items
 returns-clause-items c =
     let firsts = c.self.inside.firsts.items in
     let rests = c.self.inside.rests.items in
-    let rest : Rest = record { number = c.args.run.number; len = c.args.run.len } in
+    let rest : NumberRange = record { number = c.args.run.number; len = c.args.run.len } in
     let both = ap (λ firsts. joined firsts c.push-2.new.self.items) c.push.ensures.items ∙ ap (joined (firsts ++ c.args.run.first ∷ [])) c.push-2.ensures.items in
     both ∙ joined_push firsts rests c.args.run.first rest c.self.invariant ∙ ap (λ row. row.items ++ c.args.run ∷ []) c.self.view_is
