@@ -1,5 +1,5 @@
 -- What becomes of a chunk that is to be taken, with the facts that each case rests on: nothing is done, or it is taken, or its snapshot is lost; the state still fits.
-use Rattle.std.proofs.Common.{◌≡◌, ◌⊎◌, inl, inr, ℕ, zero, suc, ◌+◌, ◌<◌, ◌≤◌, Bool, true, false, cond, not, List, [], ◌∷◌, ◌++◌, length-append, Some, length, refl, sym, ap, subst, ◌∙◌, arith}
+use Rattle.std.proofs.Common.{◌≡◌, ◌⊎◌, inl, inr, ℕ, zero, suc, ◌+◌, ◌<◌, ◌≤◌, Bool, true, false, cond, not, List, [], ◌∷◌, ◌++◌, length-append, Some, length, refl, sym, ap, ◌∙◌, arith}
 use Rattle.std.specs.Prelude.{is_some}
 use Rattle.std.proofs.lemmas.Bool.{and_parts, cases_eq, cases_lt, le-leb, leb-true, not-false, not-true, or_parts}
 use Rattle.std.proofs.lemmas.List.{length-set}
@@ -43,7 +43,7 @@ is_read stack state (suc levels) (Device device) sector = is_read_below (read_be
 readable_of : (unit : BlockUnit) → IsRead unit → is_error unit ≡ false → IsReadable unit
 readable_of unit (Sector disk sector is) e = Reads disk sector is
 readable_of unit (Nothing is) e = AreZeros is
-readable_of unit (Fault is) e = absurd (true_false (sym (ap is_error is) ∙ e))
+readable_of unit (Fault is) e = absurd (cc)
   where
     true_false : true ≡ false → ⊥
     true_false same = cc
@@ -53,7 +53,7 @@ no_errors f s zero u e low high = absurd (omega (arith, low, high))
 no_errors f s (suc n) u e low high =
     let parts = or_parts (is_error (f s)) (any_error (row f (suc s) n)) e in
     elim (cases_eq s u) [
-      | inl same ↦ subst (λ (v : ℕ). is_error (f v) ≡ false) same parts.0
+      | inl same ↦ rw same at parts.0
       | inr differ ↦ no_errors f (suc s) n u parts.1 (omega (arith, low, differ)) (omega (arith, high))
     ]
 
@@ -101,8 +101,8 @@ fits_put stack state device taken fitting there each = record {
   places = λ e number snapshot over below. elim (cases_eq e device) [
     | inl same ↦
         let here : taken_at (put state device taken) e ≡ taken = ap (taken_at (put state device taken)) same ∙ taken_same state device taken there in
-        each number snapshot (subst (λ (x : ℕ). snapshot_at stack x ≡ Some snapshot) same over) (subst (λ (x : Taken). number < length x.chunks) here below)
-    | inr differ ↦ fitting.places e number snapshot over (subst (λ (x : Taken). number < length x.chunks) (taken_other state device e taken differ) below)
+        each number snapshot (rw same at over) (rw here at below)
+    | inr differ ↦ fitting.places e number snapshot over (rw (← taken_other state device e taken differ) below)
   ];
 }
 
@@ -115,7 +115,7 @@ full_outcome_fits stack state device chunk snapshot step fitting there (Taking t
       | inr new ↦
           let same = some_is snapshot other (sym take.over ∙ over) in
           let room : has_place stack snapshot (new_number state device) ≡ true = le-leb _ _ take.place_there in
-          subst (λ (n : ℕ). has_place stack other n ≡ true) (sym new) (subst (λ (s : FoundSnapshot). has_place stack s (new_number state device) ≡ true) same room)
+          rw new (rw same at room)
     ]))
 full_outcome_fits stack state device chunk snapshot step fitting there (Losing is) =
     rw is (fits_put stack state device (lost (taken_at state device)) fitting there (λ number other over below. fitting.places device number other over below))

@@ -1,5 +1,5 @@
 -- Where no claims meet, each top device has what it would have alone, or errors, after the first units of any request of a top device.
-use Rattle.std.proofs.Common.{◌≡◌, inl, inr, ℕ, zero, suc, ◌+◌, ◌-◌, ◌≤◌, Bool, true, false, cond, List, [], ◌++◌, length, take, nat_lt, replicate, refl, sym, ap, subst, ◌∙◌, arith}
+use Rattle.std.proofs.Common.{◌≡◌, inl, inr, ℕ, zero, suc, ◌+◌, ◌-◌, ◌≤◌, Bool, true, false, cond, List, [], ◌++◌, length, take, nat_lt, replicate, refl, ◌∙◌, arith}
 use Rattle.std.proofs.Math.Seq.{take-append-add}
 use Rattle.std.proofs.lemmas.Bool.{cases_lt}
 use Rattle.std.proofs.lemmas.List.{take-append-le}
@@ -43,8 +43,7 @@ none_halted zeros written stack top step state sector at len values rows own = r
 steps_halted : {V : Type 0} (zeros : V) (written : ℕ → V) (stack : Description) (op : Op) (top count len : ℕ) (state : State) (sector at : ℕ) (values : Values V) (rows : Rows V) → IsSound stack → IsTidy stack → IsTop stack top → AreOwn zeros stack state values rows
     → IsHalted zeros written stack top (sector_step stack op MOST_DEPTH (Device top)) state sector at len (take count (steps (sector_step stack op MOST_DEPTH (Device top)) state sector len).units) values rows
 steps_halted {V} zeros written stack op top count zero state sector at values rows sound tidy is_top own =
-    subst (λ (us : List BlockUnit). IsHalted zeros written stack top (sector_step stack op MOST_DEPTH (Device top)) state sector at zero us values rows) (sym (take_none count))
-    (none_halted zeros written stack top (sector_step stack op MOST_DEPTH (Device top)) state sector at zero values rows own)
+    rw (take_none count) (none_halted zeros written stack top (sector_step stack op MOST_DEPTH (Device top)) state sector at zero values rows own)
 steps_halted {V} zeros written stack op top count (suc len) state sector at values rows sound tidy is_top own =
     let step = sector_step stack op MOST_DEPTH (Device top) in
     let first = step_own zeros written stack op state top sector values rows sound tidy is_top own in
@@ -52,22 +51,12 @@ steps_halted {V} zeros written stack op top count (suc len) state sector at valu
     let rest = (steps step (step state sector).state (suc sector) len).units in
     elim (cases_lt count (length us)) [
       | inl below ↦
-          subst (λ (vs : List BlockUnit). IsHalted zeros written stack top step state sector at (suc len) vs values rows) (sym (take-append-le count us rest (omega (arith, below)))) (record {
-            sectors = 0;
-            past = first.none count at below ∙ (let e : at ≡ at + 0 = omega arith in e);
-            few = omega arith;
-            own = first.torn count below;
-          })
+          rw (take-append-le count us rest (omega (arith, below))) (record { sectors = 0; past = first.none count at below ∙ (let e : at ≡ at + 0 = omega arith in e); few = omega arith; own = first.torn count below })
       | inr past ↦
           let more = count - length us in
-          let units_are : take count (us ++ rest) ≡ us ++ take more rest = ap (λ (n : ℕ). take n (us ++ rest)) (let e : count ≡ length us + more = omega (arith, past) in e) ∙ take-append-add us rest more in
+          let units_are : take count (us ++ rest) ≡ us ++ take more rest = cc ((let e : count ≡ length us + more = omega (arith, past) in e), take-append-add us rest more) in
           let later = steps_halted zeros written stack op top more len (step state sector).state (suc sector) (suc at) first.later first.after sound tidy is_top first.whole in
-          subst (λ (vs : List BlockUnit). IsHalted zeros written stack top step state sector at (suc len) vs values rows) (sym units_are) (record {
-            sectors = suc later.sectors;
-            past = first.past (take more rest) at ∙ later.past ∙ (let e : suc at + later.sectors ≡ at + suc later.sectors = omega arith in e);
-            few = omega (arith, later.few);
-            own = both_own zeros stack (steps step (step state sector).state (suc sector) later.sectors).state _ _ _ _ (first.played_is (take more rest)) (first.rows_are (take more rest)) later.own;
-          })
+          rw units_are (record { sectors = suc later.sectors; past = first.past (take more rest) at ∙ later.past ∙ (let e : suc at + later.sectors ≡ at + suc later.sectors = omega arith in e); few = omega (arith, later.few); own = both_own zeros stack (steps step (step state sector).state (suc sector) later.sectors).state _ _ _ _ (first.played_is (take more rest)) (first.rows_are (take more rest)) later.own })
     ]
 
 -- one that passes the device's end fails sector by sector, and changes nothing
@@ -92,7 +81,7 @@ halted_own {V} zeros written stack op state top start len count values rows soun
         let step = sector_step stack op MOST_DEPTH (Device top) in
         let halted = steps_halted zeros written stack op top count len state start 0 values rows sound tidy is_top own in
         let units = take count (steps step state start len).units in
-        subst (λ (n : ℕ). AreOwn zeros stack (steps step state start n).state (played zeros written start units values) (rows_played written top start units rows)) (sym (halted.past ∙ (let e : 0 + halted.sectors ≡ halted.sectors = omega arith in e))) halted.own
+        rw (halted.past, (let e : 0 + halted.sectors ≡ halted.sectors = omega arith in e)) halted.own
 
 -- no more sectors are whole than there are
 

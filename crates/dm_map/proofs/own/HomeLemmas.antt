@@ -1,17 +1,16 @@
 -- Homes of a store's sectors: a way leads there, and no other way does.
-use Rattle.std.proofs.Common.{◌≡◌, ℕ, zero, suc, ◌/◌, ◌<◌, true, Some, refl, sym, ap, subst, ◌∙◌}
+use Rattle.std.proofs.Common.{◌≡◌, ℕ, zero, suc, ◌/◌, ◌<◌, true, Some, refl, ap}
 use Rattle.dm_stack.specs.declared.lines.found_line.FoundSnapshot.{FoundSnapshot}
 use Rattle.dm_stack.specs.declared.checks.graph.TheConstants.{MOST_DEPTH}
 use Rattle.dm_stack.specs.declared.id.Lower.{Lower}
 use Rattle.dm_stack.specs.declared.id.Lower.TheVariants.{Device, Disk}
-use Rattle.dm_stack.specs.lines.Below.{Below, IsError, below}
+use Rattle.dm_stack.specs.lines.Below.{IsError, below}
 use Rattle.dm_stack.specs.claims.Claims.{IsTidy}
 use Rattle.dm_stack.specs.Description.{Description, lower_len}
 use Rattle.dm_stack.specs.checks.Soundness.{IsSound}
 use Rattle.dm_stack.specs.checks.Store.{is_store_to}
 use Rattle.dm_map.specs.state.Fitting.{IsFitting}
-use Rattle.dm_map.specs.walk.Homes.{Home, home, home_to, nowhere}
-use Rattle.dm_map.specs.walk.Reads.{by_below}
+use Rattle.dm_map.specs.walk.Homes.{Home, home, home_to}
 use Rattle.dm_map.specs.state.Snapshots.{store_sector, number_in, read_over}
 use Rattle.dm_map.specs.state.State.{State, taken_at}
 use Rattle.dm_map.specs.state.Tables.{snapshot_at}
@@ -29,7 +28,7 @@ home_node home = node (Disk home.disk) home.sector
 
 home_suc : (stack : Description) (levels device sector : ℕ) (step : LiesInStore stack levels (λ over. below over stack device sector)) → home_to stack (suc levels) (Device device) sector ≡ home_to stack levels step.to step.at
 unfolding home_to
-home_suc stack levels device sector step = ap (λ (b : Below). by_below b nowhere nowhere (λ to at. home_to stack levels to at)) (step.is (λ snapshot sector. IsError))
+home_suc stack levels device sector step = cc (step.is (λ snapshot sector. IsError))
 
 store_touches : (stack : Description) (state : State) (levels : ℕ) (lower : Lower) (sector : ℕ) → IsSound stack → is_store_to stack levels lower ≡ true → sector < lower_len stack lower
     → Touches stack state (node lower sector) (home_node (home_to stack levels lower sector))
@@ -40,26 +39,26 @@ store_touches stack state (suc levels) (Device device) sector sound store inside
     let step = below_store stack levels device sector sound store inside in
     let later = store_touches stack state levels step.to step.at sound step.store step.inside in
     touch_first stack state (node (Device device) sector) (node step.to step.at) (home_node (home_to stack (suc levels) (Device device) sector)) (record { device = device; on = refl; below = step.is (read_over (taken_at state device)) })
-    (subst (λ (h : Home). Touches stack state (node step.to step.at) (home_node h)) (sym (home_suc stack levels device sector step)) later)
+    (rw (home_suc stack levels device sector step) later)
 
 -- No other way does
 
 pub node_is : (c : Node) (e d t s : ℕ) → c.lower ≡ Device e → e ≡ d → t ≡ c.sector → t ≡ s → c ≡ node (Device d) s
-node_is c e d t s lower same at is = ap (λ (x : Lower). node x c.sector) (lower ∙ ap Device same) ∙ ap (λ (x : ℕ). node (Device d) x) (sym at ∙ is)
+node_is c e d t s lower same at is = rw (lower, same, ← at, is)
 
 -- what touches what a line without a state leads to touches the line's sector, unless it begins there
 pub touch_up : (stack : Description) (state : State) (a : Node) (device sector : ℕ) (lower : Lower) (at : ℕ) → IsSound stack → IsFitting stack state → IsTidy stack → IsNoLines stack a.lower
     → IsLineStep stack device sector lower at → Touches stack state a (node lower at) → Touches stack state a (node (Device device) sector)
 touch_up stack state a device sector lower at sound fitting tidy free step touches = elim (back stack state a (node lower at) touches) [
-  | Here e ↦ absurd (free_of (ap (λ (n : Node). n.lower) e))
+  | Here e ↦ absurd (free_of (cc))
   | Before c before leads ↦
       let is = only_by_line stack state device sector leads.device c.sector lower at step.line sound fitting tidy (goes_on_inside stack state leads.device c.sector lower at sound leads.below) step.is step.step
       (read_step stack state leads.device c.sector lower at sound leads.below) in
-      subst (λ (n : Node). Touches stack state a n) (node_is c leads.device device c.sector sector leads.on is.device refl is.sector) before
+      rw (← node_is c leads.device device c.sector sector leads.on is.device refl is.sector) before
 ]
   where
     free_of : a.lower ≡ lower → ⊥
-    free_of same = (subst (λ (x : Lower). IsNoLines stack x) same free).none device sector step.line at step.is step.step
+    free_of same = (rw same at free).none device sector step.line at step.is step.step
 
 -- what touches a home touches the store's sector
 pub home_touched : (stack : Description) (state : State) (a : Node) (levels : ℕ) (lower : Lower) (sector : ℕ) → IsSound stack → IsFitting stack state → IsTidy stack → IsNoLines stack a.lower → is_store_to stack levels lower ≡ true → sector < lower_len stack lower
@@ -70,7 +69,7 @@ home_touched stack state a zero (Device device) sector sound fitting tidy free s
 home_touched stack state a (suc levels) (Device device) sector sound fitting tidy free store inside touches =
     let step = below_store stack levels device sector sound store inside in
     let later = home_touched stack state a levels step.to step.at sound fitting tidy free step.store step.inside
-    (subst (λ (h : Home). Touches stack state a (home_node h)) (home_suc stack levels device sector step) touches) in
+    (rw (← home_suc stack levels device sector step) touches) in
     touch_up stack state a device sector step.to step.at sound fitting tidy free (line_step stack device sector step.to step.at (λ held is. store_line stack levels device sector held store is) (step.is (λ snapshot sector. IsError))) later
 
 -- sectors of a store have homes of their own
@@ -80,7 +79,7 @@ homes_apart stack state device snapshot x y sound fitting tidy over x_in y_in sa
     let store = (snapshot_sound stack device snapshot sound over).soundly.store in
     let there = store_touches stack state MOST_DEPTH snapshot.store x sound store x_in in
     let up = home_touched stack state (node snapshot.store x) MOST_DEPTH snapshot.store y sound fitting tidy (store_no_lines stack device snapshot sound tidy over) store y_in
-    (subst (λ (h : Home). Touches stack state (node snapshot.store x) (home_node h)) same there) in
+    (rw same at there) in
     ap (λ (n : Node). n.sector) (touch_same stack state (node snapshot.store x) (node snapshot.store y) sound up refl)
 
 -- the place of a number that isn't taken is touched by no way from a root
@@ -90,7 +89,7 @@ fresh_apart stack state a device snapshot x sound fitting tidy over root x_in fr
     let store = (snapshot_sound stack device snapshot sound over).soundly.store in
     let up = home_touched stack state a MOST_DEPTH snapshot.store x sound fitting tidy root.lines store x_in touches in
     elim (back stack state a (node snapshot.store x) up) [
-      | Here e ↦ root.stores.none device snapshot over (ap (λ (n : Node). n.lower) e)
+      | Here e ↦ root.stores.none device snapshot over (cc)
       | Before c before leads ↦
           let kept = only_by_store stack state device leads.device c.sector x snapshot sound fitting tidy (goes_on_inside stack state leads.device c.sector snapshot.store x sound leads.below) over x_in
           (read_step stack state leads.device c.sector snapshot.store x sound leads.below) in

@@ -44,7 +44,7 @@ lost_next : (stack : Description) (state : State) (device e sector : ℕ) → de
 lost_next stack state device e sector there = elim (cases_eq e device) [
   | inl same ↦
       let here : taken_at (put state device (lost (taken_at state device))) e ≡ lost (taken_at state device) = ap (taken_at (put state device (lost (taken_at state device)))) same ∙ taken_same state device (lost (taken_at state device)) there in
-      lost_line (taken_at state e) (taken_at (put state device (lost (taken_at state device))) e) (found_at stack e sector) sector (ap (λ (taken : Taken). taken.valid) here)
+      lost_line (taken_at state e) (taken_at (put state device (lost (taken_at state device))) e) (found_at stack e sector) sector (cc)
   | inr differ ↦ inl (next_same stack state (put state device (lost (taken_at state device))) e sector (taken_other state device e (lost (taken_at state device)) differ))
 ]
 
@@ -67,9 +67,9 @@ lost_step {V = V} zeros stack state values device sound there (Device e) each se
     let other = put state device (lost (taken_at state device)) in
     stays_as _ _ _ _ (content_down zeros stack state values e sector sound) (content_down zeros stack other values e sector sound)
     (elim (lost_next stack state device e sector there) [
-      | inl same ↦ stays_as _ _ _ _ refl (ap (λ (b : Below). by_below b (Some zeros) None (λ to at. content zeros stack other values to at)) same)
+      | inl same ↦ stays_as _ _ _ _ refl (cc)
           (stays_below zeros (read_below stack state e sector) (λ to at. content zeros stack state values to at) (λ to at. content zeros stack other values to at) (λ to at is. each to (next_depth stack state e sector to at sound is) at))
-      | inr gone ↦ inr (ap (λ (b : Below). by_below b (Some zeros) None (λ to at. content zeros stack other values to at)) gone)
+      | inr gone ↦ inr (cc)
     ])
 
 pub lost_stays : {V : Type 0} (zeros : V) (stack : Description) (state : State) (values : Values V) (device : ℕ) (lower : Lower) (sector : ℕ) → IsSound stack → device < length state

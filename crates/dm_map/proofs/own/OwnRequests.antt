@@ -1,5 +1,5 @@
 -- Where no claims meet, each top device has what it would have alone, or errors, after any request of a top device.
-use Rattle.std.proofs.Common.{◌≡◌, ◌⊎◌, inl, inr, ℕ, zero, suc, ◌+◌, ◌<◌, Bool, true, false, cond, List, [], ◌∷◌, ◌++◌, append_assoc, length, take, drop, Some, nat_lt, replicate, refl, sym, ap, subst, ◌∙◌, arith}
+use Rattle.std.proofs.Common.{◌≡◌, ◌⊎◌, inl, inr, ℕ, zero, suc, ◌+◌, ◌<◌, Bool, true, false, cond, List, [], ◌∷◌, ◌++◌, append_assoc, length, take, drop, Some, nat_lt, replicate, refl, sym, ap, ◌∙◌, arith}
 use Rattle.std.specs.List.{AllByRecursion}
 use Rattle.std.proofs.lemmas.Bool.{cases_eq}
 use Rattle.std.proofs.lemmas.List.{append-nil, length-append, take-append-drop, take-append-le}
@@ -39,9 +39,7 @@ rows_on : {V : Type 0} (written : ℕ → V) (device sector : ℕ) (us vs : List
 unfolding rows_played
 rows_on written device sector [] vs rows each = refl
 rows_on {V = V} written device sector (u ∷ us) vs rows each =
-    ap (λ (s : ℕ). rows_played written device s (us ++ vs) (row_unit (written sector) device sector u rows)) (after_false u sector each.0)
-    ∙ ap (λ (r : Rows V). rows_played written device sector (us ++ vs) r) (row_still (written sector) device sector u rows each.0)
-    ∙ rows_on written device sector us vs rows each.1
+    cc (after_false u sector each.0, row_still (written sector) device sector u rows each.0, rows_on written device sector us vs rows each.1)
 
 rows_none : {V : Type 0} (written : ℕ → V) (device sector : ℕ) (rows : Rows V) → rows_played written device sector [] rows ≡ rows
 unfolding rows_played
@@ -49,7 +47,7 @@ rows_none written device sector rows = refl
 
 rows_moved : {V : Type 0} (written : ℕ → V) (device sector : ℕ) (us : List BlockUnit) (rows : Rows V) → AllByRecursion (λ unit. answers unit ≡ false) us → rows_played written device sector us rows ≡ rows
 rows_moved written device sector us rows each =
-    ap (λ (vs : List BlockUnit). rows_played written device sector vs rows) (sym (append-nil us)) ∙ rows_on written device sector us [] rows each ∙ rows_none written device sector rows
+    cc (append-nil us, rows_on written device sector us [] rows each, rows_none written device sector rows)
 
 past_moved : (us : List BlockUnit) (at : ℕ) → AllByRecursion (λ unit. answers unit ≡ false) us → sector_past us at ≡ at
 unfolding sector_past
@@ -67,11 +65,11 @@ past_first last vs at answered = ap (sector_past vs) (after_true last at answere
 
 pub played_first : {V : Type 0} (zeros : V) (written : ℕ → V) (sector : ℕ) (last : BlockUnit) (vs : List BlockUnit) (values : Values V) → answers last ≡ true → played zeros written sector (last ∷ vs) values ≡ played zeros written (suc sector) vs (played_unit zeros (written sector) last values)
 unfolding played
-played_first zeros written sector last vs values answered = ap (λ (s : ℕ). played zeros written s vs (played_unit zeros (written sector) last values)) (after_true last sector answered)
+played_first zeros written sector last vs values answered = cc (after_true last sector answered)
 
 pub rows_first : {V : Type 0} (written : ℕ → V) (device sector : ℕ) (last : BlockUnit) (vs : List BlockUnit) (rows : Rows V) → answers last ≡ true → rows_played written device sector (last ∷ vs) rows ≡ rows_played written device (suc sector) vs (row_unit (written sector) device sector last rows)
 unfolding rows_played
-rows_first written device sector last vs rows answered = ap (λ (s : ℕ). rows_played written device s vs (row_unit (written sector) device sector last rows)) (after_true last sector answered)
+rows_first written device sector last vs rows answered = cc (after_true last sector answered)
 
 played_none : {V : Type 0} (zeros : V) (written : ℕ → V) (sector : ℕ) (values : Values V) → played zeros written sector [] values ≡ values
 unfolding played
@@ -107,22 +105,9 @@ same_or_not a b c d = elim (cases_eq a c) [
 last_own : {V : Type 0} (zeros : V) (written : ℕ → V) (stack : Description) (state : State) (top sector : ℕ) (step : Step) (values : Values V) (rows : Rows V) (w : IsOwnWrite zeros written stack state top sector step) → AreOwn zeros stack step.state values rows → Answering V w.last
     → AreOwn zeros stack step.state (played_unit zeros (written sector) w.last values) (row_unit (written sector) top sector w.last rows)
 last_own {V = V} zeros written stack state top sector step values rows w own (Still plays row) =
-    subst (λ (v : Values V). AreOwn zeros stack step.state v (row_unit (written sector) top sector w.last rows)) (sym (plays zeros (written sector) values))
-    (subst (λ (r : Rows V). AreOwn zeros stack step.state values r) (sym (row (written sector) top sector rows)) own)
+    rw (plays zeros (written sector) values, row (written sector) top sector rows) own
 last_own {V = V} zeros written stack state top sector step values rows w own (WritesTo disk at is) =
-    subst (λ (unit : BlockUnit). AreOwn zeros stack step.state (played_unit zeros (written sector) unit values) (row_unit (written sector) top sector unit rows)) (sym is) (record {
-      fits = own.fits;
-      tops = λ other other_sector other_top. elim (same_or_not other other_sector top sector) [
-        | inl same ↦ rw (same.0, same.1) (inl (
-            ap (value_read zeros (stored values disk at (written sector))) (w.reads disk at is)
-            ∙ ap Some (stored_same values disk at (written sector))
-            ∙ sym (stored_same rows top sector (Some (written sector)))))
-        | inr differ ↦ stays_as _ _ _ _
-            (stored_other rows top sector other other_sector (Some (written sector)) (λ e. differ (sym (ap (λ (h : Home). h.disk) e), sym (ap (λ (h : Home). h.sector) e))))
-            (value_other zeros values disk at (written sector) (read stack step.state (Device other) other_sector) (λ e. differ (w.alone disk at other other_sector is other_top e)))
-            (own.tops other other_sector other_top)
-      ];
-    })
+    rw is (record { fits = own.fits; tops = λ other other_sector other_top. elim (same_or_not other other_sector top sector) [ inl same ↦ rw (same.0, same.1) (inl (ap (value_read zeros (stored values disk at (written sector))) (w.reads disk at is) ∙ ap Some (stored_same values disk at (written sector)) ∙ sym (stored_same rows top sector (Some (written sector))))) | inr differ ↦ stays_as _ _ _ _ (stored_other rows top sector other other_sector (Some (written sector)) (λ e. differ (sym (ap (λ (h : Home). h.disk) e), sym (ap (λ (h : Home). h.sector) e)))) (value_other zeros values disk at (written sector) (read stack step.state (Device other) other_sector) (λ e. differ (w.alone disk at other other_sector is other_top e))) (own.tops other other_sector other_top) ] })
 
 -- what is known of the step of a sector, where each top device has its row before: of all its units, whatever units come after, and of fewer
 pub record IsOwnStep {V : Type 0} (zeros : V) (written : ℕ → V) (stack : Description) (top : ℕ) (state : State) (sector : ℕ) (step : Step) (values : Values V) (rows : Rows V) : Type 0 where
@@ -137,7 +122,7 @@ pub record IsOwnStep {V : Type 0} (zeros : V) (written : ℕ → V) (stack : Des
 
 pub both_own : {V : Type 0} (zeros : V) (stack : Description) (state : State) (values others : Values V) (rows more : Rows V) → values ≡ others → rows ≡ more → AreOwn zeros stack state others more → AreOwn zeros stack state values rows
 both_own {V = V} zeros stack state values others rows more same equal own =
-    subst (λ (v : Values V). AreOwn zeros stack state v rows) (sym same) (subst (λ (r : Rows V). AreOwn zeros stack state others r) (sym equal) own)
+    rw (same, equal) own
 
 -- no units
 pub none_own : {V : Type 0} (zeros : V) (written : ℕ → V) (stack : Description) (state : State) (top sector : ℕ) (values : Values V) (rows : Rows V) → AreOwn zeros stack state values rows
@@ -159,23 +144,19 @@ write_own {V = V} zeros written stack state top sector values rows sound tidy is
       fits = w.fits;
       tops = λ other other_sector other_top. stays_on _ _ _ (own.tops other other_sector other_top) (w.kept values other other_sector other_top);
     } in
-    let split : (vs : List BlockUnit) → step.units ++ vs ≡ w.front ++ w.last ∷ vs = λ vs. ap (λ (us : List BlockUnit). us ++ vs) w.units ∙ append_assoc w.front (w.last ∷ []) vs in
+    let split : (vs : List BlockUnit) → step.units ++ vs ≡ w.front ++ w.last ∷ vs = λ vs. cc (append_assoc w.front (w.last ∷ []) vs) in
     let parts : (n : ℕ) → w.front ≡ take n w.front ++ drop n w.front = λ n. sym (take-append-drop n w.front) in
     let moves : (n : ℕ) → AllByRecursion (λ unit. answers unit ≡ false) (take n w.front) = λ n.
-    all_front (λ unit. answers unit ≡ false) (take n w.front) (drop n w.front) (subst (λ (us : List BlockUnit). AllByRecursion (λ unit. answers unit ≡ false) us) (parts n) w.moves) in
+    all_front (λ unit. answers unit ≡ false) (take n w.front) (drop n w.front) (rw (← parts n) w.moves) in
     record {
       later = played_unit zeros (written sector) w.last middle;
       after = row_unit (written sector) top sector w.last rows;
       whole = last_own zeros written stack state top sector step middle rows w before (answering V w.last w.answered);
-      played_is = λ vs. ap (λ (us : List BlockUnit). played zeros written sector us values) (split vs) ∙ played_on zeros written sector w.front (w.last ∷ vs) values w.moves ∙ played_first zeros written sector w.last vs middle w.answered;
-      rows_are = λ vs. ap (λ (us : List BlockUnit). rows_played written top sector us rows) (split vs) ∙ rows_on written top sector w.front (w.last ∷ vs) rows w.moves ∙ rows_first written top sector w.last vs rows w.answered;
-      past = λ vs at. ap (λ (us : List BlockUnit). sector_past us at) (split vs) ∙ past_on w.front (w.last ∷ vs) at w.moves ∙ past_first w.last vs at w.answered;
-      torn = λ n below. subst (λ (us : List BlockUnit). AreOwn zeros stack state (played zeros written sector us values) (rows_played written top sector us rows)) (sym (fewer w.front w.last step.units n w.units below)) (record {
-        fits = own.fits;
-        tops = λ other other_sector other_top. stays_as _ _ _ _ (ap (λ (r : Rows V). r other other_sector) (rows_moved written top sector (take n w.front) rows (moves n))) (w.torn values (take n w.front) (drop n w.front) (parts n) other other_sector other_top)
-            (own.tops other other_sector other_top);
-      });
-      none = λ n at below. ap (λ (us : List BlockUnit). sector_past us at) (fewer w.front w.last step.units n w.units below) ∙ past_moved (take n w.front) at (moves n);
+      played_is = λ vs. cc (split vs, played_on zeros written sector w.front (w.last ∷ vs) values w.moves, played_first zeros written sector w.last vs middle w.answered);
+      rows_are = λ vs. cc (split vs, rows_on written top sector w.front (w.last ∷ vs) rows w.moves, rows_first written top sector w.last vs rows w.answered);
+      past = λ vs at. cc (split vs, past_on w.front (w.last ∷ vs) at w.moves, past_first w.last vs at w.answered);
+      torn = λ n below. rw (fewer w.front w.last step.units n w.units below) (record { fits = own.fits; tops = λ other other_sector other_top. stays_as _ _ _ _ (cc (rows_moved written top sector (take n w.front) rows (moves n))) (w.torn values (take n w.front) (drop n w.front) (parts n) other other_sector other_top) (own.tops other other_sector other_top) });
+      none = λ n at below. cc (fewer w.front w.last step.units n w.units below, past_moved (take n w.front) at (moves n));
     }
 
 -- a read, whose unit answers and changes nothing
@@ -194,7 +175,7 @@ read_own {V = V} zeros written stack state top sector unit values rows reads own
       after = rows;
       whole = own;
       played_is = λ vs. played_first zeros written sector unit vs values still.0 ∙ ap (λ (v : Values V). played zeros written (suc sector) vs v) still.1;
-      rows_are = λ vs. rows_first written top sector unit vs rows still.0 ∙ ap (λ (r : Rows V). rows_played written top (suc sector) vs r) still.2;
+      rows_are = λ vs. rows_first written top sector unit vs rows still.0 ∙ rw still.2;
       past = λ vs at. past_first unit vs at still.0;
       torn = torn;
       none = none;

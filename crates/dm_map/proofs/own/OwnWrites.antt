@@ -1,17 +1,13 @@
 -- Where no claims meet, no top device sees another's writes.
-use Rattle.std.proofs.Common.{◌≡◌, ℕ, zero, suc, ◌<◌, List, length, replicate, refl, sym, ap, subst, arith}
-use Rattle.std.specs.List.{AllByRecursion}
+use Rattle.std.proofs.Common.{◌≡◌, ℕ, zero, suc, ◌<◌, length, replicate, refl, ap, arith}
 use Rattle.std.proofs.lemmas.List.{length-replicate}
 use Rattle.dm_stack.specs.declared.id.Lower.TheVariants.{Device}
 use Rattle.dm_stack.specs.claims.Claims.{IsTidy, IsTop}
 use Rattle.dm_stack.specs.Description.{Description}
 use Rattle.dm_stack.specs.checks.Soundness.{IsSound}
-use Rattle.dm_map.specs.own.Contents.{content, played}
 use Rattle.dm_map.specs.state.Fitting.{IsFitting}
 use Rattle.dm_map.specs.own.Tops.{IsOwnWrite, write}
-use Rattle.dm_map.specs.state.State.{State, Taken, none_taken, start_state, taken_at}
-use Rattle.dm_map.specs.walk.Steps.{Step}
-use Rattle.dm_map.specs.pieces.Units.{BlockUnit}
+use Rattle.dm_map.specs.state.State.{State, none_taken, start_state, taken_at}
 use Rattle.dm_map.specs.own.Ways.{Node, node, Touches}
 use Rattle.dm_map.proofs.own.UniqueSteps.{no_step_to_top, top_root, top_unserved}
 use Rattle.dm_map.proofs.walk.ReadSteps.{read_step}
@@ -36,19 +32,19 @@ own_write {V = V} zeros value stack state top sector sound tidy fitting is_top =
     let w = written stack (Device top) sector state sound tidy fitting in
     let r = ran stack state state w.events sound fitting fitting tidy (grown_same state) w.each in
     let us = (run stack w.events state).units in
-    let state_is : step.state ≡ (run stack w.events state).state = ap (λ (x : Step). x.state) w.is in
+    let state_is : step.state ≡ (run stack w.events state).state = cc in
     record {
       front = us;
       last = w.last;
-      units = ap (λ (x : Step). x.units) w.is;
+      units = cc;
       moves = all_moves stack state us r.fresh;
       answered = w.answered;
-      fits = subst (λ (x : State). IsFitting stack x) (sym state_is) r.fits;
+      fits = rw state_is r.fits;
       torn = λ values some rest whole other other_sector other_top.
           fresh_stays zeros value sector stack state (Device other) other_sector some values sound (top_root stack other sound other_top)
-          (all_front (IsFresh stack state) some rest (subst (λ (vs : List BlockUnit). AllByRecursion (IsFresh stack state) vs) whole r.fresh));
+          (all_front (IsFresh stack state) some rest (rw whole at r.fresh));
       kept = λ values other other_sector other_top.
-          stays_as _ _ _ _ refl (ap (λ (x : State). content zeros stack x (played zeros value sector us values) (Device other) other_sector) state_is)
+          stays_as _ _ _ _ refl (cc)
           (run_stays zeros value sector stack state w.events values (Device other) other_sector sound fitting tidy w.each (top_root stack other sound other_top));
       reads = λ disk at last_is. w.reads disk at last_is;
       alone = λ disk at other other_sector last_is other_top is.
@@ -67,7 +63,7 @@ none_at (suc count) (suc device) = none_at count device
 pub start_fits : (stack : Description) → IsFitting stack (start_state stack)
 start_fits stack = record {
   count = length-replicate (length stack.devices) none_taken;
-  places = λ device number snapshot over below. absurd (none_below number (subst (λ (taken : Taken). number < length taken.chunks) (none_at (length stack.devices) device) below));
+  places = λ device number snapshot over below. absurd (none_below number (rw (none_at (length stack.devices) device) at below));
 }
   where
     none_below : (number : ℕ) → number < 0 → ⊥

@@ -1,5 +1,5 @@
 -- The play of units: of copies in a row, and of units after others.
-use Rattle.std.proofs.Common.{◌≡◌, inl, inr, ℕ, zero, suc, ◌+◌, ◌<◌, ◌≤◌, Bool, true, false, cond, ◌&&◌, List, [], ◌∷◌, ◌++◌, Some, refl, sym, ap, ◌∙◌, arith}
+use Rattle.std.proofs.Common.{◌≡◌, inl, inr, ℕ, zero, suc, ◌+◌, ◌<◌, ◌≤◌, Bool, true, false, cond, ◌&&◌, List, [], ◌∷◌, ◌++◌, Some, refl, arith}
 use Rattle.std.specs.Prelude.{◌==◌}
 use Rattle.std.specs.List.{AllByRecursion}
 use Rattle.std.proofs.lemmas.Bool.{and_parts, eqb-true, eq-eqb, cases_lt}
@@ -24,7 +24,7 @@ pub stored_other : {V : Type 0} (values : Values V) (to to_sector disk sector : 
 stored_other values to to_sector disk sector value differ =
     cond_other (disk == to && sector == to_sector) value (values disk sector)
     (λ is. let parts = and_parts (disk == to) (sector == to_sector) is in
-    differ (ap (λ (x : ℕ). home_at x to_sector) (sym (eqb-true disk to parts.0)) ∙ ap (λ (x : ℕ). home_at disk x) (sym (eqb-true sector to_sector parts.1))))
+    differ (cc (eqb-true disk to parts.0, eqb-true sector to_sector parts.1)))
 
 -- A row of copies
 
@@ -57,9 +57,7 @@ pub copies_keep : {V : Type 0} (zeros : V) (written : ℕ → V) (at : ℕ) (fro
 unfolding played
 copies_keep zeros written at from to s zero values disk sector apart = refl
 copies_keep {V = V} zeros written at from to s (suc n) values disk sector apart =
-    ap (λ (v : Values V). v disk sector) (played_copy zeros written at (from s) (to s) (copy_units from to (suc s) n) values)
-    ∙ copies_keep zeros written at from to (suc s) n (stored values (to s).disk (to s).sector (value_of zeros values (from s))) disk sector (λ u low high. apart u (omega (arith, low)) (omega (arith, high)))
-    ∙ stored_other values (to s).disk (to s).sector disk sector (value_of zeros values (from s)) (λ e. apart s (omega arith) (omega arith) e)
+    cc (played_copy zeros written at (from s) (to s) (copy_units from to (suc s) n) values, copies_keep zeros written at from to (suc s) n (stored values (to s).disk (to s).sector (value_of zeros values (from s))) disk sector (λ u low high. apart u (omega (arith, low)) (omega (arith, high))), stored_other values (to s).disk (to s).sector disk sector (value_of zeros values (from s)) (λ e. apart s (omega arith) (omega arith) e))
 
 value_kept : {V : Type 0} (zeros : V) (values others : Values V) (unit : BlockUnit) → ((disk sector : ℕ) → unit ≡ ReadOf disk sector → others disk sector ≡ values disk sector) → value_of zeros others unit ≡ value_of zeros values unit
 value_kept zeros values others (ReadOf disk sector) same = same disk sector refl
@@ -84,16 +82,12 @@ copies_move zeros written at from to s zero values u fresh low high = absurd (om
 copies_move {V = V} zeros written at from to s (suc n) values u fresh low high = elim (cases_lt s u) [
   | inl later ↦
       let next = stored values (to s).disk (to s).sector (value_of zeros values (from s)) in
-      ap (λ (v : Values V). v (to u).disk (to u).sector) (played_copy zeros written at (from s) (to s) (copy_units from to (suc s) n) values)
-      ∙ copies_move zeros written at from to (suc s) n next u (fresh_later from to s n fresh) later (omega (arith, high))
-      ∙ value_kept zeros values next (from u) (λ k x is. stored_other values (to s).disk (to s).sector k x (value_of zeros values (from s)) (λ e. fresh.sources u s k x low high (omega arith) (omega arith) is e))
+      cc (played_copy zeros written at (from s) (to s) (copy_units from to (suc s) n) values, copies_move zeros written at from to (suc s) n next u (fresh_later from to s n fresh) later (omega (arith, high)), value_kept zeros values next (from u) (λ k x is. stored_other values (to s).disk (to s).sector k x (value_of zeros values (from s)) (λ e. fresh.sources u s k x low high (omega arith) (omega arith) is e)))
   | inr here ↦
       let same : u ≡ s = omega (arith, low, here) in
       let next = stored values (to s).disk (to s).sector (value_of zeros values (from s)) in
       rw same (
-      ap (λ (v : Values V). v (to s).disk (to s).sector) (played_copy zeros written at (from s) (to s) (copy_units from to (suc s) n) values)
-      ∙ copies_keep zeros written at from to (suc s) n next (to s).disk (to s).sector (λ v a b e. never v a (fresh.targets v s (omega (arith, a)) (omega (arith, b)) (omega arith) (omega arith) e))
-      ∙ stored_same values (to s).disk (to s).sector (value_of zeros values (from s)))
+      cc (played_copy zeros written at (from s) (to s) (copy_units from to (suc s) n) values, copies_keep zeros written at from to (suc s) n next (to s).disk (to s).sector (λ v a b e. never v a (fresh.targets v s (omega (arith, a)) (omega (arith, b)) (omega arith) (omega arith) e)), stored_same values (to s).disk (to s).sector (value_of zeros values (from s))))
 ]
   where
     never : (v : ℕ) → suc s ≤ v → v ≡ s → ⊥
@@ -108,6 +102,4 @@ pub played_on : {V : Type 0} (zeros : V) (written : ℕ → V) (at : ℕ) (us vs
 unfolding played
 played_on zeros written at [] vs values each = refl
 played_on zeros written at (u ∷ us) vs values each =
-    ap (λ (s : ℕ). played zeros written s (us ++ vs) (played_unit zeros (written at) u values)) (after_false u at each.0)
-    ∙ played_on zeros written at us vs (played_unit zeros (written at) u values) each.1
-    ∙ sym (ap (λ (s : ℕ). played zeros written at vs (played zeros written s us (played_unit zeros (written at) u values))) (after_false u at each.0))
+    cc (after_false u at each.0, played_on zeros written at us vs (played_unit zeros (written at) u values) each.1, after_false u at each.0)

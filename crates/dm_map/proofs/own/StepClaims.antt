@@ -1,5 +1,5 @@
 -- Each step of a read goes by a claim: through a span of a line whose target has no state, through the store or the origin of a snapshot, or through the line of an origin.
-use Rattle.std.proofs.Common.{◌≡◌, ℕ, ◌+◌, ◌-◌, ◌<◌, List, [], ◌∷◌, Option, Some, None, length, refl, sym, ap, subst, ◌∙◌, arith}
+use Rattle.std.proofs.Common.{◌≡◌, ℕ, ◌+◌, ◌-◌, ◌<◌, [], ◌∷◌, Option, Some, None, length, refl, sym, ap, ◌∙◌, arith}
 use Rattle.std.specs.Prelude.{option_map, slice_get}
 use Rattle.dm_table.specs.declared.tables.table.DevRef.{DevRef}
 use Rattle.dm_table.specs.declared.tables.table.Line.{Line}
@@ -10,19 +10,18 @@ use Rattle.dm_table.specs.declared.tables.table.Use.TheVariants.{Own, Reading, S
 use Rattle.dm_stack.specs.declared.lines.found_line.FoundLine.{FoundLine}
 use Rattle.dm_stack.specs.declared.lines.found_line.FoundOrigin.{FoundOrigin}
 use Rattle.dm_stack.specs.declared.lines.found_line.FoundSnapshot.{FoundSnapshot}
-use Rattle.dm_stack.specs.declared.lines.found_line.FoundTarget.{FoundTarget}
 use Rattle.dm_stack.specs.declared.lines.found_line.FoundTarget.TheVariants as founds
 use Rattle.dm_stack.specs.declared.id.Lower.{Lower}
 use Rattle.dm_stack.specs.lines.Below.{IsTargetSound, Lies, below_plain, found_at, found_line, found_target, holds, line_of}
 use Rattle.dm_stack.specs.Description.{Description, lines_at, lower_len, lower_of}
 use Rattle.dm_stack.specs.lines.Over.{found_snapshot, snapshots_over}
 use Rattle.dm_stack.specs.checks.Soundness.{IsSound}
-use Rattle.dm_table.specs.tables.Span.{Span, target_spans, whole_span}
+use Rattle.dm_table.specs.tables.Span.{target_spans, whole_span}
 use Rattle.dm_stack.proofs.Apart.{IsNamed, IsVia}
 use Rattle.dm_stack.proofs.Parts.{found_place}
 use Rattle.dm_map.specs.state.Tables.{origin_at, snapshot_at}
-use Rattle.dm_map.proofs.state.FoundLines.{first_line, first_origin, line_sound, origin_sound, snapshot_sound, some_is}
-use Rattle.dm_map.proofs.walk.Spans.{IsBefore, IsPlainStep, plain_before, plain_span, span_distance, span_index}
+use Rattle.dm_map.proofs.state.FoundLines.{first_line, first_origin, line_sound, origin_sound, snapshot_sound}
+use Rattle.dm_map.proofs.walk.Spans.{IsPlainStep, plain_before, plain_span, span_distance, span_index}
 
 -- Through a line whose target has no state
 
@@ -35,20 +34,20 @@ pub record IsLineVia (stack : Description) (device sector : ℕ) (line : FoundLi
 
 raw_line : (stack : Description) (o : Option Line) (line : FoundLine) → option_map (found_line stack) o ≡ Some line → (it : Line) × (o ≡ Some it) × (found_line stack it ≡ line)
 raw_line stack None line is = absurd cc
-raw_line stack (Some it) line is = (it, refl, some_is (found_line stack it) line is)
+raw_line stack (Some it) line is = (it, refl, cc)
 
 pub via_line : (stack : Description) (device sector : ℕ) (line : FoundLine) (lower : Lower) (at : ℕ) → IsSound stack → found_at stack device sector ≡ Some line → IsPlainStep line.target (sector - line.start) lower at → IsLineVia stack device sector line lower at
 via_line stack device sector line lower at sound is step =
     let raw = raw_line stack (line_of (lines_at stack device) sector) line is in
     let index = found_place (holds sector) (lines_at stack device) raw.0 raw.1 in
     let of = line_sound stack device sector line sound is in
-    let target : found_target stack raw.0.target ≡ line.target = ap (λ (l : FoundLine). l.target) raw.2 in
-    let lens : raw.0.len ≡ line.len = ap (λ (l : FoundLine). l.len) raw.2 in
+    let target : found_target stack raw.0.target ≡ line.target = cc in
+    let lens : raw.0.len ≡ line.len = cc in
     let distance = sector - line.start in
-    let lies : below_plain (found_target stack raw.0.target) distance ≡ Lies lower at = ap (λ (t : FoundTarget). below_plain t distance) target ∙ step.lies in
+    let lies : below_plain (found_target stack raw.0.target) distance ≡ Lies lower at = cc in
     let in_span = plain_span stack raw.0.len raw.0.target distance lower at lies in
-    let indices : span_index (found_target stack raw.0.target) distance ≡ span_index line.target distance = ap (λ (t : FoundTarget). span_index t distance) target in
-    let distances : span_distance (found_target stack raw.0.target) distance ≡ span_distance line.target distance = ap (λ (t : FoundTarget). span_distance t distance) target in
+    let indices : span_index (found_target stack raw.0.target) distance ≡ span_index line.target distance = cc in
+    let distances : span_distance (found_target stack raw.0.target) distance ≡ span_distance line.target distance = cc in
     let from = of.soundly.from in let before = of.soundly.before in let sector_is = in_span.sector in
     let sound_target : IsTargetSound stack device line.start raw.0.len (found_target stack raw.0.target) = rw (lens, target) of.soundly.target in
     let ends = plain_before stack device line.start raw.0.len raw.0.target distance lower at sound_target (omega (arith, lens, from, before)) lies in
@@ -63,10 +62,10 @@ via_line stack device sector line lower at sound is step =
         span_at = ap (slice_get (target_spans raw.0.len raw.0.target)) (sym indices) ∙ in_span.is;
         on = in_span.on;
         from = omega (arith, sector_is);
-        before = subst (λ (o : Option Span). IsBefore stack o at) in_span.is ends;
+        before = rw in_span.is at ends;
         used = in_span.used;
       };
-      lies = sector_is ∙ ap (λ (d : ℕ). in_span.span.offset + d) distances;
+      lies = cc;
     }
 
 -- Through a snapshot
@@ -84,7 +83,7 @@ snapshot_spans : (stack : Description) (len : ℕ) (target : Target) (snapshot :
     → (store : DevRef) × (origin : DevRef) × (target_spans len target ≡ whole_span store Own ∷ whole_span origin Reading ∷ []) × (lower_of stack store ≡ snapshot.store) × (lower_of stack origin ≡ snapshot.origin)
 snapshot_spans stack len (targets.Snapshot origin store kind chunk_size) snapshot is =
     let same = snapshot_is (found_snapshot stack origin store kind chunk_size) snapshot is in
-    (store, origin, refl, ap (λ (s : FoundSnapshot). s.store) same, ap (λ (s : FoundSnapshot). s.origin) same)
+    (store, origin, refl, cc, cc)
   where
     snapshot_is : (a b : FoundSnapshot) → founds.Snapshot a ≡ founds.Snapshot b → a ≡ b
     snapshot_is a b e = cc
@@ -106,7 +105,7 @@ whole_via stack device index column it lower kind to there line_at span_at on = 
     span_at = span_at;
     on = on;
     from = omega arith;
-    before = subst (λ (l : Lower). at < lower_len stack l) (sym on) below;
+    before = rw on below;
     used = refl;
   };
 }
@@ -116,11 +115,11 @@ via_snapshot stack device snapshot sound at =
     let first = first_line stack device snapshot (found_at stack device 0) refl at in
     let raw = raw_line stack (line_of (lines_at stack device) 0) first.0 first.1 in
     let index = found_place (holds 0) (lines_at stack device) raw.0 raw.1 in
-    let target : found_target stack raw.0.target ≡ founds.Snapshot snapshot = ap (λ (l : FoundLine). l.target) raw.2 ∙ first.2 in
+    let target : found_target stack raw.0.target ≡ founds.Snapshot snapshot = cc in
     let named = snapshot_spans stack raw.0.len raw.0.target snapshot target in
     let there = (snapshot_sound stack device snapshot sound at).there in
-    let store = whole_via stack device index.0 0 raw.0 snapshot.store Own named.0 there index.1 (ap (λ (all : List Span). slice_get all 0) named.2) named.3 in
-    let origin = whole_via stack device index.0 1 raw.0 snapshot.origin Reading named.1 there index.1 (ap (λ (all : List Span). slice_get all 1) named.2) named.4 in
+    let store = whole_via stack device index.0 0 raw.0 snapshot.store Own named.0 there index.1 (rw named.2) named.3 in
+    let origin = whole_via stack device index.0 1 raw.0 snapshot.origin Reading named.1 there index.1 (rw named.2) named.4 in
     record {
       index = index.0;
       it = raw.0;
@@ -141,7 +140,7 @@ pub record IsOriginVia (stack : Description) (device : ℕ) (origin : FoundOrigi
   pub via : (at : ℕ) → at < lower_len stack origin.to → IsVia stack device index 0 it origin.to at Serving
 
 origin_spans : (stack : Description) (len : ℕ) (target : Target) (origin : FoundOrigin) → found_target stack target ≡ founds.Origin origin → (to : DevRef) × (target_spans len target ≡ whole_span to Serving ∷ []) × (lower_of stack to ≡ origin.to)
-origin_spans stack len (targets.Origin to) origin is = (to, refl, ap (λ (o : FoundOrigin). o.to) (origin_is (record { to = lower_of stack to; over = snapshots_over stack (lower_of stack to) }) origin is))
+origin_spans stack len (targets.Origin to) origin is = (to, refl, cc (origin_is (record { to = lower_of stack to; over = snapshots_over stack (lower_of stack to) }) origin is))
   where
     origin_is : (a b : FoundOrigin) → founds.Origin a ≡ founds.Origin b → a ≡ b
     origin_is a b e = cc
@@ -152,8 +151,8 @@ via_origin stack device origin sound at =
     let first = first_origin stack device origin (found_at stack device 0) refl at in
     let raw = raw_line stack (line_of (lines_at stack device) 0) first.0 first.1 in
     let index = found_place (holds 0) (lines_at stack device) raw.0 raw.1 in
-    let target : found_target stack raw.0.target ≡ founds.Origin origin = ap (λ (l : FoundLine). l.target) raw.2 ∙ first.2 in
+    let target : found_target stack raw.0.target ≡ founds.Origin origin = cc in
     let named = origin_spans stack raw.0.len raw.0.target origin target in
     let there = (origin_sound stack device origin sound at).there in
-    let whole = whole_via stack device index.0 0 raw.0 origin.to Serving named.0 there index.1 (ap (λ (all : List Span). slice_get all 0) named.1) named.2 in
+    let whole = whole_via stack device index.0 0 raw.0 origin.to Serving named.0 there index.1 (rw named.1) named.2 in
     record { index = index.0; it = raw.0; target = target; named = whole.named; via = whole.via }

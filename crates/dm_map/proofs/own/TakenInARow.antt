@@ -1,5 +1,5 @@
 -- Chunks taken one after the other: what roots have stays, or is an error, and what is played on the way is touched by no root in the state before.
-use Rattle.std.proofs.Common.{◌≡◌, inl, inr, ℕ, zero, suc, ◌+◌, ◌/◌, ◌<◌, ◌≤◌, false, List, [], ◌∷◌, ◌++◌, length-append, Some, length, refl, sym, ap, subst, ◌∙◌, arith}
+use Rattle.std.proofs.Common.{◌≡◌, inl, inr, ℕ, zero, suc, ◌+◌, ◌/◌, ◌<◌, ◌≤◌, false, List, [], ◌∷◌, ◌++◌, length-append, Some, length, refl, ap, ◌∙◌, arith}
 use Rattle.std.specs.List.{AllByRecursion}
 use Rattle.std.proofs.lemmas.Bool.{cases_eq}
 use Rattle.dm_stack.specs.declared.lines.found_line.FoundSnapshot.{FoundSnapshot}
@@ -73,9 +73,7 @@ fresh_keep : {V : Type 0} (zeros : V) (written : ℕ → V) (at : ℕ) (stack : 
 unfolding played
 fresh_keep zeros written at stack state a [] values disk sector root each touches = refl
 fresh_keep {V = V} zeros written at stack state a (u ∷ us) values disk sector root each touches =
-    fresh_keep zeros written (sector_after u at) stack state a us (played_unit zeros (written at) u values) disk sector root each.1 touches
-    ∙ ap (λ (unit : BlockUnit). played_unit zeros (written at) unit values disk sector) each.0.is
-    ∙ copy_only zeros (written at) each.0.from each.0.to values disk sector (λ e. each.0.apart a root (subst (λ (h : Home). Touches stack state a (home_node h)) (sym e) touches))
+    cc (fresh_keep zeros written (sector_after u at) stack state a us (played_unit zeros (written at) u values) disk sector root each.1 touches, copy_only zeros (written at) each.0.from each.0.to values disk sector (λ e. each.0.apart a root (rw e touches)))
 
 value_kept : {V : Type 0} (zeros : V) (values later : Values V) (unit : BlockUnit) → ((disk sector : ℕ) → unit ≡ ReadOf disk sector → later disk sector ≡ values disk sector) → value_read zeros later unit ≡ value_read zeros values unit
 value_kept zeros values later (ReadOf disk sector) same = ap Some (same disk sector refl)
@@ -191,6 +189,6 @@ run_stays {V = V} zeros written at stack state (e ∷ es) values lower sector so
     let outcome : FullOutcome stack state e.device e.chunk e.snapshot step = full_outcome stack state e.device e.chunk e.snapshot each.0 there in
     let fits = full_outcome_fits stack state e.device e.chunk e.snapshot step fitting there outcome in
     let moves = all_moves stack state step.units (outcome_fresh stack state state e.device e.chunk e.snapshot step sound fitting tidy (grown_same state) outcome) in
-    stays_as _ _ _ _ refl (ap (λ (v : Values V). content zeros stack (run stack es step.state).state v lower sector) (played_on zeros written at step.units (run stack es step.state).units values moves))
+    stays_as _ _ _ _ refl (cc (played_on zeros written at step.units (run stack es step.state).units values moves))
     (stays_on _ _ _ (outcome_stays zeros written at stack state values e.device e.chunk e.snapshot lower sector step sound fitting tidy there root outcome)
     (run_stays zeros written at stack step.state es (played zeros written at step.units values) lower sector sound fits tidy each.1 root))

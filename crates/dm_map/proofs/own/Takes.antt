@@ -1,12 +1,12 @@
 -- A chunk that is taken changes nothing of what a root has.
-use Rattle.std.proofs.Common.{◌≡◌, ◌⊎◌, inl, inr, ℕ, ◌+◌, ◌-◌, ◌*◌, ◌/◌, ◌%◌, ◌<◌, ◌≤◌, true, List, [], ◌∷◌, Option, Some, None, length, refl, sym, ap, subst, ◌∙◌, arith}
+use Rattle.std.proofs.Common.{◌≡◌, ◌⊎◌, inl, inr, ℕ, ◌+◌, ◌-◌, ◌*◌, ◌/◌, ◌%◌, ◌<◌, ◌≤◌, true, List, [], ◌∷◌, Option, Some, None, length, refl, sym, ap, ◌∙◌, arith}
 use Rattle.std.proofs.lemmas.Bool.{cases_eq}
 use Rattle.dm_stack.specs.declared.lines.found_line.FoundLine.{FoundLine}
 use Rattle.dm_stack.specs.declared.lines.found_line.FoundSnapshot.{FoundSnapshot}
 use Rattle.dm_stack.specs.declared.checks.graph.TheConstants.{MOST_DEPTH}
 use Rattle.dm_stack.specs.declared.id.Lower.{Lower}
 use Rattle.dm_stack.specs.declared.id.Lower.TheVariants.{Device, Disk}
-use Rattle.dm_stack.specs.lines.Below.{Below, Lies, IsZero, IsError, below, found_at}
+use Rattle.dm_stack.specs.lines.Below.{Below, Lies, IsZero, IsError, found_at}
 use Rattle.dm_stack.specs.claims.Claims.{IsTidy}
 use Rattle.dm_stack.specs.Description.{Description, lower_len}
 use Rattle.dm_stack.specs.checks.Depth.{lower_depth}
@@ -14,7 +14,6 @@ use Rattle.dm_stack.specs.lines.StoreLayout.{place}
 use Rattle.dm_stack.specs.checks.Soundness.{IsSound}
 use Rattle.dm_map.specs.own.Contents.{Values, content, played, value_read}
 use Rattle.dm_map.specs.state.Fitting.{IsFitting}
-use Rattle.dm_map.specs.walk.Homes.{Home}
 use Rattle.dm_map.specs.walk.Reads.{by_below, read_below}
 use Rattle.dm_map.specs.state.Snapshots.{store_sector, number_in, read_numbered, read_over}
 use Rattle.dm_map.specs.walk.SnapshotWrites.{copies, count_of, first_of, home_in_store, read}
@@ -24,7 +23,7 @@ use Rattle.dm_map.specs.pieces.Units.{BlockUnit, Zeros, Fails}
 use Rattle.dm_map.specs.own.Ways.{Node, node, Touches}
 use Rattle.dm_map.proofs.own.UniqueSteps.{IsRoot, origin_root}
 use Rattle.dm_map.proofs.state.FoundLines.{line_sound, snapshot_sound}
-use Rattle.dm_map.proofs.own.HomeLemmas.{fresh_apart, home_node, homes_apart}
+use Rattle.dm_map.proofs.own.HomeLemmas.{fresh_apart, homes_apart}
 use Rattle.dm_map.proofs.state.Numbers.{chunk_rest, store_sector_inside, store_sector_parts, number_kept, number_new, number_other, of_chunk}
 use Rattle.dm_map.proofs.walk.OneLevel.{by_depth, next_depth, read_disk, read_down}
 use Rattle.dm_map.proofs.own.Plays.{AreFreshTargets, IsReadable, copies_keep, copies_move, home_at, some_value}
@@ -87,7 +86,7 @@ take_fresh stack state device chunk snapshot sound fitting tidy take =
           same_in_chunk snapshot.chunk chunk u v (count_of stack snapshot device chunk) (omega arith) ul uh vl vh (store_sector_parts snapshot n n u v some same).1;
       sources = λ u v k x ul uh vl vh reads e.
           fresh_apart stack state (node snapshot.origin u) device snapshot (store_sector snapshot n v) sound fitting tidy take.over (origin_root stack device snapshot sound tidy take.over)
-          (inside v) (λ t i is same. new_is_fresh state device snapshot v t i some is same) (subst (λ (h : Home). Touches stack state (node snapshot.origin u) (home_node h)) (sym e) (read_touches stack state snapshot.origin u k x sound reads));
+          (inside v) (λ t i is same. new_is_fresh state device snapshot v t i some is same) (rw e (read_touches stack state snapshot.origin u k x sound reads));
     }
 
 -- Where a read goes on in the new state
@@ -134,7 +133,7 @@ after_chunk stack state device chunk sector snapshot line sound take is None n =
           let part = of_chunk chunk snapshot.chunk sector over.soundly.chunk_some (sym same) in
           let low = part.0 in let high = part.1 in
           let number : number_in (sector / snapshot.chunk) taken.chunks ≡ Some (new_number state device) =
-          subst (λ (c : ℕ). number_in c taken.chunks ≡ Some (new_number state device)) same (number_new chunk (taken_at state device).chunks take.fresh) in
+          rw (← same) (number_new chunk (taken_at state device).chunks take.fresh) in
           inr (record {
             old = old;
             new = new ∙ read_by taken snapshot sector (Some (new_number state device)) take.valid number;
@@ -153,12 +152,12 @@ after_line stack state device chunk sector snapshot sound take (Some line) is =
 
 -- a device whose table stays
 pub next_same : (stack : Description) (state other : State) (device sector : ℕ) → taken_at other device ≡ taken_at state device → read_below stack other device sector ≡ read_below stack state device sector
-next_same stack state other device sector same = ap (λ (taken : Taken). below (read_over taken) stack device sector) same
+next_same stack state other device sector same = cc
 
 after : (stack : Description) (state : State) (device chunk : ℕ) (snapshot : FoundSnapshot) (e s : ℕ) → IsSound stack → IsTake stack state device chunk snapshot → After stack state device chunk snapshot e s
 unfolding After
 after stack state device chunk snapshot e s sound take = elim (cases_eq e device) [
-  | inl same ↦ subst (λ (x : ℕ). After stack state device chunk snapshot x s) (sym same) (after_line stack state device chunk s snapshot sound take (found_at stack device s) refl)
+  | inl same ↦ rw same (after_line stack state device chunk s snapshot sound take (found_at stack device s) refl)
   | inr differ ↦ inl (next_same stack state (taken_state state device chunk) e s (taken_other state device e (with_chunk (taken_at state device) chunk) differ))
 ]
 
@@ -182,7 +181,7 @@ keeps_disk zeros written at stack state values device chunk snapshot a disk s so
     let n = new_number state device in
     let apart : (u : ℕ) → first_of snapshot chunk ≤ u → u < first_of snapshot chunk + count_of stack snapshot device chunk → home_in_store stack snapshot n u ≡ home_at disk s → ⊥ = λ u low high e.
     fresh_apart stack state a device snapshot (store_sector snapshot n u) sound fitting tidy take.over root (store_sector_inside snapshot n u (lower_len stack snapshot.store) some take.place_there)
-    (λ t i is same. new_is_fresh state device snapshot u t i some is same) (subst (λ (h : Home). Touches stack state a (home_node h)) (sym e) touches) in
+    (λ t i is same. new_is_fresh state device snapshot u t i some is same) (rw e touches) in
     ap (value_read zeros later) (read_disk stack (taken_state state device chunk) disk s)
     ∙ ap Some (copies_keep zeros written at (read stack state snapshot.origin) (home_in_store stack snapshot n) (first_of snapshot chunk) (count_of stack snapshot device chunk) values disk s apart)
     ∙ sym (ap (value_read zeros values) (read_disk stack state disk s))
@@ -200,20 +199,9 @@ keeps_step zeros written at stack state values device chunk snapshot a sound fit
     let over = (snapshot_sound stack device snapshot sound take.over).soundly in
     elim (after stack state device chunk snapshot e s sound take) [
       | inl same ↦
-          content_down zeros stack other later e s sound
-          ∙ ap (λ (b : Below). by_below b (Some zeros) None (λ to lower_at. content zeros stack other later to lower_at)) same
-          ∙ same_step zeros stack state other values later (read_below stack state e s)
-          (λ to lower_at is. each to (next_depth stack state e s to lower_at sound is) lower_at (touch_more stack state a (node (Device e) s) (node to lower_at) touches (record { device = e; on = refl; below = is })))
-          ∙ sym (content_down zeros stack state values e s sound)
+          cc (content_down zeros stack other later e s sound, same_step zeros stack state other values later (read_below stack state e s) (λ to lower_at is. each to (next_depth stack state e s to lower_at sound is) lower_at (touch_more stack state a (node (Device e) s) (node to lower_at) touches (record { device = e; on = refl; below = is }))), content_down zeros stack state values e s sound)
       | inr moved ↦
-          content_down zeros stack other later e s sound
-          ∙ ap (λ (b : Below). by_below b (Some zeros) None (λ to lower_at. content zeros stack other later to lower_at)) moved.new
-          ∙ ap (value_read zeros later) (store_read stack other MOST_DEPTH snapshot.store (store_sector snapshot n s) sound over.store (store_sector_inside snapshot n s (lower_len stack snapshot.store) over.chunk_some take.place_there))
-          ∙ ap Some (copies_move zeros written at (read stack state snapshot.origin) (home_in_store stack snapshot n) (first_of snapshot chunk) (count_of stack snapshot device chunk) values s
-          (take_fresh stack state device chunk snapshot sound fitting tidy take) moved.from moved.before)
-          ∙ some_value zeros values (read stack state snapshot.origin s) (take.readable s moved.from moved.before)
-          ∙ sym (ap (λ (b : Below). by_below b (Some zeros) None (λ to lower_at. content zeros stack state values to lower_at)) moved.old)
-          ∙ sym (content_down zeros stack state values e s sound)
+          cc (content_down zeros stack other later e s sound, store_read stack other MOST_DEPTH snapshot.store (store_sector snapshot n s) sound over.store (store_sector_inside snapshot n s (lower_len stack snapshot.store) over.chunk_some take.place_there), copies_move zeros written at (read stack state snapshot.origin) (home_in_store stack snapshot n) (first_of snapshot chunk) (count_of stack snapshot device chunk) values s (take_fresh stack state device chunk snapshot sound fitting tidy take) moved.from moved.before, some_value zeros values (read stack state snapshot.origin s) (take.readable s moved.from moved.before), content_down zeros stack state values e s sound)
     ]
 
 pub take_keeps : {V : Type 0} (zeros : V) (written : ℕ → V) (at : ℕ) (stack : Description) (state : State) (values : Values V) (device chunk : ℕ) (snapshot : FoundSnapshot) (lower : Lower) (s : ℕ) → IsSound stack → IsFitting stack state → IsTidy stack → IsTake stack state device chunk snapshot → IsRoot stack lower

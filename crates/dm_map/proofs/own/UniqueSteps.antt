@@ -1,14 +1,11 @@
 -- Where no claims meet, at most one step of a read leads to a sector of a column, a store or an origin, and none to a top device.
-use Rattle.std.proofs.Common.{◌≡◌, ℕ, ◌-◌, ◌/◌, ◌<◌, true, false, List, Option, Some, None, refl, sym, ap, subst, ◌∙◌, arith}
-use Rattle.std.specs.Prelude.{slice_get}
+use Rattle.std.proofs.Common.{◌≡◌, ℕ, ◌-◌, ◌/◌, ◌<◌, true, false, Option, Some, None, refl, sym, ap, ◌∙◌, arith}
 use Rattle.std.proofs.lemmas.Bool.{leb-true}
 use Rattle.dm_table.specs.declared.tables.table.Line.{Line}
 use Rattle.dm_table.specs.declared.tables.table.Use.{Use}
 use Rattle.dm_table.specs.declared.tables.table.Use.TheVariants.{Own, Reading, Serving}
-use Rattle.dm_table.specs.tables.Span.{Span, spans}
 use Rattle.dm_stack.specs.declared.lines.found_line.FoundLine.{FoundLine}
 use Rattle.dm_stack.specs.declared.lines.found_line.FoundOrigin.{FoundOrigin}
-use Rattle.dm_stack.specs.declared.lines.found_line.FoundOver.{FoundOver}
 use Rattle.dm_stack.specs.declared.lines.found_line.FoundSnapshot.{FoundSnapshot}
 use Rattle.dm_stack.specs.declared.lines.found_line.FoundTarget.{FoundTarget}
 use Rattle.dm_stack.specs.declared.lines.found_line.FoundTarget.TheVariants as founds
@@ -28,7 +25,7 @@ use Rattle.dm_map.specs.walk.SnapshotWrites.{is_settled}
 use Rattle.dm_map.specs.state.Snapshots.{store_sector, number_in, read_over}
 use Rattle.dm_map.specs.state.State.{State, Taken, taken_at}
 use Rattle.dm_map.specs.state.Tables.{origin_at, snapshot_at}
-use Rattle.dm_map.proofs.state.FoundLines.{line_sound, origin_sound, snapshot_sound, some_is}
+use Rattle.dm_map.proofs.state.FoundLines.{line_sound, origin_sound, snapshot_sound}
 use Rattle.dm_map.proofs.walk.ReadSteps.{ReadStep, ByLine, ByStore, ByRead, ByServe}
 use Rattle.dm_map.proofs.walk.Spans.{IsPlainStep, distance_one, span_distance, span_index}
 use Rattle.dm_map.proofs.state.Numbers.{store_sector_inside}
@@ -43,19 +40,19 @@ true_false e = cc
 
 -- a target without a state is neither a snapshot nor an origin
 no_plain : (target other : FoundTarget) (distance : ℕ) (lower : Lower) (at : ℕ) → target ≡ other → has_state other ≡ true → IsPlainStep target distance lower at → ⊥
-no_plain target other distance lower at is state step = true_false (sym state ∙ sym (ap has_state is) ∙ step.plain)
+no_plain target other distance lower at is state step = cc
 
 line_no_snapshot : (stack : Description) (device sector : ℕ) (line : FoundLine) (lower : Lower) (at : ℕ) (l m : Line) (snapshot : FoundSnapshot) → found_line stack l ≡ line → IsPlainStep line.target (sector - line.start) lower at → l ≡ m → found_target stack m.target ≡ founds.Snapshot snapshot → ⊥
 line_no_snapshot stack device sector line lower at l m snapshot is step same target =
-    no_plain line.target (founds.Snapshot snapshot) (sector - line.start) lower at (sym (ap (λ (x : FoundLine). x.target) is) ∙ ap (λ (x : Line). found_target stack x.target) same ∙ target) refl step
+    no_plain line.target (founds.Snapshot snapshot) (sector - line.start) lower at (cc) refl step
 
 line_no_origin : (stack : Description) (device sector : ℕ) (line : FoundLine) (lower : Lower) (at : ℕ) (l m : Line) (origin : FoundOrigin) → found_line stack l ≡ line → IsPlainStep line.target (sector - line.start) lower at → l ≡ m → found_target stack m.target ≡ founds.Origin origin → ⊥
 line_no_origin stack device sector line lower at l m origin is step same target =
-    no_plain line.target (founds.Origin origin) (sector - line.start) lower at (sym (ap (λ (x : FoundLine). x.target) is) ∙ ap (λ (x : Line). found_target stack x.target) same ∙ target) refl step
+    no_plain line.target (founds.Origin origin) (sector - line.start) lower at (cc) refl step
 
 -- and no line is both
 snapshot_no_origin : (stack : Description) (l m : Line) (snapshot : FoundSnapshot) (origin : FoundOrigin) → found_target stack l.target ≡ founds.Snapshot snapshot → l ≡ m → found_target stack m.target ≡ founds.Origin origin → ⊥
-snapshot_no_origin stack l m snapshot origin is same target = differ (sym is ∙ ap (λ (x : Line). found_target stack x.target) same ∙ target)
+snapshot_no_origin stack l m snapshot origin is same target = cc
   where
     differ : founds.Snapshot snapshot ≡ founds.Origin origin → ⊥
     differ e = cc
@@ -102,11 +99,11 @@ only_by_line stack state d s e t lower at line sound fitting tidy inside is step
     let one = one_via stack d e a.index b.index (span_index line.target (s - line.start)) (span_index other.target (t - other.start)) a.it b.it lower at Own Own tidy a.via b.via refl in
     let same : line ≡ other = sym a.is ∙ ap (found_line stack) one.lines ∙ b.is in
     let of = (line_sound stack d s line sound is).soundly in let of_other = (line_sound stack e t other sound is_other).soundly in
-    let starts : line.start ≡ other.start = ap (λ (l : FoundLine). l.start) same in
-    let indices : span_index line.target (s - line.start) ≡ span_index line.target (t - other.start) = one.columns ∙ ap (λ (l : FoundLine). span_index l.target (t - other.start)) (sym same) in
-    let same_span : a.via.span ≡ b.via.span = some_is a.via.span b.via.span (sym a.via.span_at ∙ ap (λ (l : Line). slice_get (spans l) (span_index line.target (s - line.start))) one.lines ∙ ap (slice_get (spans b.it)) one.columns ∙ b.via.span_at) in
-    let offsets : a.via.span.offset ≡ b.via.span.offset = ap (λ (span : Span). span.offset) same_span in
-    let moved : span_distance line.target (t - other.start) ≡ span_distance other.target (t - other.start) = ap (λ (l : FoundLine). span_distance l.target (t - other.start)) same in
+    let starts : line.start ≡ other.start = cc in
+    let indices : span_index line.target (s - line.start) ≡ span_index line.target (t - other.start) = cc in
+    let same_span : a.via.span ≡ b.via.span = cc in
+    let offsets : a.via.span.offset ≡ b.via.span.offset = cc in
+    let moved : span_distance line.target (t - other.start) ≡ span_distance other.target (t - other.start) = cc in
     let on = a.lies in let on_other = b.lies in
     let within : span_distance line.target (s - line.start) ≡ span_distance line.target (t - other.start) = omega (arith, offsets, moved, on, on_other) in
     let distances = distance_one stack d line.start line.len line.target (s - line.start) (t - other.start) of.target indices within in
@@ -114,20 +111,20 @@ only_by_line stack state d s e t lower at line sound fitting tidy inside is step
     record { device = sym one.devices; sector = omega (arith, distances, starts, from, from_other) }
 only_by_line stack state d s e t lower at line sound fitting tidy inside is step (ByStore snapshot number over valid n lower_is at_is) =
     let a = via_line stack d s line lower at sound is step in let b = via_snapshot stack e snapshot sound over in
-    let below : at < lower_len stack snapshot.store = subst (λ (x : ℕ). x < lower_len stack snapshot.store) (sym at_is) (fits stack state e t number snapshot sound fitting over n) in
-    let via : IsVia stack e b.index 0 b.it lower at Own = subst (λ (x : Lower). IsVia stack e b.index 0 b.it x at Own) (sym lower_is) (b.store at below) in
+    let below : at < lower_len stack snapshot.store = rw at_is (fits stack state e t number snapshot sound fitting over n) in
+    let via : IsVia stack e b.index 0 b.it lower at Own = rw lower_is (b.store at below) in
     let one = one_via stack d e a.index b.index (span_index line.target (s - line.start)) 0 a.it b.it lower at Own Own tidy a.via via refl in
     absurd (line_no_snapshot stack d s line lower at a.it b.it snapshot a.is step one.lines b.target)
 only_by_line stack state d s e t lower at line sound fitting tidy inside is step (ByRead snapshot over valid n lower_is at_is) =
     let a = via_line stack d s line lower at sound is step in let b = via_snapshot stack e snapshot sound over in
-    let below : at < lower_len stack snapshot.origin = subst (λ (x : ℕ). x < lower_len stack snapshot.origin) (sym at_is) (read_inside stack state e t snapshot sound over inside) in
-    let via : IsVia stack e b.index 1 b.it lower at Reading = subst (λ (x : Lower). IsVia stack e b.index 1 b.it x at Reading) (sym lower_is) (b.origin at below) in
+    let below : at < lower_len stack snapshot.origin = rw at_is (read_inside stack state e t snapshot sound over inside) in
+    let via : IsVia stack e b.index 1 b.it lower at Reading = rw lower_is (b.origin at below) in
     let one = one_via stack d e a.index b.index (span_index line.target (s - line.start)) 1 a.it b.it lower at Own Reading tidy a.via via refl in
     absurd (line_no_snapshot stack d s line lower at a.it b.it snapshot a.is step one.lines b.target)
 only_by_line stack state d s e t lower at line sound fitting tidy inside is step (ByServe origin over lower_is at_is) =
     let a = via_line stack d s line lower at sound is step in let b = via_origin stack e origin sound over in
-    let below : at < lower_len stack origin.to = subst (λ (x : ℕ). x < lower_len stack origin.to) (sym at_is) (serve_inside stack e t origin sound over inside) in
-    let via : IsVia stack e b.index 0 b.it lower at Serving = subst (λ (x : Lower). IsVia stack e b.index 0 b.it x at Serving) (sym lower_is) (b.via at below) in
+    let below : at < lower_len stack origin.to = rw at_is (serve_inside stack e t origin sound over inside) in
+    let via : IsVia stack e b.index 0 b.it lower at Serving = rw lower_is (b.via at below) in
     let one = one_via stack d e a.index b.index (span_index line.target (s - line.start)) 0 a.it b.it lower at Own Serving tidy a.via via refl in
     absurd (line_no_origin stack d s line lower at a.it b.it origin a.is step one.lines b.target)
 
@@ -138,9 +135,6 @@ pub record IsInStore (state : State) (device : ℕ) (snapshot : FoundSnapshot) (
   pub is : number_in (t / snapshot.chunk) (taken_at state device).chunks ≡ Some number
   pub sector : at ≡ store_sector snapshot number t
 
-snapshot_is : (a b : FoundSnapshot) → founds.Snapshot a ≡ founds.Snapshot b → a ≡ b
-snapshot_is a b e = cc
-
 pub only_by_store : (stack : Description) (state : State) (d e t at : ℕ) (snapshot : FoundSnapshot) → IsSound stack → IsFitting stack state → IsTidy stack → t < device_len stack e
     → snapshot_at stack d ≡ Some snapshot → at < lower_len stack snapshot.store → ReadStep stack state e t snapshot.store at → IsInStore state d snapshot at e t
 only_by_store stack state d e t at snapshot sound fitting tidy inside over below (ByLine line is step) =
@@ -149,21 +143,21 @@ only_by_store stack state d e t at snapshot sound fitting tidy inside over below
     absurd (line_no_snapshot stack e t line snapshot.store at a.it b.it snapshot a.is step one.lines b.target)
 only_by_store stack state d e t at snapshot sound fitting tidy inside over below (ByStore other number over_other valid n store_is at_is) =
     let a = via_snapshot stack d snapshot sound over in let b = via_snapshot stack e other sound over_other in
-    let below_other : at < lower_len stack other.store = subst (λ (x : Lower). at < lower_len stack x) store_is below in
-    let via : IsVia stack e b.index 0 b.it snapshot.store at Own = subst (λ (x : Lower). IsVia stack e b.index 0 b.it x at Own) (sym store_is) (b.store at below_other) in
+    let below_other : at < lower_len stack other.store = rw store_is at below in
+    let via : IsVia stack e b.index 0 b.it snapshot.store at Own = rw store_is (b.store at below_other) in
     let one = one_via stack d e a.index b.index 0 0 a.it b.it snapshot.store at Own Own tidy (a.store at below) via refl in
-    let same : snapshot ≡ other = snapshot_is snapshot other (sym a.target ∙ ap (λ (l : Line). found_target stack l.target) one.lines ∙ b.target) in
+    let same : snapshot ≡ other = cc in
     record { same = sym one.devices; number = number; is = rw (same, one.devices) n; sector = rw same at_is }
 only_by_store stack state d e t at snapshot sound fitting tidy inside over below (ByRead other over_other valid n store_is at_is) =
     let a = via_snapshot stack d snapshot sound over in let b = via_snapshot stack e other sound over_other in
-    let below_other : at < lower_len stack other.origin = subst (λ (x : ℕ). x < lower_len stack other.origin) (sym at_is) (read_inside stack state e t other sound over_other inside) in
-    let via : IsVia stack e b.index 1 b.it snapshot.store at Reading = subst (λ (x : Lower). IsVia stack e b.index 1 b.it x at Reading) (sym store_is) (b.origin at below_other) in
+    let below_other : at < lower_len stack other.origin = rw at_is (read_inside stack state e t other sound over_other inside) in
+    let via : IsVia stack e b.index 1 b.it snapshot.store at Reading = rw store_is (b.origin at below_other) in
     let one = one_via stack d e a.index b.index 0 1 a.it b.it snapshot.store at Own Reading tidy (a.store at below) via refl in
     absurd (two_columns 0 1 refl refl one.columns)
 only_by_store stack state d e t at snapshot sound fitting tidy inside over below (ByServe origin over_other store_is at_is) =
     let a = via_snapshot stack d snapshot sound over in let b = via_origin stack e origin sound over_other in
-    let below_other : at < lower_len stack origin.to = subst (λ (x : Lower). at < lower_len stack x) store_is below in
-    let via : IsVia stack e b.index 0 b.it snapshot.store at Serving = subst (λ (x : Lower). IsVia stack e b.index 0 b.it x at Serving) (sym store_is) (b.via at below_other) in
+    let below_other : at < lower_len stack origin.to = rw store_is at below in
+    let via : IsVia stack e b.index 0 b.it snapshot.store at Serving = rw store_is (b.via at below_other) in
     let one = one_via stack d e a.index b.index 0 0 a.it b.it snapshot.store at Own Serving tidy (a.store at below) via refl in
     absurd (snapshot_no_origin stack a.it b.it snapshot origin a.target one.lines b.target)
 
@@ -206,7 +200,7 @@ origin_no_store stack device snapshot sound tidy over = record {
       let whole = of.soundly.origin in let some = of.some in
       let below : 0 < lower_len stack snapshot.origin = omega (arith, whole, some) in
       let a = via_snapshot stack device snapshot sound over in let b = via_snapshot stack e other sound over_other in
-      let via : IsVia stack e b.index 0 b.it snapshot.origin 0 Own = subst (λ (x : Lower). IsVia stack e b.index 0 b.it x 0 Own) (sym same) (b.store 0 (subst (λ (x : Lower). 0 < lower_len stack x) same below)) in
+      let via : IsVia stack e b.index 0 b.it snapshot.origin 0 Own = rw same (b.store 0 (rw same at below)) in
       let one = one_via stack e device b.index a.index 0 1 b.it a.it snapshot.origin 0 Own Reading tidy via (a.origin 0 below) refl in
       two_columns 0 1 refl refl one.columns;
 }
@@ -229,18 +223,18 @@ only_by_origin stack state d e t at origin sound tidy served below settled (ByLi
     absurd (line_no_origin stack e t line origin.to at a.it b.it origin a.is step one.lines b.target)
 only_by_origin stack state d e t at origin sound tidy served below settled (ByStore snapshot number over valid n lower_is at_is) =
     let a = via_snapshot stack e snapshot sound over in let b = via_origin stack d origin sound served in
-    let below_store : at < lower_len stack snapshot.store = subst (λ (x : Lower). at < lower_len stack x) lower_is below in
-    let via : IsVia stack e a.index 0 a.it origin.to at Own = subst (λ (x : Lower). IsVia stack e a.index 0 a.it x at Own) (sym lower_is) (a.store at below_store) in
+    let below_store : at < lower_len stack snapshot.store = rw lower_is at below in
+    let via : IsVia stack e a.index 0 a.it origin.to at Own = rw lower_is (a.store at below_store) in
     let one = one_via stack e d a.index b.index 0 0 a.it b.it origin.to at Own Serving tidy via (b.via at below) refl in
     absurd (snapshot_no_origin stack a.it b.it snapshot origin a.target one.lines b.target)
 only_by_origin stack state d e t at origin sound tidy served below settled (ByRead snapshot over valid n lower_is at_is) =
     let list : origin.over ≡ snapshots_over stack snapshot.origin = (origin_sound stack d origin sound served).soundly.over ∙ ap (snapshots_over stack) lower_is in
-    let here = settled_over stack state e at snapshot over (subst (λ (xs : List FoundOver). AreSettled state xs at) list settled) in
-    absurd (not_settled (taken_at state e) (t / snapshot.chunk) valid n (subst (λ (s : ℕ). is_settled (taken_at state e) (s / snapshot.chunk) ≡ true) at_is here))
+    let here = settled_over stack state e at snapshot over (rw list at settled) in
+    absurd (not_settled (taken_at state e) (t / snapshot.chunk) valid n (rw at_is at here))
 only_by_origin stack state d e t at origin sound tidy served below settled (ByServe other over lower_is at_is) =
     let a = via_origin stack e other sound over in let b = via_origin stack d origin sound served in
-    let below_other : at < lower_len stack other.to = subst (λ (x : Lower). at < lower_len stack x) lower_is below in
-    let via : IsVia stack e a.index 0 a.it origin.to at Serving = subst (λ (x : Lower). IsVia stack e a.index 0 a.it x at Serving) (sym lower_is) (a.via at below_other) in
+    let below_other : at < lower_len stack other.to = rw lower_is at below in
+    let via : IsVia stack e a.index 0 a.it origin.to at Serving = rw lower_is (a.via at below_other) in
     let one = one_via stack e d a.index b.index 0 0 a.it b.it origin.to at Serving Serving tidy via (b.via at below) refl in
     record { device = one.devices; sector = sym at_is }
 

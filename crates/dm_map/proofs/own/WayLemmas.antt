@@ -1,5 +1,5 @@
 -- Ways of reads: they go on, come from somewhere, go to what is less deep, and end where the read does.
-use Rattle.std.proofs.Common.{◌≡◌, ℕ, ◌<◌, ◌≤◌, List, [], ◌∷◌, ◌++◌, refl, sym, ap, subst, ◌∙◌, arith}
+use Rattle.std.proofs.Common.{◌≡◌, ℕ, ◌<◌, ◌≤◌, List, [], ◌∷◌, ◌++◌, refl, sym, ap, ◌∙◌, arith}
 use Rattle.dm_stack.specs.declared.id.Lower.{Lower}
 use Rattle.dm_stack.specs.declared.id.Lower.TheVariants.{Device, Disk}
 use Rattle.dm_stack.specs.lines.Below.{Below, Lies, IsZero, IsError}
@@ -32,7 +32,7 @@ pub back : (stack : Description) (state : State) (a b : Node) → Touches stack 
 back stack state a b touches = back_way stack state a b touches.between touches.way
 
 first_way : (stack : Description) (state : State) (a b c : Node) (between : List Node) → Leads stack state a b → IsWay stack state b between c → IsWay stack state a (between ++ a ∷ []) c
-first_way stack state a b c [] leads way = (subst (λ (x : Node). Leads stack state a x) way leads, refl)
+first_way stack state a b c [] leads way = (rw way at leads, refl)
 first_way stack state a b c (x ∷ xs) leads way = (way.0, first_way stack state a b x xs leads way.1)
 
 pub touch_first : (stack : Description) (state : State) (a b c : Node) → Leads stack state a b → Touches stack state b c → Touches stack state a c
@@ -41,10 +41,10 @@ touch_first stack state a b c leads touches = record { between = touches.between
 -- A step goes to what is less deep
 
 leads_depth : (stack : Description) (state : State) (a b : Node) → IsSound stack → Leads stack state a b → lower_depth stack b.lower < lower_depth stack a.lower
-leads_depth stack state a b sound leads = subst (λ (x : Lower). lower_depth stack b.lower < lower_depth stack x) (sym leads.on) (next_depth stack state leads.device a.sector b.lower b.sector sound leads.below)
+leads_depth stack state a b sound leads = rw leads.on (next_depth stack state leads.device a.sector b.lower b.sector sound leads.below)
 
 way_depth : (stack : Description) (state : State) (a b : Node) (between : List Node) → IsSound stack → IsWay stack state a between b → lower_depth stack b.lower ≤ lower_depth stack a.lower
-way_depth stack state a b [] sound way = subst (λ (x : Node). lower_depth stack x.lower ≤ lower_depth stack a.lower) way (omega arith)
+way_depth stack state a b [] sound way = rw (← way) (omega arith)
 way_depth stack state a b (c ∷ cs) sound way = let less = leads_depth stack state c b sound way.0 in let more = way_depth stack state a c cs sound way.1 in omega (arith, less, more)
 
 -- a way that ends on the device where it begins has no step
@@ -56,27 +56,21 @@ touch_same stack state a b sound touches same = elim (back stack state a b touch
 
 -- A read's way ends at its unit's sector
 
-zeros_read : (disk sector : ℕ) → Zeros ≡ ReadOf disk sector → ⊥
-zeros_read disk sector e = cc
-
-fails_read : (disk sector : ℕ) → Fails ≡ ReadOf disk sector → ⊥
-fails_read disk sector e = cc
-
 disk_is : (disk sector k x : ℕ) → ReadOf disk sector ≡ ReadOf k x → node (Disk disk) sector ≡ node (Disk k) x
 disk_is disk sector k x e = cc
 
 touches_below : (stack : Description) (state : State) (device sector disk x : ℕ) (b : Below) → read_below stack state device sector ≡ b → ((to : Lower) (at : ℕ) → b ≡ Lies to at → read stack state to at ≡ ReadOf disk x → Touches stack state (node to at) (node (Disk disk) x))
     → by_below b Zeros Fails (λ to at. read stack state to at) ≡ ReadOf disk x → Touches stack state (node (Device device) sector) (node (Disk disk) x)
 touches_below stack state device sector disk x (Lies to at) is each e = touch_first stack state _ _ _ (record { device = device; on = refl; below = is }) (each to at refl e)
-touches_below stack state device sector disk x IsZero is each e = absurd (zeros_read disk x e)
-touches_below stack state device sector disk x IsError is each e = absurd (fails_read disk x e)
+touches_below stack state device sector disk x IsZero is each e = absurd (cc)
+touches_below stack state device sector disk x IsError is each e = absurd (cc)
 
 Ends : Description → State → Lower → Type 0
 Ends stack state lower = (sector disk x : ℕ) → read stack state lower sector ≡ ReadOf disk x → Touches stack state (node lower sector) (node (Disk disk) x)
 
 ends_step : (stack : Description) (state : State) → IsSound stack → (lower : Lower) → ((other : Lower) → lower_depth stack other < lower_depth stack lower → Ends stack state other) → Ends stack state lower
 unfolding Ends
-ends_step stack state sound (Disk k) each sector disk x e = subst (λ (n : Node). Touches stack state (node (Disk k) sector) n) (disk_is k sector disk x (sym (read_disk stack state k sector) ∙ e)) (touch_self stack state (node (Disk k) sector))
+ends_step stack state sound (Disk k) each sector disk x e = rw (← disk_is k sector disk x (sym (read_disk stack state k sector) ∙ e)) (touch_self stack state (node (Disk k) sector))
 ends_step stack state sound (Device device) each sector disk x e =
     touches_below stack state device sector disk x (read_below stack state device sector) refl (λ to at is reads. each to (next_depth stack state device sector to at sound is) at disk x reads) (sym (read_down stack state device sector sound) ∙ e)
 

@@ -1,17 +1,16 @@
 -- The write of a sector: chunks are taken, then one unit follows; what is read then, and by whom.
-use Rattle.std.proofs.Common.{◌≡◌, ◌⊎◌, inl, inr, ℕ, ◌-◌, ◌/◌, ◌<◌, Bool, true, false, cond, List, [], ◌∷◌, ◌++◌, map, Option, Some, None, length, refl, sym, ap, subst, ◌∙◌, arith}
+use Rattle.std.proofs.Common.{◌≡◌, ◌⊎◌, inl, inr, ℕ, ◌-◌, ◌/◌, ◌<◌, Bool, true, false, cond, List, [], ◌∷◌, ◌++◌, map, Option, Some, None, length, refl, sym, ap, ◌∙◌, arith}
 use Rattle.std.specs.List.{AllByRecursion}
 use Rattle.std.proofs.lemmas.List.{append-nil}
 use Rattle.dm_stack.specs.declared.lines.found_line.FoundLine.{FoundLine}
 use Rattle.dm_stack.specs.declared.lines.found_line.FoundOrigin.{FoundOrigin}
-use Rattle.dm_stack.specs.declared.lines.found_line.FoundOver.{FoundOver}
 use Rattle.dm_stack.specs.declared.lines.found_line.FoundSnapshot.{FoundSnapshot}
 use Rattle.dm_stack.specs.declared.lines.found_line.FoundTarget.{FoundTarget}
 use Rattle.dm_stack.specs.declared.lines.found_line.FoundTarget.TheVariants as founds
 use Rattle.dm_stack.specs.declared.checks.graph.TheConstants.{MOST_DEPTH}
 use Rattle.dm_stack.specs.declared.id.Lower.{Lower}
 use Rattle.dm_stack.specs.declared.id.Lower.TheVariants.{Device, Disk}
-use Rattle.dm_stack.specs.lines.Below.{Below, Lies, IsZero, IsError, below, below_line, below_plain, found_at, has_state}
+use Rattle.dm_stack.specs.lines.Below.{Below, Lies, IsZero, IsError, below, below_plain, found_at, has_state}
 use Rattle.dm_stack.specs.claims.Claims.{IsTidy}
 use Rattle.dm_stack.specs.Description.{Description, is_ro_at, lower_len}
 use Rattle.dm_stack.specs.checks.Depth.{lower_depth}
@@ -22,11 +21,11 @@ use Rattle.dm_map.specs.walk.Mapping.{write_line, write_step, write_target}
 use Rattle.dm_map.specs.walk.Reads.{by_below, read_below}
 use Rattle.dm_map.specs.walk.Serving.{IsOver, serve, served_step}
 use Rattle.dm_map.specs.state.Snapshots.{store_sector, number_in, read_over}
-use Rattle.dm_map.specs.walk.SnapshotWrites.{home_in_store, is_refused, read, take_chunk, unit_in_store, write_numbered, write_snapshot}
+use Rattle.dm_map.specs.walk.SnapshotWrites.{home_in_store, is_refused, read, take_chunk, unit_in_store, write_numbered}
 use Rattle.dm_map.specs.state.State.{State, Taken, taken_at}
 use Rattle.dm_map.specs.walk.Steps.{Step, keep, and_then}
 use Rattle.dm_map.specs.state.Tables.{origin_at, snapshot_at}
-use Rattle.dm_map.specs.pieces.Units.{BlockUnit, ReadOf, WriteOf, Zeros, Drops, Fails}
+use Rattle.dm_map.specs.pieces.Units.{BlockUnit, ReadOf, WriteOf, Drops, Fails}
 use Rattle.dm_map.specs.own.Ways.{Node, node, Touches}
 use Rattle.dm_map.proofs.own.UniqueSteps.{IsRoot, IsUnserved, only_by_origin, only_by_store, fits, goes_on_inside}
 use Rattle.dm_map.proofs.state.FoundLines.{line_origin, line_snapshot, line_sound, origin_sound, snapshot_sound, some_is}
@@ -63,11 +62,11 @@ Writes stack lower = (sector : ℕ) (state : State) → IsFitting stack state �
 -- One unit that writes nothing
 
 no_write : (unit : BlockUnit) (disk x : ℕ) → (unit ≡ Fails) ⊎ (unit ≡ Drops) → unit ≡ WriteOf disk x → ⊥
-no_write unit disk x (inl e) f = differ (sym e ∙ f)
+no_write unit disk x (inl e) f = cc
   where
     differ : Fails ≡ WriteOf disk x → ⊥
     differ e = cc
-no_write unit disk x (inr e) f = differ (sym e ∙ f)
+no_write unit disk x (inr e) f = cc
   where
     differ : Drops ≡ WriteOf disk x → ⊥
     differ e = cc
@@ -87,18 +86,18 @@ written_none stack state lower sector step unit which is = record {
 -- A write that goes on below, by a line
 
 read_next : (stack : Description) (state : State) (device sector : ℕ) (to : Lower) (at : ℕ) → IsSound stack → read_below stack state device sector ≡ Lies to at → read stack state (Device device) sector ≡ read stack state to at
-read_next stack state device sector to at sound e = read_down stack state device sector sound ∙ ap (λ (b : Below). by_below b Zeros Fails (λ t v. read stack state t v)) e
+read_next stack state device sector to at sound e = cc (read_down stack state device sector sound)
 
 step_state : (a b : Step) → a ≡ b → a.state ≡ b.state
-step_state a b e = ap (λ (x : Step). x.state) e
+step_state a b e = cc
 
 line_written : (stack : Description) (state : State) (device sector : ℕ) (to : Lower) (at : ℕ) (step : Step) → IsSound stack → IsFitting stack state → IsTidy stack → ((held : FoundLine) → found_at stack device sector ≡ Some held → has_state held.target ≡ false) → ((over : FoundSnapshot → ℕ → Below) → below over stack device sector ≡ Lies to at)
     → Writes stack to → step ≡ write_step stack MOST_DEPTH to state at → Written stack state (Device device) sector step
 unfolding Writes
 line_written stack state device sector to at step sound fitting tidy has goes lower_writes step_is =
-    let w : Written stack state to at step = subst (λ (x : Step). Written stack state to at x) (sym step_is) (lower_writes at state fitting) in
+    let w : Written stack state to at step = rw step_is (lower_writes at state fitting) in
     let first = ran stack state state w.events sound fitting fitting tidy (grown_same state) w.each in
-    let fits_after : IsFitting stack step.state = subst (λ (x : State). IsFitting stack x) (sym (step_state step _ w.is)) first.fits in
+    let fits_after : IsFitting stack step.state = rw (step_state step _ w.is) first.fits in
     record {
       events = w.events;
       last = w.last;
@@ -148,12 +147,12 @@ kept_alone stack state device sector number snapshot a sound fitting tidy over n
     let inside = fits stack state device sector number snapshot sound fitting over n in
     let up = home_touched stack state a MOST_DEPTH snapshot.store (store_sector snapshot number sector) sound fitting tidy root.lines soundly.store inside touches in
     elim (back stack state a (node snapshot.store (store_sector snapshot number sector)) up) [
-      | Here e ↦ absurd (root.stores.none device snapshot over (ap (λ (x : Node). x.lower) e))
+      | Here e ↦ absurd (root.stores.none device snapshot over (cc))
       | Before c before leads ↦
           let kept = only_by_store stack state device leads.device c.sector (store_sector snapshot number sector) snapshot sound fitting tidy (goes_on_inside stack state leads.device c.sector snapshot.store (store_sector snapshot number sector) sound leads.below) over inside
           (read_step stack state leads.device c.sector snapshot.store (store_sector snapshot number sector) sound leads.below) in
           let same = same_sector snapshot (taken_at state device).chunks number kept.number sector c.sector soundly.chunk_some n kept.is kept.sector in
-          subst (λ (x : Node). Touches stack state a x) (node_is c leads.device device c.sector sector leads.on kept.same refl same) before
+          rw (← node_is c leads.device device c.sector sector leads.on kept.same refl same) before
     ]
 
 snapshot_written : (stack : Description) (state : State) (device sector : ℕ) (line : FoundLine) (snapshot : FoundSnapshot) (step : Step) → IsSound stack → IsFitting stack state → IsTidy stack → snapshot_at stack device ≡ Some snapshot → found_at stack device sector ≡ Some line
@@ -165,28 +164,23 @@ snapshot_written stack state device sector line snapshot step sound fitting tidy
     let first = take_chunk stack snapshot device (sector / snapshot.chunk) state in
     let fits_after = full_outcome_fits stack state device (sector / snapshot.chunk) snapshot first fitting there (full_outcome stack state device (sector / snapshot.chunk) snapshot over there) in
     let last = unit_in_store stack snapshot device first.state sector in
-    let state_is : step.state ≡ first.state = ap (λ (x : Step). x.state) step_is in
+    let state_is : step.state ≡ first.state = cc in
     let taken = taken_at first.state device in
     record {
       events = record { device = device; chunk = sector / snapshot.chunk; snapshot = snapshot } ∷ [];
       last = last;
-      is = step_is ∙ ap (λ (us : List BlockUnit). record { units = us ++ last ∷ []; state = first.state }) (sym (append-nil first.units));
+      is = cc (append-nil first.units);
       each = (over, tt);
       answered = unit_answers stack snapshot sector taken.valid (number_in (sector / snapshot.chunk) taken.chunks);
       reads = λ disk x e.
           let unit = stored_unit stack snapshot taken sector disk x taken.valid (number_in (sector / snapshot.chunk) taken.chunks) refl refl e in
           let inside = fits stack first.state device sector unit.number snapshot sound fits_after over unit.is in
           let home = home_in_store stack snapshot unit.number sector in
-          subst (λ (after : State). read stack after (Device device) sector ≡ ReadOf disk x) (sym state_is)
-          (read_next stack first.state device sector snapshot.store (store_sector snapshot unit.number sector) sound (kept_next stack first.state device sector unit.number line snapshot sound over is unit.valid unit.is)
-          ∙ store_read stack first.state MOST_DEPTH snapshot.store (store_sector snapshot unit.number sector) sound soundly.store inside
-          ∙ read_of_unit home.disk home.sector disk x unit.home);
+          rw state_is (read_next stack first.state device sector snapshot.store (store_sector snapshot unit.number sector) sound (kept_next stack first.state device sector unit.number line snapshot sound over is unit.valid unit.is) ∙ store_read stack first.state MOST_DEPTH snapshot.store (store_sector snapshot unit.number sector) sound soundly.store inside ∙ read_of_unit home.disk home.sector disk x unit.home);
       alone = λ disk x a e root unserved touches.
           let unit = stored_unit stack snapshot taken sector disk x taken.valid (number_in (sector / snapshot.chunk) taken.chunks) refl refl e in
           let home = home_in_store stack snapshot unit.number sector in
-          subst (λ (after : State). Touches stack after a (node (Device device) sector)) (sym state_is)
-          (kept_alone stack first.state device sector unit.number snapshot a sound fits_after tidy over unit.is root
-          (subst (λ (n : Node). Touches stack first.state a n) (sym (node_of_unit home.disk home.sector disk x unit.home)) (subst (λ (after : State). Touches stack after a (node (Disk disk) x)) state_is touches)));
+          rw state_is (kept_alone stack first.state device sector unit.number snapshot a sound fits_after tidy over unit.is root (rw (node_of_unit home.disk home.sector disk x unit.home, ← state_is) touches));
     }
 
 -- or a chunk that is refused: its write fails
@@ -204,49 +198,40 @@ origin_written stack state device sector line origin step sound fitting tidy ser
     let soundly = (origin_sound stack device origin sound served).soundly in
     let len = lower_len stack origin.to in
     let below : sector < len = let inside = (line_sound stack device sector line sound is).inside in let same = soundly.same in omega (arith, inside, same) in
-    let members : AllByRecursion (IsOver stack len) origin.over = subst (λ (over : List FoundOver). AllByRecursion (IsOver stack len) over) (sym soundly.over) (overs stack origin.to len sound (omega arith)) in
+    let members : AllByRecursion (IsOver stack len) origin.over = rw soundly.over (overs stack origin.to len sound (omega arith)) in
     let es = map (event_of sector) origin.over in
     let each = each_event stack len sector origin.over members in
     let first = serve stack origin.over sector state in
     let first_is : first ≡ run stack es state = serve_run stack origin.over sector state in
-    let fits : IsFitting stack first.state = subst (λ (x : Step). IsFitting stack x.state) (sym first_is) (ran stack state state es sound fitting fitting tidy (grown_same state) each).fits in
+    let fits : IsFitting stack first.state = rw first_is (ran stack state state es sound fitting fitting tidy (grown_same state) each).fits in
     let after = write_step stack MOST_DEPTH origin.to first.state sector in
     let w : Written stack first.state origin.to sector after = lower_writes sector first.state fits in
     let last_step : State → Step = λ x. keep (w.last ∷ []) x in
     let settled = settled_on first.state after.state origin.over sector (write_keeps_settled stack MOST_DEPTH origin.to first.state sector) (serve_settled stack origin.over sector state (over_there stack state len origin.over fitting.count (omega (arith, below)) members)) in
-    let state_is : step.state ≡ after.state = ap (λ (x : Step). x.state) step_is in
+    let state_is : step.state ≡ after.state = cc in
     record {
       events = es ++ w.events;
       last = w.last;
-      is = step_is ∙ and_then_at first (λ x. write_step stack MOST_DEPTH origin.to x sector) (λ x. and_then (run stack w.events x) last_step) w.is
-          ∙ sym (step_assoc first (λ x. run stack w.events x) last_step)
-          ∙ ap (λ (x : Step). and_then (and_then x (λ y. run stack w.events y)) last_step) first_is
-          ∙ ap (λ (x : Step). and_then x last_step) (sym (run_append stack es w.events state));
+      is = cc (and_then_at first (λ x. write_step stack MOST_DEPTH origin.to x sector) (λ x. and_then (run stack w.events x) last_step) w.is, step_assoc first (λ x. run stack w.events x) last_step, run_append stack es w.events state);
       each = events_append stack es w.events each w.each;
       answered = w.answered;
-      reads = λ disk x e. read_next stack step.state device sector origin.to sector sound (goes step.state) ∙ ap (λ (s : State). read stack s origin.to sector) state_is ∙ w.reads disk x e;
+      reads = λ disk x e. cc (read_next stack step.state device sector origin.to sector sound (goes step.state), w.reads disk x e);
       alone = λ disk x a e root unserved touches.
-          let up = w.alone disk x a e root unserved (subst (λ (s : State). Touches stack s a (node (Disk disk) x)) state_is touches) in
-          subst (λ (s : State). Touches stack s a (node (Device device) sector)) (sym state_is)
-          (elim (back stack after.state a (node origin.to sector) up) [
-            | Here here ↦ absurd (unserved.none device origin served (ap (λ (n : Node). n.lower) here))
-            | Before c before leads ↦
-                let at = only_by_origin stack after.state device leads.device c.sector sector origin sound tidy served below settled (read_step stack after.state leads.device c.sector origin.to sector sound leads.below) in
-                subst (λ (n : Node). Touches stack after.state a n) (node_is c leads.device device c.sector sector leads.on at.device refl at.sector) before
-          ]);
+          let up = w.alone disk x a e root unserved (rw state_is at touches) in
+          rw state_is (elim (back stack after.state a (node origin.to sector) up) [ Here here ↦ absurd (unserved.none device origin served (cc)) | Before c before leads ↦ let at = only_by_origin stack after.state device leads.device c.sector sector origin sound tidy served below settled (read_step stack after.state leads.device c.sector origin.to sector sound leads.below) in rw (← node_is c leads.device device c.sector sector leads.on at.device refl at.sector) before ]);
     }
 
 -- Each write
 
 held_is : (stack : Description) (device sector : ℕ) (line held : FoundLine) → found_at stack device sector ≡ Some line → has_state line.target ≡ false → found_at stack device sector ≡ Some held → has_state held.target ≡ false
-held_is stack device sector line held is plain held_at = subst (λ (l : FoundLine). has_state l.target ≡ false) (some_is line held (sym is ∙ held_at)) plain
+held_is stack device sector line held is plain held_at = rw (← some_is line held (sym is ∙ held_at)) plain
 
 plain_written : (stack : Description) (state : State) (device sector : ℕ) (line : FoundLine) (b : Below) (step : Step) → IsSound stack → IsFitting stack state → IsTidy stack → found_at stack device sector ≡ Some line → has_state line.target ≡ false
     → below_plain line.target (sector - line.start) ≡ b → ((to : Lower) → lower_depth stack to < lower_depth stack (Device device) → Writes stack to)
     → step ≡ by_below b (keep (Drops ∷ []) state) (keep (Fails ∷ []) state) (λ to at. write_step stack MOST_DEPTH to state at) → Written stack state (Device device) sector step
 plain_written stack state device sector line (Lies to at) step sound fitting tidy is plain b_is each step_is =
     let goes : (over : FoundSnapshot → ℕ → Below) → below over stack device sector ≡ Lies to at =
-    λ over. ap (λ (l : Option FoundLine). below_line over l sector) is ∙ below_is over line.target (sector - line.start) plain ∙ b_is in
+    λ over. cc (below_is over line.target (sector - line.start) plain) in
     line_written stack state device sector to at step sound fitting tidy (λ held held_at. held_is stack device sector line held is plain held_at) goes (each to (next_depth stack state device sector to at sound (goes (read_over (taken_at state device))))) step_is
 plain_written stack state device sector line IsZero step sound fitting tidy is plain b_is each step_is = written_none stack state (Device device) sector step Drops (inr refl) step_is
 plain_written stack state device sector line IsError step sound fitting tidy is plain b_is each step_is = written_none stack state (Device device) sector step Fails (inl refl) step_is
@@ -257,16 +242,16 @@ target_written stack state device sector line (founds.Snapshot snapshot) step so
     let over = line_snapshot stack device sector line snapshot sound is target in
     let first = over.0 in
     let same : sector - line.start ≡ sector = omega (arith, first) in
-    chunk_by (is_refused stack snapshot (taken_at state device) (sector / snapshot.chunk)) stack state device sector line snapshot step sound fitting tidy over.1 is (step_is ∙ ap (λ (s : ℕ). write_snapshot stack snapshot device state s) same)
+    chunk_by (is_refused stack snapshot (taken_at state device) (sector / snapshot.chunk)) stack state device sector line snapshot step sound fitting tidy over.1 is (cc)
 target_written stack state device sector line (founds.Origin origin) step sound fitting tidy is target each step_is =
     let over = line_origin stack device sector line origin sound is target in
     let first = over.0 in
     let same : sector - line.start ≡ sector = omega (arith, first) in
     let goes : (after : State) → read_below stack after device sector ≡ Lies origin.to sector = λ after. rw (is, target, same) refl in
     origin_written stack state device sector line origin step sound fitting tidy over.1 is goes (each origin.to (next_depth stack state device sector origin.to sector sound (goes state)))
-    (step_is ∙ ap (λ (s : ℕ). served_step stack origin.over (λ after at. write_step stack MOST_DEPTH origin.to after at) state s) same)
+    (cc)
 target_written stack state device sector line target step sound fitting tidy is t each step_is =
-    plain_written stack state device sector line (below_plain target (sector - line.start)) step sound fitting tidy is (ap has_state t) (ap (λ (x : FoundTarget). below_plain x (sector - line.start)) t) each step_is
+    plain_written stack state device sector line (below_plain target (sector - line.start)) step sound fitting tidy is (ap has_state t) (cc) each step_is
 
 found_written : (stack : Description) (state : State) (device sector : ℕ) (line : Option FoundLine) (step : Step) → IsSound stack → IsFitting stack state → IsTidy stack → found_at stack device sector ≡ line
     → ((to : Lower) → lower_depth stack to < lower_depth stack (Device device) → Writes stack to) → step ≡ write_line stack state device line sector (λ to after at. write_step stack MOST_DEPTH to after at) → Written stack state (Device device) sector step
@@ -291,7 +276,7 @@ writes_step stack sound tidy (Disk disk) each sector state fitting = record {
   each = tt;
   answered = refl;
   reads = λ k x e. read_disk stack (write_step stack MOST_DEPTH (Disk disk) state sector).state disk sector ∙ read_of_unit disk sector k x e;
-  alone = λ k x a e root unserved touches. subst (λ (n : Node). Touches stack (write_step stack MOST_DEPTH (Disk disk) state sector).state a n) (sym (node_of_unit disk sector k x e)) touches;
+  alone = λ k x a e root unserved touches. rw (node_of_unit disk sector k x e) touches;
 }
 writes_step stack sound tidy (Device device) each sector state fitting =
     device_written stack state device sector (is_ro_at stack device) (write_step stack MOST_DEPTH (Device device) state sector) sound fitting tidy each (write_down stack device sector state sound)

@@ -1,5 +1,5 @@
 -- Lists in blocks.
-use Rattle.std.proofs.Common.{◌≡◌, ℕ, zero, suc, ◌+◌, ◌-◌, ◌*◌, ◌/◌, ◌%◌, ◌<◌, ◌≤◌, List, [], ◌∷◌, ◌++◌, length, get_or, set, take, drop, min, refl, sym, ap, subst, ◌∙◌, inl, inr, arith, length-append, append_assoc, append-nil, get_or-set_same, get_or-set_other}
+use Rattle.std.proofs.Common.{◌≡◌, ℕ, zero, suc, ◌+◌, ◌-◌, ◌*◌, ◌/◌, ◌%◌, ◌<◌, ◌≤◌, List, [], ◌∷◌, ◌++◌, length, get_or, set, take, drop, min, refl, ap, ◌∙◌, inl, inr, arith, length-append, append_assoc, append-nil, get_or-set_same, get_or-set_other}
 use Rattle.std.specs.List.{concat, flat_map, insert}
 use Rattle.std.proofs.Math.Nat.{mul-le-mul_right}
 use Rattle.std.proofs.lemmas.Bool.{cases_lt, cases_eq}
@@ -47,23 +47,23 @@ at_rank size len rank blocks fill some within =
     let inside : rank % size < length (get_or blocks (rank / size) []) = omega (arith, fill (rank / size), whole, within, some) in
     let same = ap length (concat_is (take (rank / size) blocks)) in
     let at : length (flat_map (λ (x : List ℕ). x) (take (rank / size) blocks)) + rank % size ≡ rank = omega (arith, same, before, whole) in
-    rw (concat_is blocks) (subst (λ (n : ℕ). get_or (flat_map (λ (x : List ℕ). x) blocks) n 0 ≡ get_or (get_or blocks (rank / size) []) (rank % size) 0) at (get_or-flat_map (λ (x : List ℕ). x) blocks (rank / size) (rank % size) [] 0 k inside))
+    rw (concat_is blocks) (rw at at (get_or-flat_map (λ (x : List ℕ). x) blocks (rank / size) (rank % size) [] 0 k inside))
 
 -- Joined blocks
 
 concat_push : (xs : List (List ℕ)) (x : List ℕ) → concat (xs ++ x ∷ []) ≡ concat xs ++ x
 concat_push [] x = append-nil x
-concat_push (y ∷ xs) x = ap (λ (l : List ℕ). y ++ l) (concat_push xs x) ∙ sym (append_assoc y (concat xs) x)
+concat_push (y ∷ xs) x = cc (concat_push xs x, append_assoc y (concat xs) x)
 
 concat_split : (xs : List (List ℕ)) (k : ℕ) → k < length xs → concat xs ≡ concat (take k xs) ++ (get_or xs k [] ++ concat (drop (suc k) xs))
 concat_split [] k within = absurd (omega (arith, within))
 concat_split (x ∷ xs) zero within = refl
-concat_split (x ∷ xs) (suc k) within = ap (λ (l : List ℕ). x ++ l) (concat_split xs k (omega (arith, within))) ∙ sym (append_assoc x (concat (take k xs)) _)
+concat_split (x ∷ xs) (suc k) within = cc (concat_split xs k (omega (arith, within)), append_assoc x (concat (take k xs)) _)
 
 concat_set : (xs : List (List ℕ)) (k : ℕ) (x : List ℕ) → k < length xs → concat (set xs k x) ≡ concat (take k xs) ++ (x ++ concat (drop (suc k) xs))
 concat_set [] k x within = absurd (omega (arith, within))
 concat_set (y ∷ xs) zero x within = refl
-concat_set (y ∷ xs) (suc k) x within = ap (λ (l : List ℕ). y ++ l) (concat_set xs k x (omega (arith, within))) ∙ sym (append_assoc y (concat (take k xs)) _)
+concat_set (y ∷ xs) (suc k) x within = cc (concat_set xs k x (omega (arith, within)), append_assoc y (concat (take k xs)) _)
 
 concat_take : (xs : List (List ℕ)) (k : ℕ) → k < length xs → concat (take (k + 1) xs) ≡ concat (take k xs) ++ get_or xs k []
 concat_take xs k within = ap concat (take_more xs k [] within) ∙ concat_push (take k xs) (get_or xs k [])
@@ -81,40 +81,28 @@ through_first old k at rank before id last block there length_is rank_is is =
     let from : before ≤ rank = omega (arith, rank_is) in
     let at_is : rank - before ≡ at = omega (arith, rank_is) in
     let right = insert-append_right (concat (take k old)) (get_or old k []) before rank id length_is from in
-    ap (λ (l : List ℕ). l ++ last ∷ []) (concat_take_set old k block there)
-    ∙ append_assoc (concat (take k old)) block (last ∷ [])
-    ∙ ap (λ (l : List ℕ). concat (take k old) ++ l) is
-    ∙ ap (λ (n : ℕ). concat (take k old) ++ insert (get_or old k []) n id) (sym at_is)
-    ∙ sym right
-    ∙ ap (λ (l : List ℕ). insert l rank id) (sym (concat_take old k there))
+    cc (concat_take_set old k block there, append_assoc (concat (take k old)) block (last ∷ []), concat_take old k there)
 
 same_block : (old now : List (List ℕ)) (k : ℕ) → drop k now ≡ drop k old → get_or now k [] ≡ get_or old k []
 same_block old now k rest =
     let e : k + 0 ≡ k = omega arith in
     let before : get_or (drop k now) 0 [] ≡ get_or now k [] = rw e at (get_or-drop k now 0 []) in
     let after : get_or (drop k old) 0 [] ≡ get_or old k [] = rw e at (get_or-drop k old 0 []) in
-    sym before ∙ ap (λ (l : List (List ℕ)). get_or l 0 []) rest ∙ after
+    cc
 
 pub same_rest : (old now : List (List ℕ)) (k : ℕ) → drop k now ≡ drop k old → drop (suc k) now ≡ drop (suc k) old
 same_rest old now k rest =
     let e : k + 1 ≡ suc k = omega arith in
     let before : drop 1 (drop k now) ≡ drop (suc k) now = rw e at (drop-drop 1 k now) in
     let after : drop 1 (drop k old) ≡ drop (suc k) old = rw e at (drop-drop 1 k old) in
-    sym before ∙ ap (λ (l : List (List ℕ)). drop 1 l) rest ∙ after
+    cc
 
 -- from block to block
 pub through_next : (old now : List (List ℕ)) (k rank id carried last : ℕ) (block : List ℕ) → k < length old → k < length now → rank ≤ length (concat (take k old))
     → drop k now ≡ drop k old → concat (take k now) ++ carried ∷ [] ≡ insert (concat (take k old)) rank id → block ++ last ∷ [] ≡ carried ∷ get_or now k []
     → concat (take (k + 1) (set now k block)) ++ last ∷ [] ≡ insert (concat (take (k + 1) old)) rank id
 through_next old now k rank id carried last block in_old in_now from rest so_far is =
-    ap (λ (l : List ℕ). l ++ last ∷ []) (concat_take_set now k block in_now)
-    ∙ append_assoc (concat (take k now)) block (last ∷ [])
-    ∙ ap (λ (l : List ℕ). concat (take k now) ++ l) is
-    ∙ sym (append_assoc (concat (take k now)) (carried ∷ []) (get_or now k []))
-    ∙ ap (λ (l : List ℕ). l ++ get_or now k []) so_far
-    ∙ ap (λ (l : List ℕ). insert (concat (take k old)) rank id ++ l) (same_block old now k rest)
-    ∙ sym (insert-append_left (concat (take k old)) (get_or old k []) rank id from)
-    ∙ ap (λ (l : List ℕ). insert l rank id) (sym (concat_take old k in_old))
+    cc (concat_take_set now k block in_now, append_assoc (concat (take k now)) block (last ∷ []), append_assoc (concat (take k now)) (carried ∷ []) (get_or now k []), same_block old now k rest, insert-append_left (concat (take k old)) (get_or old k []) rank id from, concat_take old k in_old)
 
 -- into the last block, at its front
 pub at_front : (old now : List (List ℕ)) (k rank id carried : ℕ) (block : List ℕ) → k < length old → k < length now → rank ≤ length (concat (take k old))
@@ -122,13 +110,7 @@ pub at_front : (old now : List (List ℕ)) (k rank id carried : ℕ) (block : Li
     → concat (set now k block) ≡ insert (concat old) rank id
 at_front old now k rank id carried block in_old in_now from rest so_far is =
     let later = concat (drop (suc k) old) in
-    concat_set now k block in_now
-    ∙ ap (λ (l : List (List ℕ)). concat (take k now) ++ (block ++ concat l)) (same_rest old now k rest)
-    ∙ ap (λ (l : List ℕ). concat (take k now) ++ (l ++ later)) (is ∙ ap (λ (l : List ℕ). carried ∷ l) (same_block old now k rest))
-    ∙ sym (append_assoc (concat (take k now)) (carried ∷ []) (get_or old k [] ++ later))
-    ∙ ap (λ (l : List ℕ). l ++ (get_or old k [] ++ later)) so_far
-    ∙ sym (insert-append_left (concat (take k old)) (get_or old k [] ++ later) rank id from)
-    ∙ ap (λ (l : List ℕ). insert l rank id) (sym (concat_split old k in_old))
+    cc (concat_set now k block in_now, same_rest old now k rest, same_block old now k rest, append_assoc (concat (take k now)) (carried ∷ []) (get_or old k [] ++ later), insert-append_left (concat (take k old)) (get_or old k [] ++ later) rank id from, concat_split old k in_old)
 
 -- into the block of its rank, with room for it
 pub in_place : (old : List (List ℕ)) (k at rank before id : ℕ) (block : List ℕ) → k < length old → length (concat (take k old)) ≡ before → rank ≡ before + at → at ≤ length (get_or old k [])
@@ -139,18 +121,13 @@ in_place old k at rank before id block there length_is rank_is inside is =
     let from : before ≤ rank = omega (arith, rank_is) in
     let at_is : rank - before ≡ at = omega (arith, rank_is) in
     let right = insert-append_right (concat (take k old)) (get_or old k [] ++ later) before rank id length_is from in
-    concat_set old k block there
-    ∙ ap (λ (l : List ℕ). concat (take k old) ++ (l ++ later)) is
-    ∙ ap (λ (l : List ℕ). concat (take k old) ++ l) (sym (insert-append_left (get_or old k []) later at id inside))
-    ∙ ap (λ (n : ℕ). concat (take k old) ++ insert (get_or old k [] ++ later) n id) (sym at_is)
-    ∙ sym right
-    ∙ ap (λ (l : List ℕ). insert l rank id) (sym (concat_split old k there))
+    cc (concat_set old k block there, insert-append_left (get_or old k []) later at id inside, concat_split old k there)
 
 -- Lengths after one more element went into the block where the list ends
 
 last_more : (size len k j lj : ℕ) (whole : k * size + len % size ≡ len) → 0 < size → lj ≡ min size (len - k * size) → j ≡ k → suc lj ≡ min size (len + 1 - j * size)
 last_more size len k j lj whole some was is =
-    let same : j * size ≡ k * size = ap (λ n. n * size) is in
+    let same : j * size ≡ k * size = cc in
     omega (arith, whole, some, was, same)
 
 other_more : (size len k j : ℕ) (whole : k * size + len % size ≡ len) → 0 < size → (j ≡ k → ⊥) → min size (len - j * size) ≡ min size (len + 1 - j * size)

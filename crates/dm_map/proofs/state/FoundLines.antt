@@ -1,5 +1,5 @@
 -- What a sound stack says of the line that was found for a sector.
-use Rattle.std.proofs.Common.{◌≡◌, ℕ, ◌+◌, ◌<◌, ◌≤◌, inl, inr, Bool, true, false, cond, List, [], ◌∷◌, Option, Some, None, length, refl, sym, ap, subst, ◌∙◌, arith}
+use Rattle.std.proofs.Common.{◌≡◌, ℕ, ◌+◌, ◌<◌, ◌≤◌, inl, inr, Bool, true, false, cond, List, [], ◌∷◌, Option, Some, None, length, refl, sym, ap, ◌∙◌, arith}
 use Rattle.std.specs.Prelude.{option_map, nat_le, nat_lt}
 use Rattle.std.proofs.lemmas.Bool.{and_parts, cases_lt, ltb-true}
 use Rattle.std.proofs.lemmas.Option.{slice_get_past}
@@ -9,8 +9,8 @@ use Rattle.dm_stack.specs.declared.lines.found_line.FoundOrigin.{FoundOrigin}
 use Rattle.dm_stack.specs.declared.lines.found_line.FoundSnapshot.{FoundSnapshot}
 use Rattle.dm_stack.specs.declared.lines.found_line.FoundTarget.{FoundTarget}
 use Rattle.dm_stack.specs.declared.lines.found_line.FoundTarget.TheVariants as founds
-use Rattle.dm_stack.specs.lines.Below.{found_at, found_line, holds, line_of, IsOriginSound, IsSnapshotSound, IsTargetSound}
-use Rattle.dm_stack.specs.Description.{Description, device_len, end_of, lines_or_none}
+use Rattle.dm_stack.specs.lines.Below.{found_at, found_line, holds, line_of, IsOriginSound, IsSnapshotSound}
+use Rattle.dm_stack.specs.Description.{Description, device_len, end_of}
 use Rattle.dm_stack.specs.checks.Soundness.{IsSound}
 use Rattle.dm_stack.proofs.LayoutLemmas.{AreInRow}
 use Rattle.dm_stack.proofs.SameLine.{same_found}
@@ -55,7 +55,7 @@ pub line_there : (stack : Description) (device sector : ℕ) (line : FoundLine) 
 line_there stack device sector line is =
     elim (cases_lt device (length stack.devices)) [
       | inl there ↦ there
-      | inr past ↦ absurd (none (ap (λ o. option_map (found_line stack) (line_of (lines_or_none o) sector)) (sym (slice_get_past stack.devices device past)) ∙ is))
+      | inr past ↦ absurd (none (cc (slice_get_past stack.devices device past)))
     ]
   where
     none : None ≡ Some line → ⊥
@@ -67,11 +67,17 @@ line_sound stack device sector line sound is =
     let d = there stack.devices device within in
     let s = device_sound stack device d.it sound d.at in
     let lines = lines_there stack device d.it d.at in
-    let it = some_line stack (line_of d.it.lines sector) line (sym (ap (λ (ls : List Line). option_map (found_line stack) (line_of ls sector)) lines) ∙ is) in
-    let inside : sector < device_len stack device = subst (λ (ls : List Line). sector < end_of ls) (sym lines) (line_inside 0 sector d.it.lines it.0 s.placed it.1) in
+    let it = some_line stack (line_of d.it.lines sector) line (cc) in
+    let inside : sector < device_len stack device = rw lines (line_inside 0 sector d.it.lines it.0 s.placed it.1) in
     let f = sector_found stack device sector sound within inside in
-    let same : f.line ≡ line = some_is f.line line (sym f.is ∙ is) in
-    record { there = within; inside = inside; soundly = subst (λ (l : FoundLine). HoldsSoundly stack device l sector) same f.soundly }
+    let same : f.line ≡ line = cc in
+    record { there = within; inside = inside; soundly = rw same at f.soundly }
+
+-- a line that begins at 0 is its device's first
+first_found : (stack : Description) (device sector : ℕ) (line : FoundLine) → IsSound stack → found_at stack device sector ≡ Some line → line.start ≡ 0 → found_at stack device 0 ≡ Some line
+first_found stack device sector line sound is from =
+    let of = line_sound stack device sector line sound is in let before = of.soundly.before in
+    same_found stack device sector 0 line sound of.there is (omega (arith, from)) (omega (arith, from, before))
 
 -- A snapshot is all of its device
 
@@ -85,14 +91,11 @@ pub record IsSnapshotOf (stack : Description) (device : ℕ) (snapshot : FoundSn
 pub line_snapshot : (stack : Description) (device sector : ℕ) (line : FoundLine) (snapshot : FoundSnapshot) → IsSound stack → found_at stack device sector ≡ Some line → line.target ≡ founds.Snapshot snapshot
     → (line.start ≡ 0) × (snapshot_at stack device ≡ Some snapshot)
 line_snapshot stack device sector line snapshot sound is target =
-    let of = line_sound stack device sector line sound is in
-    let over : IsSnapshotSound stack device line.start line.len snapshot = subst (λ (t : FoundTarget). IsTargetSound stack device line.start line.len t) target of.soundly.target in
-    let from = over.from in let before = of.soundly.before in
-    let first = same_found stack device sector 0 line sound of.there is (omega (arith, from)) (omega (arith, from, before)) in
-    (from, rw (first, target) refl)
+    let over : IsSnapshotSound stack device line.start line.len snapshot = rw target at (line_sound stack device sector line sound is).soundly.target in
+    (over.from, rw (first_found stack device sector line sound is over.from, target) refl)
 
 target_snapshot : (line : FoundLine) (target : FoundTarget) (snapshot : FoundSnapshot) → line.target ≡ target → snapshot_of target ≡ Some snapshot → line.target ≡ founds.Snapshot snapshot
-target_snapshot line (founds.Snapshot other) snapshot is e = is ∙ ap founds.Snapshot (some_is other snapshot e)
+target_snapshot line (founds.Snapshot other) snapshot is e = is ∙ ap founds.Snapshot (cc)
 target_snapshot line target snapshot is e = absurd cc
 
 pub first_line : (stack : Description) (device : ℕ) (snapshot : FoundSnapshot) (found : Option FoundLine) → found_at stack device 0 ≡ found → snapshot_of_line found ≡ Some snapshot → (line : FoundLine) × (found_at stack device 0 ≡ Some line) × (line.target ≡ founds.Snapshot snapshot)
@@ -103,7 +106,7 @@ pub snapshot_sound : (stack : Description) (device : ℕ) (snapshot : FoundSnaps
 snapshot_sound stack device snapshot sound at =
     let first = first_line stack device snapshot (found_at stack device 0) refl at in
     let of = line_sound stack device 0 first.0 sound first.1 in
-    let over : IsSnapshotSound stack device first.0.start first.0.len snapshot = subst (λ (t : FoundTarget). IsTargetSound stack device first.0.start first.0.len t) first.2 of.soundly.target in
+    let over : IsSnapshotSound stack device first.0.start first.0.len snapshot = rw first.2 at of.soundly.target in
     let from = over.from in let whole = over.whole in
     record {
       there = of.there;
@@ -112,7 +115,7 @@ snapshot_sound stack device snapshot sound at =
       each = λ sector line is.
           let inside = (line_sound stack device sector line sound is).inside in
           let same = some_is line first.0 (sym is ∙ same_found stack device 0 sector first.0 sound of.there first.1 (omega (arith, from)) (omega (arith, from, whole, inside))) in
-          (ap (λ (l : FoundLine). l.start) same ∙ from, ap (λ (l : FoundLine). l.target) same ∙ first.2);
+          (cc, cc);
     }
 
 -- An origin's line is all of its device
@@ -125,14 +128,11 @@ pub record IsOriginOf (stack : Description) (device : ℕ) (origin : FoundOrigin
 pub line_origin : (stack : Description) (device sector : ℕ) (line : FoundLine) (origin : FoundOrigin) → IsSound stack → found_at stack device sector ≡ Some line → line.target ≡ founds.Origin origin
     → (line.start ≡ 0) × (origin_at stack device ≡ Some origin)
 line_origin stack device sector line origin sound is target =
-    let of = line_sound stack device sector line sound is in
-    let it : IsOriginSound stack device line.start line.len origin = subst (λ (t : FoundTarget). IsTargetSound stack device line.start line.len t) target of.soundly.target in
-    let from = it.from in let before = of.soundly.before in
-    let first = same_found stack device sector 0 line sound of.there is (omega (arith, from)) (omega (arith, from, before)) in
-    (from, rw (first, target) refl)
+    let it : IsOriginSound stack device line.start line.len origin = rw target at (line_sound stack device sector line sound is).soundly.target in
+    (it.from, rw (first_found stack device sector line sound is it.from, target) refl)
 
 target_origin : (line : FoundLine) (target : FoundTarget) (origin : FoundOrigin) → line.target ≡ target → origin_of target ≡ Some origin → line.target ≡ founds.Origin origin
-target_origin line (founds.Origin other) origin is e = is ∙ ap founds.Origin (some_is other origin e)
+target_origin line (founds.Origin other) origin is e = is ∙ ap founds.Origin (cc)
 target_origin line target origin is e = absurd cc
 
 pub first_origin : (stack : Description) (device : ℕ) (origin : FoundOrigin) (found : Option FoundLine) → found_at stack device 0 ≡ found → origin_of_line found ≡ Some origin → (line : FoundLine) × (found_at stack device 0 ≡ Some line) × (line.target ≡ founds.Origin origin)
@@ -143,6 +143,6 @@ pub origin_sound : (stack : Description) (device : ℕ) (origin : FoundOrigin) �
 origin_sound stack device origin sound at =
     let first = first_origin stack device origin (found_at stack device 0) refl at in
     let of = line_sound stack device 0 first.0 sound first.1 in
-    let it : IsOriginSound stack device first.0.start first.0.len origin = subst (λ (t : FoundTarget). IsTargetSound stack device first.0.start first.0.len t) first.2 of.soundly.target in
+    let it : IsOriginSound stack device first.0.start first.0.len origin = rw first.2 at of.soundly.target in
     let whole = it.whole in
     record { there = of.there; some = of.inside; soundly = record { from = refl; whole = refl; same = it.same ∙ whole; over = it.over } }

@@ -66,18 +66,14 @@ begun_counted runs chunk number counted new =
 set_last : (runs : List Run) (n : ℕ) (run : Run) → n + 1 ≡ length runs → set runs n run ≡ take n runs ++ run ∷ []
 set_last runs n run is =
     let none : drop (suc n) runs ≡ [] = drop_all (suc n) runs (omega (arith, is)) in
-    set_split runs n run (omega (arith, is)) ∙ ap (λ (l : List Run). take n runs ++ run ∷ l) none
+    cc (set_split runs n run (omega (arith, is)))
 
 pub longer_chunks : (runs : List Run) (n : ℕ) (run : Run) → n + 1 ≡ length runs → run ≡ run_at runs n
     → chunks_in (set runs n (record { first = run.first; number = run.number; len = run.len + 1 })) ≡ chunks_in runs ++ (end_of run) ∷ []
 longer_chunks runs n run is last =
     let before = chunks_in (take n runs) in
-    let whole : chunks_in runs ≡ before ++ chunks_of run = split_last runs n is ∙ ap (λ (r : Run). before ++ chunks_of r) (sym last) in
-    ap chunks_in (set_last runs n (record { first = run.first; number = run.number; len = run.len + 1 }) is)
-    ∙ chunks_push (take n runs) (record { first = run.first; number = run.number; len = run.len + 1 })
-    ∙ ap (λ (l : List ℕ). before ++ l) (row_push run.first run.len)
-    ∙ sym (append_assoc before (chunks_of run) ((end_of run) ∷ []))
-    ∙ ap (λ (l : List ℕ). l ++ (end_of run) ∷ []) (sym whole)
+    let whole : chunks_in runs ≡ before ++ chunks_of run = cc (split_last runs n is) in
+    cc (set_last runs n (record { first = run.first; number = run.number; len = run.len + 1 }) is, chunks_push (take n runs) (record { first = run.first; number = run.number; len = run.len + 1 }), row_push run.first run.len, append_assoc before (chunks_of run) ((end_of run) ∷ []))
 
 pub longer_kept : (runs : List Run) (n : ℕ) (run new : Run) → AreRuns runs → n + 1 ≡ length runs → run ≡ run_at runs n → new.number ≡ run.number → 0 < new.len → AreRuns (set runs n new)
 longer_kept runs n run new kept last_is last number some =
@@ -93,7 +89,7 @@ longer_kept runs n run new kept last_is last number some =
           let inside : id ≤ n = omega (arith, within, same, last_is) in
           rw (take-set-le id runs n new inside) (
           elim (cases_eq id n) [
-            | inl is ↦ rw (is, get_or-set_same runs n new no_run there) (number ∙ ap (λ (r : Run). r.number) last ∙ kept.numbered n there)
+            | inl is ↦ rw (is, get_or-set_same runs n new no_run there) (cc (kept.numbered n there))
             | inr other ↦ rw (get_or-set_other runs n id new no_run other) (kept.numbered id (omega (arith, inside, there)))
           ]);
     }

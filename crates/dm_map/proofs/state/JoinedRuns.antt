@@ -28,19 +28,19 @@ pub length-runs : (firsts : List ℕ) (rests : List NumberRange) (runs : List Ru
 length-runs firsts rests runs same made = sym (length-joined firsts rests same) ∙ ap length made
 
 pub runs_at : (firsts : List ℕ) (rests : List NumberRange) (runs : List Run) (id : ℕ) → length rests ≡ length firsts → joined firsts rests ≡ runs → with_first (get_or firsts id 0) (get_or rests id no_rest) ≡ run_at runs id
-runs_at firsts rests runs id same made = sym (joined_at firsts rests id same) ∙ ap (λ runs. run_at runs id) made
+runs_at firsts rests runs id same made = cc (joined_at firsts rests id same)
 
 pub joined_push : (firsts : List ℕ) (rests : List NumberRange) (first : ℕ) (rest : NumberRange) → length rests ≡ length firsts → joined (firsts ++ first ∷ []) (rests ++ rest ∷ []) ≡ joined firsts rests ++ with_first first rest ∷ []
 joined_push [] [] first rest same = refl
 joined_push [] (x ∷ rests) first rest same = absurd (omega (arith, same))
 joined_push (x ∷ firsts) [] first rest same = absurd (omega (arith, same))
-joined_push (x ∷ firsts) (y ∷ rests) first rest same = ap (λ (runs : List Run). with_first x y ∷ runs) (joined_push firsts rests first rest (omega (arith, same)))
+joined_push (x ∷ firsts) (y ∷ rests) first rest same = cc (joined_push firsts rests first rest (omega (arith, same)))
 
 pub joined_set : (firsts : List ℕ) (rests : List NumberRange) (id : ℕ) (rest : NumberRange) → length rests ≡ length firsts → id < length firsts → joined firsts (set rests id rest) ≡ set (joined firsts rests) id (with_first (get_or firsts id 0) rest)
 joined_set [] rests id rest same within = absurd (omega (arith, within))
 joined_set (x ∷ firsts) [] id rest same within = absurd (omega (arith, same))
 joined_set (x ∷ firsts) (y ∷ rests) zero rest same within = refl
-joined_set (x ∷ firsts) (y ∷ rests) (suc id) rest same within = ap (λ (runs : List Run). with_first x y ∷ runs) (joined_set firsts rests id rest (omega (arith, same)) (omega (arith, within)))
+joined_set (x ∷ firsts) (y ∷ rests) (suc id) rest same within = cc (joined_set firsts rests id rest (omega (arith, same)) (omega (arith, within)))
 
 -- a run that is there
 pub run_there : (runs : List Run) (id : ℕ) → id < length runs → Some (run_at runs id) ≡ slice_get runs id

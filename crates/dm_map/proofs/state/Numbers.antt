@@ -91,7 +91,7 @@ less_parts q r p t m e small less =
 -- a number is so in one way
 pub same_parts : (q r p t m : ℕ) → q * m + r ≡ p * m + t → r < m → t < m → (q ≡ p) × (r ≡ t)
 same_parts q r p t m e r_in t_in = elim (cases_order q p) [
-  | inl same ↦ (same, (let k : q * m ≡ p * m = ap (λ (x : ℕ). x * m) same in omega (arith, e, k)))
+  | inl same ↦ (same, (let k : q * m ≡ p * m = cc in omega (arith, e, k)))
   | inr (inl less) ↦ absurd (less_parts q r p t m e r_in less)
   | inr (inr more) ↦ absurd (less_parts p t q r m (sym e) t_in more)
 ]
@@ -108,7 +108,7 @@ chunk_rest c m u low high =
 pub of_chunk : (c m u : ℕ) → 0 < m → u / m ≡ c → (c * m ≤ u) × (u < c * m + m)
 of_chunk c m u some is =
     let whole : u / m * m + u % m ≡ u = div-add-mod' u m in
-    let same : u / m * m ≡ c * m = ap (λ (x : ℕ). x * m) is in
+    let same : u / m * m ≡ c * m = cc in
     let rest : u % m < m = omega (arith, some) in
     (omega (arith, whole, same, rest), omega (arith, whole, same, rest))
 
@@ -124,10 +124,7 @@ stripe_back chunk_size n o some =
     let parts = same_parts (w / chunk_size) (w % chunk_size) q r chunk_size whole_w w_in r_in in
     let whole_c : q * n + o / chunk_size % n ≡ o / chunk_size = div-add-mod' (o / chunk_size) n in
     let whole_o : o / chunk_size * chunk_size + o % chunk_size ≡ o = div-add-mod' o chunk_size in
-    ap (λ (x : ℕ). (x * n + o / chunk_size % n) * chunk_size + w % chunk_size) parts.0
-    ∙ ap (λ (x : ℕ). (q * n + o / chunk_size % n) * chunk_size + x) parts.1
-    ∙ ap (λ (x : ℕ). x * chunk_size + r) whole_c
-    ∙ whole_o
+    cc
 
 -- The sectors of a store
 
@@ -143,7 +140,7 @@ same_sector snapshot chunks i j s u some a b e =
     let whole_s : s / snapshot.chunk * snapshot.chunk + s % snapshot.chunk ≡ s = div-add-mod' s snapshot.chunk in
     let whole_u : u / snapshot.chunk * snapshot.chunk + u % snapshot.chunk ≡ u = div-add-mod' u snapshot.chunk in
     let one = number_one (s / snapshot.chunk) (u / snapshot.chunk) chunks i a (b ∙ ap Some (sym parts.0)) in
-    let products : s / snapshot.chunk * snapshot.chunk ≡ u / snapshot.chunk * snapshot.chunk = ap (λ (c : ℕ). c * snapshot.chunk) one in
+    let products : s / snapshot.chunk * snapshot.chunk ≡ u / snapshot.chunk * snapshot.chunk = cc in
     omega (arith, whole_s, whole_u, products, parts.1)
 
 rest_below : (len m q r : ℕ) → r < m → (q + 1) * m ≤ len → q * m + r < len

@@ -25,12 +25,12 @@ row_push first zero = let e : first + 0 ≡ first = omega arith in rw e refl
 row_push first (suc len) =
     let more : suc len + 1 ≡ suc (len + 1) = omega arith in
     let same : suc first + len ≡ first + suc len = omega arith in
-    rw (more, ← same) (ap (λ l. first ∷ l) (row_push (suc first) len))
+    rw (more, ← same) (cc (row_push (suc first) len))
 
 -- Lists of runs
 
 pub chunks_push : (runs : List Run) (run : Run) → chunks_in (runs ++ run ∷ []) ≡ chunks_in runs ++ chunks_of run
-chunks_push runs run = flat_map-append chunks_of runs (run ∷ []) ∙ ap (λ l. chunks_in runs ++ l) (append-nil (chunks_of run))
+chunks_push runs run = cc (flat_map-append chunks_of runs (run ∷ []), append-nil (chunks_of run))
 
 pub last_run : (runs : List Run) (n : ℕ) → n + 1 ≡ length runs → runs ≡ take n runs ++ run_at runs n ∷ []
 last_run runs n is = sym (take_all (n + 1) runs (omega (arith, is))) ∙ take_more runs n no_run (omega (arith, is))
@@ -144,9 +144,9 @@ number_in_run runs id chunk kept distinct within from before =
     let row = get_or-row run.first run.len j 0 inside in
     let sum : run.first + j ≡ chunk = omega (arith, from) in
     let place : length (chunks_in (take id runs)) + j ≡ run.number + j = omega (arith, number) in
-    let is : get_or (chunks_in runs) (run.number + j) 0 ≡ chunk = sym (ap (λ n. get_or (chunks_in runs) n 0) place) ∙ at ∙ row ∙ sum in
+    let is : get_or (chunks_in runs) (run.number + j) 0 ≡ chunk = cc in
     let there : run.number + j < length (chunks_in runs) = number_below runs id j within inside number in
-    sym (ap (λ c. number_in c (chunks_in runs)) is) ∙ number_distinct (chunks_in runs) (run.number + j) 0 distinct there
+    cc (number_distinct (chunks_in runs) (run.number + j) 0 distinct there)
 
 none_cons : (b : Bool) (o p : Option ℕ) → (if b then Some 0 else option_map suc o) ≡ None → (o ≡ None → p ≡ None) → (if b then Some 0 else option_map suc p) ≡ None
 none_cons true o p none later = none
@@ -179,7 +179,7 @@ outside_fresh runs id chunk kept distinct fresh within from before = let found =
 pub goes_on_before : (runs : List Run) (run : Run) (chunk : ℕ) → AreRuns runs → Some run ≡ slice_get runs (length runs - 1) → chunk < run.first → false ≡ not (begins (last_after None (chunks_in runs)) chunk)
 goes_on_before runs run chunk kept is before =
     let got = got_run runs (length runs - 1) run is in
-    let first : run.first ≡ (run_at runs (length runs - 1)).first = ap (λ (r : Run). r.first) got.1 in
+    let first : run.first ≡ (run_at runs (length runs - 1)).first = cc in
     rw (begins_elsewhere runs (length runs - 1) chunk kept (omega (arith, got.0)) (λ e. omega (arith, e, first, before))) refl
 
 pub goes_on_from : (runs : List Run) (run : Run) (chunk len : ℕ) → AreRuns runs → Some run ≡ slice_get runs (length runs - 1) → run.first ≤ chunk → len ≡ run.len → (chunk - run.first == len) ≡ not (begins (last_after None (chunks_in runs)) chunk)

@@ -172,9 +172,9 @@ sorted_more runs ids run begun sorted within passed next single =
       all = λ id there left_out. all_more n begun ids ids' id below at above sorted.all within (omega (arith, there, more)) (λ rank inside is. left_out rank (omega (arith, inside, more)) is);
       rising = λ i j less there.
           rising_more n begun (λ r. (ranked runs ids r).first) (λ r. end_of (ranked runs ids r)) (λ r. (ranked runs' ids' r).first) (λ r. end_of (ranked runs' ids' r)) run.first (end_of run) within
-          (λ r below_it. (ap (λ (x : Run). x.first) (same_below r below_it), ap end_of (same_below r below_it)))
-          (ap (λ (x : Run). x.first) new, ap end_of new)
-          (λ r from inside. (ap (λ (x : Run). x.first) (same_above r from inside), ap end_of (same_above r from inside)))
+          (λ r below_it. (cc (same_below r below_it), ap end_of (same_below r below_it)))
+          (cc, ap end_of new)
+          (λ r from inside. (cc (same_above r from inside), ap end_of (same_above r from inside)))
           sorted.rising
           (λ r below_it. before_all runs ids run.first begun r sorted within passed below_it)
           (λ r from inside. let after = after_all runs ids run.first begun r sorted next from inside in omega (arith, after, single))
@@ -186,8 +186,8 @@ sorted_more runs ids run begun sorted within passed next single =
 longer_first : (runs : List Run) (n id : ℕ) (run new : Run) → n < length runs → run ≡ run_at runs n → new.first ≡ run.first → (run_at (set runs n new) id).first ≡ (run_at runs id).first
 longer_first runs n id run new there last first =
     elim (cases_eq id n) [
-      | inl is ↦ rw (is, get_or-set_same runs n new no_run there) (first ∙ ap (λ (r : Run). r.first) last)
-      | inr other ↦ ap (λ (r : Run). r.first) (get_or-set_other runs n id new no_run other)
+      | inl is ↦ rw (is, get_or-set_same runs n new no_run there) (cc)
+      | inr other ↦ cc (get_or-set_other runs n id new no_run other)
     ]
 
 -- the run that got longer ends before the next one begins, since the chunk that it got is not the first of another

@@ -28,15 +28,15 @@ use Rattle.dm_table.specs.tables.Span.{target_spans, whole_span}
 use Rattle.dm_stack.proofs.Passes.{faults_by_none, passes_all}
 use Rattle.dm_stack.proofs.SoundLines.{device_some, disk_some, found, of_device, there}
 use Rattle.dm_map.specs.state.Snapshots.{number_in}
-use Rattle.dm_map.specs.state.State.{lost, put, with_chunk, State, Taken, none_taken, taken_at}
-use Rattle.dm_map.specs.state.Tables.{AreTables, has_room, room_of, snapshot_at, snapshot_of_line, snapshot_of, state_of}
+use Rattle.dm_map.specs.state.State.{lost, put, with_chunk, none_taken, taken_at}
+use Rattle.dm_map.specs.state.Tables.{AreTables, has_room, snapshot_at, snapshot_of_line, snapshot_of, state_of}
 
 -- One table
 
 pub state_set : {T : Type 0} (chunks : T → List ℕ) (valid : T → Bool) (tables : List T) (device : ℕ) (table : T) → state_of chunks valid (set tables device table) ≡ put (state_of chunks valid tables) device (record { chunks = chunks table; valid = valid table })
 state_set chunks valid [] device table = refl
 state_set chunks valid (first ∷ rest) zero table = refl
-state_set chunks valid (first ∷ rest) (suc device) table = ap (λ (state : State). record { chunks = chunks first; valid = valid first } ∷ state) (state_set chunks valid rest device table)
+state_set chunks valid (first ∷ rest) (suc device) table = cc (state_set chunks valid rest device table)
 
 pub state_at : {T : Type 0} (chunks : T → List ℕ) (valid : T → Bool) (tables : List T) (device : ℕ) (table : T) → slice_get tables device ≡ Some table → taken_at (state_of chunks valid tables) device ≡ record { chunks = chunks table; valid = valid table }
 state_at chunks valid [] device table is = absurd cc
@@ -67,28 +67,28 @@ pub took_put : {T : Type 0} (chunks : T → List ℕ) (valid : T → Bool) (tabl
     → state_of chunks valid (set tables index new) ≡ put (state_of chunks valid tables) device (with_chunk (taken_at (state_of chunks valid tables) device) chunk)
 took_put chunks valid tables device index chunk table new same got good more on =
     let kept = state_at chunks valid tables device table got in
-    let before : valid table ≡ true = ap (λ (taken : Taken). taken.valid) (sym kept) ∙ good in
+    let before : valid table ≡ true = cc in
     rw same (state_set chunks valid tables device new ∙ rw (kept, more, on, before) refl)
 
 pub take_room : {T : Type 0} (chunks : T → List ℕ) (valid : T → Bool) (places : T → ℕ) (stack : Description) (tables : List T) (device : ℕ) (table : T) → AreTables places stack tables → slice_get tables device ≡ Some table
     → has_room stack device (length (taken_at (state_of chunks valid tables) device).chunks) ≡ true → length (chunks table) < places table
 take_room chunks valid places stack tables device table are got room =
     let kept = state_at chunks valid tables device table got in
-    ltb-true _ _ (are.room device (length (chunks table)) table got ∙ ap (λ (taken : Taken). has_room stack device (length taken.chunks)) (sym kept) ∙ room)
+    ltb-true _ _ (cc (are.room device (length (chunks table)) table got))
 
 pub tables_set : {T : Type 0} (places : T → ℕ) (stack : Description) (tables : List T) (device index : ℕ) (table new : T) → AreTables places stack tables → index ≡ device → slice_get tables device ≡ Some table → places new ≡ places table → AreTables places stack (set tables index new)
 tables_set places stack tables device index table new are same got kept = record {
   count = length-set tables index new ∙ are.count;
   room = λ other number t at.
       each_set (λ o u. nat_lt number (places u) ≡ has_room stack o number) tables index new (λ o u differ found. are.room o number u found)
-      (rw same (ap (λ (n : ℕ). nat_lt number n) kept ∙ are.room device number table got)) other t at;
+      (rw same (cc (are.room device number table got))) other t at;
 }
 
 -- A list of tables that grows
 
 pub state_push : {T : Type 0} (chunks : T → List ℕ) (valid : T → Bool) (tables : List T) (table : T) → chunks table ≡ [] → valid table ≡ true → state_of chunks valid (tables ++ table ∷ []) ≡ state_of chunks valid tables ++ none_taken ∷ []
 state_push chunks valid [] table nothing good = rw (nothing, good) refl
-state_push chunks valid (first ∷ rest) table nothing good = ap (λ (state : State). record { chunks = chunks first; valid = valid first } ∷ state) (state_push chunks valid rest table nothing good)
+state_push chunks valid (first ∷ rest) table nothing good = cc (state_push chunks valid rest table nothing good)
 
 pub nothing_more : (count : ℕ) → replicate count none_taken ++ none_taken ∷ [] ≡ replicate (count + 1) none_taken
 nothing_more count = replicate-append-replicate count 1 none_taken
@@ -104,7 +104,7 @@ each_push P (first ∷ rest) table each last (suc device) other is = each_push (
 
 pub table_got : {T : Type 0} (places : T → ℕ) (stack : Description) (tables : List T) (device index : ℕ) (table : T) → AreTables places stack tables → device < length stack.devices → index ≡ device → table ≡ get_or tables index table → slice_get tables device ≡ Some table
 table_got places stack tables device index table are there same is =
-    slice_get_read tables (length tables) device table refl (omega (arith, are.count, there)) (subst (λ (i : ℕ). table ≡ get_or tables i table) same is)
+    slice_get_read tables (length tables) device table refl (omega (arith, are.count, there)) (rw same at is)
 
 pub found_room : {T : Type 0} (chunks : T → List ℕ) (places : T → ℕ) (stack : Description) (tables : List T) (device chunk : ℕ) (table : T) (number : Option ℕ) → AreTables places stack tables → length (chunks table) ≤ places table → slice_get tables device ≡ Some table
     → number_in chunk (chunks table) ≡ number → IfSome number (λ n. has_room stack device n ≡ true)
@@ -131,7 +131,7 @@ lost_put chunks valid tables device index table new same got kept off =
 -- nothing is taken in a new table
 pub state_new : {T : Type 0} (chunks : T → List ℕ) (valid : T → Bool) (tables : List T) (device count : ℕ) (new : T) → device < count → state_of chunks valid tables ≡ replicate count none_taken → chunks new ≡ [] → valid new ≡ true → state_of chunks valid (set tables device new) ≡ replicate count none_taken
 state_new chunks valid tables device count new there before nothing good =
-    state_set chunks valid tables device new ∙ rw (before, nothing, good) (ap (λ (taken : Taken). put (replicate count none_taken) device taken) (sym (get_or-replicate count device none_taken none_taken there)) ∙ set-get_or (replicate count none_taken) device none_taken)
+    state_set chunks valid tables device new ∙ rw (before, nothing, good) (cc (get_or-replicate count device none_taken none_taken there, set-get_or (replicate count none_taken) device none_taken))
 
 -- A device that has no snapshot's line
 
@@ -155,7 +155,7 @@ plain_room stack device number e = rw (plain_line stack (lines_at stack device) 
 picked : (f : ℕ → Bool) (a n x : ℕ) → a ≤ x → x < a + n → f x ≡ true → list_any (nat_eq x) (filter f (range_with_len a n)) ≡ true
 picked f a zero x from to good = absurd (omega (arith, from, to))
 picked f a (suc n) x from to good = elim (cases_eq x a) [
-  | inl same ↦ let here : f a ≡ true = subst (λ (y : ℕ). f y ≡ true) same good in rw here (or_left (nat_eq x a) _ (eq-eqb x a same))
+  | inl same ↦ let here : f a ≡ true = rw same at good in rw here (or_left (nat_eq x a) _ (eq-eqb x a same))
   | inr differ ↦ picked_later (f a) x a (filter f (range_with_len (a + 1) n)) (picked f (a + 1) n x (omega (arith, from, differ)) (omega (arith, to)) good)
 ]
   where
@@ -175,7 +175,7 @@ unlisted_room stack device number there none =
 -- they are devices of the stack
 picked_within : (f : ℕ → Bool) (a n i d : ℕ) → i < length (filter f (range_with_len a n)) → get_or (filter f (range_with_len a n)) i d < a + n
 picked_within f a zero i d within = absurd (omega (arith, within))
-picked_within f a (suc n) i d within = within_by (f a) a (a + suc n) (filter f (range_with_len (a + 1) n)) i d (omega arith) (λ j inside. let e : a + 1 + n ≡ a + suc n = omega arith in subst (λ (most : ℕ). get_or (filter f (range_with_len (a + 1) n)) j d < most) e (picked_within f (a + 1) n j d inside)) within
+picked_within f a (suc n) i d within = within_by (f a) a (a + suc n) (filter f (range_with_len (a + 1) n)) i d (omega arith) (λ j inside. let e : a + 1 + n ≡ a + suc n = omega arith in rw e at (picked_within f (a + 1) n j d inside)) within
   where
     within_by : (first : Bool) (a most : ℕ) (rest : List ℕ) (i d : ℕ) → a < most → ((j : ℕ) → j < length rest → get_or rest j d < most) → i < length (cond first (a ∷ rest) rest) → get_or (cond first (a ∷ rest) rest) i d < most
     within_by true a most rest zero d here later within = here
@@ -189,9 +189,9 @@ snapshot_there stack next d within = let low = picked_within (λ device. has_sna
 pub not_yet : (ids : List ℕ) (next d device : ℕ) → next < length ids → (device ≡ get_or ids next d → ⊥) → list_any (nat_eq device) (drop (next + 1) ids) ≡ false → list_any (nat_eq device) (drop next ids) ≡ false
 not_yet ids next d device within differ later =
     let e : suc next ≡ next + 1 = omega arith in
-    let rest : drop next ids ≡ get_or ids next d ∷ drop (next + 1) ids = drop-cons ids next d within ∙ ap (λ (k : ℕ). get_or ids next d ∷ drop k ids) e in
+    let rest : drop next ids ≡ get_or ids next d ∷ drop (next + 1) ids = cc (drop-cons ids next d within) in
     let both : list_any (nat_eq device) (get_or ids next d ∷ drop (next + 1) ids) ≡ false = rw (ne_eqb device (get_or ids next d) differ) later in
-    subst (λ (xs : List ℕ). list_any (nat_eq device) xs ≡ false) (sym rest) both
+    rw rest both
 
 -- The tables before the first snapshot is looked up, and after the next one
 
@@ -208,7 +208,7 @@ pub next_rooms : {T : Type 0} (places : T → ℕ) (stack : Description) (tables
 next_rooms places stack tables next d index new within is same room before device number table got later =
     each_set (λ other t. list_any (nat_eq other) (drop (next + 1) (snapshots stack)) ≡ false → nat_lt number (places t) ≡ has_room stack other number) tables index new
     (λ other t differ at unlisted. before other number t at (not_yet (snapshots stack) next d other within (λ e. differ (e ∙ sym is ∙ sym same)) unlisted))
-    (λ unlisted. subst (λ (x : ℕ). nat_lt number (places new) ≡ has_room stack x number) (sym same) (room number))
+    (λ unlisted. rw same (room number))
     device table got later
 
 -- The places of a snapshot
@@ -216,7 +216,7 @@ next_rooms places stack tables next d index new within is same room before devic
 -- a place that the store has
 pub room_place : (stack : Description) (device number : ℕ) (snapshot : FoundSnapshot) → snapshot_at stack device ≡ Some snapshot → has_room stack device number ≡ true → (place snapshot.kind snapshot.chunk number + 1) * snapshot.chunk ≤ lower_len stack snapshot.store
 room_place stack device number snapshot is room =
-    leb-true _ _ (subst (λ (o : Option FoundSnapshot). room_of stack o number ≡ true) is room)
+    leb-true _ _ (rw is at room)
 
 pub snapshot_room : (stack : Description) (device number count : ℕ) (line : FoundLine) (snapshot : FoundSnapshot) → found_at stack device 0 ≡ Some line → line.target ≡ founds.Snapshot snapshot → ((number < count) ↔ ((place snapshot.kind snapshot.chunk number + 1) * snapshot.chunk ≤ lower_len stack snapshot.store)) → nat_lt number count ≡ has_room stack device number
 snapshot_room stack device number count line snapshot is kind law =
@@ -252,7 +252,7 @@ store_at : (stack : Description) (target : Target) (len : ℕ) (snapshot : Found
 store_at stack (targets.Snapshot origin store kind chunk_size) len snapshot sound known is =
     let same : found_snapshot stack origin store kind chunk_size ≡ snapshot = cc in
     let parts = or_parts (is_unknown_ref stack store) (list_any (λ span. is_unknown_ref stack span.to) (whole_span origin Reading ∷ [])) known in
-    subst (λ (s : FoundSnapshot). 0 < lower_len stack s.store) same (lower_some stack store sound parts.0)
+    rw (← same) (lower_some stack store sound parts.0)
 store_at stack _ len snapshot sound known is = absurd cc
 
 store_in : (stack : Description) (lines : List Line) (sector : ℕ) (line : Option Line) (found_line_is : FoundLine) (snapshot : FoundSnapshot) → IsSound stack → AllByRecursion (λ l. is_unknown stack l ≡ false) lines → line_of lines sector ≡ line → option_map (found_line stack) line ≡ Some found_line_is
@@ -260,7 +260,7 @@ store_in : (stack : Description) (lines : List Line) (sector : ℕ) (line : Opti
 store_in stack lines sector None it snapshot sound known is found_is kind = absurd cc
 store_in stack lines sector (Some line) it snapshot sound known is found_is kind =
     let same : found_line stack line ≡ it = cc in
-    store_at stack line.target line.len snapshot sound (found (λ l. is_unknown stack l ≡ false) (holds sector) lines line known is).1 (ap (λ (l : FoundLine). l.target) same ∙ kind)
+    store_at stack line.target line.len snapshot sound (found (λ l. is_unknown stack l ≡ false) (holds sector) lines line known is).1 (cc)
 
 store_of : (stack : Description) (device sector : ℕ) (spec : Option DeviceSpec) (line : FoundLine) (snapshot : FoundSnapshot) → IsSound stack → slice_get stack.devices device ≡ spec → option_map (found_line stack) (line_of (lines_or_none spec) sector) ≡ Some line → line.target ≡ founds.Snapshot snapshot → 0 < lower_len stack snapshot.store
 store_of stack device sector None line snapshot sound at is kind = absurd cc

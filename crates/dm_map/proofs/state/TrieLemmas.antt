@@ -38,10 +38,7 @@ stays_for nodes chunk start steps zero not_there = let e : steps + 0 ≡ steps =
 stays_for nodes chunk start steps (suc more) not_there =
     let e : steps + suc more ≡ suc (steps + more) = omega arith in
     let before = stays_for nodes chunk start steps more not_there in
-    ap (way nodes chunk start) e
-    ∙ way-suc nodes chunk start (steps + more)
-    ∙ ap (λ at. next_at chunk at (node_at nodes at)) before
-    ∙ next_stays chunk (way nodes chunk start steps) _ not_there
+    cc (way-suc nodes chunk start (steps + more), next_stays chunk (way nodes chunk start steps) _ not_there)
 
 -- what is no fork is the end
 pub stays : (nodes : List Node) (chunk start steps all : ℕ) → steps ≤ all → is_fork (node_at nodes (way nodes chunk start steps)) ≡ false → way nodes chunk start all ≡ way nodes chunk start steps
@@ -110,16 +107,16 @@ on_next chunks nodes marks chunk at steps (Fork bit pair) is fits here =
       within = omega (arith, fits.within, below);
       distinct = subst (IsDistinct nat_eq) (sym side.tested) distinct;
       small = λ other there. small_cons bit (marks.tested at) fits.small here.small other (rw side.tested at there);
-      agree = subst (λ bits. Agree bits chunk (marks.like (pair + value))) (sym side.tested) agree;
+      agree = rw side.tested agree;
       count = λ _. ap length side.tested ∙ ap suc (here.count (ap is_fork is));
     }
 
 pub on_way : (chunks : List ℕ) (nodes : List Node) (mask : ℕ) (trie : HasMarks chunks nodes mask) → mask < length nodes → (chunk steps : ℕ) → OnWay nodes trie.marks chunk (way nodes chunk (bit_and chunk mask) steps) steps
-on_way chunks nodes mask trie slots chunk zero = subst (λ at. OnWay nodes trie.marks chunk at 0) (sym (way-zero nodes chunk (bit_and chunk mask))) (on_start chunks nodes mask trie slots chunk)
+on_way chunks nodes mask trie slots chunk zero = rw (way-zero nodes chunk (bit_and chunk mask)) (on_start chunks nodes mask trie slots chunk)
 on_way chunks nodes mask trie slots chunk (suc steps) =
     let at = way nodes chunk (bit_and chunk mask) steps in
     let here = on_way chunks nodes mask trie slots chunk steps in
-    subst (λ at. OnWay nodes trie.marks chunk at (suc steps)) (sym (way-suc nodes chunk (bit_and chunk mask) steps)) (on_next chunks nodes trie.marks chunk at steps (node_at nodes at) refl (trie.fits at here.within) here)
+    rw (way-suc nodes chunk (bit_and chunk mask) steps) (on_next chunks nodes trie.marks chunk at steps (node_at nodes at) refl (trie.fits at here.within) here)
 
 -- a fork has a bit that is left to test
 pub record Ahead (nodes : List Node) (steps bit pair : ℕ) : Type 0 where
@@ -165,7 +162,7 @@ number_absent chunk (first ∷ chunks) none =
 -- a chunk that isn't there is no other one
 pub fresh_apart : (xs : List ℕ) (i chunk : ℕ) → IsDistinct nat_eq xs → i < length xs → number_in chunk xs ≡ None → get_or xs i 0 ≡ chunk → ⊥
 fresh_apart xs i chunk distinct within none is =
-    let found : number_in chunk xs ≡ Some i = ap (λ c. number_in c xs) (sym is) ∙ number_distinct xs i 0 distinct within in
+    let found : number_in chunk xs ≡ Some i = cc (number_distinct xs i 0 distinct within) in
     let wrong : None ≡ Some i = sym none ∙ found in
     absurd cc
 
@@ -192,10 +189,10 @@ put_way nodes after here before now others chunk start (suc steps) =
     let at = way nodes chunk start steps in
     let same = put_way nodes after here before now others chunk start steps in
     let next : next_at chunk at (node_at after at) ≡ next_at chunk at (node_at nodes at) = elim (cases_eq at here) [
-      | inl is ↦ next_stays chunk at (node_at after at) (ap (λ p. is_fork (node_at after p)) is ∙ now) ∙ sym (next_stays chunk at (node_at nodes at) (ap (λ p. is_fork (node_at nodes p)) is ∙ before))
+      | inl is ↦ next_stays chunk at (node_at after at) (cc) ∙ sym (next_stays chunk at (node_at nodes at) (cc))
       | inr other ↦ ap (next_at chunk at) (others at other)
     ] in
-    way-suc after chunk start steps ∙ ap (λ p. next_at chunk p (node_at after p)) same ∙ next ∙ sym (way-suc nodes chunk start steps)
+    cc (way-suc after chunk start steps, way-suc nodes chunk start steps)
 
 -- what fits fits on where there is more
 chunk_before : (chunks : List ℕ) (chunk number : ℕ) → number < length chunks → chunk_at (chunks ++ chunk ∷ []) number ≡ chunk_at chunks number
@@ -209,7 +206,7 @@ fits_on marks chunks chunk count at Empty fits = tt
 fits_on marks chunks chunk count at (Number number) fits =
     record {
       within = omega (arith, fits.within, length_push chunks chunk);
-      agree = subst (λ other. Agree (marks.tested at) other (marks.like at)) (sym (chunk_before chunks chunk number fits.within)) fits.agree;
+      agree = rw (chunk_before chunks chunk number fits.within) fits.agree;
     }
 fits_on marks chunks chunk count at (Fork bit pair) fits = fits
 
@@ -217,7 +214,7 @@ fits_last : (marks : Marks) (chunks : List ℕ) (chunk at : ℕ) → Agree (mark
 fits_last marks chunks chunk at agree =
     record {
       within = omega (arith, length_push chunks chunk);
-      agree = subst (λ other. Agree (marks.tested at) other (marks.like at)) (sym (chunk_last chunks chunk)) agree;
+      agree = rw (chunk_last chunks chunk) agree;
     }
 
 -- where the ways of all chunks end, if those that were there end as they did and the new one at its number
@@ -227,7 +224,7 @@ ends_on chunks chunk at before new number within = elim (cases_lt number (length
   | inl below ↦ ap at (chunk_before chunks chunk number below) ∙ before number below
   | inr past ↦
       let last : number ≡ length chunks = omega (arith, past, within, length_push chunks chunk) in
-      ap (λ n. at (chunk_at (chunks ++ chunk ∷ []) n)) last ∙ ap at (chunk_last chunks chunk) ∙ new ∙ ap Number (sym last)
+      cc (chunk_last chunks chunk)
 ]
 
 pub put_trie : (chunks : List ℕ) (nodes : List Node) (mask chunk : ℕ) → IsTrie chunks nodes mask → mask < length nodes → node_at nodes (end_of nodes mask chunk) ≡ Empty
@@ -244,9 +241,8 @@ put_trie chunks nodes mask chunk trie slots empty =
     let marks = trie.marked.marks in
     let fits : (at : ℕ) → at < length after → Fits marks (chunks ++ chunk ∷ []) (length after) at (node_at after at) = λ at there. let there' : at < length nodes = omega (arith, there, count) in elim (cases_eq at here) [
       | inl is ↦ subst (Fits marks (chunks ++ chunk ∷ []) (length after) at) (sym (ap (node_at after) is ∙ now))
-          (fits_last marks chunks chunk at (subst (λ p. Agree (marks.tested p) chunk (marks.like p)) (sym is) on.agree))
-      | inr other ↦ subst (λ n. Fits marks (chunks ++ chunk ∷ []) n at (node_at after at)) (sym count)
-          (subst (Fits marks (chunks ++ chunk ∷ []) (length nodes) at) (sym (others at other)) (fits_on marks chunks chunk (length nodes) at (node_at nodes at) (trie.marked.fits at there')))
+          (fits_last marks chunks chunk at (rw is on.agree))
+      | inr other ↦ rw count (subst (Fits marks (chunks ++ chunk ∷ []) (length nodes) at) (sym (others at other)) (fits_on marks chunks chunk (length nodes) at (node_at nodes at) (trie.marked.fits at there')))
     ] in
     record {
       marked = record { marks = marks; start = trie.marked.start; fits = fits };
@@ -269,17 +265,17 @@ part_way nodes after here bit chunk start before now others leaf within (suc ste
     let new = way-suc after chunk start steps in
     elim (part_way nodes after here bit chunk start before now others leaf within steps) [
       | inl same ↦
-          let next : way after chunk start (suc steps) ≡ next_at chunk at (node_at after at) = new ∙ ap (λ p. next_at chunk p (node_at after p)) same in
+          let next : way after chunk start (suc steps) ≡ next_at chunk at (node_at after at) = cc in
           elim (cases_eq at here) [
             | inl is ↦ inr (
-              old ∙ next_stays chunk at (node_at nodes at) (ap (λ p. is_fork (node_at nodes p)) is ∙ before) ∙ is,
-              next ∙ ap (λ p. next_at chunk p (node_at after p)) is ∙ ap (next_at chunk here) now,
+              old ∙ next_stays chunk at (node_at nodes at) (cc) ∙ is,
+              cc,
             )
             | inr other ↦ inl (next ∙ ap (next_at chunk at) (others at (within steps) other) ∙ sym old)
           ]
       | inr past ↦ inr (
-        old ∙ next_stays chunk at (node_at nodes at) (ap (λ p. is_fork (node_at nodes p)) past.0 ∙ before) ∙ past.0,
-        new ∙ ap (λ p. next_at chunk p (node_at after p)) past.1 ∙ next_stays chunk (length nodes + bit_at chunk bit) (node_at after (length nodes + bit_at chunk bit)) leaf,
+        old ∙ next_stays chunk at (node_at nodes at) (cc) ∙ past.0,
+        cc (next_stays chunk (length nodes + bit_at chunk bit) (node_at after (length nodes + bit_at chunk bit)) leaf),
       )
     ]
 
@@ -318,7 +314,7 @@ more_are marks count here bit chunk other apart =
 
 agree_moved : (bits now : List ℕ) (x y z w : ℕ) → now ≡ bits → z ≡ x → w ≡ y → Agree bits x y → Agree now z w
 agree_moved bits now x y z w same left right agree bit there =
-    ap (λ c. bit_at c bit) left ∙ agree bit (subst (λ l. list_any (nat_eq bit) l ≡ true) same there) ∙ sym (ap (λ c. bit_at c bit) right)
+    cc (agree bit (rw same at there))
 
 fits_more : (marks after : Marks) (chunks : List ℕ) (new count here bit chunk other at : ℕ) (node : Node) → AreMore marks after count here bit chunk other → at < count → Fits marks chunks count at node → Fits after (chunks ++ new ∷ []) (count + 2) at node
 fits_more marks after chunks new count here bit chunk other at Empty more below fits = tt
@@ -336,24 +332,24 @@ fits_more marks after chunks new count here bit chunk other at (Fork test pair) 
           let side = fits.sides value two in
           let there : pair + value < count = omega (arith, fits.within, two) in
           record {
-            tested = more.tested (pair + value) there ∙ side.tested ∙ ap (λ l. test ∷ l) (sym (more.tested at below));
+            tested = cc (more.tested (pair + value) there, more.tested at below);
             agree = agree_moved (marks.tested at) (after.tested at) (marks.like (pair + value)) (marks.like at) _ _ (more.tested at below) (more.like (pair + value) there) (more.like at below) side.agree;
-            parted = ap (λ c. bit_at c test) (more.like (pair + value) there) ∙ side.parted;
+            parted = cc (more.like (pair + value) there);
           };
     }
 
 -- what comes after the new fork for one value of its bit
 new_side : (marks after : Marks) (count here bit chunk other value which : ℕ) → AreMore marks after count here bit chunk other → here < count → value ≡ bit_at which bit → after.like (count + bit_at which bit) ≡ which → Agree (marks.tested here) which (marks.like here) → IsSide after here bit count value
 new_side marks after count here bit chunk other value which more below is like agree =
-    let same : after.like (count + value) ≡ which = ap (λ v. after.like (count + v)) is ∙ like in
+    let same : after.like (count + value) ≡ which = cc in
     record {
-      tested = more.longer (count + value) (omega arith) ∙ ap (λ l. bit ∷ l) (sym (more.tested here below));
+      tested = cc (more.longer (count + value) (omega arith), more.tested here below);
       agree = agree_moved (marks.tested here) (after.tested here) which (marks.like here) _ _ (more.tested here below) same (more.like here below) agree;
-      parted = ap (λ c. bit_at c bit) same ∙ sym is;
+      parted = cc;
     }
 
 new_number : (after : Marks) (chunks : List ℕ) (at number which : ℕ) → number < length chunks → chunk_at chunks number ≡ which → after.like at ≡ which → IsNumber after chunks at number
-new_number after chunks at number which within is like = record { within = within; agree = λ bit there. ap (λ c. bit_at c bit) (is ∙ sym like) }
+new_number after chunks at number which within is like = record { within = within; agree = λ bit there. cc }
 
 -- two bits that differ are all values
 one_of : (value a b : ℕ) → value < 2 → a < 2 → b < 2 → (a ≡ b → ⊥) → (value ≡ a) ⊎ (value ≡ b)
@@ -371,7 +367,7 @@ part_marks chunks nodes after mask here bit chunk other number trie slots small 
     let now = more_marks marks count here bit chunk other in
     let more = more_are marks count here bit chunk other apart in
     let below : here < count = on.within in
-    let theirs : Agree (marks.tested here) other (marks.like here) = subst (λ c. Agree (marks.tested here) c (marks.like here)) other_is at_number.agree in
+    let theirs : Agree (marks.tested here) other (marks.like here) = rw other_is at at_number.agree in
     let fresh : list_any (nat_eq bit) (marks.tested here) ≡ false = false_from_ne_true (list_any (nat_eq bit) (marks.tested here)) (λ t. apart (on.agree bit t ∙ sym (theirs bit t))) in
     let fork : IsFork now (count + 2) here bit count =
     record {
@@ -388,21 +384,21 @@ part_marks chunks nodes after mask here bit chunk other number trie slots small 
     let their : IsNumber now all (count + bit_at other bit) number = new_number now all (count + bit_at other bit) number other (omega (arith, long, at_number.within)) (chunk_before chunks chunk number at_number.within ∙ other_is) more.theirs in
     let fits : (at : ℕ) → at < count + 2 → Fits now all (count + 2) at (node_at after at) = λ at there. elim (cases_lt at count) [
       | inl old ↦ elim (cases_eq at here) [
-        | inl is ↦ subst (λ p. Fits now all (count + 2) p (node_at after p)) (sym is) (subst (Fits now all (count + 2) here) (sym parted.fork) fork)
+        | inl is ↦ rw is (subst (Fits now all (count + 2) here) (sym parted.fork) fork)
         | inr another ↦ subst (Fits now all (count + 2) at) (sym (parted.others at old another)) (fits_more marks now chunks chunk count here bit chunk other at (node_at nodes at) more old (trie.fits at old))
       ]
       | inr past ↦
           let is : at ≡ count + (at - count) = omega (arith, past) in
           let two : at - count < 2 = omega (arith, past, there) in
           elim (one_of (at - count) (bit_at chunk bit) (bit_at other bit) two (bit_at-lt chunk bit) (bit_at-lt other bit) apart) [
-            | inl v ↦ subst (λ p. Fits now all (count + 2) p (node_at after p)) (sym (is ∙ ap (λ n. count + n) v)) (subst (Fits now all (count + 2) (count + bit_at chunk bit)) (sym parted.mine) mine)
-            | inr v ↦ subst (λ p. Fits now all (count + 2) p (node_at after p)) (sym (is ∙ ap (λ n. count + n) v)) (subst (Fits now all (count + 2) (count + bit_at other bit)) (sym parted.theirs) their)
+            | inl v ↦ rw (is, v) (subst (Fits now all (count + 2) (count + bit_at chunk bit)) (sym parted.mine) mine)
+            | inr v ↦ rw (is, v) (subst (Fits now all (count + 2) (count + bit_at other bit)) (sym parted.theirs) their)
           ]
     ] in
     record {
       marks = now;
       start = λ at low. more.tested at (omega (arith, low, slots)) ∙ trie.start at low;
-      fits = subst (λ n. (at : ℕ) → at < n → Fits now all n at (node_at after at)) (sym parted.count) fits;
+      fits = rw parted.count fits;
     }
 
 pub part_trie : (chunks : List ℕ) (nodes after : List Node) (mask bit chunk other number : ℕ) → IsTrie chunks nodes mask → mask < length nodes → bit < 64 → (bit_at chunk bit ≡ bit_at other bit → ⊥)
@@ -419,8 +415,8 @@ part_trie chunks nodes after mask bit chunk other number trie slots small apart 
     let ways : (c : ℕ) → is_fork (node_at after (count + bit_at c bit)) ≡ false → (end_of after mask c ≡ end_of nodes mask c) ⊎ ((end_of nodes mask c ≡ here) × (end_of after mask c ≡ count + bit_at c bit)) =
     λ c leaf. part_way nodes after here bit c (bit_and c mask) (ap is_fork is) parted.fork parted.others leaf (λ steps. (on_way chunks nodes mask trie.marked slots c steps).within) 64 in
     let leaf : (c : ℕ) → is_fork (node_at after (count + bit_at c bit)) ≡ false = λ c. elim (one_of (bit_at c bit) (bit_at chunk bit) (bit_at other bit) (bit_at-lt c bit) (bit_at-lt chunk bit) (bit_at-lt other bit) apart) [
-      | inl v ↦ ap (λ n. is_fork (node_at after (count + n))) v ∙ ap is_fork parted.mine
-      | inr v ↦ ap (λ n. is_fork (node_at after (count + n))) v ∙ ap is_fork parted.theirs
+      | inl v ↦ cc
+      | inr v ↦ cc
     ] in
     record {
       marked = marked;
@@ -434,7 +430,7 @@ part_trie chunks nodes after mask bit chunk other number trie slots small apart 
                 let number_is : Number number ≡ Number n = sym is ∙ ap (node_at nodes) (sym past.0) ∙ old in
                 let e : number ≡ n = cc in
                 let c_is : c ≡ other = ap (chunk_at chunks) (sym e) ∙ other_is in
-                ap (node_at after) past.1 ∙ ap (λ x. node_at after (count + bit_at x bit)) c_is ∙ parted.theirs ∙ number_is
+                cc
           ])
           (elim (ways chunk (leaf chunk)) [
             | inl same ↦ absurd (stops chunk same)
@@ -452,7 +448,7 @@ xor_some a b differ = elim (cases_lt 0 (bit_xor a b)) [
   | inr none ↦
       let zeros : bit_xor a b ≡ 0 = omega (arith, none) in
       let bits : (i : ℕ) → bit_at a i ≡ bit_at b i = λ i.
-      same_bit (bit_at a i) (bit_at b i) (bit_at-lt a i) (bit_at-lt b i) (sym (bit_at_xor a b i) ∙ ap (λ n. bit_at n i) zeros ∙ bit_at-zero i) in
+      same_bit (bit_at a i) (bit_at b i) (bit_at-lt a i) (bit_at-lt b i) (cc (bit_at_xor a b i, bit_at-zero i)) in
       absurd (differ (same_from_bits a b bits))
 ]
 
@@ -468,7 +464,7 @@ lowest_apart chunk other low high differ =
     let lowest = bit_at-trailing_zeros w64 both some within in
     let one : bit_at both bit ≡ 1 = lowest.1 in
     let sum : bit_at both bit ≡ (bit_at other bit + bit_at chunk bit) % 2 = bit_at_xor other chunk bit in
-    (lowest.0, λ same. even_not_one (bit_at chunk bit) (ap (λ n. (n + bit_at chunk bit) % 2) same ∙ sym sum ∙ one))
+    (lowest.0, λ same. even_not_one (bit_at chunk bit) (cc))
 
 last_two : (nodes : List Node) (node : Node) (value : ℕ) → value < 2 → node_at ((nodes ++ node ∷ []) ++ node ∷ []) (length nodes + value) ≡ node
 last_two nodes node value two = elim (cases_eq value 0) [
@@ -533,4 +529,4 @@ node_read nodes at seen node within read is = sym (get_or_read nodes at seen wit
 
 pub last_read : (taken : TrieTaken) (chunk at : ℕ) (seen node : Node) → at ≡ end_of taken.links.items taken.mask chunk → seen ≡ get_or taken.links.items at seen → node ≡ seen → last_node taken chunk ≡ node
 last_read taken chunk at seen node ends read is =
-    subst (λ at. node_at taken.links.items at ≡ node) ends (node_read taken.links.items at seen node (omega (arith, ends, end_within taken chunk)) read is)
+    rw ends at (node_read taken.links.items at seen node (omega (arith, ends, end_within taken chunk)) read is)

@@ -1,5 +1,5 @@
 -- Tables take no more chunks than the stores of their snapshots have places.
-use Rattle.std.proofs.Common.{◌≡◌, ℕ, zero, suc, ◌<◌, ◌≤◌, Bool, List, Some, length, subst, sym, ◌∙◌, arith}
+use Rattle.std.proofs.Common.{◌≡◌, ℕ, zero, suc, ◌<◌, ◌≤◌, Bool, List, Some, length, sym, ◌∙◌, arith}
 use Rattle.std.specs.Prelude.{slice_get}
 use Rattle.std.proofs.lemmas.Bool.{lt-ltb}
 use Rattle.dm_stack.specs.declared.lines.found_line.FoundSnapshot.{FoundSnapshot}
@@ -9,7 +9,6 @@ use Rattle.dm_stack.specs.checks.Soundness.{IsSound}
 use Rattle.dm_stack.proofs.StoreLayoutLemmas.{has_place}
 use Rattle.dm_stack.proofs.SoundLines.{there}
 use Rattle.dm_map.specs.state.Fitting.{IsWithinPlaces}
-use Rattle.dm_map.specs.state.State.{Taken}
 use Rattle.dm_map.specs.state.Tables.{AreTables, snapshot_at, state_of}
 use Rattle.dm_map.proofs.state.TableLemmas.{room_place, state_at}
 use Rattle.dm_map.proofs.state.FoundLines.{snapshot_sound}
@@ -35,4 +34,4 @@ within_places chunks valid places_of stack tables sound are fits device snapshot
     let kept = state_at chunks valid tables device table.it table.at in
     let few = most_within (length (chunks table.it)) (place_count snapshot.kind snapshot.chunk (lower_len stack snapshot.store)) (λ number less.
     within_store places_of stack tables device number table.it snapshot sound are is table.at (let fit = fits table.it in omega (arith, less, fit))) in
-    subst (λ (taken : Taken). length taken.chunks ≤ place_count snapshot.kind snapshot.chunk (lower_len stack snapshot.store)) (sym kept) few
+    rw kept few

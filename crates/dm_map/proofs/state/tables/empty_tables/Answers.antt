@@ -1,9 +1,8 @@
-use Rattle.std.proofs.Common.{◌≡◌, ℕ, ◌<◌, List, get_or, length, replicate, refl, sym, ap, subst, ◌∙◌, arith}
+use Rattle.std.proofs.Common.{◌≡◌, ℕ, ◌<◌, List, get_or, length, refl, ◌∙◌, arith}
 use Rattle.std.proofs.lemmas.List.{length-set}
 use Rattle.dm_stack.specs.Description.{Description}
 use Rattle.dm_stack.specs.checks.Snapshots.{snapshots}
 use Rattle.std.specs.Prelude.{nat_lt}
-use Rattle.dm_map.specs.state.State.{none_taken}
 use Rattle.dm_map.specs.state.Tables.{has_room}
 use Rattle.dm_map.proofs.state.TableLemmas.{first_rooms, next_rooms, snapshot_there, state_new}
 use Rattle.dm_map.proofs.state.tables.empty_tables.Goals as goal
@@ -15,7 +14,7 @@ loop-next-init g c =
     record {
       count = count;
       room = first_rooms g.T.Taken.places stack c.in_ok-tables.tables.items count made.places;
-      state = made.state ∙ ap (λ (n : ℕ). replicate n none_taken) c.device_count.ensures;
+      state = made.state ∙ rw c.device_count.ensures;
       same = refl;
       looked = omega arith;
     }
@@ -28,15 +27,15 @@ record IsNext (stack : Description) (next device : ℕ) : Type 0 where
 
 next_snapshot : (stack seen : Description) (ids counted : List ℕ) (next device : ℕ) → seen ≡ stack → ids ≡ snapshots seen → counted ≡ snapshots stack → next < length counted → device ≡ get_or ids next device → IsNext stack next device
 next_snapshot stack seen ids counted next device same ids_are counted_are before is_in =
-    let within : next < length (snapshots stack) = subst (λ (xs : List ℕ). next < length xs) counted_are before in
-    let is : device ≡ get_or (snapshots stack) next device = is_in ∙ ap (λ (xs : List ℕ). get_or xs next device) (ids_are ∙ ap snapshots same) in
-    record { within = within; is = is; there = subst (λ (x : ℕ). x < length stack.devices) (sym is) (snapshot_there stack next device within) }
+    let within : next < length (snapshots stack) = rw counted_are at before in
+    let is : device ≡ get_or (snapshots stack) next device = is_in ∙ rw (ids_are, same) in
+    record { within = within; is = is; there = rw is (snapshot_there stack next device within) }
 
 pub places_of-requires : goal.places_of-requires
 places_of-requires g c =
     let l = c.loop-next in
     let it = next_snapshot c.args.looker.now.stack l.looker.stack c.snapshots.result.now c.snapshots-count.result.now l.next c.index-snapshots-next.result l.invariant.same c.snapshots.ensures.ids c.snapshots-count.ensures.ids c.loop-next-test.true c.index-snapshots-next.is in
-    subst (λ (s : Description). c.index-snapshots-next.result < length s.devices) (sym l.invariant.same) it.there
+    rw l.invariant.same it.there
 
 pub index_mut-requires : goal.index_mut-requires
 index_mut-requires g c =
@@ -49,7 +48,7 @@ loop-next-preserved g c =
     let stack = c.args.looker.now.stack in let l = c.loop-next in let d = c.index-snapshots-next.result in let table = c.in_ok-table.table in let made = c.in_ok-table.ensures in
     let it = next_snapshot stack l.looker.stack c.snapshots.result.now c.snapshots-count.result.now l.next d l.invariant.same c.snapshots.ensures.ids c.snapshots-count.ensures.ids c.loop-next-test.true c.index-snapshots-next.is in
     let room : (number : ℕ) → nat_lt number (g.T.Taken.places table) ≡ has_room stack d number = λ number.
-    ap (λ (n : ℕ). nat_lt number n) made.places ∙ c.places_of.ensures.places number ∙ ap (λ (s : Description). has_room s d number) l.invariant.same in
+    rw (made.places, c.places_of.ensures.places number, l.invariant.same) in
     record {
       count = length-set l.tables.items c.index.result table ∙ l.invariant.count;
       room = next_rooms g.T.Taken.places stack l.tables.items l.next d c.index.result table it.within it.is c.index.ensures room l.invariant.room;

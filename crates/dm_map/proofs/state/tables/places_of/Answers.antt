@@ -1,7 +1,6 @@
-use Rattle.std.proofs.Common.{◌≡◌, ◌↔◌, ℕ, ◌+◌, ◌*◌, ◌<◌, ◌≤◌, sym, ap, subst, ◌∙◌, arith}
+use Rattle.std.proofs.Common.{◌≡◌, sym, ◌∙◌, arith}
 use Rattle.std.proofs.lemmas.Bool.{le-ltb}
-use Rattle.dm_stack.specs.Description.{Description, lower_len}
-use Rattle.dm_stack.specs.lines.StoreLayout.{place}
+use Rattle.dm_stack.specs.Description.{lower_len}
 use Rattle.dm_stack.proofs.SameLine.{found_of}
 use Rattle.dm_stack.proofs.SoundLines.{device_some}
 use Rattle.dm_map.proofs.state.TableLemmas.{other_room, snapshot_room, store_some}
@@ -13,14 +12,14 @@ look-requires-clause-sector c = device_some c.args.looker.now.stack c.args.devic
 pub lower_len-len-requires : goal.lower_len-len-requires
 lower_len-len-requires c =
     let stack = c.args.looker.now.stack in let snapshot = c.in-Snapshot.snapshot in
-    subst (λ (s : Description). 0 < lower_len s snapshot.store) (sym c.look.ensures.stack) (store_some stack c.args.device 0 c.look.result.now snapshot c.depth.ensures.sound (found_of c.args.looker.now.stack c.args.device 0 c.look.result.now c.look.ensures.line) c.in-Snapshot.is)
+    rw c.look.ensures.stack (store_some stack c.args.device 0 c.look.result.now snapshot c.depth.ensures.sound (found_of c.args.looker.now.stack c.args.device 0 c.look.result.now c.look.ensures.line) c.in-Snapshot.is)
 
 pub returns-in-Snapshot-clause-places : goal.returns-in-Snapshot-clause-places
 returns-in-Snapshot-clause-places c number =
     let stack = c.args.looker.now.stack in let snapshot = c.in-Snapshot.snapshot in
-    let len : c.lower_len-len.result ≡ lower_len stack snapshot.store = c.lower_len-len.ensures.len ∙ ap (λ (s : Description). lower_len s snapshot.store) c.look.ensures.stack in
+    let len : c.lower_len-len.result ≡ lower_len stack snapshot.store = c.lower_len-len.ensures.len ∙ rw c.look.ensures.stack in
     snapshot_room stack c.args.device number c.place_count.result c.look.result.now snapshot (found_of c.args.looker.now.stack c.args.device 0 c.look.result.now c.look.ensures.line) c.in-Snapshot.is
-    (subst (λ (n : ℕ). (number < c.place_count.result) ↔ ((place snapshot.kind snapshot.chunk number + 1) * snapshot.chunk ≤ n)) len (c.place_count.ensures.law number))
+    (rw len at (c.place_count.ensures.law number))
 
 pub returns-in_default-clause-places : goal.returns-in_default-clause-places
 returns-in_default-clause-places c number =

@@ -1,6 +1,5 @@
 use Rattle.std.proofs.Common.{◌≡◌, ℕ, ◌+◌, ◌*◌, ◌<◌, ◌≤◌, true, Some, sym, refl, subst, arith}
-use Rattle.dm_stack.specs.declared.lines.found_line.FoundTarget.{FoundTarget}
-use Rattle.dm_stack.specs.lines.Below.{IsSnapshotSound, IsTargetSound}
+use Rattle.dm_stack.specs.lines.Below.{IsSnapshotSound}
 use Rattle.dm_stack.specs.Description.{lower_len}
 use Rattle.dm_stack.specs.lines.StoreLayout.{place}
 use Rattle.dm_stack.proofs.SameLine.{found_of}
@@ -24,7 +23,7 @@ lower_len-total-requires g c =
 pub usage_with-requires-clause-fits : goal.usage_with-requires-clause-fits
 usage_with-requires-clause-fits g c =
     let w = c.args.walker.now in let line = c.look-line.result.now in let snapshot = c.in-Snapshot.snapshot in
-    let sound : IsSnapshotSound w.stack c.args.device line.start line.len snapshot = subst (λ (target : FoundTarget). IsTargetSound w.stack c.args.device line.start line.len target) c.in-Snapshot.is c.look-line.ensures.line.is.target in
+    let sound : IsSnapshotSound w.stack c.args.device line.start line.len snapshot = rw c.in-Snapshot.is at c.look-line.ensures.line.is.target in
     let is : snapshot_at w.stack c.args.device ≡ Some snapshot = rw (found_of w.stack c.args.device 0 line c.look-line.ensures.line, c.in-Snapshot.is) refl in
     let small = lower_small w.stack snapshot.store c.recall_soundness.ensures in
     let fits : (number : ℕ) → number < c.count.result → (place snapshot.kind snapshot.chunk number + 1) * snapshot.chunk ≤ lower_len w.stack snapshot.store = λ number less.

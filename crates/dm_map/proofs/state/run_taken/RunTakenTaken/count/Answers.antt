@@ -1,5 +1,3 @@
-use Rattle.std.proofs.Common.{ap, length, sym}
-use Rattle.dm_map.specs.state.Runs.{chunks_in}
 use Rattle.dm_map.proofs.state.JoinedRuns.{no_last}
 use Rattle.dm_map.proofs.state.RunLemmas.{count_by_last}
 use Rattle.dm_map.proofs.state.run_taken.RunTakenTaken.count.Goals as goal
@@ -8,4 +6,4 @@ pub returns-in-Some : goal.returns-in-Some
 returns-in-Some c = count_by_last c.args.self.now.runs.items c.in-Some.run' c.args.self.now.kept c.in-Some.ensures
 
 pub returns-in-None : goal.returns-in-None
-returns-in-None c = sym (ap (λ runs. length (chunks_in runs)) (no_last c.args.self.now.runs.items c.in-None.ensures))
+returns-in-None c = rw (no_last c.args.self.now.runs.items c.in-None.ensures)

@@ -1,4 +1,4 @@
-use Rattle.std.proofs.Common.{◌≡◌, ◌∙◌, ◌+◌, ◌-◌, true, None, Some, ap, sym}
+use Rattle.std.proofs.Common.{◌≡◌, ◌+◌, true, None}
 use Rattle.std.specs.Prelude.{not}
 use Rattle.dm_map.specs.state.Runs.{begins, chunks_in, last_after}
 use Rattle.dm_map.proofs.state.RunLemmas.{number_of_last}
@@ -8,4 +8,4 @@ pub returns-then-goes_on : goal.returns-then-goes_on
 returns-then-goes_on c =
     let taken = c.args.self.now in
     let on : true ≡ not (begins (last_after None (chunks_in taken.runs.items)) (c.args.chunk + 1)) = c.if-goes_on.ensures in
-    ap (λ n. Some (n - 1)) c.count.ensures ∙ sym (number_of_last taken.runs.items c.args.chunk taken.kept taken.once on)
+    rw (c.count.ensures, number_of_last taken.runs.items c.args.chunk taken.kept taken.once on)

@@ -1,4 +1,4 @@
-use Rattle.std.proofs.Common.{◌≡◌, ◌∙◌, ◌+◌, ◌-◌, ◌<◌, [], ◌∷◌, ◌++◌, None, ap, length, nat_eq, refl, subst, sym, arith}
+use Rattle.std.proofs.Common.{◌≡◌, ◌∙◌, ◌+◌, ◌-◌, ◌<◌, None, ap, length, nat_eq, refl, subst, sym, arith}
 use Rattle.std.specs.List.{IsDistinct, concat}
 use Rattle.std.proofs.lemmas.List.{length_push, length-set}
 use Rattle.dm_map.specs.state.Blocks.{contents}
@@ -59,4 +59,4 @@ returns-then-goes_on-clause-chunks c =
     let some = some_to_go_on runs c.args.chunk on in
     let there : n + 1 ≡ length runs = omega (arith, some) in
     let end : end_of (run_at runs n) ≡ c.args.chunk = goes_on_at runs n c.args.chunk taken.kept there on in
-    ap chunks_in c.lengthen.ensures.items ∙ longer_chunks runs n (run_at runs n) there refl ∙ ap (λ chunk. chunks_in runs ++ chunk ∷ []) end
+    rw (c.lengthen.ensures.items, longer_chunks runs n (run_at runs n) there refl, end)

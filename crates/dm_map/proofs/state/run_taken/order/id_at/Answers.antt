@@ -1,4 +1,4 @@
-use Rattle.std.proofs.Common.{◌/◌, ◌%◌, ◌<◌, length, get_or, sym, ap, ◌∙◌, arith}
+use Rattle.std.proofs.Common.{◌/◌, ◌%◌, ◌<◌, length, ap, arith}
 use Rattle.std.proofs.lemmas.List.{get_or_read}
 use Rattle.dm_map.specs.state.Blocks.{contents}
 use Rattle.dm_map.proofs.state.BlockLemmas.{at_rank}
@@ -25,6 +25,4 @@ returns c =
     let inside : c.args.rank % 8192 < length ring.items = omega (arith, long, ap length items, c.requires.within) in
     let at = at_rank 8192 c.args.len c.args.rank (contents c.args.blocks.now) c.requires.filled (omega arith) c.requires.within in
     let block = ring_at c.args.blocks.now (c.args.rank / 8192) ring there in
-    get_or_read ring.items (c.args.rank % 8192) c.index.result.now inside c.index.ensures 0
-    ∙ ap (λ l. get_or l (c.args.rank % 8192) 0) (items ∙ sym block)
-    ∙ sym at
+    rw (get_or_read ring.items (c.args.rank % 8192) c.index.result.now inside c.index.ensures 0, items, at, block)

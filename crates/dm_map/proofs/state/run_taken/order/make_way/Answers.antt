@@ -1,6 +1,5 @@
-use Rattle.std.proofs.Common.{◌≡◌, ◌<◌, ◌/◌, ap, length, subst, arith}
+use Rattle.std.proofs.Common.{◌≡◌, ◌<◌, ◌/◌, ap, length, arith}
 use Rattle.std.proofs.lemmas.List.{length-set}
-use Rattle.dm_map.specs.state.Blocks.{Carries}
 use Rattle.dm_map.proofs.state.RingLemmas.{carries_first, carries_next, ring_at, ring_length, ring_there}
 use Rattle.dm_map.proofs.state.run_taken.order.make_way.Goals as goal
 
@@ -52,4 +51,4 @@ pub returns : goal.returns
 returns c =
     let l = c.loop-next in
     let end : l.next ≡ c.args.len / 8192 = omega (arith, l.invariant.within, c.loop-next-test.false) in
-    subst (λ k. Carries c.args.blocks.now l.blocks k c.args.rank c.args.id l.carried) end l.invariant.carries
+    rw end at l.invariant.carries

@@ -40,9 +40,9 @@ loop-bit-preserved c =
     let fork = (goal.at.loop-bit-preserved c).In-Fork in
     let more = fork_ahead fork in
     let next : way nodes c.args.chunk (bit_and c.args.chunk taken.mask) (l.tested + 1) ≡ next_at c.args.chunk l.at (node_at nodes l.at) =
-    ap (way nodes c.args.chunk (bit_and c.args.chunk taken.mask)) (add-one l.tested) ∙ way-suc nodes c.args.chunk (bit_and c.args.chunk taken.mask) l.tested ∙ ap (λ at. next_at c.args.chunk at (node_at nodes at)) (sym l.invariant.there) in
+    rw (add-one l.tested, way-suc nodes c.args.chunk (bit_and c.args.chunk taken.mask) l.tested, l.invariant.there) in
     record {
-      there = ap (λ bit. c.in-Fork.pair + bit) c.bit_of.ensures ∙ sym (next ∙ ap (next_at c.args.chunk l.at) (fork_is fork));
+      there = rw (c.bit_of.ensures, next, fork_is fork);
       within = omega (arith, more.2, c.bit_of.ensures, bit_at-lt c.args.chunk c.in-Fork.bit);
       few = omega (arith, more.0);
     }
@@ -56,6 +56,6 @@ returns c =
     let none : is_fork (node_at nodes l.at) ≡ false = ap is_fork is ∙ no_fork c.node.result c.in_default.not-Fork in
     let there = l.invariant.there in
     record {
-      at = there ∙ sym (stays nodes c.args.chunk (bit_and c.args.chunk taken.mask) l.tested 64 l.invariant.few (ap (λ at. is_fork (node_at nodes at)) (sym there) ∙ none));
+      at = there ∙ sym (stays nodes c.args.chunk (bit_and c.args.chunk taken.mask) l.tested 64 l.invariant.few (rw (← there) none));
       few = l.invariant.few;
     }

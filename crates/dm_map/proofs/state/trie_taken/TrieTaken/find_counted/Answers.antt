@@ -1,7 +1,6 @@
 use Rattle.std.proofs.Common.{◌≡◌, ◌∙◌, ap, get_or, sym, arith}
 use Rattle.std.proofs.lemmas.List.{get_or_read}
 use Rattle.dm_map.specs.declared.state.trie_taken.link.Node.TheVariants.{Number}
-use Rattle.dm_map.specs.state.Snapshots.{number_in}
 use Rattle.dm_map.specs.state.Trie.{chunk_at}
 use Rattle.dm_map.proofs.state.RunLemmas.{number_distinct}
 use Rattle.dm_map.proofs.state.TrieLemmas.{end_within, last_read, not_taken, number_within}
@@ -35,7 +34,7 @@ returns-then-index-chunk-clause-found c =
     let there = number_within taken c.args.chunk c.in-Number.number last in
     let seen = get_or_read taken.chunks.items c.in-Number.number c.index-2.result.now there c.index-2.ensures 0 in
     let same : get_or taken.chunks.items c.in-Number.number 0 ≡ c.args.chunk = sym seen ∙ c.if-index-chunk.true in
-    sym (ap (λ chunk. number_in chunk taken.chunks.items) (sym same) ∙ number_distinct taken.chunks.items c.in-Number.number 0 taken.once there)
+    rw (← number_distinct taken.chunks.items c.in-Number.number 0 taken.once there, same)
 
 pub returns-else-index-chunk-clause-found : goal.returns-else-index-chunk-clause-found
 returns-else-index-chunk-clause-found c =

@@ -1,11 +1,11 @@
-use Rattle.std.proofs.Common.{◌≡◌, ◌∙◌, ◌+◌, ◌^◌, ◌<◌, ℕ, List, [], ◌∷◌, ◌++◌, ap, get_or, length, set, subst, sym, arith, w64}
+use Rattle.std.proofs.Common.{◌≡◌, ◌∙◌, ◌+◌, ◌^◌, ◌<◌, ℕ, List, [], ◌∷◌, ◌++◌, ap, get_or, length, set, sym, arith, w64}
 use Rattle.std.specs.Int.{bit_at, trailing_zeros}
 use Rattle.std.specs.Int.Bits.{bit_xor}
 use Rattle.std.proofs.Math.Logic.{∥∥₁_map}
 use Rattle.std.proofs.lemmas.List.{get_or_read, length_push}
 use Rattle.dm_map.specs.declared.state.trie_taken.link.Node.{Node}
 use Rattle.dm_map.specs.declared.state.trie_taken.link.Node.TheVariants.{Fork, Number}
-use Rattle.dm_map.specs.state.Trie.{end_of, node_at}
+use Rattle.dm_map.specs.state.Trie.{end_of}
 use Rattle.dm_map.proofs.state.Numbers.{distinct_more}
 use Rattle.dm_map.proofs.state.TrieLemmas.{end_within, fresh_apart, is_parted, last_node, lowest_apart, number_within, part_trie}
 use Rattle.dm_map.proofs.state.trie_taken.TrieTaken.part.Goals.{After-index-there}
@@ -13,7 +13,7 @@ use Rattle.dm_map.proofs.state.trie_taken.TrieTaken.part.Goals as goal
 
 -- the way of the chunk ends at the number of the other one, which was read
 ends_at_other : (c : After-index-there) → last_node c.args.self.now c.args.chunk ≡ Number c.args.other
-ends_at_other c = subst (λ at. node_at c.args.self.now.links.items at ≡ Number c.args.other) c.requires.at c.requires.other
+ends_at_other c = rw c.requires.at at c.requires.other
 
 other_there : (c : After-index-there) → c.args.other < length c.args.self.now.chunks.items
 other_there c = number_within c.args.self.now c.args.chunk c.args.other (ends_at_other c)
@@ -53,9 +53,9 @@ invariant_of-self c =
     let made = ∥∥₁_map taken.leads (λ trie. part_trie chunks nodes _ taken.mask bit c.args.chunk c.index-there.result.now c.args.other trie taken.slots apart.0 apart.1 (ends_at_other at_other) (sym (other_read at_other)) parted) in
     let items = c.push-3.ensures.items in
     let more = ap length items ∙ length_push chunks c.args.chunk in
-    let first : c.push.new.self.items ≡ nodes ++ number ∷ [] = c.push.ensures.items ∙ ap (λ node. nodes ++ node ∷ []) c.number.ensures in
+    let first : c.push.new.self.items ≡ nodes ++ number ∷ [] = c.push.ensures.items ∙ rw c.number.ensures in
     let both : c.push-2.new.self.items ≡ (nodes ++ number ∷ []) ++ number ∷ [] =
-    c.push-2.ensures.items ∙ ap (λ xs. xs ++ c.number-2.result ∷ []) first ∙ ap (λ node. (nodes ++ number ∷ []) ++ node ∷ []) c.number-2.ensures in
+    rw (c.push-2.ensures.items, first, c.number-2.ensures) in
     let pair : c.len-pair.result ≡ length nodes = c.len-pair.ensures in
     let slot : c.len-pair.result + c.bit_of.result ≡ length nodes + bit_at c.args.chunk bit = omega (arith, pair, c.bit_of.ensures) in
     let new : c.number-3.result ≡ Number (length chunks) = c.number-3.ensures ∙ ap Number c.len.ensures in

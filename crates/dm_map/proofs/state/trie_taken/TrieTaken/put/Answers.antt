@@ -1,8 +1,8 @@
-use Rattle.std.proofs.Common.{◌≡◌, ◌∙◌, [], ◌∷◌, ◌++◌, ap, length, set, subst, arith}
+use Rattle.std.proofs.Common.{◌≡◌, ◌∙◌, [], ◌∷◌, ◌++◌, ap, length, set, arith}
 use Rattle.std.proofs.Math.Logic.{∥∥₁_map}
 use Rattle.std.proofs.lemmas.List.{length-set, length_push}
-use Rattle.dm_map.specs.declared.state.trie_taken.link.Node.TheVariants.{Empty, Number}
-use Rattle.dm_map.specs.state.Trie.{IsTrie, end_of, node_at}
+use Rattle.dm_map.specs.declared.state.trie_taken.link.Node.TheVariants.{Number}
+use Rattle.dm_map.specs.state.Trie.{IsTrie, end_of}
 use Rattle.dm_map.proofs.state.Numbers.{distinct_more}
 use Rattle.dm_map.proofs.state.TrieLemmas.{end_within, put_trie}
 use Rattle.dm_map.proofs.state.trie_taken.TrieTaken.put.Goals as goal
@@ -17,7 +17,7 @@ invariant_of-self c =
     let nodes = taken.links.items in
     let items = c.push.ensures.items in
     let more = ap length items ∙ length_push chunks c.args.chunk in
-    let empty = subst (λ at. node_at nodes at ≡ Empty) c.requires.at c.requires.empty in
+    let empty = rw c.requires.at at c.requires.empty in
     let made : ∥ IsTrie (chunks ++ c.args.chunk ∷ []) (set nodes (end_of nodes taken.mask c.args.chunk) (Number (length chunks))) taken.mask ∥₁ =
     ∥∥₁_map taken.leads (λ trie. put_trie chunks nodes taken.mask c.args.chunk trie taken.slots empty) in
     let number : c.number.result ≡ Number (length chunks) = c.number.ensures ∙ ap Number c.len.ensures in

@@ -1,16 +1,13 @@
-use Rattle.std.proofs.Common.{◌≡◌, ◌<◌, length, not, sym, subst, ap, ◌∙◌}
-use Rattle.dm_map.specs.state.State.{Taken, taken_at}
+use Rattle.std.proofs.Common.{length, not, sym, ap, ◌∙◌}
+use Rattle.dm_map.specs.state.State.{Taken}
 use Rattle.dm_map.specs.state.Tables.{has_room}
-use Rattle.dm_map.specs.state.Walker.{WalkerView}
 use Rattle.dm_map.proofs.state.TableLemmas.{full_room, state_at, table_got}
 use Rattle.dm_map.proofs.state.walker.Walker.is_full.Goals as goal
 
 pub returns : goal.returns
 returns g c =
     let w = c.self.inside in let table = c.index-table.result.now in
-    let there = subst (λ (v : WalkerView). c.args.device < length v.stack.devices) (sym c.self.view_is) c.requires in
+    let there = rw (← c.self.view_is) at c.requires in
     let got = table_got g.T.Taken.places w.looker.stack w.tables.items c.args.device c.index.result table c.self.invariant there c.index.ensures c.index-table.ensures in
     let kept = state_at g.T.Taken.chunks g.T.Taken.valid w.tables.items c.args.device table got in
-    subst (λ (v : WalkerView). c.is_full.result ≡ not (has_room v.stack c.args.device (length (taken_at v.state c.args.device).chunks))) c.self.view_is
-    (c.is_full.ensures ∙ full_room g.T.Taken.chunks g.T.Taken.places w.looker.stack w.tables.items c.args.device table c.self.invariant (g.met.T.Taken.fits table) got
-    ∙ ap (λ (taken : Taken). not (has_room w.looker.stack c.args.device (length taken.chunks))) (sym kept))
+    rw (← c.self.view_is) (c.is_full.ensures ∙ full_room g.T.Taken.chunks g.T.Taken.places w.looker.stack w.tables.items c.args.device table c.self.invariant (g.met.T.Taken.fits table) got ∙ ap (λ (taken : Taken). not (has_room w.looker.stack c.args.device (length taken.chunks))) (sym kept))

@@ -1,9 +1,8 @@
-use Rattle.std.proofs.Common.{◌≡◌, length, subst, ◌∙◌}
+use Rattle.std.proofs.Common.{◌∙◌}
 use Rattle.std.proofs.lemmas.List.{length-map}
-use Rattle.dm_map.specs.state.Walker.{WalkerView}
 use Rattle.dm_map.proofs.state.walker.Walker.recall_tables.Goals as goal
 
 pub returns : goal.returns
 returns g c =
     let w = c.self.inside in
-    subst (λ (v : WalkerView). length v.state ≡ length v.stack.devices) c.self.view_is (length-map w.tables.items _ ∙ c.self.invariant.count)
+    rw (← c.self.view_is) (length-map w.tables.items _ ∙ c.self.invariant.count)

@@ -1,4 +1,4 @@
-use Rattle.std.proofs.Common.{◌≡◌, ◌+◌, ◌-◌, ◌<◌, ℕ, ap, length, get_or, set, ◌∙◌, sym, arith}
+use Rattle.std.proofs.Common.{◌≡◌, ◌+◌, ◌-◌, ◌<◌, ℕ, ap, length, get_or, ◌∙◌, arith}
 use Rattle.std.proofs.lemmas.List.{get_or_read}
 use Rattle.dm_map.specs.declared.state.run_taken.run.NumberRange.{NumberRange}
 use Rattle.dm_map.specs.state.Runs.{joined, longer, run_at}
@@ -13,7 +13,7 @@ place c = c.len-last.result - 1
 place_there : (c : After-index_mut) → (place c < length c.self.inside.rests.items) × (place c ≡ length c.args.self.now.items - 1)
 place_there c =
     let runs = c.self.inside in
-    let long = length-runs runs.firsts.items runs.rests.items c.args.self.now.items c.self.invariant (ap (λ row. row.items) c.self.view_is) in
+    let long = length-runs runs.firsts.items runs.rests.items c.args.self.now.items c.self.invariant (rw (← c.self.view_is)) in
     (omega (arith, c.requires.some, c.len-last.ensures, c.self.invariant, long), omega (arith, c.len-last.ensures, c.self.invariant, long))
 
 -- the rest that was read there
@@ -37,8 +37,5 @@ returns-clause-items c =
     let n = place read in
     let new : NumberRange = record { number = c.index_mut.result.now.number; len = c.index_mut.result.now.len + 1 } in
     let more : with_first (get_or firsts n 0) new ≡ longer (run_at (joined firsts rests) n) =
-    ap (λ rest. longer (with_first (get_or firsts n 0) rest)) (rest_is read) ∙ ap longer (sym (joined_at firsts rests n c.self.invariant)) in
-    joined_set firsts rests n new c.self.invariant (omega (arith, there.0, c.self.invariant))
-    ∙ ap (set (joined firsts rests) n) more
-    ∙ ap (λ row. set row.items n (longer (run_at row.items n))) c.self.view_is
-    ∙ ap (λ n. set c.args.self.now.items n (longer (run_at c.args.self.now.items n))) there.1
+    rw (rest_is read, joined_at firsts rests n c.self.invariant) in
+    rw (joined_set firsts rests n new c.self.invariant (omega (arith, there.0, c.self.invariant)), more, ← there.1, ← c.self.view_is)

@@ -24,4 +24,4 @@ returns-clause-items c =
     let rests = c.self.inside.rests.items in
     let rest : NumberRange = record { number = c.args.run.number; len = c.args.run.len } in
     let both = ap (λ firsts. joined firsts c.push-2.new.self.items) c.push.ensures.items ∙ ap (joined (firsts ++ c.args.run.first ∷ [])) c.push-2.ensures.items in
-    both ∙ joined_push firsts rests c.args.run.first rest c.self.invariant ∙ ap (λ row. row.items ++ c.args.run ∷ []) c.self.view_is
+    rw (both, joined_push firsts rests c.args.run.first rest c.self.invariant, ← c.self.view_is)
