@@ -1,5 +1,5 @@
 -- Mapped sectors: those of a line by what lies below them, and those of a device that lie in one line.
-use Rattle.std.proofs.Common.{◌≡◌, ℕ, suc, ◌+◌, ◌-◌, ◌*◌, ◌<◌, ◌≤◌, false, List, [], ◌∷◌, Option, Some, length, refl, sym, ap, subst, ◌∙◌, arith}
+use Rattle.std.proofs.Common.{◌≡◌, ℕ, suc, ◌+◌, ◌-◌, ◌*◌, ◌<◌, ◌≤◌, false, List, [], Some, length, refl, sym, ap, ◌∙◌, arith}
 use Rattle.std.specs.Prelude.{◌==◌, nat_lt, Result}
 use Rattle.std.proofs.lemmas.Bool.{ne_eqb}
 use Rattle.std.proofs.Math.Nat.{mul-le-mul_right}
@@ -10,7 +10,7 @@ use Rattle.dm_stack.specs.declared.lines.found_line.FoundTarget.{FoundTarget}
 use Rattle.dm_stack.specs.declared.checks.graph.TheConstants.{MOST_DEPTH}
 use Rattle.dm_stack.specs.declared.id.Lower.{Lower}
 use Rattle.dm_stack.specs.declared.id.Lower.TheVariants.{Device}
-use Rattle.dm_stack.specs.lines.Below.{Below, Lies, below_target, chunk_at, found_at, is_same_chunk, IsLineOf}
+use Rattle.dm_stack.specs.lines.Below.{Lies, below_target, chunk_at, found_at, is_same_chunk, IsLineOf}
 use Rattle.dm_stack.specs.Description.{Description, device_len}
 use Rattle.dm_stack.specs.checks.Depth.{stack_depth}
 use Rattle.dm_stack.specs.checks.Soundness.{IsSound, depth_of}
@@ -41,12 +41,11 @@ mapped_below {before} {after} {sector} {n} op levels device start distance at li
     record {
       walked = walked_as same mapped.walked;
       bounded = λ is sound.
-          let less = below_less stack state device at (distance + 0) line to (sector + 0) sound found (ap (λ (t : FoundTarget). below_target (read_over (taken_at state device)) t (distance + 0)) kind ∙ below 0 (omega (arith, some))) in
+          let less = below_less stack state device at (distance + 0) line to (sector + 0) sound found (cc (below 0 (omega (arith, some)))) in
           let few = mapped.bounded is sound in
           let most = searches_below (target_path stack state levels device start target) (path stack state levels to) _ (depth_of stack device - 1) distance sector n before.looked.searches after.looked.searches less
           (stretches_after (target_path stack state levels device start target) (path stack state levels to) here distance sector n (λ i within.
-          ap (λ (b : Below). record { device = device; start = start; chunk = chunk_at target (distance + i) } ∷ by_below b [] [] (λ to lower. path stack state levels to lower)) (below i within)
-          ∙ ap (λ (c : Option ℕ). record { device = device; start = start; chunk = c } ∷ path stack state levels to (sector + i)) (chunk i within))) (omega (arith, few)) in
+          cc (below i within, chunk i within))) (omega (arith, few)) in
           omega (arith, most);
     }
 
@@ -54,8 +53,7 @@ mapped_below {before} {after} {sector} {n} op levels device start distance at li
 pub mapped_target : {S F : Type 0} {past : SinkPast S} {result : Result (Unit {0}) F} {old new : S} {before after : WalkerView} {distance n : ℕ} (op : Op) (levels device : ℕ) (start other : ℕ) (target is : FoundTarget)
     → start ≡ other → target ≡ is → IsMapped past result old new before after (target_mapping op levels device other is) distance n → IsMapped past result old new before after (target_mapping op levels device start target) distance n
 mapped_target {past} {result} {old} {new} {before} {after} {distance} {n} op levels device start other target is same kind mapped =
-    subst (λ (s : ℕ). IsMapped past result old new before after (target_mapping op levels device s target) distance n) (sym same)
-    (subst (λ (t : FoundTarget). IsMapped past result old new before after (target_mapping op levels device other t) distance n) (sym kind) mapped)
+    rw (same, kind) mapped
 
 -- another chunk of it is another path
 abbrev lower_path : Description → State → (levels device : ℕ) → FoundTarget → (distance : ℕ) → List PathStep
@@ -97,7 +95,7 @@ lines_apart stack state levels fewer device at n line next more some of end afte
     let differs : (line.start == next.start) ≡ false = ne_eqb line.start next.start (λ same.
     let again = after.is.all (at + n - 1) (omega (arith, same, of.from, some)) (omega (arith, after.before)) in
     let one : line ≡ next = cc in
-    let ends : line.start + line.len ≡ next.start + next.len = ap (λ (l : FoundLine). l.start + l.len) one in
+    let ends : line.start + line.len ≡ next.start + next.len = cc in
     omega (arith, ends, end, after.before)) in
     rw (line_at stack state levels fewer device (at + n - 1) line more here, line_at stack state levels fewer device (at + n) next more there)
     (other_start device line.start next.start (chunk_at line.target (at + n - 1 - line.start)) (chunk_at next.target (at + n - next.start))

@@ -1,6 +1,5 @@
 -- The sectors of a chunk in a store, their copies and their writes.
-use Rattle.std.proofs.Common.{◌≡◌, ℕ, ◌+◌, ◌-◌, ◌%◌, ◌<◌, ◌≤◌, Bool, false, not, refl, sym, ap, subst, ◌∙◌, arith}
-use Rattle.std.specs.Prelude.{◌||◌}
+use Rattle.std.proofs.Common.{◌≡◌, ℕ, ◌+◌, ◌-◌, ◌%◌, ◌<◌, ◌≤◌, false, refl, sym, ap, subst, ◌∙◌, arith}
 use Rattle.dm_table.specs.declared.requests.request.Op.TheVariants.{Read}
 use Rattle.dm_stack.specs.declared.lines.found_line.FoundSnapshot.{FoundSnapshot}
 use Rattle.dm_stack.specs.declared.checks.graph.TheConstants.{MOST_DEPTH}
@@ -47,16 +46,14 @@ first_seen walk before after lower sector len stretch same first = record {
 pub fails_on : (walk : WalkerView) (lower : Lower) (sector len : ℕ) (stretch : Stretch) → IsFirst walk walk (range_step walk.stack Read MOST_DEPTH lower walk.state sector) len stretch → stretch.ground ≡ grounds.Fails → reads_all walk.stack walk.state lower sector len ≡ false
 fails_on walk lower sector len stretch first fails =
     let rest = any_error (row (read walk.stack walk.state lower) (sector + stretch.len) (len - stretch.len)) in
-    ap not (errors_on (read walk.stack walk.state lower) sector stretch.len len (ground_unit stretch.ground) first.some first.most (first_reads walk.stack walk.state lower sector stretch.len (ground_unit stretch.ground) first.read)
-    ∙ ap (λ (ground : Ground). is_error (ground_unit ground) || rest) fails)
+    cc (errors_on (read walk.stack walk.state lower) sector stretch.len len (ground_unit stretch.ground) first.some first.most (first_reads walk.stack walk.state lower sector stretch.len (ground_unit stretch.ground) first.read))
 
 -- any other does where what comes after sectors of that stretch does
 pub reads_on : (walk : WalkerView) (lower : Lower) (sector n len : ℕ) (stretch : Stretch) → IsFirst walk walk (range_step walk.stack Read MOST_DEPTH lower walk.state sector) len stretch → (stretch.ground ≡ grounds.Fails → ⊥) → 1 ≤ n → n ≤ stretch.len
     → reads_all walk.stack walk.state lower sector len ≡ reads_all walk.stack walk.state lower (sector + n) (len - n)
 reads_on walk lower sector n len stretch first good some few =
     let reads = read walk.stack walk.state lower in let unit = ground_unit stretch.ground in
-    ap not (errors_on reads sector n len unit some (omega (arith, few, first.most)) (row_front reads sector stretch.len n unit (first_reads walk.stack walk.state lower sector stretch.len unit first.read) few)
-    ∙ ap (λ (error : Bool). error || any_error (row reads (sector + n) (len - n))) (good_ground stretch.ground good))
+    cc (errors_on reads sector n len unit some (omega (arith, few, first.most)) (row_front reads sector stretch.len n unit (first_reads walk.stack walk.state lower sector stretch.len unit first.read) few), good_ground stretch.ground good)
   where
     good_ground : (ground : Ground) → (ground ≡ grounds.Fails → ⊥) → is_error (ground_unit ground) ≡ false
     good_ground grounds.Fails other = absurd (other refl)
@@ -73,12 +70,9 @@ pub copy_next : (walk : WalkerView) (snapshot : FoundSnapshot) (number sector le
 copy_next walk snapshot number sector len left from to n source target some part within from_is to_is stretch homes few_read few_home =
     let done = len - left in let reads = read walk.stack walk.state snapshot.origin in let unit = ground_unit source.ground in
     let position : from ≡ sector + done = omega (arith, from_is, within) in
-    let whole = subst (λ (s : ℕ). row reads s source.len ≡ units_in unit source.len) position (first_reads walk.stack walk.state snapshot.origin from source.len unit stretch.read) in
+    let whole = rw position at (first_reads walk.stack walk.state snapshot.origin from source.len unit stretch.read) in
     let home_part : GoOn (home_in_store walk.stack snapshot number) (sector + done) target.disk target.start n = λ i more.
-    ap (λ (s : ℕ). home walk.stack snapshot.store s)
-    (ap (store_sector snapshot number) (let e : sector + done + i ≡ sector + (done + i) = omega arith in e) ∙ store_sector_on snapshot number sector (done + i) some (omega (arith, part, within, more, few_home, homes.most))
-    ∙ (let e : store_sector snapshot number sector + (done + i) ≡ to + i = omega (arith, to_is, within) in e))
-    ∙ homes.homes i (omega (arith, more, few_home)) in
+    cc ((let e : sector + done + i ≡ sector + (done + i) = omega arith in e), store_sector_on snapshot number sector (done + i) some (omega (arith, part, within, more, few_home, homes.most)), (let e : store_sector snapshot number sector + (done + i) ≡ to + i = omega (arith, to_is, within) in e), homes.homes i (omega (arith, more, few_home))) in
     copy_row reads (home_in_store walk.stack snapshot number) (sector + done) n unit target.disk target.start (row_front reads (sector + done) source.len n unit whole few_read) home_part
 
 -- and so is a write
@@ -86,6 +80,4 @@ pub next_writes : (before now : WalkerView) (store : Lower) (sector len at left 
     → row (λ s. write_to (home before.stack store s)) (sector + (len - left)) first.len ≡ units_in (WriteOf first.disk first.start) first.len
 next_writes before now store sector len at left first same within position is =
     let at_is : sector + (len - left) ≡ at = omega (arith, within, position) in
-    ap (λ (s : ℕ). row (λ u. write_to (home before.stack store u)) s first.len) at_is
-    ∙ ap (λ (w : StackState). row (λ u. write_to (home w.stack store u)) at first.len) (sym same)
-    ∙ write_row (home now.stack store) at first.disk first.start first.len is.homes
+    rw at_is (ap (λ (w : StackState). row (λ u. write_to (home w.stack store u)) at first.len) (sym same) ∙ write_row (home now.stack store) at first.disk first.start first.len is.homes)

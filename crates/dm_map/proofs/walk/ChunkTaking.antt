@@ -64,9 +64,9 @@ pub numbered_next : (state after : State) (device chunk : ℕ) → device < leng
     → ((taken_at after device).valid ≡ true) × (number_in chunk (taken_at after device).chunks ≡ Some (length (taken_at state device).chunks))
 numbered_next state after device chunk there fresh is =
     let taken = taken_at state device in let parts = or_parts (not taken.valid) (is_some (number_in chunk taken.chunks)) fresh in
-    let now : taken_at after device ≡ with_chunk taken chunk = ap (λ (s : State). taken_at s device) is ∙ taken_same state device (with_chunk taken chunk) there in (
-      ap (λ (t : Taken). t.valid) now ∙ not-false taken.valid parts.0,
-      ap (λ (t : Taken). number_in chunk t.chunks) now ∙ number_new chunk taken.chunks (none_of _ parts.1),
+    let now : taken_at after device ≡ with_chunk taken chunk = cc (taken_same state device (with_chunk taken chunk) there) in (
+      cc (not-false taken.valid parts.0),
+      cc (number_new chunk taken.chunks (none_of _ parts.1)),
     )
 
 -- The write of a sector
@@ -78,7 +78,7 @@ write_by refused stack snapshot device chunk state sector = cond refused (keep (
 pub write_is : (refused : Bool) (stack : Description) (snapshot : FoundSnapshot) (device chunk : ℕ) (state : State) (sector : ℕ) → sector / snapshot.chunk ≡ chunk → is_refused stack snapshot (taken_at state device) chunk ≡ refused
     → write_snapshot stack snapshot device state sector ≡ write_by refused stack snapshot device chunk state sector
 write_is refused stack snapshot device chunk state sector here is =
-    ap (λ (c : ℕ). write_by (is_refused stack snapshot (taken_at state device) c) stack snapshot device c state sector) here ∙ ap (λ (b : Bool). write_by b stack snapshot device chunk state sector) is
+    cc
 
 passes : (keeping placed settled : Bool) → settled ≡ true → (keeping && (not placed && not settled)) ≡ false
 passes true true settled is = refl
@@ -104,25 +104,18 @@ pub settled_part : (stack : Description) (snapshot : FoundSnapshot) (device chun
     → steps (write_snapshot stack snapshot device) state sector n ≡ keep (row (unit_in_store stack snapshot device state) sector n) state
 settled_part stack snapshot device chunk sector zero state settled each = refl
 settled_part stack snapshot device chunk sector (suc n) state settled each =
-    let here : sector / snapshot.chunk ≡ chunk = ap (λ (s : ℕ). s / snapshot.chunk) (let e : sector ≡ sector + 0 = omega arith in e) ∙ each 0 (omega arith) in
+    let here : sector / snapshot.chunk ≡ chunk = rw (let e : sector ≡ sector + 0 = omega arith in e) (each 0 (omega arith)) in
     let first : write_snapshot stack snapshot device state sector ≡ keep (unit_in_store stack snapshot device state sector ∷ []) state =
-    write_is false stack snapshot device chunk state sector here (settled_passes stack snapshot (taken_at state device) chunk settled)
-    ∙ ap (λ (step : Step). and_then step (λ after. keep (unit_in_store stack snapshot device after sector ∷ []) after)) (take_chunk_again stack snapshot device chunk state settled) in
-    ap (λ (step : Step). and_then step (λ after. steps (write_snapshot stack snapshot device) after (suc sector) n)) first
-    ∙ ap (λ (rest : Step). record { units = unit_in_store stack snapshot device state sector ∷ rest.units; state = rest.state })
-    (settled_part stack snapshot device chunk (suc sector) n state settled (λ i within. ap (λ (s : ℕ). s / snapshot.chunk) (let e : suc sector + i ≡ sector + suc i = omega arith in e) ∙ each (suc i) (omega (arith, within))))
+    cc (write_is false stack snapshot device chunk state sector here (settled_passes stack snapshot (taken_at state device) chunk settled), take_chunk_again stack snapshot device chunk state settled) in
+    rw (first, settled_part stack snapshot device chunk (suc sector) n state settled (λ i within. rw (let e : suc sector + i ≡ sector + suc i = omega arith in e) (each (suc i) (omega (arith, within)))))
 
 pub chunk_part : (stack : Description) (snapshot : FoundSnapshot) (device chunk sector n : ℕ) (state : State) → is_refused stack snapshot (taken_at state device) chunk ≡ false → device < length state → ((i : ℕ) → i < suc n → (sector + i) / snapshot.chunk ≡ chunk)
     → steps (write_snapshot stack snapshot device) state sector (suc n) ≡ and_then (take_chunk stack snapshot device chunk state) (λ after. keep (row (unit_in_store stack snapshot device after) sector (suc n)) after)
 chunk_part stack snapshot device chunk sector n state passes there each =
-    let here : sector / snapshot.chunk ≡ chunk = ap (λ (s : ℕ). s / snapshot.chunk) (let e : sector ≡ sector + 0 = omega arith in e) ∙ each 0 (omega arith) in
+    let here : sector / snapshot.chunk ≡ chunk = rw (let e : sector ≡ sector + 0 = omega arith in e) (each 0 (omega arith)) in
     let made = take_chunk stack snapshot device chunk state in
     let settled = take_chunk_settles state device chunk made there (chunk_outcome stack snapshot device chunk state) in
-    ap (λ (step : Step). and_then step (λ after. steps (write_snapshot stack snapshot device) after (suc sector) n)) (write_is false stack snapshot device chunk state sector here passes)
-    ∙ step_assoc made (λ after. keep (unit_in_store stack snapshot device after sector ∷ []) after) (λ after. steps (write_snapshot stack snapshot device) after (suc sector) n)
-    ∙ and_then_at made (λ after. and_then (keep (unit_in_store stack snapshot device after sector ∷ []) after) (λ later. steps (write_snapshot stack snapshot device) later (suc sector) n)) (λ after. keep (row (unit_in_store stack snapshot device after) sector (suc n)) after)
-    (ap (λ (rest : Step). record { units = unit_in_store stack snapshot device made.state sector ∷ rest.units; state = rest.state })
-    (settled_part stack snapshot device chunk (suc sector) n made.state settled (λ i within. ap (λ (s : ℕ). s / snapshot.chunk) (let e : suc sector + i ≡ sector + suc i = omega arith in e) ∙ each (suc i) (omega (arith, within)))))
+    cc (write_is false stack snapshot device chunk state sector here passes, step_assoc made (λ after. keep (unit_in_store stack snapshot device after sector ∷ []) after) (λ after. steps (write_snapshot stack snapshot device) after (suc sector) n), and_then_at made (λ after. and_then (keep (unit_in_store stack snapshot device after sector ∷ []) after) (λ later. steps (write_snapshot stack snapshot device) later (suc sector) n)) (λ after. keep (row (unit_in_store stack snapshot device after) sector (suc n)) after) (rw (settled_part stack snapshot device chunk (suc sector) n made.state settled (λ i within. ap (λ (s : ℕ). s / snapshot.chunk) (let e : suc sector + i ≡ sector + suc i = omega arith in e) ∙ each (suc i) (omega (arith, within))))))
 
 -- what is refused changes nothing, so that the next sector is refused too
 pub refused_part : (stack : Description) (snapshot : FoundSnapshot) (device chunk sector n : ℕ) (state : State) → is_refused stack snapshot (taken_at state device) chunk ≡ true → ((i : ℕ) → i < n → (sector + i) / snapshot.chunk ≡ chunk)

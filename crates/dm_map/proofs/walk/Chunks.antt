@@ -1,32 +1,29 @@
 -- The sectors of one chunk of a snapshot: where they are read, and that they are written there once the chunk is settled.
-use Rattle.std.proofs.Common.{◌≡◌, ℕ, zero, suc, ◌+◌, ◌-◌, ◌*◌, ◌/◌, ◌%◌, ◌<◌, ◌≤◌, true, false, List, [], ◌∷◌, ◌++◌, Option, Some, None, length, append_assoc, refl, sym, ap, subst, ◌∙◌, arith}
+use Rattle.std.proofs.Common.{◌≡◌, ℕ, zero, suc, ◌+◌, ◌-◌, ◌*◌, ◌/◌, ◌%◌, ◌<◌, ◌≤◌, true, false, List, [], ◌∷◌, ◌++◌, Option, Some, None, length, append_assoc, refl, sym, ap, ◌∙◌, arith}
 use Rattle.std.specs.Prelude.{min}
-use Rattle.std.proofs.lemmas.List.{length-set}
 use Rattle.std.proofs.lemmas.Nat.{div-add-mod', mod-mul-add}
 use Rattle.dm_table.specs.declared.requests.request.Op.TheVariants as ops
 use Rattle.dm_stack.specs.declared.lines.found_line.FoundSnapshot.{FoundSnapshot}
 use Rattle.dm_stack.specs.declared.lines.found_line.FoundLine.{FoundLine}
-use Rattle.dm_stack.specs.declared.lines.found_line.FoundTarget.{FoundTarget}
 use Rattle.dm_stack.specs.declared.lines.found_line.FoundTarget.TheVariants.{Snapshot}
-use Rattle.dm_stack.specs.lines.Below.{Below, Lies, found_at, IsLine, IsSnapshotSound, IsTargetSound}
+use Rattle.dm_stack.specs.lines.Below.{Lies, found_at, IsLine, IsSnapshotSound}
 use Rattle.dm_stack.specs.Description.{Description, device_len, lower_len}
 use Rattle.dm_stack.specs.lines.StoreLayout.{place}
 use Rattle.dm_map.specs.declared.walk.chunk.ReadAt.{ReadAt}
 use Rattle.dm_map.specs.declared.walk.homes.HomeStretch.{HomeStretch}
 use Rattle.dm_map.specs.walk.Homes.{home}
-use Rattle.dm_map.specs.walk.Reads.{by_below, read_unit}
 use Rattle.dm_map.specs.state.Snapshots.{number_in, store_sector, read_numbered, read_over}
 use Rattle.dm_map.specs.walk.SnapshotWrites.{home_in_store, is_refused, is_settled, take_chunk, row, store_writes, unit_in_store, write_snapshot, write_to}
 use Rattle.dm_map.specs.state.State.{State, Taken, taken_at}
-use Rattle.dm_map.specs.walk.Steps.{Step, keep, and_then, steps}
+use Rattle.dm_map.specs.walk.Steps.{keep, and_then, steps}
 use Rattle.dm_map.specs.state.Tables.{has_room}
-use Rattle.dm_map.specs.pieces.Units.{BlockUnit, WriteOf, Zeros, Fails, units_in}
+use Rattle.dm_map.specs.pieces.Units.{BlockUnit, WriteOf, Fails, units_in}
 use Rattle.dm_map.specs.walk.Mapping.{sector_step}
 use Rattle.dm_map.specs.pieces.Sink.{OfBeginning}
 use Rattle.dm_map.specs.walk.Range.{line_step, range_step, target_step}
 use Rattle.dm_map.specs.walk.Chunk.{AreInChunk, AreInSnapshot, AreReadAt, IsTakenAs}
 use Rattle.dm_map.proofs.state.TableLemmas.{room_place}
-use Rattle.dm_map.proofs.walk.ChunkTaking.{ChunkOutcome, chunk_outcome, Settled, Took, Lost, chunk_part, refused_part, settled_part, write_is}
+use Rattle.dm_map.proofs.walk.ChunkTaking.{chunk_part, refused_part, settled_part, write_is}
 use Rattle.dm_map.proofs.walk.Rows.{left_more, steps_read, steps_same, steps_still}
 use Rattle.dm_stack.proofs.StripeLemmas.{in_chunk}
 use Rattle.dm_map.proofs.walk.UnitRows.{row_same, write_row}
@@ -35,7 +32,7 @@ use Rattle.dm_map.proofs.walk.UnitRows.{row_same, write_row}
 
 pub in_snapshot : (stack : Description) (device distance len : ℕ) (line : FoundLine) (snapshot : FoundSnapshot) → IsLine stack device line → line.target ≡ Snapshot snapshot → 1 ≤ len → distance + len ≤ line.len → AreInSnapshot stack device snapshot distance len
 in_snapshot stack device distance len line snapshot of kind some inside =
-    let sound : IsSnapshotSound stack device line.start line.len snapshot = subst (λ (t : FoundTarget). IsTargetSound stack device line.start line.len t) kind of.target in
+    let sound : IsSnapshotSound stack device line.start line.len snapshot = rw kind at of.target in
     let first : found_at stack device 0 ≡ Some line = of.all 0 (omega (arith, sound.from)) (omega (arith, inside, some)) in
     record {
       is = rw (first, kind) refl;
@@ -50,9 +47,6 @@ in_one_chunk stack before device sector len at left part snapshot lies same posi
       whole = record { is = lies.is; sound = lies.sound; inside = omega (arith, lies.inside, position, part_is) };
       part = omega (arith, part_is, some);
     })
-
-pub chunk_same : (stack before : Description) (device sector len : ℕ) (snapshot : FoundSnapshot) → before ≡ stack → AreInChunk stack device snapshot sector len → AreInChunk before device snapshot sector len
-chunk_same stack before device sector len snapshot same chunk = subst (λ (s : Description). AreInChunk s device snapshot sector len) (sym same) chunk
 
 pub first_inside : (stack : Description) (device sector len : ℕ) (snapshot : FoundSnapshot) → AreInChunk stack device snapshot sector len → 1 ≤ len → sector / snapshot.chunk * snapshot.chunk < device_len stack device
 first_inside stack device sector len snapshot chunk some =
@@ -71,7 +65,7 @@ same_chunk snapshot sector i some within = (in_chunk snapshot.chunk sector i som
 
 -- a chunk begins where its number says
 pub chunk_begins : (chunk size : ℕ) → 0 < size → (chunk * size) % size ≡ 0
-chunk_begins chunk size some = ap (λ (n : ℕ). n % size) (let e : chunk * size ≡ chunk * size + 0 = omega arith in e) ∙ mod-mul-add chunk size 0 some
+chunk_begins chunk size some = rw (let e : chunk * size ≡ chunk * size + 0 = omega arith in e) (mod-mul-add chunk size 0 some)
 
 -- its sectors are inside the store where their place is
 pub place_inside : (snapshot : FoundSnapshot) (number sector len most : ℕ) → (place snapshot.kind snapshot.chunk number + 1) * snapshot.chunk ≤ most → sector % snapshot.chunk + len ≤ snapshot.chunk → store_sector snapshot number sector + len ≤ most
@@ -106,7 +100,7 @@ read_origin stack state device sector len snapshot chunk valid is =
 pub chunk_read : (stack : Description) (levels device sector n len : ℕ) (snapshot : FoundSnapshot) (state : State) (source : ReadAt) → AreReadAt stack state device snapshot sector len source → n ≤ len → line_step stack ops.Read levels device (Snapshot snapshot) state sector n ≡ range_step stack ops.Read levels source.to state source.sector n
 chunk_read stack levels device sector n len snapshot state source at few =
     steps_read (target_step stack ops.Read levels device (Snapshot snapshot)) (sector_step stack ops.Read levels source.to) state sector source.sector n
-    (λ i within. ap (λ (b : Below). keep (by_below b Zeros Fails (λ to s. read_unit stack state levels to s) ∷ []) state) (at.lies i (omega (arith, within, few)))) (λ i within. refl)
+    (λ i within. cc (at.lies i (omega (arith, within, few)))) (λ i within. refl)
 
 pub lost_read : (stack : Description) (levels device sector n : ℕ) (snapshot : FoundSnapshot) (state : State) → (taken_at state device).valid ≡ false → line_step stack ops.Read levels device (Snapshot snapshot) state sector n ≡ keep (units_in Fails n) state
 lost_read stack levels device sector n snapshot state off =
@@ -128,8 +122,7 @@ pub row_numbered : (stack : Description) (snapshot : FoundSnapshot) (device sect
 row_numbered stack snapshot device sector len number state chunk valid is =
     let some = chunk.whole.sound.chunk_some in
     row_same (unit_in_store stack snapshot device state) (λ s. write_to (home stack snapshot.store s)) sector (store_sector snapshot number sector) len
-    (λ i within. unit_numbered stack snapshot device (sector + i) (sector / snapshot.chunk) number state valid (same_chunk snapshot sector i some (omega (arith, chunk.part, within))) is
-    ∙ ap (λ (s : ℕ). write_to (home stack snapshot.store s)) (store_sector_on snapshot number sector i some (omega (arith, chunk.part, within))))
+    (λ i within. cc (unit_numbered stack snapshot device (sector + i) (sector / snapshot.chunk) number state valid (same_chunk snapshot sector i some (omega (arith, chunk.part, within))) is, store_sector_on snapshot number sector i some (omega (arith, chunk.part, within))))
 
 -- where it was just taken, some of them lie in a row on a disk
 pub row_taken : (stack : Description) (snapshot : FoundSnapshot) (device sector len number : ℕ) (state : State) (first : HomeStretch) → AreInChunk stack device snapshot sector len → IsTakenAs stack state device snapshot (sector / snapshot.chunk) number first → sector % snapshot.chunk + len ≤ first.len
@@ -139,24 +132,13 @@ row_taken stack snapshot device sector len number state first chunk taken within
     let begins : at % snapshot.chunk ≡ 0 = chunk_begins (sector / snapshot.chunk) snapshot.chunk chunk.whole.sound.chunk_some in
     row_numbered stack snapshot device sector len number state chunk taken.valid taken.is
     ∙ write_row (home stack snapshot.store) (store_sector snapshot number sector) first.disk (first.start + distance) len
-    (λ i less. ap (home stack snapshot.store) (let e : store_sector snapshot number sector + i ≡ store_sector snapshot number at + (distance + i) = omega (arith, begins) in e)
-    ∙ taken.homes.homes (distance + i) (omega (arith, within, less)) ∙ ap (λ (s : ℕ). record { disk = first.disk; sector = s }) (let e : first.start + (distance + i) ≡ first.start + distance + i = omega arith in e))
+    (λ i less. cc ((let e : store_sector snapshot number sector + i ≡ store_sector snapshot number at + (distance + i) = omega (arith, begins) in e), taken.homes.homes (distance + i) (omega (arith, within, less)), (let e : first.start + (distance + i) ≡ first.start + distance + i = omega arith in e)))
 
 pub row_lost : (stack : Description) (snapshot : FoundSnapshot) (device sector len : ℕ) (state : State) → (taken_at state device).valid ≡ false → row (unit_in_store stack snapshot device state) sector len ≡ units_in Fails len
 row_lost stack snapshot device sector zero state off = refl
 row_lost stack snapshot device sector (suc len) state off =
     let here : unit_in_store stack snapshot device state sector ≡ Fails = rw off refl in
-    ap (λ (unit : BlockUnit). unit ∷ row (unit_in_store stack snapshot device state) (suc sector) len) here ∙ ap (λ (rest : List BlockUnit). Fails ∷ rest) (row_lost stack snapshot device (suc sector) len state off)
-
--- taking a chunk leaves as many tables
-len_readied : (state : State) (device chunk : ℕ) (step : Step) → ChunkOutcome state device chunk step → length step.state ≡ length state
-len_readied state device chunk step (Settled settled is) = rw is refl
-len_readied state device chunk step (Took valid fresh units is) = rw is (length-set state device _)
-len_readied state device chunk step (Lost is) = rw is (length-set state device _)
-
-pub take_chunk_there : (stack : Description) (snapshot : FoundSnapshot) (device chunk : ℕ) (state : State) → device < length (take_chunk stack snapshot device chunk state).state → device < length state
-take_chunk_there stack snapshot device chunk state there =
-    let same = len_readied state device chunk (take_chunk stack snapshot device chunk state) (chunk_outcome stack snapshot device chunk state) in omega (arith, there, same)
+    cc (row_lost stack snapshot device (suc sector) len state off)
 
 -- the write of sectors of a chunk for which nothing is left to do
 pub settled_written : (stack : Description) (snapshot : FoundSnapshot) (device sector len : ℕ) (state : State) → AreInChunk stack device snapshot sector len → is_settled (taken_at state device) (sector / snapshot.chunk) ≡ true
@@ -179,7 +161,7 @@ left_taking left old new stack snapshot device sector (suc n) state some passes 
     let made = take_chunk stack snapshot device (sector / snapshot.chunk) state in
     let unit = unit_in_store stack snapshot device made.state sector ∷ [] in
     left_more left old new made.units (unit ++ (steps (write_snapshot stack snapshot device) made.state (suc sector) n).units) _
-    (sym (append_assoc made.units unit _) ∙ ap (λ (step : Step). (and_then step (λ after. steps (write_snapshot stack snapshot device) after (suc sector) n)).units) (sym (write_is false stack snapshot device (sector / snapshot.chunk) state sector refl passes))) cut
+    (rw (write_is false stack snapshot device (sector / snapshot.chunk) state sector refl passes, append_assoc made.units unit _)) cut
 
 -- and where it is refused, they fail
 pub chunk_refused : (stack : Description) (snapshot : FoundSnapshot) (device sector len : ℕ) (state : State) → AreInChunk stack device snapshot sector len → is_refused stack snapshot (taken_at state device) (sector / snapshot.chunk) ≡ true

@@ -1,5 +1,5 @@
 -- What lies below a line is less deep than its device.
-use Rattle.std.proofs.Common.{◌≡◌, ℕ, zero, suc, ◌+◌, ◌-◌, ◌<◌, ◌≤◌, List, [], ◌∷◌, Option, Some, None, length, map, refl, sym, ap, subst, ◌∙◌, arith}
+use Rattle.std.proofs.Common.{◌≡◌, ℕ, zero, suc, ◌+◌, ◌-◌, ◌<◌, ◌≤◌, List, [], ◌∷◌, Option, Some, None, length, map, refl, ap, subst, ◌∙◌, arith}
 use Rattle.std.specs.Prelude.{option_map, slice_get}
 use Rattle.std.specs.List.{AllByRecursion, range_with_len}
 use Rattle.std.proofs.lemmas.Option.{get_or_from_slice_get, slice_get-map}
@@ -27,7 +27,7 @@ on_found : (over : FoundSnapshot → ℕ → Below) (stack : Description) (P : �
 on_found over stack P lines sector distance None line on each e is = absurd cc
 on_found over stack P lines sector distance (Some l) line on each e is =
     let same : found_line stack l ≡ line = cc in
-    subst (λ (x : FoundLine). OnBelow P (below_target over x.target distance)) same (on_target over stack P l.len l.target distance on (found (λ x. AllByRecursion P (line_links stack x)) (holds sector) lines l each e).1)
+    rw (← same) (on_target over stack P l.len l.target distance on (found (λ x. AllByRecursion P (line_links stack x)) (holds sector) lines l each e).1)
 
 -- the lines of a device name what it names
 device_lines : (stack : Description) (P : ℕ → Type 0) (device : ℕ) → device < length stack.devices → AllByRecursion P (links_of (links stack) device) → AllByRecursion (λ l. AllByRecursion P (line_links stack l)) (lines_at stack device)
@@ -35,7 +35,7 @@ device_lines stack P device within each =
     let d = there stack.devices device within in
     let is : slice_get (links stack) device ≡ Some (device_links stack d.it) = slice_get-map (device_links stack) stack.devices device ∙ ap (option_map (device_links stack)) d.at in
     let named : links_of (links stack) device ≡ device_links stack d.it = get_or_from_slice_get (links stack) device (device_links stack d.it) [] is in
-    subst (λ (ls : List Line). AllByRecursion (λ l. AllByRecursion P (line_links stack l)) ls) (sym (lines_there stack device d.it d.at)) (on_lines stack P d.it.lines (subst (AllByRecursion P) named each))
+    rw (lines_there stack device d.it d.at) (on_lines stack P d.it.lines (subst (AllByRecursion P) named each))
 
 all_less : (depth : ℕ → ℕ) (most : ℕ) (ids : List ℕ) → greatest (map depth ids) < most → AllByRecursion (λ id. depth id < most) ids
 all_less depth most [] less = tt
@@ -48,7 +48,7 @@ lower_less stack device (Disk disk) some on = some
 
 at_below : (P : ℕ → Type 0) (b : Below) (to : Lower) (sector : ℕ) → OnBelow P b → b ≡ Lies to sector → OnLower P to
 unfolding OnBelow
-at_below P b to sector on is = subst (λ (x : Below). OnBelow P x) is on
+at_below P b to sector on is = rw is at on
 
 pub below_less : (stack : Description) (state : State) (device sector distance : ℕ) (line : FoundLine) (to : Lower) (lower : ℕ) → IsSound stack → found_at stack device sector ≡ Some line
     → below_target (read_over (taken_at state device)) line.target distance ≡ Lies to lower → lower_depth stack to ≤ depth_of stack device - 1

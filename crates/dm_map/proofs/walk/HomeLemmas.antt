@@ -1,5 +1,5 @@
 -- Sectors that lie in a row on a disk, and the results where others were handed over.
-use Rattle.std.proofs.Common.{◌≡◌, ℕ, ◌+◌, ◌-◌, ◌≤◌, false, List, Some, refl, sym, ap, subst, ◌∙◌, arith}
+use Rattle.std.proofs.Common.{◌≡◌, ℕ, ◌+◌, ◌-◌, ◌≤◌, false, List, Some, refl, sym, ◌∙◌, arith}
 use Rattle.std.specs.Prelude.{Option, Result, Ok, Err}
 use Rattle.dm_table.specs.declared.requests.request.Op.{Op}
 use Rattle.dm_stack.specs.declared.lines.found_line.FoundLine.{FoundLine}
@@ -29,7 +29,7 @@ use Rattle.dm_map.proofs.walk.Spans.{below_is}
 
 pub disk_step : (w : WalkerView) (op : Op) (levels : ℕ) (lower : Lower) (disk sector len : ℕ) (units : List BlockUnit) → lower ≡ Disk disk → units ≡ units_in (disk_unit op disk sector) len → keep units w.state ≡ range_step w.stack op levels lower w.state sector len
 disk_step w op levels lower disk sector len units is units_is =
-    ap (λ (us : List BlockUnit). keep us w.state) units_is ∙ sym (range_disk w.stack op levels disk sector len w.state) ∙ ap (λ l. range_step w.stack op levels l w.state sector len) (sym is)
+    cc (range_disk w.stack op levels disk sector len w.state)
 
 -- Units that were handed over
 
@@ -41,7 +41,7 @@ over stack op n (Err fault) walked = record { took = tt; state = tt; kept = tt; 
 pub walked_over : {S F : Type 0} {past : SinkPast S} {old new : S} {before after : WalkerView} {step : Step} {len : ℕ} {result : Result (Unit {0}) F} {answer : Result (Option Home) F} (stack : Description) (op : Op) (n : ℕ)
     → answer ≡ handed result → IsWalked past result old new before after step len → IsWalked (or_home past stack op n answer) answer old new before after step len
 walked_over {past} {old} {new} {before} {after} {step} {len} {result} stack op n is walked =
-    subst (λ a. IsWalked (or_home past stack op n a) a old new before after step len) (sym is) (over stack op n result walked)
+    rw is (over stack op n result walked)
 
 pub mapped_over : {S F : Type 0} {past : SinkPast S} {old new : S} {before after : WalkerView} {mapping : Mapping} {first len : ℕ} {result : Result (Unit {0}) F} {answer : Result (Option Home) F} (stack : Description) (op : Op) (n : ℕ)
     → answer ≡ handed result → IsMapped past result old new before after mapping first len → IsMapped (or_home past stack op n answer) answer old new before after mapping first len
@@ -64,5 +64,4 @@ home_mapped {S} {F} past sink w op device sector len line home stack is passes o
     let below = mapped_below op 31 device line.start distance line.start line line.target (Disk home.disk) (leg.of.all line.start (omega arith) (omega (arith, some, leg.inside))) refl some
     (λ i within. below_is (read_over (taken_at w.state device)) line.target (distance + i) leg.is.plain ∙ leg.is.below i within) leg.is.chunk
     (sym (leg_lies w.stack op 31 device line.target (Disk home.disk) distance home.start len w.state leg.is)) base in
-    subst (λ (s : Description). IsMapped {F = F} (or_home {F = F} past s op len (Ok (Some home))) (Ok (Some home)) sink sink w w (found_mapping op MOST_DEPTH device) sector len) (sym is)
-    (mapped_line op MOST_DEPTH 31 device sector len line refl passes of some inside below)
+    rw is (mapped_line op MOST_DEPTH 31 device sector len line refl passes of some inside below)

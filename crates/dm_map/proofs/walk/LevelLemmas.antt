@@ -20,7 +20,7 @@ use Rattle.dm_stack.specs.declared.checks.graph.TheConstants.{MOST_DEPTH}
 use Rattle.dm_stack.specs.declared.lines.found_line.FoundLine.{FoundLine}
 use Rattle.dm_stack.specs.declared.lines.found_line.FoundTarget.{FoundTarget}
 use Rattle.dm_stack.specs.declared.lines.found_line.FoundTarget.TheVariants as founds
-use Rattle.dm_stack.specs.Description.{Description, is_ro_at, lower_of, ref_link, line_links, device_links, links, lines_or_none}
+use Rattle.dm_stack.specs.Description.{Description, lower_of, ref_link, line_links, device_links, links, lines_or_none}
 use Rattle.dm_table.specs.tables.Span.{Span, target_spans, whole_span}
 use Rattle.dm_stack.specs.checks.Graph.{links_of, greatest, depth_to}
 use Rattle.dm_stack.specs.declared.lines.found_line.FoundSnapshot.{FoundSnapshot}
@@ -29,7 +29,7 @@ use Rattle.dm_stack.specs.lines.Over.{found_snapshot}
 use Rattle.dm_stack.specs.checks.Soundness.{IsSound, faults_by_id, depth_of}
 use Rattle.dm_stack.proofs.Passes.{all_parts, passes_all}
 use Rattle.dm_stack.proofs.SoundLines.{found}
-use Rattle.dm_map.specs.pieces.Units.{BlockUnit, Zeros, Drops, Fails}
+use Rattle.dm_map.specs.pieces.Units.{Zeros, Drops, Fails}
 use Rattle.dm_map.specs.walk.Serving.{serve}
 use Rattle.dm_map.specs.state.Snapshots.{number_in, read_numbered, read_over}
 use Rattle.dm_map.specs.state.State.{State, Taken, taken_at}
@@ -181,9 +181,7 @@ same_write stack zero j k (Device device) state sector h = absurd (omega (arith,
 same_write stack (suc n) zero k (Device device) state sector h = absurd (some_level (links stack) n k device h.first)
 same_write stack (suc n) (suc j) zero (Device device) state sector h = absurd (some_level (links stack) n j device h.second)
 same_write stack (suc n) (suc j) (suc k) (Device device) state sector h =
-    ap (λ (step : Step). cond (is_ro_at stack device) (keep (Fails ∷ []) state) step)
-    (same_line (IsShallow (links stack) n j k) stack state device (found_at stack device sector) sector (λ to after s. write_step stack j to after s) (λ to after s. write_step stack k to after s)
-    (on_below (read_over (taken_at state device)) stack (IsShallow (links stack) n j k) device sector (over_read (IsShallow (links stack) n j k) (taken_at state device)) (named_shallow (links stack) n j k device h)) (λ after to s on. same_write stack n j k to after s on))
+    cc (same_line (IsShallow (links stack) n j k) stack state device (found_at stack device sector) sector (λ to after s. write_step stack j to after s) (λ to after s. write_step stack k to after s) (on_below (read_over (taken_at state device)) stack (IsShallow (links stack) n j k) device sector (over_read (IsShallow (links stack) n j k) (taken_at state device)) (named_shallow (links stack) n j k device h)) (λ after to s on. same_write stack n j k to after s on))
 
 -- A sound stack is nowhere too deep
 
@@ -202,7 +200,7 @@ pub shallow : (stack : Description) (device : ℕ) → IsSound stack → device 
 shallow stack device sound there =
     let position : 0 + device ≡ device = omega arith in
     let passes = none_at _ (λ id. nat_lt MOST_DEPTH (depth_of stack id)) 0 device stack.devices (passes_all stack sound).shallow there in
-    ltb-false MOST_DEPTH (depth_of stack device) (subst (λ (id : ℕ). nat_lt MOST_DEPTH (depth_of stack id) ≡ false) position passes)
+    ltb-false MOST_DEPTH (depth_of stack device) (rw position at passes)
 
 shallow_at : (stack : Description) (device levels : ℕ) → IsSound stack → device < length stack.devices → depth_of stack device ≤ levels → IsShallow (links stack) (suc MOST_DEPTH) levels MOST_DEPTH device
 shallow_at stack device levels sound there enough =
@@ -211,7 +209,7 @@ shallow_at stack device levels sound there enough =
 pub reads_free : (stack : Description) → IsSound stack → IsFreeOfLevels stack ops.Read
 unfolding OnLower
 reads_free stack sound = record {
-  same = λ device levels sector state there enough. ap (λ (unit : BlockUnit). keep (unit ∷ []) state) (same_read stack state (suc MOST_DEPTH) levels MOST_DEPTH (Device device) sector (shallow_at stack device levels sound there enough));
+  same = λ device levels sector state there enough. cc (same_read stack state (suc MOST_DEPTH) levels MOST_DEPTH (Device device) sector (shallow_at stack device levels sound there enough));
 }
 
 pub writes_free : (stack : Description) → IsSound stack → IsFreeOfLevels stack ops.Write

@@ -1,5 +1,5 @@
 -- The legs of a line.
-use Rattle.std.proofs.Common.{◌≡◌, ℕ, ◌+◌, ◌≤◌, subst, sym, arith}
+use Rattle.std.proofs.Common.{◌≡◌, ℕ, ◌+◌, ◌≤◌, arith}
 use Rattle.dm_stack.specs.declared.lines.found_line.FoundLine.{FoundLine}
 use Rattle.dm_stack.specs.declared.lines.found_line.FoundTarget.{FoundTarget}
 use Rattle.dm_stack.specs.declared.lines.leg.Leg.{Leg}
@@ -24,9 +24,9 @@ leg_of stack device distance len line leg of inside is lies =
 -- one of a row of them, of which the stack is still that
 pub leg_within : (stack old : Description) (device at left : ℕ) (line : FoundLine) (leg : Leg) → stack ≡ old → IsLine old device line → at + left ≤ line.len → IsLeg line.target at left leg → IsLegOf stack device line at leg
 leg_within stack old device at left line leg same of inside is =
-    leg_of stack device at left line leg (subst (λ (s : Description). IsLine s device line) (sym same) of) inside is
+    leg_of stack device at left line leg (rw same of) inside is
     (λ other id start line_len sound inside. leg_lies_inside other id start line_len at left line.target leg is sound inside)
 
 -- a leg of one that is left of a row of legs
 pub leg_at : (target other : FoundTarget) (distance at most : ℕ) (leg : Leg) → other ≡ target → distance ≡ at → IsLeg other distance most leg → IsLeg target at most leg
-leg_at target other distance at most leg same position is = subst (λ (d : ℕ). IsLeg target d most leg) position (subst (λ (t : FoundTarget). IsLeg t distance most leg) same is)
+leg_at target other distance at most leg same position is = rw (← position, ← same) is

@@ -1,6 +1,5 @@
 -- One level down: what lies below is less deep, and from there on the levels that are left play no part.
-use Rattle.std.proofs.Common.{◌≡◌, ℕ, zero, suc, ◌-◌, ◌<◌, ◌≤◌, inl, inr, cond, [], ◌∷◌, Option, Some, None, length, refl, sym, ap, subst, ◌∙◌, arith}
-use Rattle.std.specs.Prelude.{option_map}
+use Rattle.std.proofs.Common.{◌≡◌, ℕ, zero, suc, ◌-◌, ◌<◌, ◌≤◌, inl, inr, cond, [], ◌∷◌, Option, Some, None, length, refl, ◌∙◌, arith}
 use Rattle.std.specs.List.{AllByRecursion}
 use Rattle.std.proofs.lemmas.Bool.{cases_lt}
 use Rattle.std.proofs.lemmas.Option.{slice_get_past}
@@ -8,8 +7,8 @@ use Rattle.dm_stack.specs.declared.checks.graph.TheConstants.{MOST_DEPTH}
 use Rattle.dm_stack.specs.declared.id.Lower.{Lower}
 use Rattle.dm_stack.specs.declared.id.Lower.TheVariants.{Device, Disk}
 use Rattle.dm_stack.specs.declared.lines.found_line.FoundLine.{FoundLine}
-use Rattle.dm_stack.specs.lines.Below.{Below, Lies, IsError, below, below_line, found_at, found_line, line_of}
-use Rattle.dm_stack.specs.Description.{Description, is_ro_at, links, lines_or_none}
+use Rattle.dm_stack.specs.lines.Below.{Lies, IsError, below, below_line, found_at}
+use Rattle.dm_stack.specs.Description.{Description, is_ro_at, links}
 use Rattle.dm_stack.specs.checks.Graph.{links_of}
 use Rattle.dm_stack.specs.checks.Depth.{lower_depth}
 use Rattle.dm_stack.specs.checks.Soundness.{IsSound, depth_of}
@@ -18,7 +17,7 @@ use Rattle.dm_map.specs.walk.Reads.{by_below, read_below, read_unit}
 use Rattle.dm_map.specs.walk.SnapshotWrites.{read}
 use Rattle.dm_map.specs.state.Snapshots.{read_over}
 use Rattle.dm_map.specs.state.State.{State, taken_at}
-use Rattle.dm_map.specs.walk.Steps.{Step, keep}
+use Rattle.dm_map.specs.walk.Steps.{keep}
 use Rattle.dm_map.specs.pieces.Units.{ReadOf, Zeros, Fails}
 use Rattle.dm_map.proofs.walk.Depths.{below_less, depth_some}
 use Rattle.dm_map.proofs.walk.LevelLemmas.{IsShallow, OnBelow, named_shallow, on_below, over_read, same_below, same_line, same_read, same_write, shallow}
@@ -26,10 +25,10 @@ use Rattle.dm_map.proofs.walk.LevelLemmas.{IsShallow, OnBelow, named_shallow, on
 -- What lies below a device is less deep
 
 none_past : (stack : Description) (device sector : ℕ) → length stack.devices ≤ device → found_at stack device sector ≡ None
-none_past stack device sector past = ap (λ o. option_map (found_line stack) (line_of (lines_or_none o) sector)) (slice_get_past stack.devices device past)
+none_past stack device sector past = cc (slice_get_past stack.devices device past)
 
 pub below_past : (stack : Description) (state : State) (device sector : ℕ) → length stack.devices ≤ device → read_below stack state device sector ≡ IsError
-below_past stack state device sector past = ap (λ (line : Option FoundLine). below_line (read_over (taken_at state device)) line sector) (none_past stack device sector past)
+below_past stack state device sector past = cc (none_past stack device sector past)
 
 next_line : (stack : Description) (state : State) (device sector : ℕ) (to : Lower) (at : ℕ) (line : Option FoundLine) → IsSound stack → found_at stack device sector ≡ line → below_line (read_over (taken_at state device)) line sector ≡ Lies to at
     → lower_depth stack to < depth_of stack device
@@ -51,7 +50,7 @@ shallow_below : (stack : Description) (state : State) (device sector : ℕ) → 
 unfolding OnBelow
 shallow_below stack state device sector sound = elim (cases_lt device (length stack.devices)) [
   | inl there ↦ on_below (read_over (taken_at state device)) stack (IsShallow (links stack) 32 31 32) device sector (over_read (IsShallow (links stack) 32 31 32) (taken_at state device)) (shallow_named stack device sound there)
-  | inr past ↦ subst (λ (b : Below). OnBelow (IsShallow (links stack) 32 31 32) b) (sym (below_past stack state device sector past)) tt
+  | inr past ↦ rw (below_past stack state device sector past) tt
 ]
 
 read_suc : (stack : Description) (state : State) (n device sector : ℕ) → read_unit stack state (suc n) (Device device) sector ≡ by_below (read_below stack state device sector) Zeros Fails (λ to at. read_unit stack state n to at)
@@ -76,10 +75,7 @@ write_suc stack n device sector state = refl
 pub write_down : (stack : Description) (device sector : ℕ) (state : State) → IsSound stack → write_step stack MOST_DEPTH (Device device) state sector
     ≡ cond (is_ro_at stack device) (keep (Fails ∷ []) state) (write_line stack state device (found_at stack device sector) sector (λ to after at. write_step stack MOST_DEPTH to after at))
 write_down stack device sector state sound =
-    write_suc stack 31 device sector state
-    ∙ ap (λ (step : Step). cond (is_ro_at stack device) (keep (Fails ∷ []) state) step)
-    (same_line (IsShallow (links stack) 32 31 32) stack state device (found_at stack device sector) sector (λ to after at. write_step stack 31 to after at) (λ to after at. write_step stack 32 to after at)
-    (shallow_below stack state device sector sound) (λ after to at on. same_write stack 32 31 32 to after at on))
+    cc (write_suc stack 31 device sector state, same_line (IsShallow (links stack) 32 31 32) stack state device (found_at stack device sector) sector (λ to after at. write_step stack 31 to after at) (λ to after at. write_step stack 32 to after at) (shallow_below stack state device sector sound) (λ after to at on. same_write stack 32 31 32 to after at on))
 
 -- Induction on the depth
 

@@ -1,5 +1,5 @@
 -- A part of the sectors of an origin's device as one walk: its snapshots are served, and then the sectors of the origin are written.
-use Rattle.std.proofs.Common.{◌≡◌, ℕ, zero, suc, ◌+◌, ◌<◌, ◌≤◌, List, ◌++◌, append_assoc, sym, ap, subst, ◌∙◌, arith}
+use Rattle.std.proofs.Common.{◌≡◌, ℕ, zero, suc, ◌+◌, ◌<◌, ◌≤◌, List, ◌++◌, append_assoc, sym, arith}
 use Rattle.std.specs.List.{All}
 use Rattle.std.specs.Prelude.{Result, Ok, Err}
 use Rattle.std.proofs.lemmas.List.Elements.{All-from_recursion}
@@ -11,9 +11,9 @@ use Rattle.dm_stack.specs.lines.Over.{snapshots_over}
 use Rattle.dm_stack.specs.checks.Soundness.{IsSound}
 use Rattle.dm_map.specs.walk.Mapping.{sector_step}
 use Rattle.dm_map.specs.walk.Serving.{AreSettled, IsOver, serve}
-use Rattle.dm_map.specs.pieces.Sink.{IsLawful, OfBeginning, SinkPast}
+use Rattle.dm_map.specs.pieces.Sink.{IsLawful, SinkPast}
 use Rattle.dm_map.specs.state.State.{State}
-use Rattle.dm_map.specs.walk.Steps.{Step, steps}
+use Rattle.dm_map.specs.walk.Steps.{steps}
 use Rattle.dm_map.specs.state.Walker.{WalkerView}
 use Rattle.dm_map.specs.walk.Bound.{IsMapped, origin_mapping, range_mapping}
 use Rattle.dm_map.specs.walk.Range.{IsWalked, range_step, served_sector}
@@ -26,11 +26,11 @@ use Rattle.dm_map.proofs.walk.Settled.{write_keeps_settled}
 pub line_overs : (stack before : Description) (origin : FoundOrigin) (over : List FoundOver) (sector len end : ℕ) → IsSound stack → before ≡ stack → over ≡ origin.over → origin.over ≡ snapshots_over stack origin.to → sector + len ≤ lower_len stack origin.to → end ≤ sector + len → All (IsOver before end) over
 line_overs stack before origin over sector len end sound same list all inside within =
     let each = All-from_recursion (IsOver stack end) _ (overs stack origin.to end sound (omega (arith, inside, within))) in
-    subst (λ (s : Description). All (IsOver s end) over) (sym same) (subst (λ (xs : List FoundOver). All (IsOver stack end) xs) (sym (list ∙ all)) each)
+    rw (same, list, all) each
 
 -- what serving gives, by what the origin has
 served_is : (stack : Description) (origin : FoundOrigin) (over : List FoundOver) (at : ℕ) (state : State) → over ≡ origin.over → serve stack over at state ≡ serve stack origin.over at state
-served_is stack origin over at state list = ap (λ (xs : List FoundOver). serve stack xs at state) list
+served_is stack origin over at state list = cc
 
 -- the sink failed at what serving gives
 pub serve_failed : {S F : Type 0} {past : SinkPast S} {fault : F} {old new : S} {before after : WalkerView} {over : List FoundOver} (levels at n : ℕ) (origin : FoundOrigin) → over ≡ origin.over → 1 ≤ n
@@ -46,7 +46,7 @@ serve_failed {past} {old} {new} {before} {over} levels at (suc k) origin list so
         state = tt;
         kept = tt;
         room = tt;
-        left = left_more past.left old new first.units (plain.units ++ rest.units) ((first.units ++ plain.units) ++ rest.units) (sym (append_assoc first.units plain.units rest.units)) (subst (λ (x : Step). OfBeginning past.left old x.units new) (served_is before.stack origin over at before.state list) walk.left);
+        left = left_more past.left old new first.units (plain.units ++ rest.units) ((first.units ++ plain.units) ++ rest.units) (sym (append_assoc first.units plain.units rest.units)) (rw (← served_is before.stack origin over at before.state list) walk.left);
         faults = walk.faults;
         stack = walk.stack;
         looked = walk.looked;
@@ -63,12 +63,12 @@ part_mapped {before} {between} {over} lawful levels at (suc k) origin list some 
     let stack = before.stack in let plain = sector_step stack ops.Write levels origin.to in
     let first = serve stack origin.over at before.state in
     let here : serve stack over at before.state ≡ first = served_is stack origin over at before.state list in
-    let state_is : between.state ≡ first.state = one.state ∙ ap (λ (x : Step). x.state) here in
+    let state_is : between.state ≡ first.state = cc in
     let keeps : StepsKeep plain = λ state sector. write_keeps_settled stack levels origin.to state sector in
     let settled : (i : ℕ) → i < suc k → AreSettled first.state origin.over (at + i) = λ i within.
-    subst (λ (s : State). AreSettled s origin.over (at + i)) state_is (subst (λ (xs : List FoundOver). AreSettled between.state xs (at + i)) list (each i within)) in
+    rw (← state_is, ← list) (each i within) in
     let next : steps plain first.state at (suc k) ≡ range_step between.stack ops.Write levels origin.to between.state at (suc k) =
-    ap (λ (s : State). steps plain s at (suc k)) (sym state_is) ∙ ap (λ (s : Description). range_step s ops.Write levels origin.to between.state at (suc k)) (sym one.stack) in
+    cc in
     record {
       walked = walked_as (sym (part stack origin.over plain before.state at k keeps settled))
           (walked_then lawful (λ later. steps plain later at (suc k)) next (let e : suc k ≤ suc k = omega arith in e) (walked_as here one) two.walked);

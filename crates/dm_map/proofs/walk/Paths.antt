@@ -1,5 +1,5 @@
 -- Stretches of paths: where they are the same, and how those of two ranges add up.
-use Rattle.std.proofs.Common.{◌≡◌, ℕ, zero, suc, ◌+◌, ◌-◌, ◌*◌, ◌<◌, ◌≤◌, Bool, true, false, cond, List, ◌∷◌, Option, Some, None, refl, sym, ap, ◌∙◌, arith}
+use Rattle.std.proofs.Common.{◌≡◌, ℕ, zero, suc, ◌+◌, ◌-◌, ◌*◌, ◌<◌, ◌≤◌, true, false, List, ◌∷◌, Option, Some, None, refl, sym, ap, arith}
 use Rattle.std.specs.Prelude.{◌==◌}
 use Rattle.std.proofs.lemmas.Bool.{eq-eqb}
 use Rattle.std.proofs.Math.Nat.{mul-le-mul, mul-le-mul_left}
@@ -41,26 +41,22 @@ changes_same f h s t zero each = refl
 changes_same f h s t (suc n) each =
     let s0 : s ≡ s + 0 = omega arith in let s1 : suc s ≡ s + 1 = omega arith in let t0 : t + 0 ≡ t = omega arith in let t1 : t + 1 ≡ suc t = omega arith in
     let here : is_same_path (f s) (f (suc s)) ≡ is_same_path (h t) (h (suc t)) =
-    ap (λ (p : ℕ). is_same_path (f p) (f (suc s))) s0 ∙ ap (λ (p : ℕ). is_same_path (f (s + 0)) (f p)) s1 ∙ each 0 (omega arith)
-    ∙ ap (λ (p : ℕ). is_same_path (h p) (h (t + 1))) t0 ∙ ap (λ (p : ℕ). is_same_path (h t) (h p)) t1 in
+    cc (each 0 (omega arith)) in
     let later : changes f (suc s) n ≡ changes h (suc t) n = changes_same f h (suc s) (suc t) n (λ i within.
-    ap (λ (p : ℕ). is_same_path (f p) (f (suc s + suc i))) (let e : suc s + i ≡ s + suc i = omega arith in e) ∙ ap (λ (p : ℕ). is_same_path (f (s + suc i)) (f p)) (let e : suc s + suc i ≡ s + suc (suc i) = omega arith in e)
-    ∙ each (suc i) (omega (arith, within))
-    ∙ ap (λ (p : ℕ). is_same_path (h p) (h (t + suc (suc i)))) (let e : t + suc i ≡ suc t + i = omega arith in e) ∙ ap (λ (p : ℕ). is_same_path (h (suc t + i)) (h p)) (let e : t + suc (suc i) ≡ suc t + suc i = omega arith in e)) in
-    ap (λ (b : Bool). cond b 0 1 + changes f (suc s) n) here ∙ ap (λ (k : ℕ). cond (is_same_path (h t) (h (suc t))) 0 1 + k) later
+    cc ((let e : suc s + i ≡ s + suc i = omega arith in e), (let e : suc s + suc i ≡ s + suc (suc i) = omega arith in e), each (suc i) (omega (arith, within)), (let e : t + suc i ≡ suc t + i = omega arith in e), (let e : t + suc (suc i) ≡ suc t + suc i = omega arith in e))) in
+    cc
 
 -- the same paths
 pub stretches_same : (f h : ℕ → List PathStep) (s t n : ℕ) → ((i : ℕ) → i < n → f (s + i) ≡ h (t + i)) → stretches f s n ≡ stretches h t n
 stretches_same f h s t zero each = refl
 stretches_same f h s t (suc n) each = ap suc (changes_same f h s t n (λ i within.
-    ap (λ (p : List PathStep). is_same_path p (f (s + suc i))) (each i (omega (arith, within))) ∙ ap (λ (p : List PathStep). is_same_path (h (t + i)) p) (each (suc i) (omega (arith, within)))))
+    cc (each i (omega (arith, within)), each (suc i) (omega (arith, within)))))
 
 -- paths after one step
 pub stretches_after : (f h : ℕ → List PathStep) (step : PathStep) (s t n : ℕ) → ((i : ℕ) → i < n → f (s + i) ≡ step ∷ h (t + i)) → stretches f s n ≡ stretches h t n
 stretches_after f h step s t zero each = refl
 stretches_after f h step s t (suc n) each = ap suc (changes_same f h s t n (λ i within.
-    ap (λ (p : List PathStep). is_same_path p (f (s + suc i))) (each i (omega (arith, within))) ∙ ap (λ (p : List PathStep). is_same_path (step ∷ h (t + i)) p) (each (suc i) (omega (arith, within)))
-    ∙ head_same step (h (t + i)) (h (t + suc i))))
+    cc (each i (omega (arith, within)), each (suc i) (omega (arith, within)), head_same step (h (t + i)) (h (t + suc i)))))
 
 -- Stretches of two ranges
 
@@ -112,7 +108,7 @@ searches_on paths levels sector zero (suc n) first next last apart some one two 
 searches_on paths levels sector (suc m) (suc n) first next last apart some one two =
     let before : sector + suc m - 1 ≡ sector + m = omega arith in let at : sector + suc m ≡ suc (sector + m) = omega arith in
     let here : is_same_path (paths (sector + m)) (paths (suc (sector + m))) ≡ false =
-    ap (λ (p : ℕ). is_same_path (paths p) (paths (suc (sector + m)))) (sym before) ∙ ap (λ (p : ℕ). is_same_path (paths (sector + suc m - 1)) (paths p)) (sym at) ∙ apart (omega arith) in
+    cc (apart (omega arith)) in
     sum_bound levels (stretches paths sector (suc m)) (stretches paths (sector + suc m) (suc n)) _ first next last (stretches_apart paths sector m n here) one two
 
 -- of the beginning of a range

@@ -1,5 +1,5 @@
 -- The steps of ranges and of lines, by what lies below their sectors.
-use Rattle.std.proofs.Common.{◌≡◌, ℕ, zero, suc, ◌+◌, ◌-◌, ◌<◌, ◌≤◌, true, false, [], ◌∷◌, Some, refl, ap, subst, ◌∙◌, arith}
+use Rattle.std.proofs.Common.{◌≡◌, ℕ, zero, suc, ◌+◌, ◌-◌, ◌<◌, ◌≤◌, true, false, [], ◌∷◌, Some, refl, ap, ◌∙◌, arith}
 use Rattle.dm_table.specs.declared.requests.request.Op.{Op}
 use Rattle.dm_table.specs.declared.requests.request.Op.TheVariants as ops
 use Rattle.dm_stack.specs.declared.id.Lower.{Lower}
@@ -13,8 +13,8 @@ use Rattle.dm_stack.specs.Description.{Description}
 use Rattle.dm_stack.specs.lines.Below.{Below, Lies, IsZero, IsError, below_plain, found_at, has_state}
 use Rattle.dm_stack.specs.lines.Leg.{GoesOn, IsBeneath}
 use Rattle.dm_map.specs.state.State.{State}
-use Rattle.dm_map.specs.walk.Steps.{Step, keep}
-use Rattle.dm_map.specs.pieces.Units.{ReadOf, WriteOf, Zeros, Fails, next_unit, units_in}
+use Rattle.dm_map.specs.walk.Steps.{keep}
+use Rattle.dm_map.specs.pieces.Units.{Zeros, Fails, next_unit, units_in}
 use Rattle.dm_map.specs.walk.Reads.{by_below, read_unit}
 use Rattle.dm_map.specs.walk.Mapping.{sector_step, write_step}
 use Rattle.dm_map.specs.walk.Range.{disk_unit, zero_unit, below_step, refuses, range_step, target_step, line_step, origin_step, served_sector}
@@ -48,9 +48,9 @@ sector_deepest stack ops.Write device sector state = refl
 pub range_disk : (stack : Description) (op : Op) (levels disk sector n : ℕ) (state : State) → range_step stack op levels (Disk disk) state sector n ≡ keep (units_in (disk_unit op disk sector) n) state
 unfolding read_unit write_step
 range_disk stack ops.Read levels disk sector zero state = refl
-range_disk stack ops.Read levels disk sector (suc n) state = ap (λ (rest : Step). record { units = ReadOf disk sector ∷ rest.units; state = rest.state }) (range_disk stack ops.Read levels disk (suc sector) n state)
+range_disk stack ops.Read levels disk sector (suc n) state = cc (range_disk stack ops.Read levels disk (suc sector) n state)
 range_disk stack ops.Write levels disk sector zero state = refl
-range_disk stack ops.Write levels disk sector (suc n) state = ap (λ (rest : Step). record { units = WriteOf disk sector ∷ rest.units; state = rest.state }) (range_disk stack ops.Write levels disk (suc sector) n state)
+range_disk stack ops.Write levels disk sector (suc n) state = cc (range_disk stack ops.Write levels disk (suc sector) n state)
 
 pub range_deepest : (stack : Description) (op : Op) (levels device sector n : ℕ) (state : State) → levels ≡ 0 → range_step stack op levels (Device device) state sector n ≡ keep (units_in Fails n) state
 range_deepest stack op levels device sector n state none =
@@ -85,12 +85,12 @@ plain_step stack ops.Write levels device target distance state plain = refl
 
 -- what is beneath a leg, by what a match found
 pub beneath_as : (target : FoundTarget) (distance len : ℕ) (below other : Beneath) → below ≡ other → IsBeneath target distance len below → IsBeneath target distance len other
-beneath_as target distance len below other is on = subst (λ (b : Beneath). IsBeneath target distance len b) is on
+beneath_as target distance len below other is on = rw is at on
 
 -- those of a leg: sectors that lie elsewhere, zeros, or errors
 leg_sector : (stack : Description) (op : Op) (levels device : ℕ) (target : FoundTarget) (distance n i : ℕ) (state : State) (row : ℕ → Below) → GoesOn target distance n row → i < n → target_step stack op levels device target state (distance + i) ≡ below_step stack op levels (row i) state
 leg_sector stack op levels device target distance n i state row on within =
-    plain_step stack op levels device target (distance + i) state on.plain ∙ ap (λ (b : Below). below_step stack op levels b state) (on.below i within)
+    cc (plain_step stack op levels device target (distance + i) state on.plain, on.below i within)
 
 pub leg_lies : (stack : Description) (op : Op) (levels device : ℕ) (target : FoundTarget) (to : Lower) (distance sector n : ℕ) (state : State) → GoesOn target distance n (λ i. Lies to (sector + i)) → line_step stack op levels device target state distance n ≡ range_step stack op levels to state sector n
 leg_lies stack op levels device target to distance sector n state on =

@@ -1,5 +1,5 @@
 -- How a read goes on from a sector of a device: by a line whose target has no state, by a snapshot's store or origin, or by an origin's line.
-use Rattle.std.proofs.Common.{◌≡◌, ℕ, ◌-◌, ◌/◌, Bool, true, false, cond, Option, Some, None, refl, sym, subst, ◌∙◌, arith}
+use Rattle.std.proofs.Common.{◌≡◌, ℕ, ◌-◌, ◌/◌, Bool, true, false, cond, Option, Some, None, refl, sym, ◌∙◌, arith}
 use Rattle.dm_stack.specs.declared.id.Lower.{Lower}
 use Rattle.dm_stack.specs.declared.lines.found_line.FoundLine.{FoundLine}
 use Rattle.dm_stack.specs.declared.lines.found_line.FoundOrigin.{FoundOrigin}
@@ -14,7 +14,7 @@ use Rattle.dm_map.specs.state.Snapshots.{store_sector, number_in, read_numbered,
 use Rattle.dm_map.specs.state.State.{State, taken_at}
 use Rattle.dm_map.specs.state.Tables.{origin_at, snapshot_at}
 use Rattle.dm_map.proofs.state.FoundLines.{line_origin, line_snapshot}
-use Rattle.dm_map.proofs.walk.Spans.{IsPlainStep, below_is, lower_is, sector_is}
+use Rattle.dm_map.proofs.walk.Spans.{IsPlainStep, below_is, sector_is}
 
 pub data ReadStep (stack : Description) (state : State) (device sector : ℕ) (lower : Lower) (at : ℕ) : Type 0 where
   ByLine : (line : FoundLine) → found_at stack device sector ≡ Some line → IsPlainStep line.target (sector - line.start) lower at → ReadStep stack state device sector lower at
@@ -27,20 +27,20 @@ pub data ReadStep (stack : Description) (state : State) (device sector : ℕ) (l
 read_step_snapshot : (stack : Description) (state : State) (device sector : ℕ) (lower : Lower) (at : ℕ) (snapshot : FoundSnapshot) (valid : Bool) (number : Option ℕ) → snapshot_at stack device ≡ Some snapshot
     → (taken_at state device).valid ≡ valid → number_in (sector / snapshot.chunk) (taken_at state device).chunks ≡ number → cond valid (read_numbered snapshot number sector) IsError ≡ Lies lower at → ReadStep stack state device sector lower at
 read_step_snapshot stack state device sector lower at snapshot false number over v n e = absurd cc
-read_step_snapshot stack state device sector lower at snapshot true (Some i) over v n e = ByStore snapshot i over v n (sym (lower_is _ _ _ _ e)) (sym (sector_is _ _ _ _ e))
-read_step_snapshot stack state device sector lower at snapshot true None over v n e = ByRead snapshot over v n (sym (lower_is _ _ _ _ e)) (sym (sector_is _ _ _ _ e))
+read_step_snapshot stack state device sector lower at snapshot true (Some i) over v n e = ByStore snapshot i over v n (sym (cc)) (sym (cc))
+read_step_snapshot stack state device sector lower at snapshot true None over v n e = ByRead snapshot over v n (sym (cc)) (sym (cc))
 
 read_step_target : (stack : Description) (state : State) (device sector : ℕ) (lower : Lower) (at : ℕ) (line : FoundLine) (target : FoundTarget) → IsSound stack → found_at stack device sector ≡ Some line → line.target ≡ target
     → below_target (read_over (taken_at state device)) target (sector - line.start) ≡ Lies lower at → ReadStep stack state device sector lower at
 read_step_target stack state device sector lower at line (founds.Snapshot snapshot) sound is t e =
     let over = line_snapshot stack device sector line snapshot sound is t in
     let same : sector - line.start ≡ sector = omega (arith, over.0) in
-    let there : read_over (taken_at state device) snapshot sector ≡ Lies lower at = subst (λ (s : ℕ). read_over (taken_at state device) snapshot s ≡ Lies lower at) same e in
+    let there : read_over (taken_at state device) snapshot sector ≡ Lies lower at = rw same at e in
     read_step_snapshot stack state device sector lower at snapshot (taken_at state device).valid (number_in (sector / snapshot.chunk) (taken_at state device).chunks) over.1 refl refl there
 read_step_target stack state device sector lower at line (founds.Origin origin) sound is t e =
     let over = line_origin stack device sector line origin sound is t in
-    ByServe origin over.1 (sym (lower_is _ _ _ _ e)) (let there = sector_is _ _ _ _ e in omega (arith, there, over.0))
-read_step_target stack state device sector lower at line target sound is t e = ByLine line is (subst (λ (x : FoundTarget). IsPlainStep x (sector - line.start) lower at) (sym t) (record { plain = refl; lies = e }))
+    ByServe origin over.1 (sym (cc)) (let there = sector_is _ _ _ _ e in omega (arith, there, over.0))
+read_step_target stack state device sector lower at line target sound is t e = ByLine line is (rw t (record { plain = refl; lies = e }))
 
 read_step_line : (stack : Description) (state : State) (device sector : ℕ) (lower : Lower) (at : ℕ) (line : Option FoundLine) → IsSound stack → found_at stack device sector ≡ line
     → below_line (read_over (taken_at state device)) line sector ≡ Lies lower at → ReadStep stack state device sector lower at

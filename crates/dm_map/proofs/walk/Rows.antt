@@ -1,5 +1,5 @@
 -- The steps of sectors in a row, and what a sink took and left of their units.
-use Rattle.std.proofs.Common.{◌≡◌, ℕ, zero, suc, ◌+◌, ◌<◌, List, [], ◌∷◌, ◌++◌, append_assoc, refl, sym, ap, subst, ◌∙◌, arith}
+use Rattle.std.proofs.Common.{◌≡◌, ℕ, zero, suc, ◌+◌, ◌<◌, List, [], ◌∷◌, ◌++◌, append_assoc, refl, sym, ap, ◌∙◌, arith}
 use Rattle.std.proofs.lemmas.List.{append-nil}
 use Rattle.std.specs.Result.{IsErr}
 use Rattle.std.specs.Prelude.{nat_lt, true, ◌≤◌, replicate, Result, Ok, Err, OnOk, OnErr}
@@ -45,7 +45,7 @@ on_ok_then (Err e) P Q f p = tt
 -- a walk whose step is said in another way
 pub walked_as : {S R F : Type 0} {past : SinkPast S} {result : Result R F} {old new : S} {before after : WalkerView} {step other : Step} {len : ℕ} → step ≡ other
     → IsWalked past result old new before after step len → IsWalked past result old new before after other len
-walked_as {past} {result} {old} {new} {before} {after} {len} same walked = subst (λ (x : Step). IsWalked past result old new before after x len) same walked
+walked_as {past} {result} {old} {new} {before} {after} {len} same walked = rw same at walked
 
 -- a walk of fewer sectors without a disk
 pub walked_within : {S R F : Type 0} {past : SinkPast S} {result : Result R F} {old new : S} {before after : WalkerView} {step : Step} {few len : ℕ} → few ≤ len
@@ -105,7 +105,7 @@ walked_then {result = Err fault} {old} {middle} {new} {before} {between} {after}
       left = record {
         front = first.units ++ walk.left.front;
         rest = walk.left.rest;
-        whole = append_assoc first.units walk.left.front walk.left.rest ∙ ap (λ (us : List BlockUnit). first.units ++ us) walk.left.whole;
+        whole = cc (append_assoc first.units walk.left.front walk.left.rest);
         holds = lawful.left old middle new first.units walk.left.front one.took walk.left.holds;
       };
       faults = omega (arith, walk.faults, one.faults);
@@ -118,25 +118,25 @@ pub left_more : {S : Type 0} (left : S → List BlockUnit → S → Type 0) (old
 left_more left old new units more all whole cut = record {
   front = cut.front;
   rest = cut.rest ++ more;
-  whole = sym (append_assoc cut.front cut.rest more) ∙ ap (λ (us : List BlockUnit). us ++ more) cut.whole ∙ whole;
+  whole = cc (append_assoc cut.front cut.rest more);
   holds = cut.holds;
 }
 
 -- a piece of errors
 pub units_in_fails : (len : ℕ) → units_in Fails len ≡ replicate len Fails
 units_in_fails zero = refl
-units_in_fails (suc len) = ap (λ (units : List BlockUnit). Fails ∷ units) (units_in_fails len)
+units_in_fails (suc len) = cc (units_in_fails len)
 
 -- a request that passes the device's end
 pub step_past_end : (stack : Description) (op : Op) (device start len : ℕ) (state : State) → nat_lt (device_len stack device) (start + len) ≡ true → keep (units_in Fails len) state ≡ request_step stack op device start len state
-step_past_end stack op device start len state past = rw past (ap (λ (units : List BlockUnit). keep units state) (units_in_fails len))
+step_past_end stack op device start len state past = rw past (cc (units_in_fails len))
 
 -- steps one after the other
 pub and_then_at : (step : Step) (f h : State → Step) → f step.state ≡ h step.state → and_then step f ≡ and_then step h
-and_then_at step f h same = ap (λ (next : Step). record { units = step.units ++ next.units; state = next.state }) same
+and_then_at step f h same = cc
 
 pub step_assoc : (step : Step) (f h : State → Step) → and_then (and_then step f) h ≡ and_then step (λ state. and_then (f state) h)
-step_assoc step f h = ap (λ (units : List BlockUnit). record { units = units; state = (h (f step.state).state).state }) (append_assoc step.units (f step.state).units (h (f step.state).state).units)
+step_assoc step f h = cc (append_assoc step.units (f step.state).units (h (f step.state).state).units)
 
 -- a row in two parts
 pub steps-append : (step : State → ℕ → Step) (state : State) (sector m n : ℕ) → steps step state sector (m + n) ≡ and_then (steps step state sector m) (λ after. steps step after (sector + m) n)
@@ -151,23 +151,18 @@ pub steps_same : (step other : State → ℕ → Step) (state : State) (s t n : 
 steps_same step other state s t zero each = refl
 steps_same step other state s t (suc n) each =
     let here : step state s ≡ other state t = ap (step state) (let e : s ≡ s + 0 = omega arith in e) ∙ each state 0 (omega arith) ∙ ap (other state) (let e : t + 0 ≡ t = omega arith in e) in
-    ap (λ (first : Step). and_then first (λ after. steps step after (suc s) n)) here
-    ∙ and_then_at (other state t) (λ after. steps step after (suc s) n) (λ after. steps other after (suc t) n)
-    (steps_same step other (other state t).state (suc s) (suc t) n (λ after i within.
-    ap (step after) (let e : suc s + i ≡ s + suc i = omega arith in e) ∙ each after (suc i) (omega (arith, within)) ∙ ap (other after) (let e : t + suc i ≡ suc t + i = omega arith in e)))
+    cc (and_then_at (other state t) (λ after. steps step after (suc s) n) (λ after. steps other after (suc t) n) (steps_same step other (other state t).state (suc s) (suc t) n (λ after i within. ap (step after) (let e : suc s + i ≡ s + suc i = omega arith in e) ∙ each after (suc i) (omega (arith, within)) ∙ ap (other after) (let e : t + suc i ≡ suc t + i = omega arith in e))))
 
 -- two rows whose steps are the same in one state, which they keep
 pub steps_read : (step other : State → ℕ → Step) (state : State) (s t n : ℕ) → ((i : ℕ) → i < n → step state (s + i) ≡ other state (t + i)) → ((i : ℕ) → i < n → (other state (t + i)).state ≡ state) → steps step state s n ≡ steps other state t n
 steps_read step other state s t zero each kept = refl
 steps_read step other state s t (suc n) each kept =
     let here : step state s ≡ other state t = ap (step state) (let e : s ≡ s + 0 = omega arith in e) ∙ each 0 (omega arith) ∙ ap (other state) (let e : t + 0 ≡ t = omega arith in e) in
-    let same : (other state t).state ≡ state = ap (λ (p : ℕ). (other state p).state) (let e : t ≡ t + 0 = omega arith in e) ∙ kept 0 (omega arith) in
+    let same : (other state t).state ≡ state = rw (let e : t ≡ t + 0 = omega arith in e) (kept 0 (omega arith)) in
     let later : steps step state (suc s) n ≡ steps other state (suc t) n = steps_read step other state (suc s) (suc t) n
     (λ i within. ap (step state) (let e : suc s + i ≡ s + suc i = omega arith in e) ∙ each (suc i) (omega (arith, within)) ∙ ap (other state) (let e : t + suc i ≡ suc t + i = omega arith in e))
-    (λ i within. ap (λ (p : ℕ). (other state p).state) (let e : suc t + i ≡ t + suc i = omega arith in e) ∙ kept (suc i) (omega (arith, within))) in
-    ap (λ (first : Step). and_then first (λ after. steps step after (suc s) n)) here
-    ∙ and_then_at (other state t) (λ after. steps step after (suc s) n) (λ after. steps other after (suc t) n)
-    (subst (λ (after : State). steps step after (suc s) n ≡ steps other after (suc t) n) (sym same) later)
+    (λ i within. rw (let e : suc t + i ≡ t + suc i = omega arith in e) (kept (suc i) (omega (arith, within)))) in
+    cc (and_then_at (other state t) (λ after. steps step after (suc s) n) (λ after. steps other after (suc t) n) (rw same later))
 
 -- a row of one unit, which changes nothing
 pub steps_still : (step : State → ℕ → Step) (state : State) (sector n : ℕ) (unit : BlockUnit) → next_unit unit ≡ unit → ((i : ℕ) → i < n → step state (sector + i) ≡ keep (unit ∷ []) state) → steps step state sector n ≡ keep (units_in unit n) state
@@ -176,6 +171,4 @@ steps_still step state sector (suc n) unit still each =
     let here : step state sector ≡ keep (unit ∷ []) state = ap (step state) (let e : sector ≡ sector + 0 = omega arith in e) ∙ each 0 (omega arith) in
     let later : (i : ℕ) → i < n → step state (suc sector + i) ≡ keep (unit ∷ []) state = λ i within.
     ap (step state) (let e : suc sector + i ≡ sector + suc i = omega arith in e) ∙ each (suc i) (omega (arith, within)) in
-    ap (λ (first : Step). and_then first (λ after. steps step after (suc sector) n)) here
-    ∙ ap (λ (rest : Step). record { units = unit ∷ rest.units; state = rest.state }) (steps_still step state (suc sector) n unit still later)
-    ∙ ap (λ (next : BlockUnit). keep (unit ∷ units_in next n) state) (sym still)
+    cc (steps_still step state (suc sector) n unit still later)

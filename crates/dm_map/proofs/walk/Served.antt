@@ -1,5 +1,5 @@
 -- The snapshots of an origin, served: what that settles, and how far a range of the origin's sectors needs no more of it. No claim plays a part here.
-use Rattle.std.proofs.Common.{◌≡◌, inl, inr, ℕ, zero, suc, ◌+◌, ◌-◌, ◌/◌, ◌%◌, ◌<◌, true, List, [], ◌∷◌, ◌++◌, ◌≤◌, length, get_or, take, drop, refl, sym, ap, subst, ◌∙◌, arith}
+use Rattle.std.proofs.Common.{◌≡◌, inl, inr, ℕ, zero, suc, ◌+◌, ◌-◌, ◌/◌, ◌%◌, ◌<◌, true, List, [], ◌∷◌, ◌++◌, ◌≤◌, length, get_or, take, drop, refl, sym, ap, ◌∙◌, arith}
 use Rattle.std.specs.List.{All, AllByRecursion}
 use Rattle.std.specs.Prelude.{Result, Err}
 use Rattle.std.specs.Result.{IsErr}
@@ -16,7 +16,6 @@ use Rattle.dm_map.specs.walk.SnapshotWrites.{is_settled, take_chunk}
 use Rattle.dm_map.specs.state.State.{State, Taken, taken_at}
 use Rattle.dm_map.specs.walk.Steps.{Step, keep, and_then, steps}
 use Rattle.dm_map.specs.pieces.Sink.{IsLawful, SinkPast}
-use Rattle.dm_map.specs.pieces.Units.{BlockUnit}
 use Rattle.dm_map.specs.state.Walker.{WalkerView}
 use Rattle.dm_map.specs.walk.Range.{IsWalked}
 use Rattle.dm_map.proofs.walk.Chunks.{same_chunk}
@@ -41,7 +40,7 @@ serve_append stack (one ∷ over) more sector state =
     ∙ sym (step_assoc first (λ after. serve stack over sector after) (λ after. serve stack more sector after))
 
 then_nothing : (step : Step) → and_then step (λ after. keep [] after) ≡ step
-then_nothing step = ap (λ (units : List BlockUnit). record { units = units; state = step.state }) (append-nil step.units)
+then_nothing step = rw (append-nil step.units)
 
 -- with one more
 pub serve_more : (stack : Description) (over : List FoundOver) (one : FoundOver) (sector : ℕ) (state : State) → serve stack (over ++ one ∷ []) sector state ≡ and_then (serve stack over sector state) (λ after. take_chunk_one stack one sector after)
@@ -75,7 +74,7 @@ serve_settled stack (one ∷ over) sector state there =
     let settled = take_chunk_settles state one.device chunk first there.0 (chunk_outcome stack one.snapshot one.device chunk state) in
     let count = (take_chunk_keeps stack one.snapshot one.device chunk state).count in (
       (serve_keeps stack over sector first.state).settled one.device chunk settled,
-      serve_settled stack over sector first.state (subst (λ (n : ℕ). AllByRecursion (λ one. one.device < n) over) (sym count) there.1),
+      serve_settled stack over sector first.state (rw count there.1),
     )
 
 -- nothing is left to do
@@ -83,8 +82,7 @@ pub served_done : (stack : Description) (over : List FoundOver) (sector : ℕ) (
 unfolding serve
 served_done stack [] sector state settled = refl
 served_done stack (one ∷ over) sector state settled =
-    ap (λ (step : Step). and_then step (λ after. serve stack over sector after)) (take_chunk_again stack one.snapshot one.device (sector / one.snapshot.chunk) state settled.0)
-    ∙ served_done stack over sector state settled.1
+    cc (take_chunk_again stack one.snapshot one.device (sector / one.snapshot.chunk) state settled.0, served_done stack over sector state settled.1)
 
 -- A range
 
@@ -97,12 +95,9 @@ pub quiet : (stack : Description) (over : List FoundOver) (plain : State → ℕ
 quiet stack over plain state sector zero keeps each = refl
 quiet stack over plain state sector (suc n) keeps each =
     let here : served_step stack over plain state sector ≡ plain state sector =
-    ap (λ (step : Step). and_then step (λ after. plain after sector)) (served_done stack over sector state (subst (λ (s : ℕ). AreSettled state over s) (let e : sector + 0 ≡ sector = omega arith in e) (each 0 (omega arith)))) in
+    cc (served_done stack over sector state (rw (let e : sector + 0 ≡ sector = omega arith in e) at (each 0 (omega arith)))) in
     let first = plain state sector in
-    ap (λ (step : Step). and_then step (λ after. steps (served_step stack over plain) after (suc sector) n)) here
-    ∙ and_then_at first (λ after. steps (served_step stack over plain) after (suc sector) n) (λ after. steps plain after (suc sector) n)
-    (quiet stack over plain first.state (suc sector) n keeps (λ i within.
-    settled_on state first.state over (suc sector + i) (keeps state sector) (subst (λ (s : ℕ). AreSettled state over s) (let e : sector + suc i ≡ suc sector + i = omega arith in e) (each (suc i) (omega (arith, within))))))
+    cc (and_then_at first (λ after. steps (served_step stack over plain) after (suc sector) n) (λ after. steps plain after (suc sector) n) (quiet stack over plain first.state (suc sector) n keeps (λ i within. settled_on state first.state over (suc sector + i) (keeps state sector) (rw (let e : sector + suc i ≡ suc sector + i = omega arith in e) at (each (suc i) (omega (arith, within)))))))
 
 -- as many sectors as are settled once the first one is served
 pub part : (stack : Description) (over : List FoundOver) (plain : State → ℕ → Step) (state : State) (sector n : ℕ) → StepsKeep plain → ((i : ℕ) → i < suc n → AreSettled (serve stack over sector state).state over (sector + i))
@@ -113,13 +108,13 @@ part stack over plain state sector n keeps each =
     ∙ and_then_at served (λ after. and_then (plain after sector) (λ later. steps (served_step stack over plain) later (suc sector) n)) (λ after. steps plain after sector (suc n))
     (and_then_at first (λ later. steps (served_step stack over plain) later (suc sector) n) (λ later. steps plain later (suc sector) n)
     (quiet stack over plain first.state (suc sector) n keeps (λ i within.
-    settled_on served.state first.state over (suc sector + i) (keeps served.state sector) (subst (λ (s : ℕ). AreSettled served.state over s) (let e : sector + suc i ≡ suc sector + i = omega arith in e) (each (suc i) (omega (arith, within)))))))
+    settled_on served.state first.state over (suc sector + i) (keeps served.state sector) (rw (let e : sector + suc i ≡ suc sector + i = omega arith in e) at (each (suc i) (omega (arith, within)))))))
 
 -- The sectors of one chunk are settled as its first one is
 
 pub chunk_settled : (taken : Taken) (snapshot : FoundSnapshot) (sector n i : ℕ) → 0 < snapshot.chunk → n ≤ snapshot.chunk - sector % snapshot.chunk → i < n → is_settled taken (sector / snapshot.chunk) ≡ true → is_settled taken ((sector + i) / snapshot.chunk) ≡ true
 chunk_settled taken snapshot sector n i some most within settled =
-    subst (λ (chunk : ℕ). is_settled taken chunk ≡ true) (sym (same_chunk snapshot sector i some (omega (arith, most, within, some)))) settled
+    rw (same_chunk snapshot sector i some (omega (arith, most, within, some))) settled
 
 pub chunk_more : (taken : Taken) (snapshot : FoundSnapshot) (sector part n : ℕ) → 0 < snapshot.chunk → n ≤ snapshot.chunk - (sector + part) % snapshot.chunk → is_settled taken ((sector + part) / snapshot.chunk) ≡ true
     → ((i : ℕ) → i < part → is_settled taken ((sector + i) / snapshot.chunk) ≡ true) → (i : ℕ) → i < part + n → is_settled taken ((sector + i) / snapshot.chunk) ≡ true
@@ -127,13 +122,13 @@ chunk_more taken snapshot sector part n some most next each i within = elim (cas
   | inl before ↦ each i before
   | inr after ↦
       let on : sector + part + (i - part) ≡ sector + i = omega (arith, after) in
-      subst (λ (s : ℕ). is_settled taken (s / snapshot.chunk) ≡ true) on (chunk_settled taken snapshot (sector + part) n (i - part) some most (omega (arith, after, within)) next)
+      rw on at (chunk_settled taken snapshot (sector + part) n (i - part) some most (omega (arith, after, within)) next)
 ]
 
 -- Snapshots of the stack
 
 pub over_at : (stack : Description) (len : ℕ) (over : List FoundOver) (i : ℕ) (one : FoundOver) → All (IsOver stack len) over → i < length over → one ≡ get_or over i one → IsOver stack len one
-over_at stack len over i one all within is = subst (λ (x : FoundOver). IsOver stack len x) (sym is) (All-get_or (IsOver stack len) over i one within all)
+over_at stack len over i one all within is = rw is (All-get_or (IsOver stack len) over i one within all)
 
 pub over_sound : (stack : Description) (len : ℕ) (one : FoundOver) → IsSound stack → IsOver stack len one → IsSnapshotSound stack one.device 0 (device_len stack one.device) one.snapshot
 over_sound stack len one sound it = (snapshot_sound stack one.device one.snapshot sound it.is).soundly
@@ -155,9 +150,9 @@ pub served_on : {S F : Type 0} {past : SinkPast S} → IsLawful past → (result
 served_on lawful result old middle new before between after over i sector one within is so_far next =
     let first = serve before.stack (take i over) sector before.state in
     let second = take_chunk_one between.stack one sector between.state in
-    let list : take (i + 1) over ≡ take i over ++ one ∷ [] = take_more over i one within ∙ ap (λ (x : FoundOver). take i over ++ x ∷ []) (sym is) in
-    let here : take_chunk_one before.stack one sector first.state ≡ second = ap (λ (s : Description). take_chunk_one s one sector first.state) (sym so_far.stack) ∙ ap (λ (state : State). take_chunk_one between.stack one sector state) (sym so_far.state) in
-    walked_as (sym (ap (λ (xs : List FoundOver). serve before.stack xs sector before.state) list ∙ serve_more before.stack (take i over) one sector before.state))
+    let list : take (i + 1) over ≡ take i over ++ one ∷ [] = cc (take_more over i one within) in
+    let here : take_chunk_one before.stack one sector first.state ≡ second = cc in
+    walked_as (cc (serve_more before.stack (take i over) one sector before.state))
     (walked_then lawful (λ later. take_chunk_one before.stack one sector later) here (let e : 0 ≤ 0 = omega arith in e) so_far next)
 
 -- or the sink failed at it
@@ -167,5 +162,5 @@ served_cut past fault result old new before after over i sector is_err walk =
     let first = serve before.stack (take i over) sector before.state in
     walked_cut past result old new before after (serve before.stack over sector before.state) 0 is_err
     (left_more past.left old new first.units (serve before.stack (drop i over) sector first.state).units (serve before.stack over sector before.state).units
-    (ap (λ (step : Step). step.units) (sym (serve_append before.stack (take i over) (drop i over) sector before.state)) ∙ ap (λ (xs : List FoundOver). (serve before.stack xs sector before.state).units) (take-append-drop i over)) walk.left)
+    (ap (λ (step : Step). step.units) (sym (serve_append before.stack (take i over) (drop i over) sector before.state)) ∙ rw (take-append-drop i over)) walk.left)
     walk.faults walk.stack walk.looked

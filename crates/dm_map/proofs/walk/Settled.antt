@@ -1,5 +1,5 @@
 -- What is settled stays so, whatever is written.
-use Rattle.std.proofs.Common.{◌≡◌, inl, inr, ℕ, zero, suc, ◌-◌, ◌/◌, Bool, true, false, cond, not, List, [], ◌∷◌, ◌++◌, Option, Some, None, length, refl, ap, subst, ◌∙◌}
+use Rattle.std.proofs.Common.{◌≡◌, inl, inr, ℕ, zero, suc, ◌-◌, ◌/◌, Bool, true, false, cond, not, List, [], ◌∷◌, ◌++◌, Option, Some, None, length, refl, ap, ◌∙◌}
 use Rattle.std.specs.Prelude.{◌||◌, is_some}
 use Rattle.std.proofs.lemmas.Bool.{cases_eq, cases_lt}
 use Rattle.std.proofs.lemmas.List.{length-set, set_past}
@@ -43,7 +43,7 @@ keeps_put state device taken each = record {
     | inl there ↦ elim (cases_eq other device) [
       | inl same ↦
           let here : taken_at (put state device taken) other ≡ taken = ap (taken_at (put state device taken)) same ∙ taken_same state device taken there in
-          rw here (each chunk (subst (λ (d : ℕ). is_settled (taken_at state d) chunk ≡ true) same is))
+          rw here (each chunk (rw same at is))
       | inr differ ↦ rw (taken_other state device other taken differ) is
     ]
     | inr past ↦ rw (set_past state device taken past) is

@@ -1,5 +1,5 @@
 -- What lies below a sector of a line whose target has no state is a sector of one of the line's spans. Stripes have a span for each column, any other such target at most one.
-use Rattle.std.proofs.Common.{◌≡◌, ℕ, ◌+◌, ◌*◌, ◌/◌, ◌%◌, ◌<◌, false, List, Option, Some, None, length, refl, sym, ap, subst, ◌∙◌, arith}
+use Rattle.std.proofs.Common.{◌≡◌, ℕ, ◌+◌, ◌/◌, ◌%◌, ◌<◌, false, List, Option, Some, None, length, refl, sym, ap, ◌∙◌, arith}
 use Rattle.std.specs.Prelude.{map, option_map, slice_get}
 use Rattle.std.proofs.lemmas.List.{length-map}
 use Rattle.std.proofs.lemmas.Option.{slice_get-map}
@@ -56,10 +56,7 @@ pub distance_one : (stack : Description) (device start len : ℕ) (target : Foun
 distance_one stack device start len (founds.Striped chunk_size columns) d e sound same within =
     let stripes : AreStripes stack len chunk_size columns = sound in
     let n = length columns in
-    sym (stripe_back chunk_size n d stripes.chunk_some)
-    ∙ ap (λ (w : ℕ). (w / chunk_size * n + column_of chunk_size n d) * chunk_size + w % chunk_size) within
-    ∙ ap (λ (i : ℕ). (in_column chunk_size n e / chunk_size * n + i) * chunk_size + in_column chunk_size n e % chunk_size) same
-    ∙ stripe_back chunk_size n e stripes.chunk_some
+    cc (stripe_back chunk_size n d stripes.chunk_some, stripe_back chunk_size n e stripes.chunk_some)
 distance_one stack device start len target d e sound same within = within
 
 -- a sector of a span that is there
@@ -83,7 +80,7 @@ record IsColumn (stack : Description) (columns : List Column) (i distance : ℕ)
 raw_column : (stack : Description) (columns : List Column) (i distance : ℕ) (lower : Lower) (at : ℕ) (raw : Option Column) → slice_get columns i ≡ raw → below_column (option_map (λ c. record { to = lower_of stack c.to; offset = c.offset }) raw) distance ≡ Lies lower at
     → IsColumn stack columns i distance lower at
 raw_column stack columns i distance lower at None is e = absurd cc
-raw_column stack columns i distance lower at (Some column) is e = record { column = column; is = is; to = lower_is _ _ _ _ e; sector = sym (sector_is _ _ _ _ e) }
+raw_column stack columns i distance lower at (Some column) is e = record { column = column; is = is; to = cc; sector = sym (cc) }
 
 striped_column : (stack : Description) (columns : List Column) (i distance : ℕ) (lower : Lower) (at : ℕ) → below_column (slice_get (found_columns stack columns) i) distance ≡ Lies lower at → IsColumn stack columns i distance lower at
 striped_column stack columns i distance lower at e =
@@ -96,7 +93,7 @@ column_span_at stack columns share i distance lower at column = slice_get-map (c
 striped_in : (stack : Description) (columns : List Column) (share i distance : ℕ) (lower : Lower) (at : ℕ) → below_column (slice_get (found_columns stack columns) i) distance ≡ Lies lower at → IsIn stack (slice_get (map (column_span share) columns) i) distance lower at
 striped_in stack columns share i distance lower at e =
     let column = striped_column stack columns i distance lower at e in
-    subst (λ (o : Option Span). IsIn stack o distance lower at) (sym (column_span_at stack columns share i distance lower at column)) (column.to, column.sector, refl)
+    rw (column_span_at stack columns share i distance lower at column) (column.to, column.sector, refl)
 
 striped_before : (stack : Description) (len chunk_size distance : ℕ) (columns : List Column) (lower : Lower) (at : ℕ) → AreStripes stack len chunk_size (found_columns stack columns) → distance < len
     → below_column (slice_get (found_columns stack columns) (column_of chunk_size (length (found_columns stack columns)) distance)) (in_column chunk_size (length (found_columns stack columns)) distance) ≡ Lies lower at
@@ -107,10 +104,9 @@ striped_before stack len chunk_size distance columns lower at stripes inside e =
     let some = stripes.chunk_some in
     let room = in_column_room chunk_size count stripes.column_len stripes.chunks len distance stripes.chunk_some stripes.some stripes.shares stripes.whole inside in
     let same : count ≡ length columns = length-map columns _ in
-    let share : len / length columns ≡ stripes.column_len = ap (λ (n : ℕ). len / n) (sym same) ∙ ap (λ (n : ℕ). n / count) stripes.shares ∙ mul-div_cancel_left stripes.column_len stripes.some in
+    let share : len / length columns ≡ stripes.column_len = cc (mul-div_cancel_left stripes.column_len stripes.some) in
     let rest : distance % chunk_size < chunk_size = omega (arith, some) in
-    subst (λ (o : Option Span). IsBefore stack o at) (sym (column_span_at stack columns (len / length columns) (column_of chunk_size count distance) (in_column chunk_size count distance) lower at column))
-    (omega (arith, room, share, rest, column.sector))
+    rw (column_span_at stack columns (len / length columns) (column_of chunk_size count distance) (in_column chunk_size count distance) lower at column) (omega (arith, room, share, rest, column.sector))
 
 -- Any target without a state
 

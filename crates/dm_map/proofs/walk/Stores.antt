@@ -1,5 +1,5 @@
 -- A store: each sector of it is read at its home, whatever the state.
-use Rattle.std.proofs.Common.{◌≡◌, ℕ, zero, suc, ◌+◌, ◌-◌, ◌<◌, ◌≤◌, Bool, true, false, List, [], ◌∷◌, Option, Some, None, length, refl, sym, ap, subst, ◌∙◌, arith}
+use Rattle.std.proofs.Common.{◌≡◌, ℕ, zero, suc, ◌+◌, ◌-◌, ◌<◌, ◌≤◌, Bool, true, false, List, [], ◌∷◌, Option, Some, None, length, refl, sym, ◌∙◌, arith}
 use Rattle.std.specs.Prelude.{◌&&◌, not, option_map}
 use Rattle.std.specs.List.{AllByRecursion, list_all}
 use Rattle.std.proofs.lemmas.Bool.{and_parts}
@@ -7,12 +7,11 @@ use Rattle.dm_table.specs.declared.tables.table.Line.{Line}
 use Rattle.dm_table.specs.declared.tables.table.Target.{Target}
 use Rattle.dm_table.specs.declared.tables.table.Target.TheVariants as targets
 use Rattle.dm_stack.specs.declared.lines.found_line.FoundLine.{FoundLine}
-use Rattle.dm_stack.specs.declared.lines.found_columns.FoundColumn.{FoundColumn}
 use Rattle.dm_stack.specs.declared.lines.found_line.FoundSnapshot.{FoundSnapshot}
 use Rattle.dm_stack.specs.declared.checks.graph.TheConstants.{MOST_DEPTH}
 use Rattle.dm_stack.specs.declared.id.Lower.{Lower}
 use Rattle.dm_stack.specs.declared.id.Lower.TheVariants.{Device, Disk}
-use Rattle.dm_stack.specs.lines.Below.{Below, Lies, IsError, below, below_line, below_plain, below_target, below_column, column_of, in_column, found_at, found_columns, found_line, found_target, has_state, holds, line_of, IsTargetSound}
+use Rattle.dm_stack.specs.lines.Below.{Below, Lies, IsError, below, below_line, below_plain, below_target, column_of, found_at, found_columns, found_line, found_target, has_state, holds, line_of, IsTargetSound}
 use Rattle.dm_stack.specs.Description.{Description, device_len, is_ro_at, lines_at, lower_len, lower_of}
 use Rattle.dm_stack.specs.checks.Soundness.{IsSound}
 use Rattle.dm_table.specs.tables.Span.{Span, spans, target_spans}
@@ -20,13 +19,13 @@ use Rattle.dm_stack.specs.checks.Store.{is_plain, is_store_to, IsStore}
 use Rattle.dm_stack.proofs.SoundLines.{HoldsSoundly, found, sector_found, there}
 use Rattle.dm_map.specs.declared.walk.stretch.Ground.{Ground}
 use Rattle.dm_map.specs.declared.walk.stretch.Ground.TheVariants as grounds
-use Rattle.dm_map.specs.walk.Homes.{Home, home, home_to, nowhere}
-use Rattle.dm_map.specs.walk.Reads.{by_below, read_unit}
+use Rattle.dm_map.specs.walk.Homes.{Home, home, home_to}
+use Rattle.dm_map.specs.walk.Reads.{read_unit}
 use Rattle.dm_map.specs.walk.SnapshotWrites.{read, row}
 use Rattle.dm_map.specs.state.Snapshots.{read_over}
 use Rattle.dm_map.specs.state.State.{State, taken_at}
 use Rattle.dm_map.specs.walk.Stretch.{ground_unit}
-use Rattle.dm_map.specs.pieces.Units.{BlockUnit, ReadOf, Zeros, Fails, units_in}
+use Rattle.dm_map.specs.pieces.Units.{BlockUnit, ReadOf, units_in}
 use Rattle.dm_stack.proofs.LegLemmas.{plain_inside}
 use Rattle.dm_stack.proofs.StripeLemmas.{at_index}
 use Rattle.dm_stack.proofs.InStack.{device_there}
@@ -71,7 +70,7 @@ plain_goes : (stack : Description) (device start len : ℕ) (target : Target) (d
 plain_goes stack device start len (targets.Striped chunk_size columns) distance plain sound =
     let found = found_columns stack columns in let some = sound.some in
     let column = there found (column_of chunk_size (length found) distance) (omega (arith, some)) in
-    ap (λ (c : Option FoundColumn). goes_on (below_column c (in_column chunk_size (length found) distance))) column.at
+    cc
 plain_goes stack device start len _ distance plain sound = cc
 
 below_plain_line : (stack : Description) (levels device start len : ℕ) (target : Target) (distance : ℕ) → is_plain target ≡ true → list_all (λ span. is_store_to stack levels (lower_of stack span.to)) (target_spans len target) ≡ true
@@ -86,7 +85,7 @@ below_plain_line stack levels device start len target distance plain stores soun
       to = lies.to;
       at = lies.at;
       is = λ over. below_is over found distance state ∙ lies.is;
-      store = subst (λ (lower : Lower). is_store_to stack levels lower ≡ true) in_span.on (at_index (λ (span : Span). is_store_to stack levels (lower_of stack span.to) ≡ true) (target_spans len target) (span_index found distance) in_span.span each in_span.is);
+      store = rw in_span.on at (at_index (λ (span : Span). is_store_to stack levels (lower_of stack span.to) ≡ true) (target_spans len target) (span_index found distance) in_span.span each in_span.is);
       inside = plain_inside stack device start len distance found lies.to lies.at sound inside state lies.is;
     }
 
@@ -108,7 +107,7 @@ found_on : (stack : Description) (device sector : ℕ) (line : Option FoundLine)
 unfolding OnFound
 found_on stack device sector line is sound inside =
     let f = sector_found stack device sector sound (device_there stack device sector inside) inside in
-    subst (λ (o : Option FoundLine). OnFound o (λ l. HoldsSoundly stack device l sector)) (sym f.is ∙ is) f.soundly
+    rw (← is, f.is) f.soundly
 
 pub below_store : (stack : Description) (levels device sector : ℕ) → IsSound stack → is_store_to stack (suc levels) (Device device) ≡ true → sector < device_len stack device → LiesInStore stack levels (λ over. below over stack device sector)
 unfolding is_store_to
@@ -126,7 +125,7 @@ state_held stack levels device sector (Some line) held each is e =
     let both = (found (λ l. (is_plain l.target && list_all (λ span. is_store_to stack levels (lower_of stack span.to)) (spans l)) ≡ true) (holds sector) (lines_at stack device) line each is).1 in
     let parts = and_parts (is_plain line.target) (list_all (λ span. is_store_to stack levels (lower_of stack span.to)) (spans line)) both in
     let same : found_line stack line ≡ held = cc in
-    subst (λ (l : FoundLine). has_state l.target ≡ false) same (plain_state stack line.target parts.0)
+    rw (← same) (plain_state stack line.target parts.0)
 
 pub store_line : (stack : Description) (levels device sector : ℕ) (held : FoundLine) → is_store_to stack (suc levels) (Device device) ≡ true → found_at stack device sector ≡ Some held → has_state held.target ≡ false
 unfolding is_store_to
@@ -146,9 +145,7 @@ store_read stack state levels (Disk disk) sector sound store inside = refl
 store_read stack state zero (Device device) sector sound store inside = absurd cc
 store_read stack state (suc levels) (Device device) sector sound store inside =
     let b = below_store stack levels device sector sound store inside in
-    ap (λ (low : Below). by_below low Zeros Fails (λ to s. read_unit stack state levels to s)) (b.is (read_over (taken_at state device)))
-    ∙ store_read stack state levels b.to b.at sound b.store b.inside
-    ∙ sym (ap (λ (low : Below). read_home (by_below low nowhere nowhere (λ to s. home_to stack levels to s))) (b.is (λ snapshot sector. IsError)))
+    rw (b.is (read_over (taken_at state device)), store_read stack state levels b.to b.at sound b.store b.inside, b.is (λ snapshot sector. IsError))
 
 -- so the reads of sectors in a row are those of their homes
 pub store_row : (stack : Description) (state : State) (store : Lower) (sector n : ℕ) → IsSound stack → IsStore stack store → sector + n ≤ lower_len stack store

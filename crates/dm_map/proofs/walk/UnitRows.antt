@@ -1,5 +1,5 @@
 -- Units in a row, and the stretches on which they go on.
-use Rattle.std.proofs.Common.{◌≡◌, ℕ, zero, suc, ◌+◌, ◌-◌, ◌<◌, ◌≤◌, Bool, true, false, List, [], ◌∷◌, ◌++◌, refl, sym, ap, subst, ◌∙◌, arith}
+use Rattle.std.proofs.Common.{◌≡◌, ℕ, zero, suc, ◌+◌, ◌-◌, ◌<◌, ◌≤◌, Bool, true, false, List, [], ◌∷◌, ◌++◌, refl, sym, ap, ◌∙◌, arith}
 use Rattle.std.specs.Prelude.{◌||◌}
 use Rattle.dm_table.specs.declared.requests.request.Op.TheVariants as ops
 use Rattle.dm_stack.specs.declared.checks.graph.TheConstants.{MOST_DEPTH}
@@ -21,7 +21,7 @@ pub row-append : {X : Type 0} (f : ℕ → X) (sector m n : ℕ) → row f secto
 row-append f sector zero n = let e : 0 + n ≡ n = omega arith in let k : sector + 0 ≡ sector = omega arith in rw (e, k) refl
 row-append {X} f sector (suc m) n =
     let e : suc m + n ≡ suc (m + n) = omega arith in let k : sector + suc m ≡ suc sector + m = omega arith in
-    rw (e, k) (ap (λ (rest : List X). f sector ∷ rest) (row-append f (suc sector) m n))
+    rw (e, k) (cc (row-append f (suc sector) m n))
 
 -- two rows that are the same sector by sector
 pub row_same : {X : Type 0} (f h : ℕ → X) (s t n : ℕ) → ((i : ℕ) → i < n → f (s + i) ≡ h (t + i)) → row f s n ≡ row h t n
@@ -30,13 +30,13 @@ row_same {X} f h s t (suc n) each =
     let here : f s ≡ h t = ap f (let e : s ≡ s + 0 = omega arith in e) ∙ each 0 (omega arith) ∙ ap h (let e : t + 0 ≡ t = omega arith in e) in
     let later : row f (suc s) n ≡ row h (suc t) n = row_same f h (suc s) (suc t) n (λ i within.
     ap f (let e : suc s + i ≡ s + suc i = omega arith in e) ∙ each (suc i) (omega (arith, within)) ∙ ap h (let e : t + suc i ≡ suc t + i = omega arith in e)) in
-    ap (λ (x : X). x ∷ row f (suc s) n) here ∙ ap (λ (rest : List X). h t ∷ rest) later
+    cc
 
 -- the read of a range is the row of its reads
 pub read_row : (stack : Description) (levels : ℕ) (lower : Lower) (state : State) (sector n : ℕ) → range_step stack ops.Read levels lower state sector n ≡ keep (row (read_unit stack state levels lower) sector n) state
 read_row stack levels lower state sector zero = refl
 read_row stack levels lower state sector (suc n) =
-    ap (λ (rest : Step). record { units = read_unit stack state levels lower sector ∷ rest.units; state = rest.state }) (read_row stack levels lower state (suc sector) n)
+    cc (read_row stack levels lower state (suc sector) n)
 
 -- of a first stretch, the reads go on from the ground
 pub first_reads : (stack : Description) (state : State) (lower : Lower) (sector n : ℕ) (unit : BlockUnit) → range_step stack ops.Read MOST_DEPTH lower state sector n ≡ keep (units_in unit n) state → row (read stack state lower) sector n ≡ units_in unit n
@@ -51,13 +51,13 @@ row_front f sector m zero unit same few = refl
 row_front f sector zero (suc n) unit same few = absurd (omega (arith, few))
 row_front f sector (suc m) (suc n) unit same few =
     let parts = first_of_units (row f (suc sector) m) (f sector) unit (units_in (next_unit unit) m) same in
-    ap (λ (u : BlockUnit). u ∷ row f (suc sector) n) parts.0 ∙ ap (λ (rest : List BlockUnit). unit ∷ rest) (row_front f (suc sector) m n (next_unit unit) parts.1 (omega (arith, few)))
+    cc (row_front f (suc sector) m n (next_unit unit) parts.1 (omega (arith, few)))
 
 -- What a sink took and left of a row
 
 pub took_row : {S : Type 0} {past : SinkPast S} → IsLawful past → (a b c : S) (f : ℕ → BlockUnit) (sector m n : ℕ) (units : List BlockUnit) → row f (sector + m) n ≡ units → past.took a (row f sector m) b → past.took b units c → past.took a (row f sector (m + n)) c
 took_row {past} lawful a b c f sector m n units is first second =
-    subst (λ (us : List BlockUnit). past.took a us c) (sym (row-append f sector m n ∙ ap (λ (us : List BlockUnit). row f sector m ++ us) is)) (lawful.took a b c (row f sector m) units first second)
+    rw (row-append f sector m n, is) (lawful.took a b c (row f sector m) units first second)
 
 pub left_row : {S : Type 0} {past : SinkPast S} → IsLawful past → (a b c : S) (f : ℕ → BlockUnit) (sector m n len : ℕ) (units : List BlockUnit) → m + n ≤ len → row f (sector + m) n ≡ units → past.took a (row f sector m) b → past.left b units c → OfBeginning past.left a (row f sector len) c
 left_row lawful a b c f sector m n len units within is first second =
@@ -65,9 +65,7 @@ left_row lawful a b c f sector m n len units within is first second =
     record {
       front = row f sector m ++ units;
       rest = tail;
-      whole = ap (λ (us : List BlockUnit). us ++ tail) (ap (λ (us : List BlockUnit). row f sector m ++ us) (sym is) ∙ sym (row-append f sector m n))
-          ∙ sym (row-append f sector (m + n) (len - (m + n)))
-          ∙ ap (λ (k : ℕ). row f sector k) (let e : m + n + (len - (m + n)) ≡ len = omega arith in e);
+      whole = cc (row-append f sector m n, row-append f sector (m + n) (len - (m + n)), (let e : m + n + (len - (m + n)) ≡ len = omega arith in e));
       holds = lawful.left a b c (row f sector m) units first second;
     }
 
@@ -92,24 +90,22 @@ pub errors_on : (f : ℕ → BlockUnit) (sector n len : ℕ) (unit : BlockUnit) 
 errors_on f sector zero len unit some within is = absurd (omega (arith, some))
 errors_on f sector (suc n) len unit some within is =
     let whole : len ≡ suc n + (len - suc n) = omega (arith, within) in let rest = row f (sector + suc n) (len - suc n) in
-    ap (λ (k : ℕ). any_error (row f sector k)) whole ∙ ap any_error (row-append f sector (suc n) (len - suc n)) ∙ any_error-append (row f sector (suc n)) rest
-    ∙ ap (λ (first : Bool). first || any_error rest) (ap any_error is ∙ units_errors unit n)
+    cc (row-append f sector (suc n) (len - suc n), any_error-append (row f sector (suc n)) rest, units_errors unit n)
 
 -- Copies and writes, by where their units go on
 
 go_on_here : (homes : ℕ → Home) (sector disk start n : ℕ) → GoOn homes sector disk start (suc n) → homes sector ≡ record { disk = disk; sector = start }
 go_on_here homes sector disk start n each =
-    ap homes (let e : sector ≡ sector + 0 = omega arith in e) ∙ each 0 (omega arith) ∙ ap (λ (s : ℕ). record { disk = disk; sector = s }) (let e : start + 0 ≡ start = omega arith in e)
+    cc ((let e : sector ≡ sector + 0 = omega arith in e), each 0 (omega arith), (let e : start + 0 ≡ start = omega arith in e))
 
 go_on_later : (homes : ℕ → Home) (sector disk start n : ℕ) → GoOn homes sector disk start (suc n) → GoOn homes (suc sector) disk (suc start) n
 go_on_later homes sector disk start n each i within =
-    ap homes (let e : suc sector + i ≡ sector + suc i = omega arith in e) ∙ each (suc i) (omega (arith, within)) ∙ ap (λ (s : ℕ). record { disk = disk; sector = s }) (let e : start + suc i ≡ suc start + i = omega arith in e)
+    cc ((let e : suc sector + i ≡ sector + suc i = omega arith in e), each (suc i) (omega (arith, within)), (let e : start + suc i ≡ suc start + i = omega arith in e))
 
 pub write_row : (homes : ℕ → Home) (sector disk start n : ℕ) → GoOn homes sector disk start n → row (λ s. write_to (homes s)) sector n ≡ units_in (WriteOf disk start) n
 write_row homes sector disk start zero each = refl
 write_row homes sector disk start (suc n) each =
-    ap (λ (home : Home). write_to home ∷ row (λ s. write_to (homes s)) (suc sector) n) (go_on_here homes sector disk start n each)
-    ∙ ap (λ (rest : List BlockUnit). WriteOf disk start ∷ rest) (write_row homes (suc sector) disk (suc start) n (go_on_later homes sector disk start n each))
+    cc (go_on_here homes sector disk start n each, write_row homes (suc sector) disk (suc start) n (go_on_later homes sector disk start n each))
 
 -- a copy goes on where both sides do
 copy_goes_on : (unit : BlockUnit) (disk sector : ℕ) → copy_to (next_unit unit) (record { disk = disk; sector = suc sector }) ≡ next_unit (copy_to unit (record { disk = disk; sector = sector }))
@@ -121,11 +117,7 @@ pub copy_row : (reads : ℕ → BlockUnit) (homes : ℕ → Home) (sector n : �
 copy_row reads homes sector zero unit disk start same each = refl
 copy_row reads homes sector (suc n) unit disk start same each =
     let parts = first_of_units (row reads (suc sector) n) (reads sector) unit (units_in (next_unit unit) n) same in
-    ap (λ (u : BlockUnit). copy_to u (homes sector) ∷ row (λ s. copy_to (reads s) (homes s)) (suc sector) n) parts.0
-    ∙ ap (λ (home : Home). copy_to unit home ∷ row (λ s. copy_to (reads s) (homes s)) (suc sector) n) (go_on_here homes sector disk start n each)
-    ∙ ap (λ (rest : List BlockUnit). copy_to unit (record { disk = disk; sector = start }) ∷ rest)
-    (copy_row reads homes (suc sector) n (next_unit unit) disk (suc start) parts.1 (go_on_later homes sector disk start n each)
-    ∙ ap (λ (u : BlockUnit). units_in u n) (copy_goes_on unit disk start))
+    cc (go_on_here homes sector disk start n each, copy_row reads homes (suc sector) n (next_unit unit) disk (suc start) parts.1 (go_on_later homes sector disk start n each), copy_goes_on unit disk start)
 
 -- a row of reads of homes that goes on from one of a disk: so do the homes
 pub homes_go_on : (homes : ℕ → Home) (sector disk start n : ℕ) → row (λ s. ReadOf (homes s).disk (homes s).sector) sector n ≡ units_in (ReadOf disk start) n → GoOn homes sector disk start n
@@ -133,7 +125,7 @@ homes_go_on homes sector disk start zero same i within = absurd (omega (arith, w
 homes_go_on homes sector disk start (suc n) same zero within =
     let parts = first_of_units (row (λ s. ReadOf (homes s).disk (homes s).sector) (suc sector) n) (ReadOf (homes sector).disk (homes sector).sector) (ReadOf disk start) (units_in (ReadOf disk (suc start)) n) same in
     let on : (homes sector).disk ≡ disk = read_disk _ _ _ _ parts.0 in let at : (homes sector).sector ≡ start = read_sector _ _ _ _ parts.0 in
-    ap homes (let e : sector + 0 ≡ sector = omega arith in e) ∙ ap (λ (d : ℕ). record { disk = d; sector = (homes sector).sector }) on ∙ ap (λ (s : ℕ). record { disk = disk; sector = s }) (at ∙ (let e : start ≡ start + 0 = omega arith in e))
+    rw ((let e : sector + 0 ≡ sector = omega arith in e), on, at, ← (let e : start ≡ start + 0 = omega arith in e))
   where
     read_disk : (d s e t : ℕ) → ReadOf d s ≡ ReadOf e t → d ≡ e
     read_disk d s e t same = cc
@@ -142,5 +134,4 @@ homes_go_on homes sector disk start (suc n) same zero within =
     read_sector d s e t same = cc
 homes_go_on homes sector disk start (suc n) same (suc i) within =
     let parts = first_of_units (row (λ s. ReadOf (homes s).disk (homes s).sector) (suc sector) n) (ReadOf (homes sector).disk (homes sector).sector) (ReadOf disk start) (units_in (ReadOf disk (suc start)) n) same in
-    ap homes (let e : sector + suc i ≡ suc sector + i = omega arith in e) ∙ homes_go_on homes (suc sector) disk (suc start) n parts.1 i (omega (arith, within))
-    ∙ ap (λ (s : ℕ). record { disk = disk; sector = s }) (let e : suc start + i ≡ start + suc i = omega arith in e)
+    cc ((let e : sector + suc i ≡ suc sector + i = omega arith in e), homes_go_on homes (suc sector) disk (suc start) n parts.1 i (omega (arith, within)), (let e : suc start + i ≡ start + suc i = omega arith in e))

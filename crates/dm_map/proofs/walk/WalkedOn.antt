@@ -32,30 +32,24 @@ walked_none {sink} {walk} lawful = record { took = lawful.nothing sink; state = 
 took_on : {S : Type 0} (past : SinkPast S) → IsLawful past → (a b c : S) (step : State → ℕ → Step) (state after : State) (sector m n : ℕ) → after ≡ (steps step state sector m).state → past.took a (steps step state sector m).units b → past.took b (steps step after (sector + m) n).units c
     → past.took a (steps step state sector (m + n)).units c
 took_on past lawful a b c step state after sector m n is first second =
-    subst (λ (row : Step). past.took a row.units c) (sym (steps-append step state sector m n))
-    (lawful.took a b c _ _ first (subst (λ (s : State). past.took b (steps step s (sector + m) n).units c) is second))
+    rw (steps-append step state sector m n) (lawful.took a b c _ _ first (rw is at second))
 
 -- the state after both parts
 state_on : (step : State → ℕ → Step) (state after last : State) (sector m n : ℕ) → after ≡ (steps step state sector m).state → last ≡ (steps step after (sector + m) n).state → last ≡ (steps step state sector (m + n)).state
 state_on step state after last sector m n is second =
-    second ∙ ap (λ (s : State). (steps step s (sector + m) n).state) is ∙ ap (λ (row : Step). row.state) (sym (steps-append step state sector m n))
+    cc (steps-append step state sector m n)
 
 -- or it failed in the next one
 left_on : {S : Type 0} (past : SinkPast S) → IsLawful past → (a b c : S) (step : State → ℕ → Step) (state after : State) (sector m n len : ℕ) → m + n ≤ len → after ≡ (steps step state sector m).state → past.took a (steps step state sector m).units b
     → OfBeginning past.left b (steps step after (sector + m) n).units c → OfBeginning past.left a (steps step state sector len).units c
 left_on past lawful a b c step state after sector m n len within is first second =
-    let cut = subst (λ (s : State). OfBeginning past.left b (steps step s (sector + m) n).units c) is second in
+    let cut = rw is at second in
     let front = (steps step state sector m).units in let middle = (steps step (steps step state sector m).state (sector + m) n).units in
     let tail = (steps step (steps step state sector (m + n)).state (sector + (m + n)) (len - (m + n))).units in
     record {
       front = front ++ cut.front;
       rest = cut.rest ++ tail;
-      whole = append_assoc front cut.front (cut.rest ++ tail)
-          ∙ ap (λ (us : List BlockUnit). front ++ us) (sym (append_assoc cut.front cut.rest tail) ∙ ap (λ (us : List BlockUnit). us ++ tail) cut.whole)
-          ∙ sym (append_assoc front middle tail)
-          ∙ ap (λ (row : Step). row.units ++ tail) (sym (steps-append step state sector m n))
-          ∙ ap (λ (row : Step). row.units) (sym (steps-append step state sector (m + n) (len - (m + n))))
-          ∙ ap (λ (k : ℕ). (steps step state sector k).units) (let e : m + n + (len - (m + n)) ≡ len = omega arith in e);
+      whole = append_assoc front cut.front (cut.rest ++ tail) ∙ rw (← append_assoc cut.front cut.rest tail, cut.whole) (sym (append_assoc front middle tail) ∙ ap (λ (row : Step). row.units ++ tail) (sym (steps-append step state sector m n)) ∙ ap (λ (row : Step). row.units) (sym (steps-append step state sector (m + n) (len - (m + n)))) ∙ rw (let e : m + n + (len - (m + n)) ≡ len = omega arith in e));
       holds = lawful.left a b c _ _ first cut.holds;
     }
 
@@ -92,7 +86,7 @@ pub mapped_none : {S : Type 0} {past : SinkPast S} {sink : S} {walk : WalkerView
 mapped_none {past} {sink} {walk} {mapping} {first} {len} lawful none =
     let nothing : IsMapped past going_on sink sink walk walk mapping first 0 = record { walked = walked_none lawful; bounded = λ is sound. omega (arith, none) } in
     record {
-      mapped = subst (λ (n : ℕ). IsMapped past going_on sink sink walk walk mapping first n) (let e : 0 ≡ len - len = omega arith in e) nothing;
+      mapped = rw (let e : 0 ≡ len - len = omega arith in e) at nothing;
       within = omega arith;
       position = refl;
       turns = λ is some more. absurd (omega (arith, some));
@@ -107,8 +101,7 @@ mapped_handed {walk} mapping none same p = record { walked = walked_piece same (
 next_step : {S : Type 0} {past : SinkPast S} {old middle : S} {before between : WalkerView} {mapping : Mapping} {first len at rest : ℕ} (n : ℕ) → IsMappedTo past old middle before between mapping first len at rest
     → steps (mapping.step between.stack) between.state at n ≡ steps (mapping.step before.stack) between.state (first + (len - rest)) n
 next_step {before} {between} {mapping} {first} {len} {at} {rest} n one =
-    ap (λ (s : Description). steps (mapping.step s) between.state at n) one.mapped.walked.stack
-    ∙ ap (λ (p : ℕ). steps (mapping.step before.stack) between.state p n) (let e : at ≡ first + (len - rest) = omega (arith, one.position, one.within) in e)
+    cc (let e : at ≡ first + (len - rest) = omega (arith, one.position, one.within) in e)
 
 -- the searches of those so far and of the next ones
 searches_next : {S F : Type 0} {past : SinkPast S} {result : Result (Unit {0}) F} {old middle new : S} {before between after : WalkerView} {mapping : Mapping} {found first len at rest n : ℕ}
@@ -119,13 +112,13 @@ searches_next {before} {between} {after} {mapping} {found} {first} {len} {at} {r
     let position : at ≡ first + done = omega (arith, one.position, one.within) in
     let state : between.state ≡ before.state = walked.state ∙ steps_kept (mapping.step before.stack) before.state first done (keeps is before.stack) in
     let same : stack_state between ≡ stack_state before =
-    ap (λ (s : Description). record { stack = s; state = between.state }) walked.stack ∙ ap (λ (s : State). record { stack = before.stack; state = s }) state in
+    cc in
     let more : after.looked.searches + found ≤ between.looked.searches + depth * stretches paths at n =
     subst (λ (v : StackState). after.looked.searches + found ≤ between.looked.searches + mapping.depth v.stack * stretches (mapping.path v.stack v.state) at n) same (two.bounded is (subst IsSound (sym walked.stack) sound)) in
     let so_far = one.mapped.bounded is sound in
     searches_on paths depth first done n before.looked.searches between.looked.searches (after.looked.searches + found)
-    (λ later. subst (λ (p : ℕ). is_same_path (paths (p - 1)) (paths p) ≡ false) position (one.turns is later (omega (arith, some, few)))) some (omega (arith, so_far))
-    (subst (λ (p : ℕ). after.looked.searches + found ≤ between.looked.searches + depth * stretches paths p n) position more)
+    (λ later. rw position at (one.turns is later (omega (arith, some, few)))) some (omega (arith, so_far))
+    (rw position at more)
 
 -- the next ones too
 pub mapped_on : {S F : Type 0} {past : SinkPast S} {fine : Unit {0}} {old middle new : S} {before between after : WalkerView} {mapping : Mapping} {found first len at rest n : ℕ}
@@ -147,7 +140,7 @@ mapped_on {past} {old} {middle} {new} {before} {between} {after} {mapping} {foun
       bounded = searches_next keeps some few one two;
     } in
     record {
-      mapped = subst (λ (k : ℕ). IsMapped past going_on old new before after (record mapping { found = found }) first k) (let e : done + n ≡ len - (rest - n) = omega (arith, few, one.within) in e) on;
+      mapped = rw (let e : done + n ≡ len - (rest - n) = omega (arith, few, one.within) in e) at on;
       within = omega (arith, one.within);
       position = omega (arith, one.position, few);
       turns = λ is later more. turns is (omega (arith, more));
@@ -158,8 +151,7 @@ pub mapped_whole : {S F : Type 0} {past : SinkPast S} {fine : Unit {0}} {old new
     → IsMapped {F = F} past (Ok fine) old new before after mapping first len
 mapped_whole {F} {past} {fine} {old} {new} {before} {after} {mapping} {first} {len} {rest} one none =
     let walk = one.mapped.walked in
-    subst (λ (k : ℕ). IsMapped {F = F} past (Ok fine) old new before after mapping first k) (let e : len - rest ≡ len = omega (arith, none) in e)
-    (record { walked = record { took = walk.took; state = walk.state; kept = walk.kept; room = walk.room; left = tt; faults = walk.faults; stack = walk.stack; looked = walk.looked }; bounded = one.mapped.bounded })
+    rw (← (let e : len - rest ≡ len = omega (arith, none) in e)) (record { walked = record { took = walk.took; state = walk.state; kept = walk.kept; room = walk.room; left = tt; faults = walk.faults; stack = walk.stack; looked = walk.looked }; bounded = one.mapped.bounded })
 
 -- or a beginning of the next ones, and then a fault
 pub mapped_cut : {S F : Type 0} {past : SinkPast S} {fault : F} {result : Result (Unit {0}) F} {old middle new : S} {before between after : WalkerView} {mapping : Mapping} {found first len at rest n : ℕ}
