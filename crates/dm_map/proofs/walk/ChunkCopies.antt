@@ -13,7 +13,7 @@ use Rattle.dm_map.specs.walk.Homes.{GoOn, IsFirstHomes, home}
 use Rattle.dm_map.specs.state.Snapshots.{store_sector}
 use Rattle.dm_map.specs.walk.SnapshotWrites.{any_error, copy_to, home_in_store, is_error, read, reads_all, row, write_to}
 use Rattle.dm_map.specs.walk.Steps.{keep}
-use Rattle.dm_map.specs.walk.Stretch.{ground_unit, IsFirst, IsGroundInStack}
+use Rattle.dm_map.specs.walk.Stretch.{ground_unit, IsFirstOf, IsGroundInStack}
 use Rattle.dm_map.specs.pieces.Sink.{SinkPast}
 use Rattle.dm_map.specs.pieces.Units.{BlockUnit, WriteOf, units_in}
 use Rattle.dm_map.specs.state.Walker.{StackState, WalkerView, stack_state}
@@ -31,8 +31,8 @@ pub record IsGoingOn {S : Type 0} (past : SinkPast S) (old new : S) (before afte
   pub faults : (past.view new).faults ≡ (past.view old).faults
 
 -- a first stretch is one for any walker of the same stack in the same state
-pub first_seen : (walk before after : WalkerView) (lower : Lower) (sector len : ℕ) (stretch : Stretch) → stack_state before ≡ stack_state walk → IsFirst before after (range_step before.stack Read MOST_DEPTH lower before.state sector) len stretch
-    → IsFirst walk walk (range_step walk.stack Read MOST_DEPTH lower walk.state sector) len stretch
+pub first_seen : (walk before after : WalkerView) (lower : Lower) (sector len : ℕ) (stretch : Stretch) → stack_state before ≡ stack_state walk → IsFirstOf before after MOST_DEPTH lower sector len stretch
+    → IsFirstOf walk walk MOST_DEPTH lower sector len stretch
 first_seen walk before after lower sector len stretch same first = record {
   some = first.some;
   most = first.most;
@@ -43,13 +43,13 @@ first_seen walk before after lower sector len stretch same first = record {
 }
 
 -- a range whose first stretch fails doesn't read without an error
-pub fails_on : (walk : WalkerView) (lower : Lower) (sector len : ℕ) (stretch : Stretch) → IsFirst walk walk (range_step walk.stack Read MOST_DEPTH lower walk.state sector) len stretch → stretch.ground ≡ grounds.Fails → reads_all walk.stack walk.state lower sector len ≡ false
+pub fails_on : (walk : WalkerView) (lower : Lower) (sector len : ℕ) (stretch : Stretch) → IsFirstOf walk walk MOST_DEPTH lower sector len stretch → stretch.ground ≡ grounds.Fails → reads_all walk.stack walk.state lower sector len ≡ false
 fails_on walk lower sector len stretch first fails =
     let rest = any_error (row (read walk.stack walk.state lower) (sector + stretch.len) (len - stretch.len)) in
     cc (errors_on (read walk.stack walk.state lower) sector stretch.len len (ground_unit stretch.ground) first.some first.most (first_reads walk.stack walk.state lower sector stretch.len (ground_unit stretch.ground) first.read))
 
 -- any other does where what comes after sectors of that stretch does
-pub reads_on : (walk : WalkerView) (lower : Lower) (sector n len : ℕ) (stretch : Stretch) → IsFirst walk walk (range_step walk.stack Read MOST_DEPTH lower walk.state sector) len stretch → (stretch.ground ≡ grounds.Fails → ⊥) → 1 ≤ n → n ≤ stretch.len
+pub reads_on : (walk : WalkerView) (lower : Lower) (sector n len : ℕ) (stretch : Stretch) → IsFirstOf walk walk MOST_DEPTH lower sector len stretch → (stretch.ground ≡ grounds.Fails → ⊥) → 1 ≤ n → n ≤ stretch.len
     → reads_all walk.stack walk.state lower sector len ≡ reads_all walk.stack walk.state lower (sector + n) (len - n)
 reads_on walk lower sector n len stretch first good some few =
     let reads = read walk.stack walk.state lower in let unit = ground_unit stretch.ground in
@@ -65,7 +65,7 @@ copy_of walk snapshot number u = copy_to (read walk.stack walk.state snapshot.or
 
 -- what a piece copies, as long as both sides go on, is the next part of the row
 pub copy_next : (walk : WalkerView) (snapshot : FoundSnapshot) (number sector len left from to n : ℕ) (source : Stretch) (target : HomeStretch) → 0 < snapshot.chunk → sector % snapshot.chunk + len ≤ snapshot.chunk → left ≤ len → from + left ≡ sector + len
-    → to + left ≡ store_sector snapshot number sector + len → IsFirst walk walk (range_step walk.stack Read MOST_DEPTH snapshot.origin walk.state from) left source → IsFirstHomes walk.stack snapshot.store to left target → n ≤ source.len → n ≤ target.len
+    → to + left ≡ store_sector snapshot number sector + len → IsFirstOf walk walk MOST_DEPTH snapshot.origin from left source → IsFirstHomes walk.stack snapshot.store to left target → n ≤ source.len → n ≤ target.len
     → row (copy_of walk snapshot number) (sector + (len - left)) n ≡ units_in (copy_to (ground_unit source.ground) (record { disk = target.disk; sector = target.start })) n
 copy_next walk snapshot number sector len left from to n source target some part within from_is to_is stretch homes few_read few_home =
     let done = len - left in let reads = read walk.stack walk.state snapshot.origin in let unit = ground_unit source.ground in

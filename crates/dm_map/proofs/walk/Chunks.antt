@@ -7,13 +7,13 @@ use Rattle.dm_stack.specs.declared.lines.found_line.FoundSnapshot.{FoundSnapshot
 use Rattle.dm_stack.specs.declared.lines.found_line.FoundLine.{FoundLine}
 use Rattle.dm_stack.specs.declared.lines.found_line.FoundTarget.TheVariants.{Snapshot}
 use Rattle.dm_stack.specs.lines.Below.{Lies, found_at, IsLine, IsSnapshotSound}
-use Rattle.dm_stack.specs.Description.{Description, device_len, lower_len}
+use Rattle.dm_stack.specs.Description.{Description, lower_len}
 use Rattle.dm_stack.specs.lines.StoreLayout.{place}
 use Rattle.dm_map.specs.declared.walk.chunk.ReadAt.{ReadAt}
 use Rattle.dm_map.specs.declared.walk.homes.HomeStretch.{HomeStretch}
 use Rattle.dm_map.specs.walk.Homes.{home}
 use Rattle.dm_map.specs.state.Snapshots.{number_in, store_sector, read_numbered, read_over}
-use Rattle.dm_map.specs.walk.SnapshotWrites.{home_in_store, is_refused, is_settled, take_chunk, row, store_writes, unit_in_store, write_snapshot, write_to}
+use Rattle.dm_map.specs.walk.SnapshotWrites.{first_of, home_in_store, is_refused, is_settled, take_chunk, row, store_writes, unit_in_store, write_snapshot, write_to}
 use Rattle.dm_map.specs.state.State.{State, Taken, taken_at}
 use Rattle.dm_map.specs.walk.Steps.{keep, and_then, steps}
 use Rattle.dm_map.specs.state.Tables.{has_room}
@@ -25,6 +25,7 @@ use Rattle.dm_map.specs.walk.Chunk.{AreInChunk, AreInSnapshot, AreReadAt, IsTake
 use Rattle.dm_map.proofs.state.TableLemmas.{room_place}
 use Rattle.dm_map.proofs.walk.ChunkTaking.{chunk_part, refused_part, settled_part, write_is}
 use Rattle.dm_map.proofs.walk.Rows.{left_more, steps_read, steps_same, steps_still}
+use Rattle.dm_stack.proofs.InStack.{device_there}
 use Rattle.dm_stack.proofs.StripeLemmas.{in_chunk}
 use Rattle.dm_map.proofs.walk.UnitRows.{row_same, write_row}
 
@@ -48,10 +49,15 @@ in_one_chunk stack before device sector len at left part snapshot lies same posi
       part = omega (arith, part_is, some);
     })
 
-pub first_inside : (stack : Description) (device sector len : ℕ) (snapshot : FoundSnapshot) → AreInChunk stack device snapshot sector len → 1 ≤ len → sector / snapshot.chunk * snapshot.chunk < device_len stack device
-first_inside stack device sector len snapshot chunk some =
+-- a snapshot that has sectors is one of the stack's devices
+pub snapshot_device : {stack : Description} {device sector len : ℕ} {snapshot : FoundSnapshot} → AreInSnapshot stack device snapshot sector len → 1 ≤ len → device < length stack.devices
+snapshot_device {stack} {device} {sector} whole some = device_there stack device sector (omega (arith, whole.inside, some))
+
+-- the first sector of a chunk is there where a later one is
+pub first_there : (stack : Description) (device sector len : ℕ) (snapshot : FoundSnapshot) → AreInSnapshot stack device snapshot sector len → 1 ≤ len → AreInSnapshot stack device snapshot (first_of snapshot (sector / snapshot.chunk)) 1
+first_there stack device sector len snapshot chunk some =
     let whole : sector / snapshot.chunk * snapshot.chunk + sector % snapshot.chunk ≡ sector = div-add-mod' sector snapshot.chunk in
-    omega (arith, whole, chunk.whole.inside, some)
+    record { is = chunk.is; sound = chunk.sound; inside = omega (arith, whole, chunk.inside, some) }
 
 -- Sectors of one chunk
 

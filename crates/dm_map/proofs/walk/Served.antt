@@ -12,13 +12,14 @@ use Rattle.dm_stack.specs.checks.Soundness.{IsSound}
 use Rattle.dm_stack.specs.declared.lines.found_line.FoundSnapshot.{FoundSnapshot}
 use Rattle.dm_stack.specs.declared.lines.found_line.FoundOver.{FoundOver}
 use Rattle.dm_map.specs.walk.Serving.{AreSettled, IsOver, serve, served_step}
-use Rattle.dm_map.specs.walk.SnapshotWrites.{is_settled, take_chunk}
+use Rattle.dm_map.specs.walk.SnapshotWrites.{first_of, is_settled, take_chunk}
 use Rattle.dm_map.specs.state.State.{State, Taken, taken_at}
 use Rattle.dm_map.specs.walk.Steps.{Step, keep, and_then, steps}
 use Rattle.dm_map.specs.pieces.Sink.{IsLawful, SinkPast}
 use Rattle.dm_map.specs.state.Walker.{WalkerView}
 use Rattle.dm_map.specs.walk.Range.{IsWalked}
-use Rattle.dm_map.proofs.walk.Chunks.{same_chunk}
+use Rattle.dm_map.specs.walk.Chunk.{AreInSnapshot}
+use Rattle.dm_map.proofs.walk.Chunks.{first_there, same_chunk}
 use Rattle.dm_map.proofs.state.FoundLines.{snapshot_sound}
 use Rattle.dm_map.proofs.walk.ChunkTaking.{chunk_outcome, take_chunk_again, take_chunk_settles}
 use Rattle.dm_map.proofs.walk.Rows.{and_then_at, left_more, step_assoc, walked_as, walked_cut, walked_then}
@@ -132,6 +133,12 @@ over_at stack len over i one all within is = rw is (All-get_or (IsOver stack len
 
 pub over_sound : (stack : Description) (len : ℕ) (one : FoundOver) → IsSound stack → IsOver stack len one → IsSnapshotSound stack one.device 0 (device_len stack one.device) one.snapshot
 over_sound stack len one sound it = (snapshot_sound stack one.device one.snapshot sound it.is).soundly
+
+-- and has the first sector of the chunk of a sector that it has
+pub chunk_there : (stack before : Description) (sector : ℕ) (one : FoundOver) → IsSound stack → before ≡ stack → IsOver stack (sector + 1) one → AreInSnapshot before one.device one.snapshot (first_of one.snapshot (sector / one.snapshot.chunk)) 1
+chunk_there stack before sector one sound same it =
+    let here : AreInSnapshot stack one.device one.snapshot sector 1 = record { is = it.is; sound = over_sound stack (sector + 1) one sound it; inside = it.long } in
+    rw same (first_there stack one.device sector 1 one.snapshot here (omega arith))
 
 -- a state that fits has a table for each
 pub over_there : (stack : Description) (state : State) (len : ℕ) (over : List FoundOver) → length state ≡ length stack.devices → 0 < len → AllByRecursion (IsOver stack len) over → AllByRecursion (λ one. one.device < length state) over

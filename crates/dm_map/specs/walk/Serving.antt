@@ -1,5 +1,5 @@
 -- What a write of an origin's sector does before it: the chunk of that sector is taken in each of its snapshots (the kernel's admin guide, device-mapper/snapshot).
-use Rattle.std.specs.Prelude.{◌≡◌, ℕ, ◌/◌, ◌≤◌, true, List, [], ◌∷◌, Some}
+use Rattle.std.specs.Prelude.{◌≡◌, ℕ, ◌/◌, ◌<◌, ◌≤◌, true, List, [], ◌∷◌, Some}
 use Rattle.std.specs.List.{AllByRecursion}
 use Rattle.dm_stack.specs.Description.{Description, device_len}
 use Rattle.dm_stack.specs.declared.lines.found_line.FoundOver.{FoundOver}
@@ -26,3 +26,10 @@ served_step stack over plain state sector = and_then (serve stack over sector st
 pub record IsOver (stack : Description) (len : ℕ) (one : FoundOver) : Type 0 where
   pub is : snapshot_at stack one.device ≡ Some one.snapshot
   pub long : len ≤ device_len stack one.device
+
+-- of at most this many the longest part, from the first one on, that has the fact throughout; the first one has it
+pub record IsLongest (P : ℕ → Type 0) (limit part : ℕ) : Type 0 where
+  pub some : 1 ≤ part
+  pub most : part ≤ limit
+  pub holds : (i : ℕ) → i < part → P i
+  pub whole : part < limit → P part → ⊥

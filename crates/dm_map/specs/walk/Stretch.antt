@@ -1,5 +1,7 @@
 -- What a stretch is read from.
 use Rattle.std.specs.Prelude.{ℕ, ◌≡◌, ◌≤◌}
+use Rattle.dm_table.specs.declared.requests.request.Op.TheVariants.{Read}
+use Rattle.dm_stack.specs.declared.id.Lower.{Lower}
 use Rattle.dm_stack.specs.Description.{Description}
 use Rattle.dm_map.specs.declared.walk.stretch.Ground.{Ground}
 use Rattle.dm_map.specs.declared.walk.stretch.Ground.TheVariants as grounds
@@ -8,6 +10,7 @@ use Rattle.dm_map.specs.state.Counts.{AreAdded}
 use Rattle.dm_map.specs.walk.Steps.{Step, keep}
 use Rattle.dm_map.specs.pieces.Units.{BlockUnit, ReadOf, Zeros, Fails, IsOnDisk, units_in}
 use Rattle.dm_map.specs.state.Walker.{WalkerView, stack_state}
+use Rattle.dm_map.specs.walk.Range.{range_step}
 
 -- what the first sector of a stretch reads
 abbrev pub ground_unit : Ground → BlockUnit
@@ -29,3 +32,7 @@ pub record IsFirst (before after : WalkerView) (reads : ℕ → Step) (len : ℕ
   pub lies : IsGroundInStack before.stack stretch.ground stretch.len
   pub same : stack_state after ≡ stack_state before
   pub looked : AreAdded before.looked after.looked
+
+-- it is the first stretch of a range of a device or a disk, through at most this many levels of devices
+abbrev pub IsFirstOf : (before after : WalkerView) (levels : ℕ) → Lower → (sector len : ℕ) → Stretch → Type 0
+IsFirstOf before after levels lower sector len stretch = IsFirst before after (range_step before.stack Read levels lower before.state sector) len stretch

@@ -4,10 +4,10 @@
 //! Then as many sectors are written as need no more of it: a range is cut where a snapshot has
 //! something left to do, and not wherever a chunk ends.
 
-ghost use Rattle.std.specs.Prelude.{◌≡◌, ℕ, ◌+◌, ◌/◌, ◌<◌, ◌≤◌, OnOk, false, true};
+ghost use Rattle.std.specs.Prelude.{◌≡◌, ◌+◌, ◌/◌, ◌≤◌, OnOk, true};
 ghost use Rattle.std.specs.List.{All};
 ghost use Rattle.dm_stack.specs.declared.checks.limits.TheConstants.{MOST_LENGTH};
-ghost use Rattle.dm_map.specs.walk.Serving.{serve, AreSettled, IsOver};
+ghost use Rattle.dm_map.specs.walk.Serving.{serve, AreSettled, IsLongest, IsOver};
 ghost use Rattle.dm_map.specs.walk.SnapshotWrites.{is_settled};
 ghost use Rattle.dm_map.specs.state.State.{taken_at};
 ghost use Rattle.dm_map.specs.walk.Range.{HasRoomFor, IsWalked};
@@ -56,10 +56,7 @@ pub(crate) fn settled_part<T: Taken>(
     requires some { 1 ≤ most }
     requires small { sector + most ≤ MOST_LENGTH }
     requires here { AreSettled walker.now.state over.now sector }
-    ensures some { 1 ≤ result }
-    ensures most { result ≤ most }
-    ensures settled { (i : ℕ) → i < result → AreSettled walker.now.state over.now (sector + i) }
-    ensures whole { result < most → ¬ AreSettled walker.now.state over.now (sector + result) }
+    ensures { IsLongest (λ i. AreSettled walker.now.state over.now (sector + i)) most result }
 {
     let mut part = most;
     for one in over {
@@ -76,14 +73,8 @@ fn settled_in<T: Taken>(walker: &Walker<'_, T>, one: &FoundOver, sector: u64, mo
     requires small { sector + most ≤ MOST_LENGTH }
     requires here { is_settled (taken_at walker.now.state one.now.device)
         (sector / one.now.snapshot.chunk) ≡ true }
-    ensures some { 1 ≤ result }
-    ensures most { result ≤ most }
-    ensures settled { (i : ℕ) → i < result
-        → is_settled (taken_at walker.now.state one.now.device) ((sector + i) / one.now.snapshot.chunk)
-        ≡ true }
-    ensures whole { result < most
-        → is_settled (taken_at walker.now.state one.now.device)
-        ((sector + result) / one.now.snapshot.chunk) ≡ false }
+    ensures { IsLongest (λ i. is_settled (taken_at walker.now.state one.now.device)
+        ((sector + i) / one.now.snapshot.chunk) ≡ true) most result }
 {
     walker.recall_soundness();
     if !walker.is_valid(one.device) {

@@ -9,8 +9,8 @@ ghost use Rattle.dm_table.specs.declared.requests.request.Op.TheVariants.{Read};
 ghost use Rattle.dm_stack.specs.lines.Below.{IsLine};
 ghost use Rattle.dm_stack.specs.Description.{lower_len};
 ghost use Rattle.dm_stack.specs.declared.id.Lower.TheVariants.{Device};
-ghost use Rattle.dm_map.specs.walk.Stretch.{IsFirst};
-ghost use Rattle.dm_map.specs.walk.Range.{line_step, range_step};
+ghost use Rattle.dm_map.specs.walk.Stretch.{IsFirst, IsFirstOf};
+ghost use Rattle.dm_map.specs.walk.Range.{line_step};
 
 use crate::state::taken::Taken;
 use crate::state::walker::Walker;
@@ -53,8 +53,7 @@ pub(crate) fn first_stretch<T: Taken>(
 ) -> Stretch
     requires some { 1 ≤ len }
     requires inside { sector + len ≤ lower_len walker.old.stack lower }
-    ensures { IsFirst walker.old walker.new
-        (range_step walker.old.stack Read levels lower walker.old.state sector) len result }
+    ensures { IsFirstOf walker.old walker.new levels lower sector len result }
 {
     match lower {
         Lower::Disk(disk) => Stretch {
@@ -80,8 +79,7 @@ fn device_stretch<T: Taken>(
 ) -> Stretch
     requires some { 1 ≤ len }
     requires inside { sector + len ≤ lower_len walker.old.stack (Device device) }
-    ensures { IsFirst walker.old walker.new
-        (range_step walker.old.stack Read levels (Device device) walker.old.state sector) len result }
+    ensures { IsFirstOf walker.old walker.new levels (Device device) sector len result }
 {
     if levels == 0 {
         return Stretch {

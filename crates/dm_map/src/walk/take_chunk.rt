@@ -9,26 +9,23 @@
 
 ghost use Rattle.std.specs.Prelude.{◌≡◌, ◌≢◌, ◌+◌, ◌*◌, ◌%◌, ◌<◌, ◌≤◌};
 ghost use Rattle.std.specs.Prelude.{Some, IfNone, IfOk, IfSome, is_some, length, false, true};
-ghost use Rattle.dm_table.specs.declared.requests.request.Op.TheVariants.{Read};
-ghost use Rattle.dm_stack.specs.lines.Below.{IsSnapshotSound};
-ghost use Rattle.dm_stack.specs.Description.{Description, device_len, lower_len};
+ghost use Rattle.dm_stack.specs.Description.{Description, lower_len};
 ghost use Rattle.dm_stack.specs.checks.Store.{IsStore};
 ghost use Rattle.dm_stack.specs.declared.checks.graph.TheConstants.{MOST_DEPTH};
 ghost use Rattle.dm_stack.specs.declared.checks.limits.TheConstants.{MOST_SNAPSHOT_CHUNK};
 ghost use Rattle.dm_map.specs.state.Counts.{AreAdded};
 ghost use Rattle.dm_map.specs.walk.Homes.{IsFirstHomes};
-ghost use Rattle.dm_map.specs.walk.Chunk.{IsTakenAs};
+ghost use Rattle.dm_map.specs.walk.Chunk.{AreInSnapshot, IsTakenAs};
 ghost use Rattle.dm_map.specs.walk.SnapshotWrites.{can_take, copies, copy_to, first_of};
 ghost use Rattle.dm_map.specs.walk.SnapshotWrites.{is_settled, reads_all, take_chunk};
 ghost use Rattle.dm_map.specs.state.Snapshots.{has_place, store_sector};
 ghost use Rattle.dm_map.specs.state.State.{taken_at};
 ghost use Rattle.dm_map.specs.walk.Steps.{keep};
 ghost use Rattle.dm_map.specs.declared.walk.stretch.Ground.TheVariants.{Fails};
-ghost use Rattle.dm_map.specs.walk.Stretch.{ground_unit, IsFirst, IsGroundInStack};
-ghost use Rattle.dm_map.specs.state.Tables.{snapshot_at};
+ghost use Rattle.dm_map.specs.walk.Stretch.{ground_unit, IsFirstOf, IsGroundInStack};
 ghost use Rattle.dm_map.specs.pieces.Units.{diskless_len, piece_len, units_in, units_of, IsOnDisk, IsOnDisks};
 ghost use Rattle.dm_map.specs.state.Walker.{stack_state};
-ghost use Rattle.dm_map.specs.walk.Range.{range_step, HasRoomFor, IsWalked};
+ghost use Rattle.dm_map.specs.walk.Range.{HasRoomFor, IsWalked};
 
 use crate::pieces::piece::Piece;
 use crate::pieces::sink::Sink;
@@ -52,10 +49,7 @@ pub(crate) fn take_chunk<S: Sink, T: Taken>(
     chunk: u64,
     sink: &mut S,
 ) -> Result<(), S::Fault>
-    requires is { snapshot_at walker.old.stack device ≡ Some snapshot.now }
-    requires sound { IsSnapshotSound walker.old.stack device 0 (device_len walker.old.stack device)
-        snapshot.now }
-    requires inside { first_of snapshot.now chunk < device_len walker.old.stack device }
+    requires inside { AreInSnapshot walker.old.stack device snapshot.now (first_of snapshot.now chunk) 1 }
     requires sink { HasRoomFor S.past sink.old walker.old.stack 0 }
     ensures { IsWalked S.past result sink.old sink.new walker.old walker.new
         (take_chunk walker.old.stack snapshot.now device chunk walker.old.state) 0 }
@@ -78,10 +72,7 @@ pub(crate) fn take_new_chunk<S: Sink, T: Taken>(
     number: usize,
     sink: &mut S,
 ) -> Result<Option<HomeStretch>, S::Fault>
-    requires is { snapshot_at walker.old.stack device ≡ Some snapshot.now }
-    requires sound { IsSnapshotSound walker.old.stack device 0 (device_len walker.old.stack device)
-        snapshot.now }
-    requires inside { first_of snapshot.now chunk < device_len walker.old.stack device }
+    requires inside { AreInSnapshot walker.old.stack device snapshot.now (first_of snapshot.now chunk) 1 }
     requires fresh { is_settled (taken_at walker.old.state device) chunk ≡ false }
     requires number { number ≡ length (taken_at walker.old.state device).chunks }
     requires sink { HasRoomFor S.past sink.old walker.old.stack 0 }
@@ -122,15 +113,12 @@ fn first_source<T: Taken>(
     sector: u64,
     len: u64,
 ) -> Option<Stretch>
-    requires device { device < length walker.old.stack.devices }
-    requires is { snapshot_at walker.old.stack device ≡ Some snapshot.now }
     requires some { 1 ≤ len }
-    requires inside { sector + len ≤ lower_len walker.old.stack snapshot.now.origin }
+    requires inside { AreInSnapshot walker.old.stack device snapshot.now sector len }
     ensures can_take { is_some result
         ≡ can_take walker.old.stack walker.old.state snapshot.now device sector len }
-    ensures first { IfSome result (λ source. IsFirst walker.new walker.new
-        (range_step walker.new.stack Read MOST_DEPTH snapshot.now.origin walker.new.state sector) len
-        source) }
+    ensures first { IfSome result (λ source. IsFirstOf walker.new walker.new MOST_DEPTH snapshot.now.origin
+        sector len source) }
     ensures same { stack_state walker.new ≡ stack_state walker.old }
     ensures looked { AreAdded walker.old.looked walker.new.looked }
 {
@@ -176,9 +164,7 @@ fn copy_chunk<S: Sink, T: Taken>(
     requires begins { sector % snapshot.now.chunk ≡ 0 }
     requires part { sector % snapshot.now.chunk + len ≤ snapshot.now.chunk }
     requires reads { reads_all walker.old.stack walker.old.state snapshot.now.origin sector len ≡ true }
-    requires first { IsFirst walker.old walker.old
-        (range_step walker.old.stack Read MOST_DEPTH snapshot.now.origin walker.old.state sector) len
-        first }
+    requires first { IsFirstOf walker.old walker.old MOST_DEPTH snapshot.now.origin sector len first }
     requires sink { HasRoomFor S.past sink.old walker.old.stack 0 }
     ensures walked { IsWalked S.past result sink.old sink.new walker.old walker.new
         (keep (copies walker.old.stack walker.old.state snapshot.now number sector len)

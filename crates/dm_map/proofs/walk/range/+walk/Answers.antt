@@ -352,7 +352,7 @@ pub write_origin-returns-in_err-map_range : goal.write_origin-returns-in_err-map
 write_origin-returns-in_err-map_range g t c =
     let a = c.args in let l = c.loop-left in let s = c.settled_part-part.ensures in
     mapped_cut g.met.S.Sink.lawful (λ is. absurd cc) c.from_residual-in_err-map_range.ensures.0 l.invariant.so_far
-    (part_mapped g.met.S.Sink.lawful a.levels l.from c.settled_part-part.result a.origin.now c.as_slice-over.ensures s.some c.in_ok-serve.ensures.walked s.settled c.in_err-map_range.ensures) s.some (omega (arith, s.most, c.min.ensures))
+    (part_mapped g.met.S.Sink.lawful a.levels l.from c.settled_part-part.result a.origin.now c.as_slice-over.ensures s.some c.in_ok-serve.ensures.walked s.holds c.in_err-map_range.ensures) s.some (omega (arith, s.most, c.min.ensures))
 
 pub write_origin-overflow_add-from : goal.write_origin-overflow_add-from
 write_origin-overflow_add-from g t c =
@@ -369,6 +369,6 @@ write_origin-loop-left-preserved g t c =
     let a = c.args in let l = c.loop-left in let s = c.settled_part-part.ensures in
     record {
       so_far = mapped_on g.met.S.Sink.lawful (λ is. absurd cc) l.invariant.so_far
-          (part_mapped g.met.S.Sink.lawful a.levels l.from c.settled_part-part.result a.origin.now c.as_slice-over.ensures s.some c.in_ok-serve.ensures.walked s.settled c.in_ok-map_range.ensures) s.some (omega (arith, s.most, c.min.ensures)) (λ is. absurd cc);
+          (part_mapped g.met.S.Sink.lawful a.levels l.from c.settled_part-part.result a.origin.now c.as_slice-over.ensures s.some c.in_ok-serve.ensures.walked s.holds c.in_ok-map_range.ensures) s.some (omega (arith, s.most, c.min.ensures)) (λ is. absurd cc);
       some = omega (arith, s.some);
     }

@@ -1,12 +1,10 @@
 use Rattle.std.proofs.Common.{◌≡◌, ◌+◌, List, take, sym, ap, subst, ◌∙◌, arith}
 use Rattle.std.proofs.lemmas.List.{take_all}
 use Rattle.std.proofs.lemmas.List.Elements.{recursion_from_All}
-use Rattle.dm_stack.specs.lines.Below.{IsSnapshotSound}
-use Rattle.dm_stack.specs.Description.{Description, device_len}
 use Rattle.dm_stack.specs.declared.lines.found_line.FoundOver.{FoundOver}
 use Rattle.dm_map.specs.walk.Serving.{AreSettled, IsOver, serve}
 use Rattle.dm_map.specs.state.State.{State}
-use Rattle.dm_map.proofs.walk.Served.{over_at, over_sound, over_there, serve_settled, served_cut, served_on}
+use Rattle.dm_map.proofs.walk.Served.{chunk_there, over_at, over_sound, over_there, serve_settled, served_cut, served_on}
 use Rattle.dm_map.proofs.walk.WalkedOn.{walked_none}
 use Rattle.dm_map.proofs.walk.serving.serve.Goals as goal
 
@@ -19,11 +17,11 @@ nonzero_div-chunk g c =
     let a = c.args in let w = a.walker.now in let l = c.loop-one in
     (over_sound w.stack (a.sector + 1) c.one-item.result c.recall_soundness.ensures (over_at w.stack (a.sector + 1) a.over.now l.one-index c.one-item.result c.requires.over c.loop-one-test.true c.one-item.is)).chunk_some
 
-pub take_chunk-requires-clause-sound : goal.take_chunk-requires-clause-sound
-take_chunk-requires-clause-sound g c =
+pub take_chunk-requires-clause-inside : goal.take_chunk-requires-clause-inside
+take_chunk-requires-clause-inside g c =
     let a = c.args in let w = a.walker.now in let l = c.loop-one in let one = c.one-item.result in
     let it = over_at w.stack (a.sector + 1) a.over.now l.one-index one c.requires.over c.loop-one-test.true c.one-item.is in
-    subst (λ (s : Description). IsSnapshotSound s one.device 0 (device_len s one.device) one.snapshot) (sym l.invariant.stack) (over_sound w.stack (a.sector + 1) one c.recall_soundness.ensures it)
+    chunk_there w.stack l.walker.stack a.sector one c.recall_soundness.ensures l.invariant.stack it
 
 pub returns-in_err-take_chunk-clause-walked : goal.returns-in_err-take_chunk-clause-walked
 returns-in_err-take_chunk-clause-walked g c =

@@ -1,4 +1,5 @@
-use Rattle.std.proofs.Common.{◌+◌, sym, ◌∙◌, arith}
+use Rattle.std.proofs.Common.{◌+◌, refl, sym, ◌∙◌, arith}
+use Rattle.std.proofs.lemmas.Bool.{both_ways}
 use Rattle.dm_map.specs.state.State.{taken_at}
 use Rattle.dm_map.proofs.walk.Served.{chunk_more, chunk_settled, over_sound}
 use Rattle.dm_stack.proofs.InStack.{device_there}
@@ -47,10 +48,21 @@ loop-part-preserved g c =
       settled = chunk_more (taken_at a.walker.now.state one.device) one.snapshot a.sector l.part n some (omega (arith, n_is)) (sym c.is_settled.ensures ∙ c.if-is_settled.true) l.invariant.settled;
     }
 
+-- nothing is left to do for a lost snapshot
+
+pub returns-then-not-is_valid : goal.returns-then-not-is_valid
+returns-then-not-is_valid g c =
+    let lost = sym c.is_valid.ensures.valid ∙ c.if-not-is_valid.true in
+    record { some = c.requires.some; most = omega arith; holds = λ i within. rw lost refl; whole = λ less. absurd (omega (arith, less)) }
+
 -- the loop ends at a chunk that is not settled, or where there is no further sector
 
-pub returns-else-is_settled-clause-whole : goal.returns-else-is_settled-clause-whole
-returns-else-is_settled-clause-whole g c less = sym c.is_settled.ensures ∙ c.if-is_settled.false
+pub returns-else-is_settled : goal.returns-else-is_settled
+returns-else-is_settled g c =
+    let so_far = c.loop-part.invariant in
+    record { some = so_far.some; most = so_far.most; holds = so_far.settled; whole = λ less settled. both_ways _ (sym c.is_settled.ensures ∙ c.if-is_settled.false) settled }
 
-pub returns-after-loop-part-clause-whole : goal.returns-after-loop-part-clause-whole
-returns-after-loop-part-clause-whole g c less = absurd (omega (arith, less, c.loop-part-test.false))
+pub returns-after-loop-part : goal.returns-after-loop-part
+returns-after-loop-part g c =
+    let so_far = c.loop-part.invariant in
+    record { some = so_far.some; most = so_far.most; holds = so_far.settled; whole = λ less. absurd (omega (arith, less, c.loop-part-test.false)) }

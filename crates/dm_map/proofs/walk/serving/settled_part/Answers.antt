@@ -1,13 +1,10 @@
-use Rattle.std.proofs.Common.{◌≡◌, inl, inr, ℕ, ◌+◌, true, false, List, [], ◌∷◌, ◌++◌, take, sym, ap, subst, ◌∙◌, arith}
+use Rattle.std.proofs.Common.{◌≡◌, inl, inr, ℕ, ◌+◌, List, [], ◌∷◌, ◌++◌, take, sym, ap, subst, ◌∙◌, arith}
 use Rattle.std.proofs.lemmas.Bool.{cases_lt}
 use Rattle.std.proofs.lemmas.List.{take_all, take_more}
 use Rattle.dm_stack.specs.declared.lines.found_line.FoundOver.{FoundOver}
-use Rattle.dm_map.specs.walk.Serving.{AreSettled}
+use Rattle.dm_map.specs.walk.Serving.{AreSettled, IsLongest}
 use Rattle.dm_map.proofs.walk.Served.{settled_more, settled_parts}
 use Rattle.dm_map.proofs.walk.serving.settled_part.Goals as goal
-
-false_true : false ≡ true → ⊥
-false_true e = cc
 
 pub loop-one-preserved : goal.loop-one-preserved
 loop-one-preserved g c =
@@ -19,22 +16,17 @@ loop-one-preserved g c =
       whole = λ less settled.
           let parts = settled_parts w.state (take l.one-index a.over.now) one (a.sector + c.settled_in-part.result) (subst (λ (over : List FoundOver). AreSettled w.state over (a.sector + c.settled_in-part.result)) list settled) in
           elim (cases_lt c.settled_in-part.result l.part) [
-            | inl cut ↦ false_true (sym (next.whole cut) ∙ parts.1)
+            | inl cut ↦ next.whole cut parts.1
             | inr here ↦
                 let same : c.settled_in-part.result ≡ l.part = omega (arith, here, next.most) in
                 l.invariant.whole (omega (arith, less, same)) (subst (λ (n : ℕ). AreSettled w.state (take l.one-index a.over.now) (a.sector + n)) same parts.0)
           ];
-      settled = λ i within.
+      holds = λ i within.
           subst (λ (over : List FoundOver). AreSettled w.state over (a.sector + i)) (sym list)
-          (settled_more w.state (take l.one-index a.over.now) one (a.sector + i) (l.invariant.settled i (omega (arith, within, next.most))) (next.settled i within));
+          (settled_more w.state (take l.one-index a.over.now) one (a.sector + i) (l.invariant.holds i (omega (arith, within, next.most))) (next.holds i within));
     }
 
-pub returns-clause-whole : goal.returns-clause-whole
-returns-clause-whole g c less settled =
+pub returns : goal.returns
+returns g c =
     let a = c.args in let l = c.loop-one in
-    l.invariant.whole less (subst (λ (over : List FoundOver). AreSettled a.walker.now.state over (a.sector + l.part)) (sym (take_all l.one-index a.over.now (omega (arith, c.loop-one-test.false)))) settled)
-
-pub returns-clause-settled : goal.returns-clause-settled
-returns-clause-settled g c i within =
-    let a = c.args in let l = c.loop-one in
-    subst (λ (over : List FoundOver). AreSettled a.walker.now.state over (a.sector + i)) (take_all l.one-index a.over.now (omega (arith, c.loop-one-test.false))) (l.invariant.settled i within)
+    subst (λ (over : List FoundOver). IsLongest (λ i. AreSettled a.walker.now.state over (a.sector + i)) a.most l.part) (take_all l.one-index a.over.now (omega (arith, c.loop-one-test.false))) l.invariant

@@ -12,7 +12,7 @@ use Rattle.dm_map.specs.declared.walk.stretch.Ground.{Ground}
 use Rattle.dm_map.specs.declared.walk.stretch.Ground.TheVariants as grounds
 use Rattle.dm_map.specs.declared.walk.stretch.Stretch.{Stretch}
 use Rattle.dm_map.specs.walk.Steps.{Step, keep}
-use Rattle.dm_map.specs.walk.Stretch.{ground_unit, IsFirst, IsGroundInStack}
+use Rattle.dm_map.specs.walk.Stretch.{ground_unit, IsFirst, IsFirstOf, IsGroundInStack}
 use Rattle.dm_map.specs.pieces.Units.{units_in}
 use Rattle.dm_map.specs.state.Walker.{StackState, WalkerView, stack_state}
 use Rattle.dm_map.specs.walk.Range.{line_step, range_step}
@@ -50,7 +50,7 @@ first_stretch-device_stretch-requires g t c κs within =
 pub first_stretch-returns-in-Device : goal.first_stretch-returns-in-Device
 first_stretch-returns-in-Device g t c =
     let a = c.args in let w = a.walker.now in let s = c.device_stretch in
-    subst (λ (lower : Lower). IsFirst w s.new.walker (range_step w.stack Read a.levels lower w.state a.sector) a.len s.result) (sym c.in-Device.is) s.ensures
+    subst (λ (lower : Lower). IsFirstOf w s.new.walker a.levels lower a.sector a.len s.result) (sym c.in-Device.is) s.ensures
 
 pub device_stretch-returns-then-levels-eq0 : goal.device_stretch-returns-then-levels-eq0
 device_stretch-returns-then-levels-eq0 g t c =

@@ -1,6 +1,5 @@
 use Rattle.std.proofs.Common.{◌≡◌, ℕ, ◌+◌, ◌-◌, ◌*◌, ◌≤◌, true, refl, sym, ap, subst, ◌∙◌, arith}
 use Rattle.std.proofs.lemmas.Bool.{both_ways, leb-true}
-use Rattle.dm_table.specs.declared.requests.request.Op.TheVariants.{Read}
 use Rattle.dm_stack.specs.declared.checks.graph.TheConstants.{MOST_DEPTH}
 use Rattle.dm_stack.specs.declared.id.Lower.{Lower}
 use Rattle.dm_stack.specs.lines.StoreLayout.{place}
@@ -9,10 +8,9 @@ use Rattle.dm_map.specs.declared.walk.stretch.Stretch.{Stretch}
 use Rattle.dm_map.specs.walk.Homes.{IsFirstHomes}
 use Rattle.dm_map.specs.walk.SnapshotWrites.{copies, reads_all}
 use Rattle.dm_map.specs.walk.Steps.{keep}
-use Rattle.dm_map.specs.walk.Stretch.{IsFirst}
+use Rattle.dm_map.specs.walk.Stretch.{IsFirstOf}
 use Rattle.dm_map.specs.pieces.Units.{units_of}
 use Rattle.dm_map.specs.state.Walker.{StackState, WalkerView}
-use Rattle.dm_map.specs.walk.Range.{range_step}
 use Rattle.dm_map.proofs.walk.ChunkCopies.{copy_next, copy_of, fails_on, first_seen, reads_on}
 use Rattle.dm_map.proofs.walk.Rows.{added_then, walked_cut}
 use Rattle.dm_stack.proofs.InStack.{lower_small}
@@ -29,7 +27,7 @@ next_place : (place chunk : ℕ) → (place + 1) * chunk ≡ place * chunk + chu
 next_place place chunk = omega arith
 
 -- of sectors that read without an error the first stretch doesn't fail
-doesnt_fail : (walk : WalkerView) (lower : Lower) (sector len : ℕ) (stretch : Stretch) → IsFirst walk walk (range_step walk.stack Read MOST_DEPTH lower walk.state sector) len stretch → reads_all walk.stack walk.state lower sector len ≡ true → stretch.ground ≡ Fails → ⊥
+doesnt_fail : (walk : WalkerView) (lower : Lower) (sector len : ℕ) (stretch : Stretch) → IsFirstOf walk walk MOST_DEPTH lower sector len stretch → reads_all walk.stack walk.state lower sector len ≡ true → stretch.ground ≡ Fails → ⊥
 doesnt_fail walk lower sector len stretch first reads fails = both_ways _ (fails_on walk lower sector len stretch first fails) reads
 
 -- the chunk's place begins where its first sector lies

@@ -1,11 +1,9 @@
 use Rattle.std.proofs.Common.{◌≡◌, ◌+◌, ◌-◌, ◌≤◌, true}
-use Rattle.dm_table.specs.declared.requests.request.Op.TheVariants.{Read}
 use Rattle.dm_stack.specs.declared.checks.graph.TheConstants.{MOST_DEPTH}
 use Rattle.dm_map.specs.state.Snapshots.{store_sector}
 use Rattle.dm_map.specs.walk.Homes.{IsFirstHomes}
 use Rattle.dm_map.specs.walk.SnapshotWrites.{copies, reads_all}
-use Rattle.dm_map.specs.walk.Stretch.{IsFirst}
-use Rattle.dm_map.specs.walk.Range.{range_step}
+use Rattle.dm_map.specs.walk.Stretch.{IsFirstOf}
 use Rattle.dm_map.proofs.walk.ChunkCopies.{IsGoingOn}
 use Rattle.dm_map.proofs.walk.take_chunk.copy_chunk.Given as goal
 
@@ -16,7 +14,7 @@ invariant-copies g l = record {
   from : l.from + l.left ≡ l.sector + l.len;
   to : l.to + l.left ≡ store_sector l.snapshot l.number l.sector + l.len;
   reads : reads_all l.fn.walker.stack l.fn.walker.state l.snapshot.origin l.from l.left ≡ true;
-  source : IsFirst l.fn.walker l.fn.walker (range_step l.fn.walker.stack Read MOST_DEPTH l.snapshot.origin l.fn.walker.state l.from) l.left l.source;
+  source : IsFirstOf l.fn.walker l.fn.walker MOST_DEPTH l.snapshot.origin l.from l.left l.source;
   target : IsFirstHomes l.fn.walker.stack l.snapshot.store l.to l.left l.target;
   going_on : IsGoingOn g.S.Sink.past l.fn.sink l.sink l.fn.walker l.walker;
 }

@@ -4,10 +4,14 @@ use Rattle.dm_map.specs.state.Snapshots.{has_place}
 use Rattle.dm_map.specs.state.State.{taken_at}
 use Rattle.dm_map.specs.state.Tables.{room_of}
 use Rattle.dm_map.specs.walk.SnapshotWrites.{reads_all}
+use Rattle.dm_map.proofs.walk.Chunks.{snapshot_device}
 use Rattle.dm_map.proofs.walk.ChunkCopies.{fails_on, first_seen, reads_on}
 use Rattle.dm_map.proofs.walk.Rows.{added_then}
 use Rattle.dm_stack.proofs.InStack.{lower_small}
 use Rattle.dm_map.proofs.walk.take_chunk.first_source.Goals as goal
+
+pub is_full-requires : goal.is_full-requires
+is_full-requires g c = snapshot_device c.requires.inside c.requires.some
 
 pub sources-init : goal.sources-init
 sources-init g c =
@@ -29,7 +33,7 @@ pub returns-then-source-left-clause-can_take : goal.returns-then-source-left-cla
 returns-then-source-left-clause-can_take g c =
     let a = c.args in let w = a.walker.now in let l = c.sources in let n = l.source.len in
     let place : has_place w.stack a.snapshot.now (length (taken_at w.state a.device).chunks) ≡ true =
-    ap (λ of. room_of w.stack of (length (taken_at w.state a.device).chunks)) (sym c.requires.is) ∙ not-false _ (sym c.is_full.ensures ∙ c.if-is_full.false) in
+    ap (λ of. room_of w.stack of (length (taken_at w.state a.device).chunks)) (sym c.requires.inside.is) ∙ not-false _ (sym c.is_full.ensures ∙ c.if-is_full.false) in
     let none : l.left - n ≡ 0 = omega (arith, c.if-source-left.true) in
     sym (and_from _ _ place (l.invariant.rest ∙ reads_on w a.snapshot.now.origin l.at n l.left l.source l.invariant.source c.in_default.not-Fails l.invariant.source.some (omega arith) ∙ ap (reads_all w.stack w.state a.snapshot.now.origin (l.at + n)) none))
 
@@ -41,7 +45,7 @@ returns-then-source-left-clause-first g c =
 pub overflow_add-at : goal.overflow_add-at
 overflow_add-at g c =
     let small = lower_small c.args.walker.now.stack c.args.snapshot.now.origin c.recall_soundness.ensures in
-    omega (arith, small, c.requires.inside, c.sources.invariant.position, c.sources.invariant.source.most)
+    omega (arith, small, c.requires.inside.inside, c.requires.inside.sound.origin, c.sources.invariant.position, c.sources.invariant.source.most)
 
 pub sources-preserved : goal.sources-preserved
 sources-preserved g c =

@@ -1,10 +1,8 @@
 use Rattle.std.proofs.Common.{◌≡◌, ◌+◌}
-use Rattle.dm_table.specs.declared.requests.request.Op.TheVariants.{Read}
 use Rattle.dm_stack.specs.declared.checks.graph.TheConstants.{MOST_DEPTH}
 use Rattle.dm_map.specs.state.Counts.{AreAdded}
-use Rattle.dm_map.specs.walk.Range.{range_step}
 use Rattle.dm_map.specs.walk.SnapshotWrites.{reads_all}
-use Rattle.dm_map.specs.walk.Stretch.{IsFirst}
+use Rattle.dm_map.specs.walk.Stretch.{IsFirstOf}
 use Rattle.dm_map.specs.state.Walker.{stack_state}
 use Rattle.dm_map.proofs.walk.take_chunk.first_source.Given as goal
 
@@ -12,7 +10,7 @@ abbrev pub invariant-sources : goal.invariant-sources
 invariant-sources g l = record {
   rest : reads_all l.fn.walker.stack l.fn.walker.state l.snapshot.origin l.sector l.len ≡ reads_all l.fn.walker.stack l.fn.walker.state l.snapshot.origin l.at l.left;
   position : l.at + l.left ≡ l.sector + l.len;
-  source : IsFirst l.fn.walker l.fn.walker (range_step l.fn.walker.stack Read MOST_DEPTH l.snapshot.origin l.fn.walker.state l.at) l.left l.source;
+  source : IsFirstOf l.fn.walker l.fn.walker MOST_DEPTH l.snapshot.origin l.at l.left l.source;
   same : stack_state l.walker ≡ stack_state l.fn.walker;
   looked : AreAdded l.fn.walker.looked l.walker.looked;
 }

@@ -5,14 +5,14 @@ use Rattle.dm_map.specs.walk.SnapshotWrites.{is_settled, store_writes}
 use Rattle.dm_map.specs.state.State.{taken_at}
 use Rattle.dm_map.specs.walk.Steps.{keep}
 use Rattle.dm_map.specs.pieces.Units.{BlockUnit}
-use Rattle.dm_map.proofs.walk.Chunks.{place_inside, row_lost, row_numbered, settled_written}
+use Rattle.dm_map.proofs.walk.Chunks.{place_inside, row_lost, row_numbered, settled_written, snapshot_device}
 use Rattle.dm_map.proofs.walk.Rows.{walked_as, walked_piece, walked_within}
 use Rattle.dm_map.proofs.state.TableLemmas.{room_place}
-use Rattle.dm_stack.proofs.InStack.{device_there, lower_small}
+use Rattle.dm_stack.proofs.InStack.{lower_small}
 use Rattle.dm_map.proofs.walk.write_chunk.write_chunk.Goals as goal
 
 pub is_valid-requires : goal.is_valid-requires
-is_valid-requires g c = device_there c.args.walker.now.stack c.args.device c.args.sector (omega (arith, c.requires.chunk.whole.inside, c.requires.some))
+is_valid-requires g c = snapshot_device c.requires.chunk.whole c.requires.some
 
 pub returns-then-not-is_valid : goal.returns-then-not-is_valid
 returns-then-not-is_valid g c =

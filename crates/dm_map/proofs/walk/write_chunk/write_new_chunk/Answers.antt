@@ -13,10 +13,10 @@ use Rattle.dm_map.specs.walk.SnapshotWrites.{is_keeping, is_refused, take_chunk,
 use Rattle.dm_map.specs.walk.Steps.{keep, steps}
 use Rattle.dm_map.specs.pieces.Sink.{IsLawful, SinkPast}
 use Rattle.dm_map.specs.pieces.Units.{BlockUnit}
-use Rattle.dm_map.proofs.walk.Chunks.{chunk_refused, chunk_written, first_inside, left_taking, row_lost, row_numbered, row_taken}
+use Rattle.dm_map.proofs.walk.Chunks.{chunk_refused, chunk_written, first_there, left_taking, row_lost, row_numbered, row_taken, snapshot_device}
 use Rattle.dm_map.proofs.walk.ChunkTaking.{not_settled, refused_as}
 use Rattle.dm_map.proofs.walk.Rows.{walked_as, walked_cut, walked_piece, walked_then}
-use Rattle.dm_stack.proofs.InStack.{device_there, lower_small}
+use Rattle.dm_stack.proofs.InStack.{lower_small}
 use Rattle.dm_map.proofs.walk.write_chunk.write_new_chunk.Goals as goal
 
 -- such a chunk is not refused where the store isn't keeping, or has a place for one more
@@ -28,7 +28,7 @@ taken_then : {S R F : Type 0} {past : SinkPast S} {result : Result (Unit {0}) F}
     → is_refused walk.stack snapshot (taken_at walk.state device) (sector / snapshot.chunk) ≡ false → IsWalked {F = F} past (Ok made) old middle walk after (take_chunk walk.stack snapshot device (sector / snapshot.chunk) walk.state) 0
     → row (unit_in_store walk.stack snapshot device after.state) sector len ≡ units → m ≤ len → IsWalked past result middle new after last (keep units after.state) m → IsWalked past result old new walk last (steps (write_snapshot walk.stack snapshot device) walk.state sector len) len
 taken_then {walk} {after} lawful snapshot device sector len m units chunk some count passes made is few next =
-    let there : device < length walk.state = omega (arith, device_there walk.stack device sector (omega (arith, chunk.whole.inside, some)), count) in
+    let there : device < length walk.state = omega (arith, snapshot_device chunk.whole some, count) in
     walked_as (chunk_written walk.stack snapshot device sector len walk.state chunk some there passes)
     (walked_then lawful (λ state. keep (row (unit_in_store walk.stack snapshot device state) sector len) state)
     (ap (λ (s : State). keep (row (unit_in_store walk.stack snapshot device s) sector len) s) (sym made.state) ∙ ap (λ (us : List BlockUnit). keep us after.state) is) few made next)
@@ -36,7 +36,7 @@ taken_then {walk} {after} lawful snapshot device sector len m units chunk some c
 pub is_refused-requires : goal.is_refused-requires
 is_refused-requires g c =
     let chunk = c.requires.asked.chunk.whole in
-    record { device = device_there c.args.walker.now.stack c.args.device c.args.sector (omega (arith, chunk.inside, c.requires.asked.some)); is = chunk.is }
+    record { device = snapshot_device chunk c.requires.asked.some; is = chunk.is }
 
 pub returns-then-is_refused : goal.returns-then-is_refused
 returns-then-is_refused g c =
@@ -44,15 +44,13 @@ returns-then-is_refused g c =
     walked_piece (chunk_refused w.stack a.snapshot.now a.device a.sector a.len w.state c.requires.asked.chunk refused) (omega arith) p
 
 pub count-number-requires : goal.count-number-requires
-count-number-requires g c = device_there c.args.walker.now.stack c.args.device c.args.sector (omega (arith, c.requires.asked.chunk.whole.inside, c.requires.asked.some))
+count-number-requires g c = snapshot_device c.requires.asked.chunk.whole c.requires.asked.some
 
 pub take_new_chunk-requires : goal.take_new_chunk-requires
 take_new_chunk-requires g c =
-    let a = c.args in let w = a.walker.now in let asked = c.requires.asked in let whole = asked.chunk.whole in
+    let a = c.args in let w = a.walker.now in let asked = c.requires.asked in
     record {
-      is = whole.is;
-      sound = whole.sound;
-      inside = first_inside w.stack a.device a.sector a.len a.snapshot.now asked.chunk asked.some;
+      inside = first_there w.stack a.device a.sector a.len a.snapshot.now asked.chunk.whole asked.some;
       fresh = not_settled (taken_at w.state a.device) (a.sector / a.snapshot.now.chunk) c.requires.valid c.requires.fresh;
       number = c.count-number.ensures.count;
       sink = record { stack = asked.sink.stack; room = omega arith };
