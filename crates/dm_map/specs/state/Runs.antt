@@ -1,5 +1,5 @@
 -- Runs of taken chunks: neighbours that were taken one after the other.
-use Rattle.std.specs.Prelude.{ℕ, zero, suc, ◌≡◌, ◌<◌, ◌≤◌, ◌+◌, ◌==◌, Bool, true, not, List, [], ◌∷◌, Option, Some, None, length, take, if◌then◌else◌}
+use Rattle.std.specs.Prelude.{ℕ, zero, suc, ◌≡◌, ◌<◌, ◌≤◌, ◌+◌, ◌-◌, ◌==◌, Bool, true, not, List, [], ◌∷◌, Option, Some, None, length, take, if◌then◌else◌}
 use Rattle.std.specs.List.{flat_map, slice_index_or}
 use Rattle.dm_map.specs.declared.state.run_taken.run.NumberRange.{NumberRange}
 use Rattle.dm_map.specs.declared.state.run_taken.run.Run.{Run}
@@ -82,3 +82,9 @@ AreSorted runs ids = record {
   all : (id : ℕ) → id < length runs → ((rank : ℕ) → rank < length runs → slice_index_or ids rank 0 ≡ id → ⊥) → ⊥;
   rising : (i j : ℕ) → i < j → j < length runs → end_of (ranked runs ids i) ≤ (ranked runs ids j).first;
 }
+
+-- so many runs, by their ranks, begin at a chunk or before it, and the next one begins after it
+pub record AreBegunBy (runs : List Run) (ids : List ℕ) (chunk count : ℕ) : Type 0 where
+  pub within : count ≤ length runs
+  pub from : 0 < count → (ranked runs ids (count - 1)).first ≤ chunk
+  pub next : count < length runs → chunk < (ranked runs ids count).first

@@ -3,11 +3,11 @@
 //! This is the one place where a chunk is compared with the first chunk of a run, and each comparison
 //! of a search is counted here.
 
-ghost use Rattle.std.specs.Prelude.{◌≡◌, ◌<◌, ◌≤◌, ◌-◌, None, length, not};
+ghost use Rattle.std.specs.Prelude.{◌≡◌, ◌<◌, ◌≤◌, None, length, not};
 ghost use Rattle.std.specs.List.{concat};
 ghost use Rattle.dm_stack.specs.lines.LineSearch.{binary_digits};
 ghost use Rattle.dm_map.specs.state.Blocks.{contents};
-ghost use Rattle.dm_map.specs.state.Runs.{AreRuns, AreSorted, begins, chunks_in, last_after, ranked};
+ghost use Rattle.dm_map.specs.state.Runs.{AreBegunBy, AreRuns, AreSorted, begins, chunks_in, last_after, ranked};
 
 use crate::state::run_taken::order::Order;
 use crate::state::run_taken::runs::Runs;
@@ -16,11 +16,7 @@ use crate::state::run_taken::runs::Runs;
 pub(super) fn begun_by(runs: &Runs, order: &Order, chunk: u64) -> (usize, u64)
     requires sorted { AreSorted runs.now.items (concat (contents order.now.blocks.items)) }
     requires len { order.now.len ≡ length runs.now.items }
-    ensures within { result.0 ≤ length runs.now.items }
-    ensures from { 0 < result.0
-        → (ranked runs.now.items (concat (contents order.now.blocks.items)) (result.0 - 1)).first ≤ chunk }
-    ensures next { result.0 < length runs.now.items
-        → chunk < (ranked runs.now.items (concat (contents order.now.blocks.items)) result.0).first }
+    ensures begun { AreBegunBy runs.now.items (concat (contents order.now.blocks.items)) chunk result.0 }
     ensures few { result.1 ≤ binary_digits (length runs.now.items) }
 {
     let mut low = 0;
@@ -42,11 +38,7 @@ pub(super) fn begun_by(runs: &Runs, order: &Order, chunk: u64) -> (usize, u64)
 pub(super) fn begun_near(runs: &Runs, order: &Order, chunk: u64, guess: usize) -> usize
     requires sorted { AreSorted runs.now.items (concat (contents order.now.blocks.items)) }
     requires len { order.now.len ≡ length runs.now.items }
-    ensures within { result ≤ length runs.now.items }
-    ensures from { 0 < result
-        → (ranked runs.now.items (concat (contents order.now.blocks.items)) (result - 1)).first ≤ chunk }
-    ensures next { result < length runs.now.items
-        → chunk < (ranked runs.now.items (concat (contents order.now.blocks.items)) result).first }
+    ensures { AreBegunBy runs.now.items (concat (contents order.now.blocks.items)) chunk result }
 {
     if guess <= runs.len()
         && (guess == 0 || first_at(runs, order, guess - 1) <= chunk)
