@@ -51,12 +51,22 @@ steps_halted {V} zeros written stack op top count (suc len) state sector at valu
     let rest = (steps step (step state sector).state (suc sector) len).units in
     elim (cases_lt count (length us)) [
       | inl below ↦
-          rw (take-append-le count us rest (omega (arith, below))) (record { sectors = 0; past = first.none count at below ∙ (let e : at ≡ at + 0 = omega arith in e); few = omega arith; own = first.torn count below })
+          rw (take-append-le count us rest (omega (arith, below))) (record {
+            sectors = 0;
+            past = first.none count at below ∙ (let e : at ≡ at + 0 = omega arith in e);
+            few = omega arith;
+            own = first.torn count below;
+          })
       | inr past ↦
           let more = count - length us in
           let units_are : take count (us ++ rest) ≡ us ++ take more rest = cc ((let e : count ≡ length us + more = omega (arith, past) in e), take-append-add us rest more) in
           let later = steps_halted zeros written stack op top more len (step state sector).state (suc sector) (suc at) first.later first.after sound tidy is_top first.whole in
-          rw units_are (record { sectors = suc later.sectors; past = first.past (take more rest) at ∙ later.past ∙ (let e : suc at + later.sectors ≡ at + suc later.sectors = omega arith in e); few = omega (arith, later.few); own = both_own zeros stack (steps step (step state sector).state (suc sector) later.sectors).state _ _ _ _ (first.played_is (take more rest)) (first.rows_are (take more rest)) later.own })
+          rw units_are (record {
+            sectors = suc later.sectors;
+            past = first.past (take more rest) at ∙ later.past ∙ (let e : suc at + later.sectors ≡ at + suc later.sectors = omega arith in e);
+            few = omega (arith, later.few);
+            own = both_own zeros stack (steps step (step state sector).state (suc sector) later.sectors).state _ _ _ _ (first.played_is (take more rest)) (first.rows_are (take more rest)) later.own;
+          })
     ]
 
 -- one that passes the device's end fails sector by sector, and changes nothing

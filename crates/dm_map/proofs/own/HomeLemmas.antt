@@ -50,7 +50,7 @@ node_is c e d t s lower same at is = rw (lower, same, ← at, is)
 pub touch_up : (stack : Description) (state : State) (a : Node) (device sector : ℕ) (lower : Lower) (at : ℕ) → IsSound stack → IsFitting stack state → IsTidy stack → IsNoLines stack a.lower
     → IsLineStep stack device sector lower at → Touches stack state a (node lower at) → Touches stack state a (node (Device device) sector)
 touch_up stack state a device sector lower at sound fitting tidy free step touches = elim (back stack state a (node lower at) touches) [
-  | Here e ↦ absurd (free_of (cc))
+  | Here e ↦ absurd (free_of cc)
   | Before c before leads ↦
       let is = only_by_line stack state device sector leads.device c.sector lower at step.line sound fitting tidy (goes_on_inside stack state leads.device c.sector lower at sound leads.below) step.is step.step
       (read_step stack state leads.device c.sector lower at sound leads.below) in

@@ -107,7 +107,13 @@ last_own : {V : Type 0} (zeros : V) (written : ℕ → V) (stack : Description) 
 last_own {V = V} zeros written stack state top sector step values rows w own (Still plays row) =
     rw (plays zeros (written sector) values, row (written sector) top sector rows) own
 last_own {V = V} zeros written stack state top sector step values rows w own (WritesTo disk at is) =
-    rw is (record { fits = own.fits; tops = λ other other_sector other_top. elim (same_or_not other other_sector top sector) [ inl same ↦ rw (same.0, same.1) (inl (ap (value_read zeros (stored values disk at (written sector))) (w.reads disk at is) ∙ ap Some (stored_same values disk at (written sector)) ∙ sym (stored_same rows top sector (Some (written sector))))) | inr differ ↦ stays_as _ _ _ _ (stored_other rows top sector other other_sector (Some (written sector)) (λ e. differ (sym (ap (λ (h : Home). h.disk) e), sym (ap (λ (h : Home). h.sector) e)))) (value_other zeros values disk at (written sector) (read stack step.state (Device other) other_sector) (λ e. differ (w.alone disk at other other_sector is other_top e))) (own.tops other other_sector other_top) ] })
+    rw is (record {
+      fits = own.fits;
+      tops = λ other other_sector other_top. elim (same_or_not other other_sector top sector) [
+        | inl same ↦ rw (same.0, same.1) (inl (ap (value_read zeros (stored values disk at (written sector))) (w.reads disk at is) ∙ ap Some (stored_same values disk at (written sector)) ∙ sym (stored_same rows top sector (Some (written sector)))))
+        | inr differ ↦ stays_as _ _ _ _ (stored_other rows top sector other other_sector (Some (written sector)) (λ e. differ (sym (ap (λ (h : Home). h.disk) e), sym (ap (λ (h : Home). h.sector) e)))) (value_other zeros values disk at (written sector) (read stack step.state (Device other) other_sector) (λ e. differ (w.alone disk at other other_sector is other_top e))) (own.tops other other_sector other_top)
+      ];
+    })
 
 -- what is known of the step of a sector, where each top device has its row before: of all its units, whatever units come after, and of fewer
 pub record IsOwnStep {V : Type 0} (zeros : V) (written : ℕ → V) (stack : Description) (top : ℕ) (state : State) (sector : ℕ) (step : Step) (values : Values V) (rows : Rows V) : Type 0 where

@@ -147,7 +147,7 @@ kept_alone stack state device sector number snapshot a sound fitting tidy over n
     let inside = fits stack state device sector number snapshot sound fitting over n in
     let up = home_touched stack state a MOST_DEPTH snapshot.store (store_sector snapshot number sector) sound fitting tidy root.lines soundly.store inside touches in
     elim (back stack state a (node snapshot.store (store_sector snapshot number sector)) up) [
-      | Here e ↦ absurd (root.stores.none device snapshot over (cc))
+      | Here e ↦ absurd (root.stores.none device snapshot over cc)
       | Before c before leads ↦
           let kept = only_by_store stack state device leads.device c.sector (store_sector snapshot number sector) snapshot sound fitting tidy (goes_on_inside stack state leads.device c.sector snapshot.store (store_sector snapshot number sector) sound leads.below) over inside
           (read_step stack state leads.device c.sector snapshot.store (store_sector snapshot number sector) sound leads.below) in
@@ -218,7 +218,12 @@ origin_written stack state device sector line origin step sound fitting tidy ser
       reads = λ disk x e. cc (read_next stack step.state device sector origin.to sector sound (goes step.state), w.reads disk x e);
       alone = λ disk x a e root unserved touches.
           let up = w.alone disk x a e root unserved (rw state_is at touches) in
-          rw state_is (elim (back stack after.state a (node origin.to sector) up) [ Here here ↦ absurd (unserved.none device origin served (cc)) | Before c before leads ↦ let at = only_by_origin stack after.state device leads.device c.sector sector origin sound tidy served below settled (read_step stack after.state leads.device c.sector origin.to sector sound leads.below) in rw (← node_is c leads.device device c.sector sector leads.on at.device refl at.sector) before ]);
+          rw state_is (elim (back stack after.state a (node origin.to sector) up) [
+            | Here here ↦ absurd (unserved.none device origin served cc)
+            | Before c before leads ↦
+                let at = only_by_origin stack after.state device leads.device c.sector sector origin sound tidy served below settled (read_step stack after.state leads.device c.sector origin.to sector sound leads.below) in
+                rw (← node_is c leads.device device c.sector sector leads.on at.device refl at.sector) before
+          ]);
     }
 
 -- Each write
@@ -242,7 +247,7 @@ target_written stack state device sector line (founds.Snapshot snapshot) step so
     let over = line_snapshot stack device sector line snapshot sound is target in
     let first = over.0 in
     let same : sector - line.start ≡ sector = omega (arith, first) in
-    chunk_by (is_refused stack snapshot (taken_at state device) (sector / snapshot.chunk)) stack state device sector line snapshot step sound fitting tidy over.1 is (cc)
+    chunk_by (is_refused stack snapshot (taken_at state device) (sector / snapshot.chunk)) stack state device sector line snapshot step sound fitting tidy over.1 is cc
 target_written stack state device sector line (founds.Origin origin) step sound fitting tidy is target each step_is =
     let over = line_origin stack device sector line origin sound is target in
     let first = over.0 in

@@ -67,7 +67,7 @@ line_sound stack device sector line sound is =
     let d = there stack.devices device within in
     let s = device_sound stack device d.it sound d.at in
     let lines = lines_there stack device d.it d.at in
-    let it = some_line stack (line_of d.it.lines sector) line (cc) in
+    let it = some_line stack (line_of d.it.lines sector) line cc in
     let inside : sector < device_len stack device = rw lines (line_inside 0 sector d.it.lines it.0 s.placed it.1) in
     let f = sector_found stack device sector sound within inside in
     let same : f.line ≡ line = cc in
@@ -95,7 +95,7 @@ line_snapshot stack device sector line snapshot sound is target =
     (over.from, rw (first_found stack device sector line sound is over.from, target) refl)
 
 target_snapshot : (line : FoundLine) (target : FoundTarget) (snapshot : FoundSnapshot) → line.target ≡ target → snapshot_of target ≡ Some snapshot → line.target ≡ founds.Snapshot snapshot
-target_snapshot line (founds.Snapshot other) snapshot is e = is ∙ ap founds.Snapshot (cc)
+target_snapshot line (founds.Snapshot other) snapshot is e = is ∙ ap founds.Snapshot cc
 target_snapshot line target snapshot is e = absurd cc
 
 pub first_line : (stack : Description) (device : ℕ) (snapshot : FoundSnapshot) (found : Option FoundLine) → found_at stack device 0 ≡ found → snapshot_of_line found ≡ Some snapshot → (line : FoundLine) × (found_at stack device 0 ≡ Some line) × (line.target ≡ founds.Snapshot snapshot)
@@ -132,7 +132,7 @@ line_origin stack device sector line origin sound is target =
     (it.from, rw (first_found stack device sector line sound is it.from, target) refl)
 
 target_origin : (line : FoundLine) (target : FoundTarget) (origin : FoundOrigin) → line.target ≡ target → origin_of target ≡ Some origin → line.target ≡ founds.Origin origin
-target_origin line (founds.Origin other) origin is e = is ∙ ap founds.Origin (cc)
+target_origin line (founds.Origin other) origin is e = is ∙ ap founds.Origin cc
 target_origin line target origin is e = absurd cc
 
 pub first_origin : (stack : Description) (device : ℕ) (origin : FoundOrigin) (found : Option FoundLine) → found_at stack device 0 ≡ found → origin_of_line found ≡ Some origin → (line : FoundLine) × (found_at stack device 0 ≡ Some line) × (line.target ≡ founds.Origin origin)

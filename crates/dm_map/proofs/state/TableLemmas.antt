@@ -260,7 +260,7 @@ store_in : (stack : Description) (lines : List Line) (sector : ℕ) (line : Opti
 store_in stack lines sector None it snapshot sound known is found_is kind = absurd cc
 store_in stack lines sector (Some line) it snapshot sound known is found_is kind =
     let same : found_line stack line ≡ it = cc in
-    store_at stack line.target line.len snapshot sound (found (λ l. is_unknown stack l ≡ false) (holds sector) lines line known is).1 (cc)
+    store_at stack line.target line.len snapshot sound (found (λ l. is_unknown stack l ≡ false) (holds sector) lines line known is).1 cc
 
 store_of : (stack : Description) (device sector : ℕ) (spec : Option DeviceSpec) (line : FoundLine) (snapshot : FoundSnapshot) → IsSound stack → slice_get stack.devices device ≡ spec → option_map (found_line stack) (line_of (lines_or_none spec) sector) ≡ Some line → line.target ≡ founds.Snapshot snapshot → 0 < lower_len stack snapshot.store
 store_of stack device sector None line snapshot sound at is kind = absurd cc

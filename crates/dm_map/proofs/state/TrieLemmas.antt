@@ -189,7 +189,7 @@ put_way nodes after here before now others chunk start (suc steps) =
     let at = way nodes chunk start steps in
     let same = put_way nodes after here before now others chunk start steps in
     let next : next_at chunk at (node_at after at) ≡ next_at chunk at (node_at nodes at) = elim (cases_eq at here) [
-      | inl is ↦ next_stays chunk at (node_at after at) (cc) ∙ sym (next_stays chunk at (node_at nodes at) (cc))
+      | inl is ↦ next_stays chunk at (node_at after at) (cc) ∙ sym (next_stays chunk at (node_at nodes at) cc)
       | inr other ↦ ap (next_at chunk at) (others at other)
     ] in
     cc (way-suc after chunk start steps, way-suc nodes chunk start steps)
@@ -464,7 +464,7 @@ lowest_apart chunk other low high differ =
     let lowest = bit_at-trailing_zeros w64 both some within in
     let one : bit_at both bit ≡ 1 = lowest.1 in
     let sum : bit_at both bit ≡ (bit_at other bit + bit_at chunk bit) % 2 = bit_at_xor other chunk bit in
-    (lowest.0, λ same. even_not_one (bit_at chunk bit) (cc))
+    (lowest.0, λ same. even_not_one (bit_at chunk bit) cc)
 
 last_two : (nodes : List Node) (node : Node) (value : ℕ) → value < 2 → node_at ((nodes ++ node ∷ []) ++ node ∷ []) (length nodes + value) ≡ node
 last_two nodes node value two = elim (cases_eq value 0) [

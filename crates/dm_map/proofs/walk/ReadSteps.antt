@@ -27,8 +27,8 @@ pub data ReadStep (stack : Description) (state : State) (device sector : ℕ) (l
 read_step_snapshot : (stack : Description) (state : State) (device sector : ℕ) (lower : Lower) (at : ℕ) (snapshot : FoundSnapshot) (valid : Bool) (number : Option ℕ) → snapshot_at stack device ≡ Some snapshot
     → (taken_at state device).valid ≡ valid → number_in (sector / snapshot.chunk) (taken_at state device).chunks ≡ number → cond valid (read_numbered snapshot number sector) IsError ≡ Lies lower at → ReadStep stack state device sector lower at
 read_step_snapshot stack state device sector lower at snapshot false number over v n e = absurd cc
-read_step_snapshot stack state device sector lower at snapshot true (Some i) over v n e = ByStore snapshot i over v n (sym (cc)) (sym (cc))
-read_step_snapshot stack state device sector lower at snapshot true None over v n e = ByRead snapshot over v n (sym (cc)) (sym (cc))
+read_step_snapshot stack state device sector lower at snapshot true (Some i) over v n e = ByStore snapshot i over v n (cc) cc
+read_step_snapshot stack state device sector lower at snapshot true None over v n e = ByRead snapshot over v n (cc) cc
 
 read_step_target : (stack : Description) (state : State) (device sector : ℕ) (lower : Lower) (at : ℕ) (line : FoundLine) (target : FoundTarget) → IsSound stack → found_at stack device sector ≡ Some line → line.target ≡ target
     → below_target (read_over (taken_at state device)) target (sector - line.start) ≡ Lies lower at → ReadStep stack state device sector lower at
@@ -39,7 +39,7 @@ read_step_target stack state device sector lower at line (founds.Snapshot snapsh
     read_step_snapshot stack state device sector lower at snapshot (taken_at state device).valid (number_in (sector / snapshot.chunk) (taken_at state device).chunks) over.1 refl refl there
 read_step_target stack state device sector lower at line (founds.Origin origin) sound is t e =
     let over = line_origin stack device sector line origin sound is t in
-    ByServe origin over.1 (sym (cc)) (let there = sector_is _ _ _ _ e in omega (arith, there, over.0))
+    ByServe origin over.1 (cc) (let there = sector_is _ _ _ _ e in omega (arith, there, over.0))
 read_step_target stack state device sector lower at line target sound is t e = ByLine line is (rw t (record { plain = refl; lies = e }))
 
 read_step_line : (stack : Description) (state : State) (device sector : ℕ) (lower : Lower) (at : ℕ) (line : Option FoundLine) → IsSound stack → found_at stack device sector ≡ line

@@ -151,7 +151,19 @@ pub mapped_whole : {S F : Type 0} {past : SinkPast S} {fine : Unit {0}} {old new
     → IsMapped {F = F} past (Ok fine) old new before after mapping first len
 mapped_whole {F} {past} {fine} {old} {new} {before} {after} {mapping} {first} {len} {rest} one none =
     let walk = one.mapped.walked in
-    rw (← (let e : len - rest ≡ len = omega (arith, none) in e)) (record { walked = record { took = walk.took; state = walk.state; kept = walk.kept; room = walk.room; left = tt; faults = walk.faults; stack = walk.stack; looked = walk.looked }; bounded = one.mapped.bounded })
+    rw (← (let e : len - rest ≡ len = omega (arith, none) in e)) (record {
+      walked = record {
+        took = walk.took;
+        state = walk.state;
+        kept = walk.kept;
+        room = walk.room;
+        left = tt;
+        faults = walk.faults;
+        stack = walk.stack;
+        looked = walk.looked;
+      };
+      bounded = one.mapped.bounded;
+    })
 
 -- or a beginning of the next ones, and then a fault
 pub mapped_cut : {S F : Type 0} {past : SinkPast S} {fault : F} {result : Result (Unit {0}) F} {old middle new : S} {before between after : WalkerView} {mapping : Mapping} {found first len at rest n : ℕ}
