@@ -1,7 +1,6 @@
 -- The device of a name, and what is said of it by its id.
-use Rattle.std.proofs.Common.{◌≡◌, ℕ, ◌<◌, Bool, true, false, List, [], ◌∷◌, None, Some, Result, Ok, Err, IfErr, get_or, length, sym, ap, subst, ◌∙◌, arith}
+use Rattle.std.proofs.Common.{◌≡◌, ℕ, ◌<◌, Bool, true, false, List, [], ◌∷◌, None, Some, Result, Ok, Err, IfErr, get_or, length, subst, arith}
 use Rattle.std.specs.Prelude.{OnOk, position}
-use Rattle.std.proofs.lemmas.Bool.{true≢false}
 use Rattle.std.proofs.lemmas.Grind.{common_steps}
 use Rattle.std.proofs.lemmas.List.Quantifiers.{position-Some}
 use Rattle.dm_table.specs.declared.tables.table.DeviceSpec.{DeviceSpec}
@@ -24,10 +23,7 @@ named_there stack name id named = in_list stack.devices named
 -- what is noted of a device, where it is read
 
 pub noted_top : (stack : Description) (tops : List Bool) (device at : ℕ) (read : Bool) → AreTops stack tops → device < length stack.devices → at ≡ device → read ≡ get_or tops at false → read ≡ true → IsTop stack device
-noted_top stack tops device at read are within same is so = (are.each device within).0 (ap (λ (id : ℕ). get_or tops id false) (sym same) ∙ sym is ∙ so)
-
-pub noted_not_top : (stack : Description) (tops : List Bool) (device at : ℕ) (read : Bool) → AreTops stack tops → device < length stack.devices → at ≡ device → read ≡ get_or tops at false → read ≡ false → IsTop stack device → ⊥
-noted_not_top stack tops device at read are within same is so top = true≢false (sym ((are.each device within).1 top) ∙ ap (λ (id : ℕ). get_or tops id false) (sym same) ∙ sym is ∙ so)
+noted_top stack tops device at read are within same is so = (are.each device within).0 cc
 
 -- whether its device is top
 
@@ -36,14 +32,14 @@ named_top stack name id named top = record { id = id; named = named; top = top }
 
 pub top_named : (stack : Description) (name : List ℕ) (id : ℕ) → position (λ device. is_same device.name name) stack.devices ≡ Some id → HasTop stack name → IsTop stack id
 top_named stack name id named has =
-    let same : has.id ≡ id = some_is has.id id (sym has.named ∙ named) in
+    let same : has.id ≡ id = cc in
     subst (IsTop stack) same has.top
   where
     some_is : (one other : ℕ) → Some one ≡ Some other → one ≡ other
     some_is one other e = cc
 
 pub none_named : (stack : Description) (name : List ℕ) → position (λ device. is_same device.name name) stack.devices ≡ None → HasTop stack name → ⊥
-none_named stack name none has = differ has.id (sym none ∙ has.named)
+none_named stack name none has = cc
   where
     differ : (id : ℕ) → None ≡ Some id → ⊥
     differ id e = cc

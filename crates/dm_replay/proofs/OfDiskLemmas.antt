@@ -107,4 +107,4 @@ runs_of disks (run ∷ all) some are = (
 pub runs_played_of : (disks request sector : ℕ) (units : List BlockUnit) (values : Values) (all : List ValueRun) → flat all ≡ played_answers request sector units values → AllByRecursion (λ run. 0 < run_len run) all → AreUnitsOf disks units → AreValuesOf disks values
     → AllByRecursion (IsRunOf disks) all
 runs_played_of disks request sector units values all is some are were =
-    runs_of disks all some (subst (λ (answers : List Answer). AllByRecursion (IsAnswerOf disks) answers) (sym is) (answers_of disks request sector units values are were))
+    runs_of disks all some (rw is (answers_of disks request sector units values are were))

@@ -1,5 +1,5 @@
 -- Answers are those of one list of maximal runs.
-use Rattle.std.proofs.Common.{◌≡◌, ℕ, zero, suc, ◌<◌, List, [], ◌∷◌, ◌++◌, refl, sym, ap, ◌∙◌, subst, arith}
+use Rattle.std.proofs.Common.{◌≡◌, ℕ, zero, suc, ◌<◌, List, [], ◌∷◌, ◌++◌, refl, sym, ap, subst, arith}
 use Rattle.std.specs.List.{AllByRecursion}
 use Rattle.std.proofs.lemmas.List.{append_cancel_left}
 use Rattle.dm_replay.specs.declared.value_run.ValueRun.{ValueRun}
@@ -25,8 +25,8 @@ begins_as first other (suc n) rest some e = e
 same_len : (first : Answer) (m n : ℕ) (more others : List Answer) → answers_in first m ++ more ≡ answers_in first n ++ others
     → (Begins more (further_answer first m) → ⊥) → (Begins others (further_answer first n) → ⊥) → m ≡ n
 same_len first zero zero more others e ends end = refl
-same_len first zero (suc n) more others e ends end = absurd (ends (subst (λ (l : List Answer). Begins l (further_answer first 0)) (sym e) (sym (answer_none first))))
-same_len first (suc m) zero more others e ends end = absurd (end (subst (λ (l : List Answer). Begins l (further_answer first 0)) e (sym (answer_none first))))
+same_len first zero (suc n) more others e ends end = absurd (ends (rw e (sym (answer_none first))))
+same_len first (suc m) zero more others e ends end = absurd (end (rw (← e) (sym (answer_none first))))
 same_len first (suc m) (suc n) more others e ends end =
     ap suc (same_len (next_answer first) m n more others (append_cancel_left (first ∷ []) _ _ e)
     (λ begins. ends (subst (Begins more) (answer_next first m) begins)) (λ begins. end (subst (Begins others) (answer_next first n) begins)))
@@ -67,14 +67,14 @@ one (run ∷ rest) [] some apart some' apart' e = absurd (begins_with (first_ans
 one (run ∷ rest) (other ∷ others) some apart some' apart' e =
     let first : first_answer other ≡ first_answer run = begins_as (first_answer other) (first_answer run) (run_len other) (flat others) some'.0 (begins_with (first_answer run) (run_len run) (flat rest) (flat (other ∷ others)) some.0 e) in
     let len : run_len run ≡ run_len other = same_len (first_answer run) (run_len run) (run_len other) (flat rest) (flat others)
-    (e ∙ ap (λ (x : Answer). answers_in x (run_len other) ++ flat others) first)
+    (cc)
     (ends_there run rest some.1 apart)
-    (λ begins. ends_there other others some'.1 apart' (subst (λ (x : Answer). Begins (flat others) (further_answer x (run_len other))) (sym first) begins)) in
+    (λ begins. ends_there other others some'.1 apart' (rw first begins)) in
     let same : run ≡ other = same_run run other (sym first) len in
     rw (
       same,
       (one rest others some.1 (apart_rest run rest apart) some'.1 (apart_rest other others apart')
-          (append_cancel_left (run_answers run) (flat rest) (flat others) (e ∙ ap (λ (x : ValueRun). run_answers x ++ flat others) (sym same)))),
+          (append_cancel_left (run_answers run) (flat rest) (flat others) cc)),
     )
 
 pub one_runs : (a b : List ValueRun) → AreMaximal a → AreMaximal b → flat a ≡ flat b → a ≡ b

@@ -1,5 +1,5 @@
 -- What a read of a top device answers, where no claims meet: what the device would hold alone, or an error.
-use Rattle.std.proofs.Common.{◌≡◌, ◌⊎◌, inl, inr, ℕ, zero, suc, ◌+◌, Bool, true, false, cond, List, [], ◌∷◌, Option, None, nat_lt, replicate, refl, sym, ap, subst}
+use Rattle.std.proofs.Common.{◌≡◌, ◌⊎◌, inl, inr, ℕ, zero, suc, ◌+◌, Bool, true, false, cond, List, [], ◌∷◌, Option, None, nat_lt, replicate, refl, ap}
 use Rattle.dm_table.specs.declared.requests.request.Op.TheVariants as ops
 use Rattle.dm_stack.specs.declared.checks.graph.TheConstants.{MOST_DEPTH}
 use Rattle.dm_stack.specs.declared.id.Lower.TheVariants.{Device}
@@ -46,19 +46,17 @@ first_of_row : (number device sector : ℕ) (unit : BlockUnit) (units : List Blo
     → AreOfRow rows device (suc sector) (played_answers number (suc sector) units values) → AreOfRow rows device sector (played_answers number sector (unit ∷ units) values)
 unfolding played_answers
 first_of_row number device sector unit units values rows (Sector disk at is) first later =
-    subst (λ (u : BlockUnit). AreOfRow rows device sector (played_answers number sector (u ∷ units) values)) (sym is)
-    (on_disk (subst (λ (u : BlockUnit). IsOfSector rows device sector (read_answer u values)) is first))
+    rw is (on_disk (rw is at first))
   where
     on_disk : IsOfSector rows device sector (Gives (values disk at)) → AreOfRow rows device sector (played_answers number sector (ReadOf disk at ∷ units) values)
     on_disk here = (here, later)
 first_of_row number device sector unit units values rows (Nothing is) first later =
-    subst (λ (u : BlockUnit). AreOfRow rows device sector (played_answers number sector (u ∷ units) values)) (sym is)
-    (of_zeros (subst (λ (u : BlockUnit). IsOfSector rows device sector (read_answer u values)) is first))
+    rw is (of_zeros (rw is at first))
   where
     of_zeros : IsOfSector rows device sector (Gives value.Zero) → AreOfRow rows device sector (played_answers number sector (Zeros ∷ units) values)
     of_zeros here = (here, later)
 first_of_row number device sector unit units values rows (Fault is) first later =
-    subst (λ (u : BlockUnit). AreOfRow rows device sector (played_answers number sector (u ∷ units) values)) (sym is) of_nothing
+    rw is of_nothing
   where
     of_nothing : AreOfRow rows device sector (played_answers number sector (Fails ∷ units) values)
     of_nothing = (inr refl, later)

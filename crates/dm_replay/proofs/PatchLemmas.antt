@@ -98,9 +98,7 @@ out_of_patch values patch disk sector out = rw out
 -- the last of the first patches counts
 pub newest : (patches : List Patch) (older : ℕ) (patch : Patch) → 0 < older → older ≤ length patches → patch ≡ get_or patches (older - 1) patch → values_in (take older patches) ≡ patched (values_in (take (older - 1) patches)) patch
 newest patches older patch some within is =
-    ap (λ (n : ℕ). values_in (take n patches)) (let e : older ≡ suc (older - 1) = omega (arith, some) in e)
-    ∙ ap values_in (take-suc patches (older - 1) patch (omega (arith, some, within)) ∙ ap (λ (x : Patch). take (older - 1) patches ++ x ∷ []) (sym is))
-    ∙ values_in-push (take (older - 1) patches) patch
+    cc ((let e : older ≡ suc (older - 1) = omega (arith, some) in e), take-suc patches (older - 1) patch (omega (arith, some, within)), values_in-push (take (older - 1) patches) patch)
 
 -- without any, sectors hold what they held at the start
 pub none_older : (patches : List Patch) (older : ℕ) (disk start i : ℕ) → older ≤ 0 → values_in (take older patches) disk (start + i) ≡ further (value.Old disk start) i

@@ -1,5 +1,5 @@
 -- The playback of a request whose first sector isn't taken beyond its device.
-use Rattle.std.proofs.Common.{◌≡◌, inl, inr, ℕ, zero, suc, ◌+◌, ◌<◌, ◌≤◌, true, length, min, List, [], ◌∷◌, take, refl, sym, ap, subst, ◌∙◌, arith}
+use Rattle.std.proofs.Common.{◌≡◌, inl, inr, ℕ, zero, suc, ◌+◌, ◌<◌, ◌≤◌, true, length, min, List, [], take, refl, sym, ap, ◌∙◌, arith}
 use Rattle.std.specs.Prelude.{nat_lt}
 use Rattle.std.proofs.lemmas.Bool.{cases_lt}
 use Rattle.std.proofs.lemmas.Bool.Decides.{nat_tests}
@@ -9,11 +9,9 @@ use Rattle.dm_stack.specs.Description.{Description, device_len}
 use Rattle.dm_map.specs.own.Contents.{sector_past}
 use Rattle.dm_map.specs.walk.Mapping.{request_step, step_for}
 use Rattle.dm_map.specs.state.State.{State}
-use Rattle.dm_map.specs.walk.Steps.{Step}
 use Rattle.dm_map.specs.own.Halts.{halted_units}
 use Rattle.dm_map.specs.pieces.Units.{BlockUnit, Fails, units_in}
 use Rattle.dm_map.proofs.Rows.{step_past_end}
-use Rattle.dm_replay.specs.declared.disk_values.DiskValues.{DiskValues}
 use Rattle.dm_replay.specs.declared.halting.Halting.{Halting}
 use Rattle.dm_replay.specs.declared.player.Player.{Player}
 use Rattle.dm_replay.specs.declared.playing.Playing.{Playing}
@@ -44,7 +42,7 @@ pub played_from : (stack : Description) (op : Op) (device start len number : ℕ
 played_from stack op device start len number state values some = elim (cases_lt (device_len stack device) start) [
   | inl beyond ↦
       fails_anywhere (request_step stack op device start len state).units len number (min start (device_len stack device)) start values
-      (ap (λ (step : Step). step.units) (step_past_end stack op device start len state (is_past (device_len stack device) start len some beyond)))
+      (cc (step_past_end stack op device start len state (is_past (device_len stack device) start len some beyond)))
   | inr within ↦
       let same : min start (device_len stack device) ≡ start = omega (arith, within) in rw same (refl, refl)
 ]
@@ -55,7 +53,7 @@ front_fails zero n = (0, refl)
 front_fails (suc count) zero = (0, refl)
 front_fails (suc count) (suc n) =
     let rest = front_fails count n in
-    (suc rest.0, ap (λ (units : List BlockUnit). Fails ∷ units) rest.1)
+    (suc rest.0, cc)
 
 front_from : (stack : Description) (op : Op) (device start len count number : ℕ) (state : State) (values : Values) → 1 ≤ len
     → played number (min start (device_len stack device)) (halted_units stack op device start len count state) values ≡ played number start (halted_units stack op device start len count state) values
@@ -63,7 +61,7 @@ front_from stack op device start len count number state values some = elim (case
   | inl beyond ↦
       let front = front_fails count len in
       (fails_anywhere (halted_units stack op device start len count state) front.0 number (min start (device_len stack device)) start values
-      (front.1 ∙ ap (λ (step : Step). take count step.units) (step_past_end stack op device start len state (is_past (device_len stack device) start len some beyond)))).0
+      (cc (step_past_end stack op device start len state (is_past (device_len stack device) start len some beyond)))).0
   | inr within ↦
       let same : min start (device_len stack device) ≡ start = omega (arith, within) in rw same
 ]
@@ -78,7 +76,7 @@ held p = values_of p.values.disks.items
 begun_values : (old begun ended : Playing) (number first : ℕ) (units : List BlockUnit) → begun ≡ record { values = old.values; number = number; next = first; runs = [] } → HasPlayed begun units ended
     → (disk sector : ℕ) → held ended disk sector ≡ played number first units (held old) disk sector
 begun_values old begun ended number first units begun_is has disk sector =
-    has.values_are disk sector ∙ ap (λ (p : Playing). played p.number p.next units (held p) disk sector) begun_is
+    cc (has.values_are disk sector)
 
 -- the values that a playback leaves
 pub playback_values : (old begun ended new : Playing) (stack : Description) (request : Request) (device first : ℕ) (state : State) → first ≡ min request.start (device_len stack device)
@@ -86,10 +84,7 @@ pub playback_values : (old begun ended new : Playing) (stack : Description) (req
     → (disk sector : ℕ) → values_of new.values.disks.items disk sector ≡ played request.number request.start (units_asked stack request device state) (values_of old.values.disks.items) disk sector
 playback_values old begun ended new stack request device first state first_is begun_is new_is has disk sector =
     let units = units_asked stack request device state in
-    ap (λ (values : DiskValues). values_of values.disks.items disk sector) new_is
-    ∙ begun_values old begun ended request.number first units begun_is has disk sector
-    ∙ ap (λ (k : ℕ). played request.number k units (held old) disk sector) first_is
-    ∙ ap (λ (values : Values). values disk sector) (played_from stack request.op device request.start request.len request.number state (held old) request.at_least).0
+    cc (begun_values old begun ended request.number first units begun_is has disk sector, (played_from stack request.op device request.start request.len request.number state (held old) request.at_least).0)
 
 -- and those that one leaves that was halted
 front_values : (old begun ended : Playing) (stack : Description) (request : Request) (device count first : ℕ) (state : State) → first ≡ min request.start (device_len stack device)
@@ -123,11 +118,11 @@ front_played stack request device count first state old begun later before after
     let playing_is : before.player.playing ≡ record { values = old.values; number = request.number; next = first; runs = [] } = rw before_is begun_is in
     let same : before.player.stack.now ≡ stack = rw before_is stack_is in
     let has : HasPlayed before.player.playing units after.player.playing = rw (← left_is) front.played in
-    let of : AreUnitsOf (length stack.disks) units = subst (λ (n : ℕ). AreUnitsOf (length stack.disks) (take n all)) left_is (subst (λ (s : Description). AreUnitsOf (length s.disks) (take before.left all)) same front.of) in
+    let of : AreUnitsOf (length stack.disks) units = rw left_is at (rw same at front.of) in
     let values = front_values old before.player.playing after.player.playing stack request device count first state first_is playing_is has in
     rw later_is (record {
       stack_is = front.stack ∙ same;
-      next = has.next_is ∙ ap (λ (p : Playing). sector_past units p.next) playing_is ∙ ap (sector_past units) first_is;
+      next = cc;
       values = values;
       disks = same_of (length stack.disks) (played request.number request.start units (held old)) (held after.player.playing) values (played_of (length stack.disks) request.number request.start units (held old) of were);
     })

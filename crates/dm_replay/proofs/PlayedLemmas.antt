@@ -1,5 +1,5 @@
 -- What a player has played.
-use Rattle.std.proofs.Common.{◌≡◌, ℕ, zero, suc, ◌+◌, List, [], ◌∷◌, ◌++◌, refl, sym, ap, ◌∙◌, arith}
+use Rattle.std.proofs.Common.{◌≡◌, ℕ, zero, suc, ◌+◌, List, [], ◌++◌, refl, sym, ap, ◌∙◌, arith}
 use Rattle.std.proofs.lemmas.List.{append-nil}
 use Rattle.dm_map.specs.own.Contents.{sector_past}
 use Rattle.dm_map.specs.pieces.Units.{BlockUnit, ReadOf, WriteOf, Zeros, Drops, Fails, CopyOf, FillOf, units_in}
@@ -94,13 +94,13 @@ reads-append : (disk start m n : ℕ) → units_in (ReadOf disk start) (m + n) �
 reads-append disk start zero n = let e : 0 + n ≡ n = omega arith in let k : start + 0 ≡ start = omega arith in rw (e, k)
 reads-append disk start (suc m) n =
     let e : suc m + n ≡ suc (m + n) = omega arith in let k : start + suc m ≡ suc start + m = omega arith in
-    rw (e, k) (ap (λ (rest : List BlockUnit). ReadOf disk start ∷ rest) (reads-append disk (suc start) m n))
+    rw (e, k) (cc (reads-append disk (suc start) m n))
 
 copies-append : (disk start to to_start m n : ℕ) → units_in (CopyOf disk start to to_start) (m + n) ≡ units_in (CopyOf disk start to to_start) m ++ units_in (CopyOf disk (start + m) to (to_start + m)) n
 copies-append disk start to to_start zero n = let e : 0 + n ≡ n = omega arith in let k : start + 0 ≡ start = omega arith in let j : to_start + 0 ≡ to_start = omega arith in rw (e, k, j)
 copies-append disk start to to_start (suc m) n =
     let e : suc m + n ≡ suc (m + n) = omega arith in let k : start + suc m ≡ suc start + m = omega arith in let j : to_start + suc m ≡ suc to_start + m = omega arith in
-    rw (e, k, j) (ap (λ (rest : List BlockUnit). CopyOf disk start to to_start ∷ rest) (copies-append disk (suc start) to (suc to_start) m n))
+    rw (e, k, j) (cc (copies-append disk (suc start) to (suc to_start) m n))
 
 pub read_more : (old now new : Playing) (disk start m n k : ℕ) → m + n ≡ k → HasPlayed old (units_in (ReadOf disk start) m) now → HasPlayed now (units_in (ReadOf disk (start + m)) n) new → HasPlayed old (units_in (ReadOf disk start) k) new
 read_more old now new disk start m n k is first second =

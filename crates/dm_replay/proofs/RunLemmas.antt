@@ -30,8 +30,7 @@ flat_one runs run = rw (← append-nil (run_answers run)) (flat_map-append run_a
 pub flat_longer : (runs : List ValueRun) (last run longer : ValueRun) → Joins last run → first_answer longer ≡ first_answer last → run_len longer ≡ run_len last + run_len run
     → flat (runs ++ longer ∷ []) ≡ flat (runs ++ last ∷ []) ++ run_answers run
 flat_longer runs last run longer joins first len =
-    rw (flat_one runs last) (flat_one runs longer ∙ ap (λ (rest : List Answer). flat runs ++ rest) (ap (λ (x : Answer). answers_in x (run_len longer)) first ∙ ap (answers_in (first_answer last)) len
-    ∙ sym (answers_in-append (first_answer last) (run_len last) (run_len run)) ∙ ap (λ (x : Answer). run_answers last ++ answers_in x (run_len run)) joins) ∙ sym (append_assoc (flat runs) (run_answers last) (run_answers run)))
+    rw (flat_one runs last) (cc (flat_one runs longer, answers_in-append (first_answer last) (run_len last) (run_len run), append_assoc (flat runs) (run_answers last) (run_answers run)))
 
 -- Maximal runs
 

@@ -146,8 +146,8 @@ view_shows ranges are = record {
       let it = found_in ranges.entries sector v e in
       let got = btree_map_get_place nat_cmp_total ranges it.at it.start it.range are.ordered it.is in
       let same = one_start ranges sector it.start start it.range range are got is it.from it.before from before in
-      let range_is : it.range ≡ range = same_range (get nat_cmp ranges it.start) it.range range got (ap (get nat_cmp ranges) same ∙ is) in
-      ap Some (it.value_is ∙ ap (λ (k : ℕ). further it.range.first (sector - k)) same ∙ ap (λ (r : RangeValues). further r.first (sector - start)) range_is)
+      let range_is : it.range ≡ range = cc in
+      ap Some (it.value_is ∙ rw (same, range_is))
 
   by_none : (sector : ℕ) → ((start : ℕ) (range : RangeValues) → get nat_cmp ranges start ≡ Some range → start ≤ sector → sector < start + range.len → ⊥) → (o : Option Value) → stored_in ranges.entries sector ≡ o → o ≡ None
   by_none sector none None e = refl

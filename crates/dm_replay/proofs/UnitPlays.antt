@@ -1,5 +1,5 @@
 -- What units in a row do to the values of disks, and answer.
-use Rattle.std.proofs.Common.{◌≡◌, ℕ, zero, suc, ◌+◌, ◌<◌, ◌≤◌, [], refl, sym, ap, ◌∙◌, arith}
+use Rattle.std.proofs.Common.{◌≡◌, ℕ, zero, suc, ◌+◌, ◌<◌, ◌≤◌, [], refl, sym, ◌∙◌, arith}
 use Rattle.dm_map.specs.own.Contents.{sector_past, stored, played as contents_played}
 use Rattle.dm_map.specs.pieces.Units.{ReadOf, WriteOf, Zeros, Drops, Fails, CopyOf, FillOf, units_in}
 use Rattle.dm_replay.specs.declared.value.Value.{Value}
@@ -134,11 +134,7 @@ copies_played request sector disk start to to_start zero values first hold at_on
 copies_played request sector disk start to to_start (suc n) values first hold at_once on s =
     let here = hold_here values disk start n first hold in
     let after = stored values to to_start (values disk start) in
-    copies_played request sector disk (suc start) to (suc to_start) n after (next_value first)
-    (λ i within. stored_other values to to_start (values disk start) disk (suc start + i) (λ same at. never start to_start n i within (at_once same (omega (arith, at))) at) ∙ hold_later values disk start n first hold i within)
-    (λ same before. let far = at_once same (omega (arith, before)) in omega (arith, far)) on s
-    ∙ ap (λ (x : Value). ranged (stored values to to_start x) to (suc to_start) n (next_value first) on s) here
-    ∙ ranged_step values to to_start n first on s
+    cc (copies_played request sector disk (suc start) to (suc to_start) n after (next_value first) (λ i within. stored_other values to to_start (values disk start) disk (suc start + i) (λ same at. never start to_start n i within (at_once same (omega (arith, at))) at) ∙ hold_later values disk start n first hold i within) (λ same before. let far = at_once same (omega (arith, before)) in omega (arith, far)) on s, ranged_step values to to_start n first on s)
   where
     never : (start to_start n i : ℕ) → i < n → start + suc n ≤ to_start → suc start + i ≡ to_start → ⊥
     never start to_start n i within far at = omega arith

@@ -1,5 +1,5 @@
 -- Worlds after one request more, played to its end or halted.
-use Rattle.std.proofs.Common.{◌≡◌, ℕ, ◌+◌, ◌-◌, ◌<◌, ◌≤◌, false, cond, List, [], ◌∷◌, ◌++◌, length, min, nat_lt, Option, Some, None, refl, sym, ap, subst, ◌∙◌, arith}
+use Rattle.std.proofs.Common.{◌≡◌, ℕ, ◌+◌, ◌-◌, ◌<◌, ◌≤◌, false, cond, List, [], ◌∷◌, ◌++◌, length, min, nat_lt, Option, Some, None, refl, ◌∙◌, arith}
 use Rattle.std.specs.List.{AllByRecursion}
 use Rattle.dm_table.specs.declared.requests.request.Op.{Op}
 use Rattle.dm_table.specs.declared.requests.request.Op.TheVariants as ops
@@ -9,7 +9,7 @@ use Rattle.dm_stack.specs.Description.{Description, device_len}
 use Rattle.dm_stack.proofs.HandedOn.{all_append}
 use Rattle.dm_map.specs.Mapper.{MapperView}
 use Rattle.dm_map.specs.walk.Mapping.{request_step, step_for}
-use Rattle.dm_map.specs.state.State.{State, start_state}
+use Rattle.dm_map.specs.state.State.{start_state}
 use Rattle.dm_map.specs.own.Contents.{sector_past}
 use Rattle.dm_map.specs.own.Halts.{halted_units}
 use Rattle.dm_map.specs.own.Requests.{AreAlone}
@@ -47,8 +47,8 @@ going_first stack disks mapper ranges maps of state_is disks_is none = record {
   mapper_stack = of;
   player_stack = disks_is;
   state_is = state_is;
-  values_are = λ disk sector. ap (λ (all : List (List (ℕ × RangeValues))). values_of all disk sector) none ∙ nothing_held disk sector;
-  disks_are = subst (λ (all : List (List (ℕ × RangeValues))). AreValuesOf (length stack.disks) (values_of all)) (sym none) (same_of (length stack.disks) old_values (values_of []) nothing_held (old_of (length stack.disks)));
+  values_are = λ disk sector. cc (nothing_held disk sector);
+  disks_are = rw none (same_of (length stack.disks) old_values (values_of []) nothing_held (old_of (length stack.disks)));
   asked_are = tt;
   kept_are = tt;
   rerun_is = refl;
@@ -108,9 +108,7 @@ pub going_whole : (stack disks later_disks : Description) (mapper later : Mapper
 going_whole stack disks later_disks mapper later ranges newer all writes request device one was maps same same_disks state_is values_are disks_are =
     let before = world_after stack all in let write = write_of request device request.len in
     going_next stack disks later_disks mapper later ranges newer all writes (with_request request.op write writes) request device None one.top (kept_more stack request.op write writes one was.kept_are) was maps (same ∙ was.mapper_stack) same_disks
-    (state_is
-    ∙ ap (λ (of : Description). (step_for of request device mapper.state).state) was.mapper_stack
-    ∙ ap (λ (state : State). (step_for stack request device state).state) was.state_is)
+    (cc)
     values_are disks_are
     (rerun_more stack request.op write writes before.state (step_for stack request device before.state).state was.rerun_is refl)
 
@@ -155,8 +153,7 @@ pub same_again : (stack : Description) (mapper : MapperView) (disks : Descriptio
 same_again stack mapper disks ranges all writes request device units whole was is =
     let before = world_after stack all in
     rerun_more stack request.op (write_of request device whole) writes before.state _ was.rerun_is
-    (subst (λ (of : Description). (request_step of request.op device request.start whole before.state).state ≡ left_state of (Some units) (kept_request request device (Some units)) before.state) was.mapper_stack
-    (subst (λ (state : State). (request_step mapper.stack request.op device request.start whole state).state ≡ left_state mapper.stack (Some units) (kept_request request device (Some units)) state) was.state_is is.again))
+    (rw was.mapper_stack at (rw was.state_is at is.again))
 
 pub going_halted : (stack disks later_disks : Description) (mapper later : MapperView) (ranges newer : List (List (ℕ × RangeValues))) (all : List Asked) (writes : List KeptWrite) (request : Request) (device units whole : ℕ)
     → IsKept stack (write_of request device whole) → IsGoing stack mapper disks ranges all writes

@@ -1,4 +1,4 @@
-use Rattle.std.proofs.Common.{◌≡◌, ℕ, false, List, Some, sym, ap, ◌∙◌, subst}
+use Rattle.std.proofs.Common.{◌≡◌, ℕ, false, List, Some, ap, ◌∙◌}
 use Rattle.std.specs.Prelude.{position}
 use Rattle.dm_stack.specs.claims.Claims.{IsTop}
 use Rattle.dm_stack.specs.Description.{is_same}
@@ -13,7 +13,7 @@ use Rattle.dm_replay.proofs.replay.Replay.halt.Goals as goal
 spent : (inside old : Replaying) (name : List ℕ) (device : ℕ) → inside ≡ old → inside.failed ≡ false → position (λ other. is_same other.name name) inside.stack.devices ≡ Some device → IsTop inside.stack device
     → (old.failed ≡ false) × HasTop old.stack name
 spent inside old name device is going named top =
-    (ap (λ (r : Replaying). r.failed) (sym is) ∙ going, subst (λ (r : Replaying). HasTop r.stack name) is (record { id = device; named = named; top = top }))
+    (rw (← is) going, rw (← is) (record { id = device; named = named; top = top }))
 
 pub returns-in_default-play_front-clause-fault : goal.returns-in_default-play_front-clause-fault
 returns-in_default-play_front-clause-fault g c =

@@ -1,8 +1,5 @@
-use Rattle.std.proofs.Common.{List, [], sym, ap, ◌∙◌, subst}
+use Rattle.std.proofs.Common.{ap, ◌∙◌}
 use Rattle.dm_map.specs.state.State.{start_state}
-use Rattle.dm_replay.specs.declared.kept_write.KeptWrite.{KeptWrite}
-use Rattle.dm_replay.specs.Histories.{Asked}
-use Rattle.dm_replay.specs.Replay.{IsGoing}
 use Rattle.dm_replay.proofs.WorldLemmas.{going_first}
 use Rattle.dm_replay.proofs.replay.Replay.new.Goals as goal
 
@@ -12,7 +9,5 @@ invariant_of-result g c =
     record {
       tidy = c.in_ok-refuse_clash.ensures.tidy;
       tops_are = rw c.from_vec.ensures.items c.in-Ok.ensures;
-      going = λ _. subst (λ (all : List Asked). IsGoing stack c.in-Ok-new.mapper player.result.stack.now player.result.playing.values.disks.items all c.new-in-Ok-new-3.result.items) (sym c.new-in-Ok-new-2.ensures)
-          (subst (λ (writes : List KeptWrite). IsGoing stack c.in-Ok-new.mapper player.result.stack.now player.result.playing.values.disks.items [] writes) (sym c.new-in-Ok-new-3.ensures.items)
-          (going_first stack player.result.stack.now c.in-Ok-new.mapper player.result.playing.values.disks.items made.going (made.stack ∙ c.looker.ensures.stack) (made.state ∙ ap start_state c.looker.ensures.stack) player.ensures.stack player.ensures.ranges));
+      going = λ _. rw (c.new-in-Ok-new-2.ensures, c.new-in-Ok-new-3.ensures.items) (going_first stack player.result.stack.now c.in-Ok-new.mapper player.result.playing.values.disks.items made.going (made.stack ∙ c.looker.ensures.stack) (made.state ∙ ap start_state c.looker.ensures.stack) player.ensures.stack player.ensures.ranges);
     }

@@ -1,10 +1,6 @@
-use Rattle.std.proofs.Common.{◌<◌, false, length, refl, sym, ap, ◌∙◌, subst, arith}
-use Rattle.std.specs.List.{AllByRecursion}
+use Rattle.std.proofs.Common.{false, refl, sym, ◌∙◌, arith}
 use Rattle.std.proofs.lemmas.List.{get_or_read}
-use Rattle.dm_stack.specs.claims.Claims.{IsTop}
-use Rattle.dm_stack.specs.Description.{Description}
-use Rattle.dm_replay.specs.OfDisks.{IsRunOf}
-use Rattle.dm_replay.specs.Replay.{Replaying, whole_request}
+use Rattle.dm_replay.specs.Replay.{whole_request}
 use Rattle.dm_replay.proofs.NamedLemmas.{noted_top}
 use Rattle.dm_replay.proofs.OneRuns.{one_runs}
 use Rattle.dm_replay.proofs.OwnReads.{own_answers}
@@ -13,11 +9,11 @@ use Rattle.dm_replay.proofs.replay.Replay.request_of.Goals as goal
 
 pub returns-in_default-keep-clause-fault : goal.returns-in_default-keep-clause-fault
 returns-in_default-keep-clause-fault g c =
-    let within = subst (λ (r : Replaying). c.args.device < length r.stack.devices) (sym c.self.view_is) c.requires in
+    let within = rw (← c.self.view_is) at c.requires in
     let top = noted_top c.self.inside.stack.now c.self.inside.tops.items c.args.device c.index.result c.index-2.result.now c.self.invariant.tops_are within c.index.ensures
     (get_or_read c.self.inside.tops.items c.index.result c.index-2.result.now (omega (arith, within, c.index.ensures, c.self.invariant.tops_are.all)) c.index-2.ensures false) c.if-not-index.false in (
-      ap (λ (r : Replaying). r.failed) (sym c.self.view_is) ∙ c.if-self.false,
-      subst (λ (r : Replaying). IsTop r.stack c.args.device) c.self.view_is top,
+      rw (← c.self.view_is) c.if-self.false,
+      rw (← c.self.view_is) top,
       refl,
     )
 
@@ -25,7 +21,7 @@ pub invariant_of-self-2 : goal.invariant_of-self-2
 invariant_of-self-2 g c =
     let inside = c.self.inside in let request = c.args.request.now in let did = c.in-Ok.ensures in
     let newer = c.play_request.new.player in let device = c.args.device in
-    let within = subst (λ (r : Replaying). c.args.device < length r.stack.devices) (sym c.self.view_is) c.requires in
+    let within = rw (← c.self.view_is) at c.requires in
     let top = noted_top c.self.inside.stack.now c.self.inside.tops.items c.args.device c.index.result c.index-2.result.now c.self.invariant.tops_are within c.index.ensures
     (get_or_read c.self.inside.tops.items c.index.result c.index-2.result.now (omega (arith, within, c.index.ensures, c.self.invariant.tops_are.all)) c.index-2.ensures false) c.if-not-index.false in
     record {
@@ -38,7 +34,7 @@ invariant_of-self-2 g c =
 
 pub returns-clause-top : goal.returns-clause-top
 returns-clause-top g c =
-    let within = subst (λ (r : Replaying). c.args.device < length r.stack.devices) (sym c.self.view_is) c.requires in
+    let within = rw (← c.self.view_is) at c.requires in
     let top = noted_top c.self.inside.stack.now c.self.inside.tops.items c.args.device c.index.result c.index-2.result.now c.self.invariant.tops_are within c.index.ensures
     (get_or_read c.self.inside.tops.items c.index.result c.index-2.result.now (omega (arith, within, c.index.ensures, c.self.invariant.tops_are.all)) c.index-2.ensures false) c.if-not-index.false in
     rw (← c.self.view_is) top
@@ -47,7 +43,7 @@ pub returns-clause-answered : goal.returns-clause-answered
 returns-clause-answered g c =
     let inside = c.self.inside in let request = c.args.request.now in let did = c.in-Ok.ensures in let going = c.self.invariant.going c.if-self.false in
     let device = c.args.device in let runs = c.in-Ok.runs.items in
-    let within = subst (λ (r : Replaying). c.args.device < length r.stack.devices) (sym c.self.view_is) c.requires in
+    let within = rw (← c.self.view_is) at c.requires in
     let top = noted_top c.self.inside.stack.now c.self.inside.tops.items c.args.device c.index.result c.index-2.result.now c.self.invariant.tops_are within c.index.ensures
     (get_or_read c.self.inside.tops.items c.index.result c.index-2.result.now (omega (arith, within, c.index.ensures, c.self.invariant.tops_are.all)) c.index-2.ensures false) c.if-not-index.false in
     let are = answers_after inside.stack.now inside.player.stack.now inside.mapper inside.player.playing.values.disks.items inside.asked inside.writes.items request device runs going did.answers.are in
@@ -56,7 +52,7 @@ returns-clause-answered g c =
         are = are;
         maximal = did.answers.maximal;
         one = λ others maximal same. one_runs others runs maximal did.answers.maximal (same ∙ sym are);
-        on = subst (λ (stack : Description). AllByRecursion (IsRunOf (length stack.disks)) runs) going.mapper_stack did.answers.on;
+        on = rw going.mapper_stack at did.answers.on;
       };
       own = λ reads. rw are (own_answers inside.stack.now inside.asked (whole_request request device) c.requests_are_alone.ensures c.self.invariant.tidy going.asked_are top refl reads);
       asked = c.add.ensures;

@@ -1,21 +1,20 @@
-use Rattle.std.proofs.Common.{sym, ap, ◌∙◌, subst, List, arith}
-use Rattle.dm_replay.specs.declared.value_run.ValueRun.{ValueRun}
-use Rattle.dm_replay.specs.Runs.{AreMaximal, flat}
+use Rattle.std.proofs.Common.{sym, ap, ◌∙◌, arith}
+use Rattle.dm_replay.specs.Runs.{flat}
 use Rattle.dm_replay.proofs.RunLemmas.{flat_longer, maximal_front, maximal_longer, maximal_push}
 use Rattle.dm_replay.proofs.value_runs.ValueRuns.add.Goals as goal
 
 pub invariant_of-self-then-not-joins : goal.invariant_of-self-then-not-joins
 invariant_of-self-then-not-joins c =
-    let before = subst (λ (runs : List ValueRun). AreMaximal runs) c.in-Some.ensures.items c.self.invariant in
+    let before = rw c.in-Some.ensures.items at c.self.invariant in
     rw (c.in_ok-push-3.ensures.items, c.in_ok-push-2.ensures.items) (maximal_push c.pop.new.self.items c.in-Some.last c.args.run before c.if-not-joins.ensures.apart c.requires)
 
 pub invariant_of-self-in_default-checked_add : goal.invariant_of-self-in_default-checked_add
 invariant_of-self-in_default-checked_add c =
-    maximal_front c.pop.new.self.items c.in-Some.last (subst (λ (runs : List ValueRun). AreMaximal runs) c.in-Some.ensures.items c.self.invariant)
+    maximal_front c.pop.new.self.items c.in-Some.last (rw c.in-Some.ensures.items at c.self.invariant)
 
 pub invariant_of-self-2 : goal.invariant_of-self-2
 invariant_of-self-2 c =
-    let before = subst (λ (runs : List ValueRun). AreMaximal runs) c.in-Some.ensures.items c.self.invariant in
+    let before = rw c.in-Some.ensures.items at c.self.invariant in
     rw c.in_ok-push-4.ensures.items (maximal_longer c.pop.new.self.items c.in-Some.last c.with_len.result before c.with_len.ensures.first
     (omega (arith, c.with_len.ensures.len, c.in-Some-checked_add.ensures, c.len.ensures, c.len-2.ensures, c.requires)))
 
