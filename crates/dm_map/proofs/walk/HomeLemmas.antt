@@ -11,7 +11,7 @@ use Rattle.dm_stack.specs.Description.{Description}
 use Rattle.dm_stack.specs.lines.Below.{IsLineOf}
 use Rattle.dm_stack.proofs.InStack.{disk_there}
 use Rattle.dm_map.specs.declared.walk.home.Home.{Home}
-use Rattle.dm_map.specs.pieces.Sink.{SinkPast}
+use Rattle.dm_map.specs.pieces.Sink.{IsHanded, SinkPast}
 use Rattle.dm_map.specs.pieces.Units.{BlockUnit, units_in}
 use Rattle.dm_map.specs.state.Snapshots.{read_over}
 use Rattle.dm_map.specs.state.State.{taken_at}
@@ -53,12 +53,13 @@ pub home_mapped : {S F : Type 0} (past : SinkPast S) (sink : S) (w : WalkerView)
     → refuses w.stack op device ≡ false → IsLineOf w.stack device line sector → 1 ≤ len → sector + len ≤ line.start + line.len → IsLegOf w.stack device line (sector - line.start) (record { below = Lies (Disk home.disk) home.start; len = len })
     → IsMapped {F = F} (or_home {F = F} past stack op len (Ok (Some home))) (Ok (Some home)) sink sink w w (found_mapping op MOST_DEPTH device) sector len
 home_mapped {S} {F} past sink w op device sector len line home stack is passes of some inside leg =
-    let there_past = or_home {S = S} {F = F} past w.stack op len (Ok (Some home)) in let distance = sector - line.start in
+    let or_here = or_home {S = S} {F = F} past w.stack op len (Ok (Some home)) in let distance = sector - line.start in
     let there = disk_there w.stack home.disk home.start (omega (arith, some, leg.lies)) in
     let here : IsHome w.stack op len home (units_in (disk_unit op home.disk home.start) len) = record { units = refl; lies = record { there = there; inside = leg.lies } } in
-    let base : IsMapped there_past (Ok (Some home)) sink sink w w (range_mapping op 31 (Disk home.disk)) home.start len =
+    let piece : IsHanded {F = F} or_here (Ok (Some home)) sink sink (units_in (disk_unit op home.disk home.start) len) 0 = record { took = (here, refl); left = tt; faults = omega arith; stack = refl; room = omega arith } in
+    let base : IsMapped {F = F} or_here (Ok (Some home)) sink sink w w (range_mapping op 31 (Disk home.disk)) home.start len =
     record {
-      walked = walked_piece (disk_step w op 31 (Disk home.disk) home.disk home.start len _ refl refl) (let few : 0 ≤ len = omega arith in few) (record { took = (here, refl); left = tt; faults = omega arith; stack = refl; room = omega arith });
+      walked = walked_piece (disk_step w op 31 (Disk home.disk) home.disk home.start len _ refl refl) (let few : 0 ≤ len = omega arith in few) piece;
       bounded = λ read sound. omega arith;
     } in
     let below = mapped_below op 31 device line.start distance line.start line line.target (Disk home.disk) (leg.of.all line.start (omega arith) (omega (arith, some, leg.inside))) refl some
