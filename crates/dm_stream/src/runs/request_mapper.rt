@@ -24,7 +24,7 @@ use std::marker::PhantomData;
 
 /// Joins the units of a request of a device of the stack, and writes them. Nothing is held before.
 #[inline(always)]
-fn map_request<T: Taken, W: Output>(
+fn write_joined<T: Taken, W: Output>(
     mapper: &mut Mapper<'_, T>,
     request: &Request<'_>,
     device: DeviceId,
@@ -132,7 +132,7 @@ impl<'s, T: Taken, W: Output> Handler for RequestMapper<'_, 's, T, W> {
         let Some(device) = device else {
             return Err(NotMapped::Unknown(request.number));
         };
-        match map_request(mapper, request, device, &mut self.join) {
+        match write_joined(mapper, request, device, &mut self.join) {
             Ok(()) => Ok(()),
             Err(OutFault) => Err(NotMapped::Output),
         }

@@ -13,8 +13,8 @@ returns-in-Err-clause-stopped g c =
     let request = numbered c.args.request.now in
     let failed = c.in-Err.ensures in
     let w0 = (g.W.Output.past old.join.writer.now).written in
-    let w1 = (g.W.Output.past c.map_request.new.join.writer.now).written in (
-      request_cut c.args._stack.now c.in-Some.device request _ c.args.mapper.now.state c.map_request.new.mapper w0 w1 c.requires.found c.in-Some.is
+    let w1 = (g.W.Output.past c.write_joined.new.join.writer.now).written in (
+      request_cut c.args._stack.now c.in-Some.device request _ c.args.mapper.now.state c.write_joined.new.mapper w0 w1 c.requires.found c.in-Some.is
           (subst (λ (stack : Description). IsCutShort (request_answer stack c.in-Some.device request c.args.mapper.now.state) (since w0 w1)) c.requires.ready.joined failed.wrote.left),
       record { moved = failed.wrote.moved; same_reference = failed.same_reference },
       failed.stack,

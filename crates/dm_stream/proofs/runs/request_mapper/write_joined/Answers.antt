@@ -9,7 +9,7 @@ use Rattle.dm_stream.specs.pieces.PieceText.{pieces_text}
 use Rattle.dm_table.specs.io.Progress.{Wrote}
 use Rattle.dm_table.specs.declared.io.device_io.OutFault.{OutFault}
 use Rattle.dm_stream.proofs.runs.RequestMapped.{at_home, cut_short, home_wrote, on_ok, on_sink, state_at, taken_wrote, took_all}
-use Rattle.dm_stream.proofs.runs.request_mapper.map_request.Goals as goal
+use Rattle.dm_stream.proofs.runs.request_mapper.write_joined.Goals as goal
 
 -- what is said of a mapper's stack and of the writer that a join began with, is said of the join's stack and of its writer before
 before_begin : {W : Type 0} (P : Description → W → Type 0) (stack other : Description) (writer begun : W) → other ≡ stack → begun ≡ writer → P other begun → P stack writer
