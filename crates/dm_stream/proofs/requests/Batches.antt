@@ -1,5 +1,5 @@
 -- Requests at the front of bytes, one after the other, and what is answered of them.
-use Rattle.std.proofs.Common.{◌≡◌, ℕ, zero, suc, ◌+◌, ◌<◌, ◌≤◌, List, [], ◌∷◌, ◌++◌, length, get_or, map, take, drop, sym, ap, subst, ◌∙◌, append_assoc, length-append, length-take-le, arith}
+use Rattle.std.proofs.Common.{◌≡◌, ℕ, zero, suc, ◌+◌, ◌<◌, ◌≤◌, List, [], ◌∷◌, ◌++◌, length, get_or, map, take, drop, sym, ◌∙◌, append_assoc, length-append, length-take-le, arith}
 use Rattle.std.proofs.lemmas.List.{append-nil, drop-drop, map-append}
 use Rattle.dm_table.specs.io.DeviceIo.{InputPast, delivery, since, stand_of}
 use Rattle.dm_stream.specs.requests.Batch.{AreFirst, AreFirstAnswered, IsAmongFirst, front_requests}
@@ -16,21 +16,13 @@ pub line_is_first : (n : ℕ) (held : List ℕ) (len : ℕ) (requests : List Num
 line_is_first n held len requests within short line is = λ stand more.
     let next = some_part (drop (len + 1) held) in
     let cut : length (take len held) ≡ len = length-take-le len held (omega arith) in
-    line_first stand held (take len held) more n (record {
-      short = omega arith;
-      second = next.0;
-      others = next.1;
-      is = line ∙ ap (λ parts. take len held ∷ parts) next.2;
-    })
-    ∙ is (requests_from stand (n + 1) (line_parts (drop (length (take len held) + 1) held ++ more)))
-    ∙ ap (λ k. after_requests requests (requests_from stand (n + 1) (line_parts (drop (k + 1) held ++ more)))) cut
+    cc (line_first stand held (take len held) more n (record { short = omega arith; second = next.0; others = next.1; is = cc }), is (requests_from stand (n + 1) (line_parts (drop (length (take len held) + 1) held ++ more))))
 
 -- first ones, and then the first of the rest
 pub first_then : (n k m : ℕ) (bytes middle rest : List ℕ) (us vs : List NumberedRequest) → AreFirst n bytes us k middle → AreFirst k middle vs m rest → AreFirst n bytes (us ++ vs) m rest
 first_then n k m bytes middle rest us vs first second = λ stand more.
     let later = requests_from stand m (line_parts (rest ++ more)) in
-    first stand more ∙ ap (after_requests us) (second stand more)
-    ∙ ap (λ (requests : List NumberedRequest). record { all = requests; ending = later.ending }) (sym (append_assoc us vs later.all))
+    cc (first stand more, second stand more, append_assoc us vs later.all)
 
 -- a front more was read, at the front of a text that is what is left
 pub one_more : (n : ℕ) (held text : List ℕ) (len count : ℕ) (fronts after : List Front) (front : Front) → AreFirst (n + 1) held (front_requests fronts) (n + length fronts + 1) (drop len held) → text ≡ drop len held → count ≡ length fronts
@@ -42,19 +34,16 @@ one_more n held text len count fronts after front so_far left same within short 
     let requests = front_requests fronts ++ numbered front.request ∷ [] in
     let one_later : next + 1 ≡ n + length (fronts ++ front ∷ []) + 1 = omega (arith, length-append fronts (front ∷ [])) in
     let last = line_is_first next text front.len (numbered front.request ∷ []) within short line
-    (subst (λ (k : ℕ). (rest : Requests) → line_requests (n + k + 1) (take front.len text) rest ≡ after_requests (numbered front.request ∷ []) rest) same is) in
+    (rw same at is) in
     let all = first_then (n + 1) next (next + 1) held (drop len held) (drop (front.len + 1) (drop len held)) (front_requests fronts) (numbered front.request ∷ []) so_far
-    (subst (λ (xs : List ℕ). AreFirst next xs (numbered front.request ∷ []) (next + 1) (drop (front.len + 1) xs)) left last) in
-    subst (λ (fs : List Front). AreFirst (n + 1) held (front_requests fs) (n + length fs + 1) (drop (len + (front.len + 1)) held)) (sym e)
-    (subst (λ (us : List NumberedRequest). AreFirst (n + 1) held us (n + length (fronts ++ front ∷ []) + 1) (drop (len + (front.len + 1)) held)) (sym (map-append (λ (f : Front). numbered f.request) fronts (front ∷ [])))
-    (subst (λ (k : ℕ). AreFirst (n + 1) held requests k (drop (len + (front.len + 1)) held)) one_later
-    (subst (λ (xs : List ℕ). AreFirst (n + 1) held requests (next + 1) xs) (drop-drop (front.len + 1) len held) all)))
+    (rw left at last) in
+    rw (e, map-append (λ (f : Front). numbered f.request) fronts (front ∷ []), ← one_later, ← drop-drop (front.len + 1) len held) all
 
 -- the values of a list up to one of them, and of those after it
 pub up_to : {X Y : Type 0} (f : X → Y) (xs : List X) (i : ℕ) (x : X) → i < length xs → x ≡ get_or xs i x → map f xs ≡ (map f (take i xs) ++ f x ∷ []) ++ map f (drop (suc i) xs)
 up_to f [] i x within is = absurd (omega arith)
-up_to f (y ∷ xs) zero x within is = ap (λ z. f z ∷ map f xs) (sym is)
-up_to f (y ∷ xs) (suc i) x within is = ap (λ ys. f y ∷ ys) (up_to f xs i x (omega arith) is)
+up_to f (y ∷ xs) zero x within is = cc
+up_to f (y ∷ xs) (suc i) x within is = cc (up_to f xs i x (omega arith) is)
 
 -- a first part of the same requests, of which another fact follows
 pub among_those : (IsThis IsThat : List NumberedRequest → Type 0) (us vs : List NumberedRequest) → us ≡ vs → ((first : List NumberedRequest) → IsThis first → IsThat first) → IsAmong IsThis us → IsAmong IsThat vs
@@ -81,9 +70,7 @@ after_batch {AreAnswered = AreAnswered} {first = first} {mid = mid} {h0 = h0} {h
       faults = turned.faults;
       ends = turned.ends;
       told =
-          subst (λ (xs : List ℕ). Told all xs (turned.done ++ batch.0) next) (sym left)
-          (first_then 1 n next all held (drop len held) turned.done batch.0 turned.told
-          (subst (λ (xs : List ℕ). AreFirst n xs batch.0 next (drop len xs)) same batch.1));
+          rw left (first_then 1 n next all held (drop len held) turned.done batch.0 turned.told (rw same at batch.1));
     }
 
 -- it stopped in a batch of what is held
@@ -94,13 +81,12 @@ among_batch p0 p1 held read n done IsThis IsFirst told same batch follows =
     let stand = stand_of p0 p1 in
     let all = since p0.handed p1.handed in
     let later = requests_from stand batch.1 (line_parts (batch.2 ++ [])) in
-    let whole = first_then 1 n batch.1 all held batch.2 done batch.0 told (subst (λ (xs : List ℕ). AreFirst n xs batch.0 batch.1 batch.2) same batch.3) in
+    let whole = first_then 1 n batch.1 all held batch.2 done batch.0 told (rw same at batch.3) in
     let stops = batch.4 in
     record {
       first = done ++ stops.first;
       later = stops.later ++ later.all;
       is =
-          ap (λ (xs : List ℕ). (requests_from stand 1 (line_parts xs)).all) (sym (append-nil all)) ∙ ap (λ (q : Requests). q.all) (whole stand [])
-          ∙ ap (λ (us : List NumberedRequest). (done ++ us) ++ later.all) stops.is ∙ simp append_assoc;
+          rw (← append-nil all, whole stand [], stops.is) (simp append_assoc);
       holds = follows stops.first stops.holds;
     }

@@ -1,5 +1,5 @@
 -- One turn over the lines: a request that is handed on, or the end.
-use Rattle.std.proofs.Common.{◌≡◌, ◌≤◌, ◌==◌, cond, true, false, Bool, ltb, ℕ, suc, ◌+◌, List, [], ◌∷◌, ◌++◌, length, drop, sym, ap, subst, ◌∙◌, refl, append_assoc, add-one, arith}
+use Rattle.std.proofs.Common.{◌≡◌, ◌≤◌, ◌==◌, cond, true, false, Bool, ltb, ℕ, suc, ◌+◌, List, [], ◌∷◌, ◌++◌, length, drop, sym, ap, ◌∙◌, refl, append_assoc, add-one, arith}
 use Rattle.std.specs.List.{onto_first}
 use Rattle.std.proofs.lemmas.Bool.{ltb-false}
 use Rattle.std.proofs.lemmas.List.{append-nil}
@@ -22,13 +22,13 @@ part_stays [] line second parts more e = cc
 part_stays (x ∷ xs) line second parts more e =
     let s = some_part xs in
     let P : Bool → Type 0 = λ b. cond b ([] ∷ line_parts xs) (onto_first x (line_parts xs)) ≡ line ∷ second ∷ parts → cond b ([] ∷ line_parts (xs ++ more)) (onto_first x (line_parts (xs ++ more))) ≡ line ∷ line_parts (drop (length line) xs ++ more) in
-    let at_newline : P true = λ f. let nil : [] ≡ line = cc in ap (λ (l : List ℕ). l ∷ line_parts (drop (length l) xs ++ more)) nil in
+    let at_newline : P true = λ f. let nil : [] ≡ line = cc in cc in
     let at_other : P false = λ f.
     let opened : (x ∷ s.0) ∷ s.1 ≡ line ∷ second ∷ parts = sym (ap (onto_first x) s.2) ∙ f in
     let front : x ∷ s.0 ≡ line = cc in
     let rest : s.1 ≡ second ∷ parts = cc in
-    let same : line_parts xs ≡ s.0 ∷ second ∷ parts = s.2 ∙ ap (λ ys. s.0 ∷ ys) rest in
-    ap (onto_first x) (part_stays xs s.0 second parts more same) ∙ ap (λ (l : List ℕ). l ∷ line_parts (drop (length l) xs ++ more)) front in
+    let same : line_parts xs ≡ s.0 ∷ second ∷ parts = cc in
+    cc (part_stays xs s.0 second parts more same) in
     (elim (x == 10) as P [ true ↦ at_newline | false ↦ at_other ]) e
 
 -- how a line that comes next stands among the parts
@@ -55,10 +55,10 @@ next_is stand (rest ∷ []) line e = absurd (by_rest (ltb MOST_LINE_BYTES (lengt
 next_is stand (found ∷ second ∷ others) line e =
     let h = by_test (ltb MOST_LINE_BYTES (length found)) found line e in
     record {
-      short = subst (λ (l : List ℕ). length l ≤ MOST_LINE_BYTES) h.1 (ltb-false MOST_LINE_BYTES (length found) h.0);
+      short = rw h.1 at (ltb-false MOST_LINE_BYTES (length found) h.0);
       second = second;
       others = others;
-      is = ap (λ (l : List ℕ). l ∷ second ∷ others) h.1;
+      is = cc;
     }
 
 -- What was handed on so far
@@ -79,26 +79,20 @@ pub record HasHandled {H S : Type 0} (AreAnswered : H → S → List NumberedReq
 
 -- nothing was handed on before the first byte
 pub told_none : (handed held : List ℕ) → held ≡ [] → Told (since handed handed) held [] 1
-told_none handed held none = λ stand more. ap (λ (xs : List ℕ). requests_from stand 1 (line_parts (xs ++ more))) (since-same handed ∙ sym none)
+told_none handed held none = λ stand more. cc (since-same handed)
 
 -- the requests from a line on that is held
 pub line_first : (stand : Stand) (held line more : List ℕ) (n : ℕ) → IsNextLine (line_parts held) line → requests_from stand n (line_parts (held ++ more)) ≡ line_requests n line (requests_from stand (n + 1) (line_parts (drop (length line + 1) held ++ more)))
 line_first stand held line more n h =
     let rest = drop (suc (length line)) held ++ more in
-    ap (requests_from stand n) (part_stays held line h.second h.others more h.is)
-    ∙ ap (λ a. next_requests n a (requests_from stand (n + 1) (line_parts rest))) (next_line stand line rest h.short)
-    ∙ ap (λ k. line_requests n line (requests_from stand (n + 1) (line_parts (drop k held ++ more)))) (sym (add-one (length line)))
+    cc (part_stays held line h.second h.others more h.is, next_line stand line rest h.short, add-one (length line))
 
 -- a line more is a request
 told_more : (all held new line : List ℕ) (done more : List NumberedRequest) (n : ℕ) (stand : Stand) → Told all held done n → next_answer stand (line_parts (held ++ new)) ≡ ALine line → ((rest : Requests) → line_requests n line rest ≡ after_requests more rest)
     → Told (all ++ new) (drop (length line + 1) (held ++ new)) (done ++ more) (n + 1)
 told_more all held new line done more n stand told next is = λ at_end later.
     let rest = requests_from at_end (n + 1) (line_parts (drop (length line + 1) (held ++ new) ++ later)) in
-    ap (λ xs. requests_from at_end 1 (line_parts xs)) (append_assoc all new later)
-    ∙ told at_end (new ++ later)
-    ∙ ap (λ xs. after_requests done (requests_from at_end n (line_parts xs))) (sym (append_assoc held new later))
-    ∙ ap (after_requests done) (line_first at_end (held ++ new) line later n (next_is stand (line_parts (held ++ new)) line next) ∙ is rest)
-    ∙ ap (λ (requests : List NumberedRequest). record { all = requests; ending = rest.ending }) (sym (append_assoc done more rest.all))
+    cc (append_assoc all new later, told at_end (new ++ later), append_assoc held new later, line_first at_end (held ++ new) line later n (next_is stand (line_parts (held ++ new)) line next), is rest, append_assoc done more rest.all)
 
 -- the same, by what the input handed out
 pub told_turn : (h0 h1 h2 held after line : List ℕ) (done more : List NumberedRequest) (n : ℕ) (stand : Stand) → Told (since h0 h1) held done n
@@ -106,9 +100,7 @@ pub told_turn : (h0 h1 h2 held after line : List ℕ) (done more : List Numbered
     → ALine line ≡ next_answer stand (line_parts (held ++ since h1 h2)) → ((rest : Requests) → line_requests n line rest ≡ after_requests more rest)
     → after ≡ drop (length line + 1) (held ++ since h1 h2) → Told (since h0 h2) after (done ++ more) (n + 1)
 told_turn h0 h1 h2 held after line done more n stand told e f next is left =
-    subst (λ (xs : List ℕ). Told xs after (done ++ more) (n + 1)) (sym (since_more h0 h1 h2 e f))
-    (subst (λ (xs : List ℕ). Told (since h0 h1 ++ since h1 h2) xs (done ++ more) (n + 1)) (sym left)
-    (told_more (since h0 h1) held (since h1 h2) line done more n stand told (sym next) is))
+    rw (since_more h0 h1 h2 e f, left) (told_more (since h0 h1) held (since h1 h2) line done more n stand told (sym next) is)
 
 -- What comes next
 
@@ -117,7 +109,7 @@ by_answer : (stand : Stand) (held : List ℕ) (n : ℕ) → (rest : Requests) ×
 by_answer stand held n =
     let s = some_part held in
     let rest = requests_from stand (n + 1) s.1 in
-    (rest, ap (requests_from stand n) s.2 ∙ ap (λ parts. next_requests n (next_answer stand parts) rest) (sym s.2))
+    (rest, cc)
 
 -- the requests of all that was delivered: those that were handed on, and then by what comes next
 all_requests : (p0 p1 p2 : InputPast) (held : List ℕ) (n : ℕ) (done : List NumberedRequest) (answer : Answer) → Told (since p0.handed p1.handed) held done n
@@ -126,11 +118,10 @@ all_requests : (p0 p1 p2 : InputPast) (held : List ℕ) (n : ℕ) (done : List N
 all_requests p0 p1 p2 held n done answer told reads more faults ends next =
     let stand = stand_of p0 p2 in
     let new = since p1.handed p2.handed in
-    let same : stand_of p1 p2 ≡ stand = ap (λ (k : ℕ). stand_of (record p1 { faults = k }) p2) faults ∙ ap (λ (k : ℕ). stand_of (record p0 { ends = k }) p2) ends in
+    let same : stand_of p1 p2 ≡ stand = cc in
     let b = by_answer stand (held ++ new) n in (
       b.0,
-      ap (λ xs. requests_from stand 1 (line_parts xs)) (since_more p0.handed p1.handed p2.handed reads more) ∙ told stand new
-          ∙ ap (after_requests done) (b.1 ∙ ap (λ a. next_requests n a b.0) (sym (next ∙ ap (λ s. next_answer s (line_parts (held ++ new))) same))),
+      cc (since_more p0.handed p1.handed p2.handed reads more, told stand new),
     )
 
 -- a handler that was told of a read answered what it had answered
@@ -139,7 +130,7 @@ pub after_waiting : {H S : Type 0} {AreAnswered : H → S → List NumberedReque
     → HasHandled AreAnswered first mid h0 h2 s0 s1 held n
 after_waiting {AreAnswered = AreAnswered} {h0 = h0} {h1 = h1} {h2 = h2} {s0 = s0} {s1 = s1} both turned waits = record {
   done = turned.done;
-  answered = subst (λ (requests : List NumberedRequest). AreAnswered h0 s0 requests h2 s1) (append-nil turned.done) (both h0 h1 h2 s0 s1 s1 turned.done [] turned.answered waits);
+  answered = rw (← append-nil turned.done) (both h0 h1 h2 s0 s1 s1 turned.done [] turned.answered waits);
   reads = turned.reads;
   faults = turned.faults;
   ends = turned.ends;
@@ -154,7 +145,7 @@ pub ended : {H S : Type 0} (AreAnswered : H → S → List NumberedRequest → H
 ended AreAnswered last {first = first} {mid = mid} {h0 = h0} {h2 = h2} {s0 = s0} {s1 = s1} {held = held} {n = n} answer e both before waits more next is =
     let turned = after_waiting both before waits in
     let a = all_requests first mid last held n turned.done answer turned.told turned.reads more turned.faults turned.ends next in
-    subst (λ (requests : List NumberedRequest). AreAnswered h0 s0 requests h2 s1) (sym (ap (λ (q : Requests). q.all) (a.1 ∙ ap (after_requests turned.done) (is a.0)) ∙ append-nil turned.done)) turned.answered
+    rw (a.1, is a.0, append-nil turned.done) turned.answered
 
 -- where nothing was met, a bad line may be bad by any word
 pub bad_met : (old new : InputPast) (number : ℕ) (w : word.RequestWord) → MetNothing old new → HasMet (ending.TheVariants.BadRequest number w) old new
@@ -170,6 +161,6 @@ among p0 p1 p2 held n done more line IsFirst told reads again faults none next i
     record {
       first = done ++ more;
       later = a.0.all;
-      is = ap (λ (q : Requests). q.all) (a.1 ∙ ap (after_requests done) (is a.0)) ∙ sym (append_assoc done more a.0.all);
+      is = cc (is a.0, append_assoc done more a.0.all);
       holds = holds;
     }

@@ -1,5 +1,5 @@
 -- Ranges of a buffer: what is held after a read, and after a line is gone.
-use Rattle.std.proofs.Common.{◌≡◌, ℕ, ◌+◌, ◌-◌, ◌<◌, ◌≤◌, ◌++◌, List, length, take, drop, slice_range, sym, ap, ◌∙◌, arith, length-take, length-take-le}
+use Rattle.std.proofs.Common.{◌≡◌, ℕ, ◌+◌, ◌-◌, ◌<◌, ◌≤◌, ◌++◌, List, length, take, drop, slice_range, ap, ◌∙◌, arith, length-take, length-take-le}
 use Rattle.std.proofs.Math.Seq.{take-add}
 use Rattle.std.proofs.lemmas.List.{take-take, drop-drop, drop-take}
 use Rattle.dm_table.specs.io.DeviceIo.{since}
@@ -9,30 +9,27 @@ use Rattle.dm_table.specs.laws.Progress.{since_is}
 pub same_range : (new old held : List ℕ) (start len : ℕ) → take (start + len) new ≡ take (start + len) old → slice_range old start (start + len) ≡ held → slice_range new start (start + len) ≡ held
 same_range new old held start len same e =
     let all : start + len - start ≡ len = omega arith in
-    ap (λ k. take k (drop start new)) all ∙ sym (drop-take start len new) ∙ ap (drop start) same ∙ drop-take start len old
-    ∙ sym (ap (λ k. take k (drop start old)) all) ∙ e
+    cc (drop-take start len new, drop-take start len old)
 
 -- a read of nothing adds nothing to what is held
 pub none_after : (buffer held : List ℕ) (start len n : ℕ) → n ≡ 0 → slice_range buffer start (start + len) ≡ held → slice_range buffer start (start + len + n) ≡ held
 none_after buffer held start len n none e =
     let all : start + len + n ≡ start + len = omega arith in
-    ap (λ k. slice_range buffer start k) all ∙ e
+    cc
 
 -- what is held after a read that adds to it
 pub refilled : (buffer held before after : List ℕ) (start len n : ℕ) → slice_range buffer start (start + len) ≡ held → after ≡ before ++ take n (drop (start + len) buffer) → slice_range buffer start (start + len + n) ≡ held ++ since before after
 refilled buffer held before after start len n kept more =
     let all : start + len + n - start ≡ len + n = omega arith in
     let len_first : len ≡ start + len - start = omega arith in
-    ap (λ k. take k (drop start buffer)) all ∙ take-add len n (drop start buffer)
-    ∙ ap (λ xs. xs ++ take n (drop len (drop start buffer))) (ap (λ k. take k (drop start buffer)) len_first ∙ kept)
-    ∙ ap (λ xs. held ++ xs) (ap (take n) (drop-drop len start buffer) ∙ sym (since_is before after _ more))
+    cc (take-add len n (drop start buffer), drop-drop len start buffer, since_is before after _ more)
 
 -- the line at the front of what is held
 pub line_at : (buffer held : List ℕ) (start end n : ℕ) → slice_range buffer start end ≡ held → n < length held → slice_range buffer start (start + n) ≡ take n held
 line_at buffer held start end n e l =
     let short : n ≤ end - start = omega (arith, length-take (end - start) (drop start buffer), ap length e) in
     let same : start + n - start ≡ n = omega arith in
-    ap (λ k. take k (drop start buffer)) same ∙ sym (take-take n (end - start) (drop start buffer) short) ∙ ap (take n) e
+    cc (take-take n (end - start) (drop start buffer) short)
 
 -- what is held after that line and its newline
 pub after_line : (buffer held : List ℕ) (start end n : ℕ) → slice_range buffer start end ≡ held → n < length held → slice_range buffer (start + n + 1) end ≡ drop (n + 1) held
@@ -41,18 +38,17 @@ after_line buffer held start end n e l =
     let len = end - (start + n + 1) in
     let all : n + 1 + len ≡ end - start = omega arith in
     let place : start + n + 1 ≡ start + (n + 1) = omega arith in
-    ap (λ i. take len (drop i buffer)) place ∙ ap (take len) (sym (drop-drop (n + 1) start buffer))
-    ∙ sym (drop-take (n + 1) len (drop start buffer)) ∙ ap (λ m. drop (n + 1) (take m (drop start buffer))) all ∙ ap (drop (n + 1)) e
+    cc (drop-drop (n + 1) start buffer, drop-take (n + 1) len (drop start buffer))
 
 -- the same, where the line's length is that of its bytes
 pub after_bytes : (buffer held : List ℕ) (start end n : ℕ) → slice_range buffer start end ≡ held → n < length held → slice_range buffer (start + n + 1) end ≡ drop (length (slice_range buffer start (start + n)) + 1) held
 after_bytes buffer held start end n e l =
     let whole : length (slice_range buffer start (start + n)) ≡ n = ap length (line_at buffer held start end n e l) ∙ length-take-le n held (omega arith) in
-    after_line buffer held start end n e l ∙ ap (λ m. drop (m + 1) held) (sym whole)
+    cc (after_line buffer held start end n e l)
 
 -- what is held without its first bytes
 pub without_front : (buffer held : List ℕ) (start end n : ℕ) → slice_range buffer start end ≡ held → start + n ≤ end → slice_range buffer (start + n) end ≡ drop n held
 without_front buffer held start end n e within =
     let len = end - (start + n) in
     let all : n + len ≡ end - start = omega arith in
-    ap (take len) (sym (drop-drop n start buffer)) ∙ sym (drop-take n len (drop start buffer)) ∙ ap (λ m. drop n (take m (drop start buffer))) all ∙ ap (drop n) e
+    cc (drop-drop n start buffer, drop-take n len (drop start buffer))

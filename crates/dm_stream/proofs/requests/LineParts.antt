@@ -7,7 +7,7 @@ use Rattle.std.proofs.lemmas.List.{drop-drop}
 use Rattle.std.proofs.Math.Seq.{take-add}
 use Rattle.dm_table.specs.io.DeviceIo.{Stand}
 use Rattle.dm_stream.specs.declared.requests.lines.TheConstants.{MOST_LINE_BYTES}
-use Rattle.dm_stream.specs.requests.Lines.{line_parts, next_answer, ALine, ALong}
+use Rattle.dm_stream.specs.requests.Lines.{line_parts, next_answer, ALine}
 
 abbrev pub is_newline : ℕ → Bool
 is_newline b = b == 10
@@ -50,7 +50,7 @@ parts_after (x ∷ front) xs part parts clear e =
     let opened : (x ∷ s.0) ∷ s.1 ≡ (x ∷ front) ∷ [] = sym (ap (onto_first x) s.2) ∙ f in
     let first : s.0 ≡ front = cc in
     let rest : s.1 ≡ [] = cc in
-    let same : line_parts front ≡ front ∷ [] = s.2 ∙ ap (λ ys. s.0 ∷ ys) rest ∙ ap (λ (l : List ℕ). l ∷ []) first in
+    let same : line_parts front ≡ front ∷ [] = cc in
     ap (onto_first x) (parts_after front xs part parts same e) in
     (elim (is_newline x) as P [ true ↦ at_newline | false ↦ at_other ]) clear
 
@@ -58,22 +58,20 @@ parts_after (x ∷ front) xs part parts clear e =
 pub still_one : (xs : List ℕ) (n : ℕ) → line_parts (take n xs) ≡ take n xs ∷ [] → line_parts (drop n xs) ≡ drop n xs ∷ [] → line_parts xs ≡ xs ∷ []
 still_one xs n clear e =
     let whole = take-append-drop n xs in
-    ap line_parts (sym whole) ∙ parts_after (take n xs) (drop n xs) (drop n xs) [] clear e ∙ ap (λ (l : List ℕ). l ∷ []) whole
+    cc (parts_after (take n xs) (drop n xs) (drop n xs) [] clear e)
 
 -- or the first of them does
 pub first_after : (xs : List ℕ) (n k : ℕ) → line_parts (take n xs) ≡ take n xs ∷ [] → line_parts (drop n xs) ≡ take k (drop n xs) ∷ line_parts (drop (k + 1) (drop n xs))
     → line_parts xs ≡ take (n + k) xs ∷ line_parts (drop (n + k + 1) xs)
 first_after xs n k clear e =
     let place : n + (k + 1) ≡ n + k + 1 = omega arith in
-    ap line_parts (sym (take-append-drop n xs)) ∙ parts_after (take n xs) (drop n xs) _ _ clear e
-    ∙ ap (λ (l : List ℕ). l ∷ line_parts (drop (k + 1) (drop n xs))) (sym (take-add n k xs))
-    ∙ ap (λ ys. take (n + k) xs ∷ line_parts ys) (drop-drop (k + 1) n xs ∙ ap (λ i. drop i xs) place)
+    cc (take-append-drop n xs, parts_after (take n xs) (drop n xs) _ _ clear e, take-add n k xs, drop-drop (k + 1) n xs)
 
 -- a line that is not too long comes next
 pub next_line : (stand : Stand) (line rest : List ℕ) → length line ≤ MOST_LINE_BYTES → next_answer stand (line ∷ line_parts rest) ≡ ALine line
 next_line stand line rest h =
     let s = some_part rest in
-    ap (λ parts. next_answer stand (line ∷ parts)) s.2 ∙ ap (λ b. cond b ALong (ALine line)) (le-ltb MOST_LINE_BYTES (length line) h)
+    cc (le-ltb MOST_LINE_BYTES (length line) h)
 
 -- the line at the front of the bytes that are held
 pub next_held : (stand : Stand) (held : List ℕ) (n : ℕ) → n < length held → n ≤ MOST_LINE_BYTES → line_parts held ≡ take n held ∷ line_parts (drop (n + 1) held) → next_answer stand (line_parts held) ≡ ALine (take n held)

@@ -1,12 +1,12 @@
 -- What playing requests in a row leaves.
-use Rattle.std.proofs.Common.{◌≡◌, List, [], Some, sym, ap, ◌∙◌}
+use Rattle.std.proofs.Common.{◌≡◌, [], Some}
 use Rattle.std.proofs.lemmas.List.{append-nil}
 use Rattle.dm_table.specs.io.DeviceIo.{Delivery}
 use Rattle.dm_stack.specs.Description.{Description}
 use Rattle.dm_map.specs.state.State.{State}
 use Rattle.dm_stream.specs.runs.Earlier.{HasMoved}
-use Rattle.dm_stream.specs.runs.Outcome.{outcome_from, requests_outcome}
-use Rattle.dm_stream.specs.requests.Requests.{NumberedRequest, requests_of}
+use Rattle.dm_stream.specs.runs.Outcome.{requests_outcome}
+use Rattle.dm_stream.specs.requests.Requests.{requests_of}
 use Rattle.dm_stream.specs.declared.runs.ending.Ending as ending
 
 -- all were played, and end by themselves
@@ -16,6 +16,6 @@ all_played stack old new delivered e moved ends =
     let requests = requests_of delivered in
     let same = append-nil requests.all in
     let left = moved.told [] requests.ending in (
-      ap (λ (rs : List NumberedRequest). (outcome_from stack old rs requests.ending).ending) (sym same) ∙ left.ending ∙ ends,
-      sym (ap (λ (rs : List NumberedRequest). (outcome_from stack old rs requests.ending).state) (sym same) ∙ left.state),
+      cc,
+      cc,
     )

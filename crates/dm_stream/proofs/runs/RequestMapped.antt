@@ -1,5 +1,5 @@
 -- What is written for a request: its units were taken, or a part of them was left; and what it adds to the outcome.
-use Rattle.std.proofs.Common.{◌≡◌, ℕ, ◌++◌, List, [], ◌∷◌, Option, None, Some, Result, Ok, Err, OnOk, sym, ap, refl, ◌∙◌, append_assoc, subst, decimal}
+use Rattle.std.proofs.Common.{◌≡◌, ℕ, ◌++◌, List, [], ◌∷◌, Option, None, Some, Result, Ok, Err, OnOk, refl, ◌∙◌, append_assoc, subst, decimal}
 use Rattle.std.proofs.lemmas.Grind.{flat_map-append}
 use Rattle.std.proofs.lemmas.List.{append-nil}
 use Rattle.dm_table.specs.io.DeviceIo.{OutputPast, since, written_since}
@@ -16,7 +16,7 @@ use Rattle.dm_stream.specs.pieces.Join.{HasTaken, HasLeft, HasUnits}
 use Rattle.dm_stream.specs.laws.Join.{onto_begins, some_before}
 use Rattle.dm_map.specs.Mapper.{MapperView}
 use Rattle.dm_stream.specs.runs.Mapped.{HasStopped}
-use Rattle.dm_stream.specs.runs.Outcome.{device_of, of_device, outcome_from, request_answer}
+use Rattle.dm_stream.specs.runs.Outcome.{device_of, request_answer}
 use Rattle.dm_stream.specs.requests.Requests.{NumberedRequest}
 use Rattle.dm_map.specs.state.State.{State}
 use Rattle.dm_stream.specs.declared.runs.ending.NotMapped.TheVariants as causes
@@ -28,23 +28,23 @@ use Rattle.dm_table.proofs.WriteLemmas.{and_then}
 use Rattle.dm_table.specs.io.Progress.{HasWritten, Wrote}
 
 pub on_sink : {R F : Type 0} (r : Result R (MapFault F)) (fault : F) (P : Type 0) → r ≡ Err (faults.Sink fault) → OnSinkFault r P → P
-on_sink {R} {F} r fault P e h = subst (λ (x : Result R (MapFault F)). OnSinkFault x P) e h
+on_sink {R} {F} r fault P e h = rw e at h
 
 -- what came of a request, by what a match found: its units were handed over, or its sectors lie in a row on a disk
 pub took_all : {S F : Type 0} {old new : S} {units : List BlockUnit} (takes : S → List BlockUnit → S → Type 0) (stack : Description) (op : Op) (len : ℕ) (r : Result (Option Home) (MapFault F)) → r ≡ Ok None
     → OnOk r (HasTakenOrIsHome takes stack op len r old units new) → takes old units new
-took_all {F} {old} {new} {units} takes stack op len r is took = subst (λ (x : Result (Option Home) (MapFault F)). OnOk x (HasTakenOrIsHome takes stack op len x old units new)) is took
+took_all {F} {old} {new} {units} takes stack op len r is took = rw is at took
 
 pub at_home : {S F : Type 0} {stack : Description} {op : Op} {len : ℕ} {old new : S} {units : List BlockUnit} (takes : S → List BlockUnit → S → Type 0) (r : Result (Option Home) (MapFault F)) (home : Home) → r ≡ Ok (Some home)
     → OnOk r (HasTakenOrIsHome takes stack op len r old units new) → IsHome stack op len home units × (new ≡ old)
-at_home {F} {stack} {op} {len} {old} {new} {units} takes r home is took = subst (λ (x : Result (Option Home) (MapFault F)). OnOk x (HasTakenOrIsHome takes stack op len x old units new)) is took
+at_home {F} {stack} {op} {len} {old} {new} {units} takes r home is took = rw is at took
 
 pub on_ok : {R F : Type 0} (r : Result R F) (P : Type 0) → P → OnOk r P
 on_ok (Ok done) P holds = holds
 on_ok (Err fault) P holds = tt
 
 pub state_at : {F : Type 0} (r : Result (Option Home) (MapFault F)) (answer : Option Home) (P : Type 0) → r ≡ Ok answer → OnOk r P → P
-state_at {F} r answer P is h = subst (λ (x : Result (Option Home) (MapFault F)). OnOk x P) is h
+state_at {F} r answer P is h = rw is at h
 
 -- a text with a byte in it begins with one
 some_byte : (xs : List ℕ) (byte : ℕ) (more : List ℕ) → (first : ℕ) × (rest : List ℕ) × (xs ++ byte ∷ more ≡ first ∷ rest)
@@ -54,7 +54,7 @@ some_byte (x ∷ xs) byte more = (x, xs ++ byte ∷ more, refl)
 -- a text that is cut short is so in a longer text
 pub cut_of_more : (text front more : List ℕ) → IsCutShort text front → IsCutShort (text ++ more) front
 cut_of_more text front more h =
-    (h.0, h.1 ++ more, ap (λ (xs : List ℕ). xs ++ more) h.2 ∙ append_assoc front (h.0 ∷ h.1) more)
+    (h.0, h.1 ++ more, cc (append_assoc front (h.0 ∷ h.1) more))
 
 -- the text without the last piece is cut short
 but_last : (stack : Description) (number : ℕ) (piece : UnitRun) (pieces : List UnitRun) → IsCutShort (pieces_text stack number (piece ∷ pieces)) (pieces_text stack number (all_but_last (piece ∷ pieces)))
@@ -64,20 +64,20 @@ but_last stack number piece [] =
 but_last stack number piece (next ∷ pieces) =
     let h = but_last stack number next pieces in
     let text = piece_text stack number piece in
-    (h.0, h.1, ap (λ (xs : List ℕ). text ++ xs) h.2 ∙ sym (append_assoc text (pieces_text stack number (all_but_last (next ∷ pieces))) (h.0 ∷ h.1)))
+    (h.0, h.1, cc (append_assoc text (pieces_text stack number (all_but_last (next ∷ pieces))) (h.0 ∷ h.1)))
 
 -- so is the text of units without their last piece
 but_last_of : (stack : Description) (number : ℕ) (units : List BlockUnit) → HasUnits units → IsCutShort (pieces_text stack number (fewest units)) (pieces_text stack number (all_but_last (fewest units)))
 but_last_of stack number [] some = absurd some
 but_last_of stack number (unit ∷ units) some =
     let b = onto_begins unit (fewest units) in
-    subst (λ (ps : List UnitRun). IsCutShort (pieces_text stack number ps) (pieces_text stack number (all_but_last ps))) (sym b.is) (but_last stack number (record { first = unit; len = b.len }) b.later)
+    rw b.is (but_last stack number (record { first = unit; len = b.len }) b.later)
 
 -- a beginning of a text that is cut short is so too
 cut_through : (text front first : List ℕ) → IsCutShort text front → IsBeginning front first → IsCutShort text first
 cut_through text front first h k =
     let some = some_byte k.0 h.0 h.1 in
-    (some.0, some.1, h.2 ∙ ap (λ (xs : List ℕ). xs ++ h.0 ∷ h.1) k.1 ∙ append_assoc first k.0 (h.0 ∷ h.1) ∙ ap (λ (xs : List ℕ). first ++ xs) some.2)
+    (some.0, some.1, cc (append_assoc first k.0 (h.0 ∷ h.1)))
 
 -- with nothing held before, the text of what was taken and then that of what is held is that of all
 pub taken_text : (old new : Pending) (units : List BlockUnit) (before after : List ℕ) → old.piece ≡ None → HasTaken old new units before after
@@ -85,32 +85,30 @@ pub taken_text : (old new : Pending) (units : List BlockUnit) (before after : Li
 taken_text old new units before after none taken =
     let text = pieces_text old.stack old.number in
     let whole : fewest units ≡ taken.settled ++ fewest (held_units new.piece) =
-    ap fewest (sym (append-nil units)) ∙ ap (λ (p : Option _). fewest (held_units p ++ units ++ [])) (sym none)
-    ∙ taken.told [] ∙ ap (λ (us : List BlockUnit). taken.settled ++ fewest us) (append-nil (held_units new.piece)) in
-    ap text whole ∙ flat_map-append (λ p. piece_text old.stack old.number p) taken.settled (fewest (held_units new.piece))
-    ∙ ap (λ (xs : List ℕ). xs ++ text (fewest (held_units new.piece))) (sym taken.wrote)
+    cc (append-nil units, taken.told [], append-nil (held_units new.piece)) in
+    cc (flat_map-append (λ p. piece_text old.stack old.number p) taken.settled (fewest (held_units new.piece)))
 
 -- with nothing held before, what was written of units that were left cuts the text of all short
 left_text : (old new : Pending) (front rest units : List BlockUnit) (before after : List ℕ) → old.piece ≡ None → front ++ rest ≡ units → HasLeft old new front before after
     → IsCutShort (pieces_text old.stack old.number (fewest units)) (since before after)
 left_text old new front rest units before after none whole left =
     let all : held_units old.piece ++ front ++ rest ≡ units =
-    ap (λ (p : Option _). held_units p ++ front ++ rest) none ∙ whole in
+    cc in
     let text = λ (us : List BlockUnit). pieces_text old.stack old.number (all_but_last (fewest us)) in
     cut_through (pieces_text old.stack old.number (fewest units)) (text units) (since before after)
     (but_last_of old.stack old.number units (subst HasUnits whole (some_before front rest left.some)))
-    (subst (λ (us : List BlockUnit). IsBeginning (text us) (since before after)) all (left.beginning rest))
+    (rw all at (left.beginning rest))
 
 -- a join that holds nothing, under a request's number
 abbrev pub at_start : Description → ℕ → Pending
 at_start stack number = record { stack = stack; number = number; piece = None }
 
 same_text : (stack : Description) (number : ℕ) (old : Pending) (pieces : List UnitRun) → old ≡ at_start stack number → pieces_text old.stack old.number pieces ≡ pieces_text stack number pieces
-same_text stack number old pieces e = ap (λ (h : Pending). pieces_text h.stack h.number pieces) e
+same_text stack number old pieces e = cc
 
 text_kept : (old new : Pending) (pieces : List UnitRun) → new.stack ≡ old.stack → new.number ≡ old.number → pieces_text new.stack new.number pieces ≡ pieces_text old.stack old.number pieces
 text_kept old new pieces stack number =
-    ap (λ (s : Description). pieces_text s new.number pieces) stack ∙ ap (λ (n : ℕ). pieces_text old.stack n pieces) number
+    cc
 
 -- all units were taken, and what was held was written, or cut short
 pub taken_wrote : {E : Type 0} {a b c : OutputPast} {result : Result (Unit {0}) E} (stack : Description) (number : ℕ) (old new : Pending) (units : List BlockUnit) → old ≡ at_start stack number → HasTaken old new units a.written b.written
@@ -119,28 +117,23 @@ taken_wrote {a = a} {b = b} stack number old new units start taken moved wrote =
     let first = written_since a b in
     let last = pieces_text new.stack new.number (fewest (held_units new.piece)) in
     let whole : pieces_text stack number (fewest units) ≡ first ++ last =
-    sym (same_text stack number old (fewest units) start) ∙ taken_text old new units a.written b.written (ap (λ (h : Pending). h.piece) start) taken
-    ∙ ap (λ (xs : List ℕ). first ++ xs) (sym (text_kept old new (fewest (held_units new.piece)) taken.stack taken.number)) in
+    cc (same_text stack number old (fewest units) start, taken_text old new units a.written b.written (cc) taken, text_kept old new (fewest (held_units new.piece)) taken.stack taken.number) in
     and_then first last whole (record { moved = moved; ok = refl; left = tt }) wrote
 
 -- the line of a row of sectors is the text of all units
 pub home_wrote : {S E : Type 0} {c : OutputPast} {result : Result (Unit {0}) E} (old new : S) (past : S → OutputPast) (held : S → Pending) (stack : Description) (number : ℕ) (units row : List BlockUnit) → new ≡ old → held old ≡ at_start stack number → units ≡ row
     → Wrote (past new) c result (pieces_text (held new).stack (held new).number (fewest row)) → Wrote (past old) c result (pieces_text stack number (fewest units))
 home_wrote {S} {c = c} {result = result} old new past held stack number units row same start is wrote =
-    subst (λ (us : List BlockUnit). Wrote (past old) c result (pieces_text stack number (fewest us))) (sym is)
-    (subst (λ (h : Pending). Wrote (past old) c result (pieces_text h.stack h.number (fewest row))) start
-    (subst (λ (s : S). Wrote (past s) c result (pieces_text (held s).stack (held s).number (fewest row))) same wrote))
+    rw is (rw start at (subst (λ (s : S). Wrote (past s) c result (pieces_text (held s).stack (held s).number (fewest row))) same wrote))
 
 -- the join failed at a piece
 pub cut_short : (stack : Description) (number : ℕ) (old new : Pending) (front rest units : List BlockUnit) (before after : List ℕ) → old ≡ at_start stack number → front ++ rest ≡ units → HasLeft old new front before after
     → IsCutShort (pieces_text stack number (fewest units)) (since before after)
 cut_short stack number old new front rest units before after start whole left =
-    subst (λ (text : List ℕ). IsCutShort text (since before after)) (same_text stack number old (fewest units) start)
-    (left_text old new front rest units before after (ap (λ (h : Pending). h.piece) start) whole left)
+    rw (← same_text stack number old (fewest units) start) (left_text old new front rest units before after (cc) whole left)
 
 -- one whose answer was cut short
 pub request_cut : (stack : Description) (device : ℕ) (request : NumberedRequest) (found : Option ℕ) (old : State) (new : MapperView) (w0 w1 : List ℕ) → device_of stack request.values.device ≡ found → found ≡ Some device
     → IsCutShort (request_answer stack device request old) (since w0 w1) → HasStopped stack causes.Output old new (request ∷ []) w0 w1
 request_cut stack device request found old new w0 w1 by_name is cut = λ rest e.
-    subst (λ (f : Option ℕ). IsCutShort (of_device stack f request old (λ after. outcome_from stack after rest e)).output (since w0 w1)) (sym (by_name ∙ is))
-    (cut_of_more (request_answer stack device request old) (since w0 w1) _ cut)
+    rw (by_name, is) (cut_of_more (request_answer stack device request old) (since w0 w1) _ cut)

@@ -1,5 +1,5 @@
 -- What the requests mapped so far say of the outcome of a run.
-use Rattle.std.proofs.Common.{◌≡◌, ◌≢◌, ℕ, Bool, List, [], ◌++◌, Option, Some, Result, Ok, Err, IsErr, OnErr, OnOk, sym, ap, subst, ◌∙◌, refl}
+use Rattle.std.proofs.Common.{◌≡◌, ◌≢◌, ℕ, Bool, List, [], ◌++◌, Option, Some, Result, Ok, Err, IsErr, OnErr, OnOk, ◌∙◌, refl}
 use Rattle.std.proofs.lemmas.List.{append-nil}
 use Rattle.dm_table.specs.io.DeviceIo.{Delivery, InputPast, OutputPast, since, written_since}
 use Rattle.dm_stack.specs.Description.{Description}
@@ -23,12 +23,9 @@ pub all_mapped : (stack : Description) (old new : State) (delivered : Delivery) 
 all_mapped stack old new delivered w0 w1 e answered ends no_fault =
     let requests = requests_of delivered in
     let whole : requests_outcome stack old delivered ≡ record { output = since w0 w1; state = new; ending = Some e } =
-    ap (λ (rs : List NumberedRequest). outcome_from stack old rs requests.ending) (sym (append-nil requests.all))
-    ∙ answered.told [] requests.ending
-    ∙ ap (λ (x : Option ending.Ending). record { output = since w0 w1 ++ []; state = new; ending = x }) ends
-    ∙ ap (λ (text : List ℕ). record { output = text; state = new; ending = Some e }) (append-nil (since w0 w1)) in
+    cc (append-nil requests.all, answered.told [] requests.ending, append-nil (since w0 w1)) in
     record {
-      whole = λ n. (ap (λ (o : Outcome). o.output) whole, ap (λ (o : Outcome). o.ending) whole, sym (ap (λ (o : Outcome). o.state) whole));
+      whole = λ n. (cc, cc, cc);
       cut = λ is. absurd (no_fault is);
     }
 
@@ -38,7 +35,7 @@ stopped_at : (stack : Description) (fault : NotMapped) (old : State) (new : Mapp
 stopped_at stack (causes.Unknown number) old new first later e w0 w1 stopped =
     let whole = stopped.1 later e in
     record {
-      whole = λ n. (ap (λ (o : Outcome). o.output) whole, ap (λ (o : Outcome). o.ending) whole, sym (ap (λ (o : Outcome). o.state) whole));
+      whole = λ n. (cc, cc, cc);
       cut = λ is. absurd cc;
     }
 stopped_at stack causes.Output old new first later e w0 w1 stopped = record {
@@ -51,18 +48,16 @@ pub part_mapped : (stack : Description) (fault : NotMapped) (e : ending.Ending) 
     → IsMapped (requests_outcome stack old delivered) (since w0 w1) new.state e
 part_mapped stack fault e old new delivered w0 w1 Stopped ends stopped among =
     let requests = requests_of delivered in
-    subst (λ (x : ending.Ending). IsMapped (requests_outcome stack old delivered) (since w0 w1) new.state x) (sym ends)
-    (subst (λ (rs : List NumberedRequest). IsMapped (outcome_from stack old rs requests.ending) (since w0 w1) new.state (ending_for fault)) (sym among.is)
-    (stopped_at stack fault old new among.first among.later requests.ending w0 w1 (stopped among.first among.holds)))
+    rw (ends, among.is) (stopped_at stack fault old new among.first among.later requests.ending w0 w1 (stopped among.first among.holds))
 
 -- what is said of a writer from the start to the end is said of the output that it was borrowed from
 pub of_output : {X : Type 0} (P : X → X → Type 0) (first last old new : X) → first ≡ old → last ≡ new → P first last → P old new
-of_output P first last old new from to fact = subst (λ x. P x new) from (subst (λ x. P first x) to fact)
+of_output P first last old new from to fact = rw (← from, ← to) fact
 
 -- nothing more is read then
 pub stopped_met : (old new : InputPast) (fault : NotMapped) (e : ending.Ending) → e ≡ ending_for fault → MetNothing old new → HasMet e old new
-stopped_met old new (causes.Unknown number) e is met = subst (λ (x : ending.Ending). HasMet x old new) (sym is) met
-stopped_met old new causes.Output e is met = subst (λ (x : ending.Ending). HasMet x old new) (sym is) tt
+stopped_met old new (causes.Unknown number) e is met = rw is met
+stopped_met old new causes.Output e is met = rw is tt
 
 -- ---- what comes after the answers
 
@@ -70,7 +65,7 @@ stopped_met old new causes.Output e is met = subst (λ (x : ending.Ending). HasM
 pub rest_cut : {E : Type 0} (fault : E) (old new : OutputPast) (stack : Description) (status : Bool) (outcome : Outcome) (left : State) (e : ending.Ending) → e ≡ ending.TheVariants.WriteFault
     → HasWritten old new (write_faults e) → IsMapped outcome (written_since old new) left e → Wrote old new (Err fault) (with_status stack status outcome).output
 rest_cut fault old new stack status outcome left e is moved mapped = record {
-  moved = subst (λ (x : ending.Ending). HasWritten old new (write_faults x)) is moved;
+  moved = rw is at moved;
   ok = tt;
   left = cut_of_more outcome.output (written_since old new) (if_done status outcome.ending (status_text stack outcome.state)) (mapped.cut is);
 }

@@ -1,8 +1,6 @@
-use Rattle.std.proofs.Common.{◌≡◌, [], ◌∷◌, ◌++◌, Some, suc, drop, sym, subst, take}
+use Rattle.std.proofs.Common.{[], ◌∷◌, ◌++◌, suc, drop, take}
 use Rattle.dm_stream.specs.requests.Batch.{front_requests}
-use Rattle.dm_stream.specs.runs.Outcome.{device_of}
 use Rattle.dm_stream.specs.requests.Requests.{numbered}
-use Rattle.dm_stream.specs.declared.requests.front.Front.{Front}
 use Rattle.dm_stream.proofs.requests.Batches.{up_to}
 use Rattle.dm_stream.proofs.requests.batch.answer_all.Goals as goal
 
@@ -22,4 +20,4 @@ returns-in-Err-clause-stopped g c =
 pub handle-requires-clause-found : goal.handle-requires-clause-found
 handle-requires-clause-found g c =
     let front = c.front-item.result in
-    subst (λ (f : Front). device_of c.args.stack.now f.request.device.now ≡ Some f.device) (sym c.front-item.is) (c.requires.found c.fronts.front-index front c.fronts-test.true)
+    rw c.front-item.is (c.requires.found c.fronts.front-index front c.fronts-test.true)

@@ -1,7 +1,5 @@
-use Rattle.std.proofs.Common.{ℕ, ◌+◌, ◌≤◌, List, [], length, drop, ap, subst, sym}
-use Rattle.dm_stream.specs.requests.Batch.{AreFirst, front_requests}
-use Rattle.dm_stream.specs.declared.requests.front.Front.{Front}
-use Rattle.dm_stream.specs.declared.requests.handling.TheConstants.{MOST_REQUESTS}
+use Rattle.std.proofs.Common.{◌+◌, [], length, drop, ap}
+use Rattle.dm_stream.specs.requests.Batch.{front_requests}
 use Rattle.dm_stream.proofs.requests.Batches.{among_those}
 use Rattle.dm_stream.proofs.requests.batch.answer_batch.Goals as goal
 
@@ -28,11 +26,11 @@ returns g c =
     record {
       answered = (
         requests,
-        subst (λ (k : ℕ). AreFirst (c.args.done + 1) c.args.held.now requests (c.args.done + k + 1) (drop len c.args.held.now)) (sym c.len.ensures.value) c.read_fronts-len.ensures.first,
+        rw c.len.ensures.value c.read_fronts-len.ensures.first,
         g.met.H.Handler.answered_then_answered c.args.stack.now c.args.handler.now c.prefetch_fronts.new.handler c.answer_all.new.handler source source c.answer_all.new.source [] requests c.prefetch_fronts.ensures.answered
-            (subst (λ (fs : List Front). g.H.Handler.answered c.args.stack.now c.prefetch_fronts.new.handler source (front_requests fs) c.answer_all.new.handler c.answer_all.new.source) c.deref-2.ensures.0 c.in_default.ensures.answered),
+            (rw c.deref-2.ensures.0 at c.in_default.ensures.answered),
       );
       within = c.read_fronts-len.ensures.within;
-      few = subst (λ (k : ℕ). c.args.done + k ≤ MOST_REQUESTS) (sym c.len.ensures.value) c.read_fronts-len.ensures.few;
+      few = rw c.len.ensures.value c.read_fronts-len.ensures.few;
       ready = c.in_default.ensures.ready;
     }

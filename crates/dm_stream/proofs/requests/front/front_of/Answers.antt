@@ -1,11 +1,9 @@
-use Rattle.std.proofs.Common.{ℕ, [], ◌∷◌, take, sym, ap, ◌∙◌, arith}
+use Rattle.std.proofs.Common.{take, arith}
 use Rattle.dm_table.specs.requests.RequestLine.{values_of}
-use Rattle.dm_stream.specs.requests.Requests.{after_requests}
 use Rattle.dm_stream.proofs.requests.Fronts.{said_first}
 use Rattle.dm_stream.proofs.requests.front.front_of.Goals as goal
 
 pub returns-clause-good : goal.returns-clause-good
 returns-clause-good c = λ rest.
     let front = c.in_ok-request in
-    said_first (take front.len c.args.held.now) c.args.number (values_of front.request) (omega arith) front.ensures.front.described rest
-    ∙ ap (λ (n : ℕ). after_requests (record { number = n; values = values_of front.request } ∷ []) rest) (sym front.ensures.numbered)
+    rw front.ensures.numbered (said_first (take front.len c.args.held.now) c.args.number (values_of front.request) (omega arith) front.ensures.front.described rest)

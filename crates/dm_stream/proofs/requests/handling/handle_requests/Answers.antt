@@ -1,15 +1,14 @@
 use Rattle.dm_table.specs.laws.Progress.{grows-same}
-use Rattle.std.proofs.Common.{rules, ℕ, List, ◌+◌, ◌++◌, ◌∙◌, ap, sym, subst, refl, [], ◌∷◌, take}
-use Rattle.dm_table.specs.io.DeviceIo.{since, stand_of}
+use Rattle.std.proofs.Common.{rules, ◌+◌, ◌++◌, ◌∙◌, refl, [], ◌∷◌, take}
+use Rattle.dm_table.specs.io.DeviceIo.{stand_of}
 use Rattle.dm_table.specs.laws.Progress.{grows_more}
-use Rattle.dm_stream.specs.requests.Lines.{ALine, AnEnd, AnUnended, ALong, AFault, answer_of, left_of}
+use Rattle.dm_stream.specs.requests.Lines.{ALine, AnEnd, AnUnended, ALong, AFault}
 use Rattle.dm_stream.specs.requests.Requests.{numbered}
 use Rattle.dm_stream.specs.declared.runs.ending.Ending as ending
 use Rattle.dm_stream.specs.declared.runs.ending.RequestWord as word
-use Rattle.dm_stream.specs.declared.requests.lines.Next as next
 use Rattle.dm_stream.proofs.requests.Batches.{after_batch, among_batch}
 use Rattle.dm_stream.proofs.requests.Fronts.{held_next, told_front}
-use Rattle.dm_stream.proofs.requests.HandledRequests.{Told, after_waiting, bad_met, told_none, told_turn, ended, among}
+use Rattle.dm_stream.proofs.requests.HandledRequests.{after_waiting, bad_met, told_none, told_turn, ended, among}
 use Rattle.dm_stream.proofs.requests.handling.handle_requests.Goals as goal
 
 pub lines-init : goal.lines-init
@@ -72,7 +71,7 @@ returns-in-Err-handle-clause-stopped g c =
     let mid = g.H.ReadsFrom.asked c.lines.requests in
     let more = numbered front.request ∷ [] in
     among first mid mid read (c.lines.number + c.in-Ok.batch.count + 1) so_far.done more (take front.len read) _
-    (subst (λ (xs : List ℕ). Told (since first.handed mid.handed) xs so_far.done (c.lines.number + c.in-Ok.batch.count + 1)) (sym c.held.ensures) so_far.told)
+    (rw c.held.ensures so_far.told)
     so_far.reads (grows-same mid.handed mid.handed) so_far.faults so_far.ends
     (held_next (stand_of mid mid) mid.handed read front.len c.in-Some.ensures.within c.in-Some.ensures.short c.in-Some.ensures.line)
     c.in-Some.ensures.good
@@ -100,7 +99,7 @@ lines-preserved g c =
         told =
             told_turn h0 h1 h2 c.skip.new.self c.next.follows.lender-at-none c.in-Line.line.now so_far.done more (c.lines.number + c.in-Ok.batch.count + 1) _ so_far.told
             so_far.reads c.in-Line.ensures.reads.grows c.in-Line.ensures.answer c.in-Ok-request_of.ensures.good
-            (c.next.follows.holds-at-none ∙ ap (λ (r : next.Next). left_of (answer_of r) (c.skip.new.self ++ since h1 h2)) c.in-Line.is);
+            (c.next.follows.holds-at-none ∙ rw c.in-Line.is);
       };
     }
 

@@ -1,4 +1,4 @@
-use Rattle.std.proofs.Common.{◌≡◌, ℕ, ◌+◌, ◌<◌, None, Some, Option, MatchOption, List, [], ◌∷◌, length, take, drop, ◌-◌, arith, add-one, subst, length-drop}
+use Rattle.std.proofs.Common.{◌≡◌, ℕ, ◌+◌, ◌<◌, None, Some, Option, MatchOption, List, [], ◌∷◌, length, take, drop, ◌-◌, arith, add-one, length-drop}
 use Rattle.std.proofs.lemmas.List.{take_rest}
 use Rattle.memchr.specs.Find.{IsFirstByte, is_byte}
 use Rattle.dm_stream.specs.requests.Lines.{line_parts}
@@ -13,7 +13,7 @@ by_first xs (Some n) h =
 -- the same after the bytes that were searched
 after : (xs : List ℕ) (n : ℕ) (r : Option ℕ) → IsFirstByte (is_byte 10) (take (length xs - n) (drop n xs)) r
     → MatchOption r (line_parts (drop n xs) ≡ drop n xs ∷ []) (λ k. (k < length (drop n xs)) × (line_parts (drop n xs) ≡ take k (drop n xs) ∷ line_parts (drop (k + 1) (drop n xs))))
-after xs n r h = by_first (drop n xs) r (subst (λ (ys : List ℕ). IsFirstByte (is_byte 10) ys r) (take_rest xs n) h)
+after xs n r h = by_first (drop n xs) r (rw (← take_rest xs n) h)
 
 pub returns-in_err-n : goal.returns-in_err-n
 returns-in_err-n c =

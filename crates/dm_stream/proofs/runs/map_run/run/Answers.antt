@@ -1,6 +1,4 @@
-use Rattle.std.proofs.Common.{ap}
 use Rattle.dm_table.specs.declared.io.device_io.OutFault.{OutFault}
-use Rattle.dm_map.specs.Mapper.{MapperView}
 use Rattle.dm_stream.proofs.pieces.FewestLemmas.{fewest_is}
 use Rattle.dm_stream.proofs.runs.Runs.{closed_after, ran_failed, ran_whole}
 use Rattle.dm_stream.proofs.runs.map_run.run.Goals as goal
@@ -11,7 +9,7 @@ returns-in-Ok-clause-ran g c =
     let wrote = c.write_rest-written.ensures in
     ran_whole OutFault _ _ c.args.stack.now c.args.status _ _ requests.new.mapper.state c.write_rest-written.new.mapper.state requests.result
     (closed_after c.write_rest-written.result _ _ c.in-Ok.ensures.untouched wrote.no_fault)
-    (ap (λ (m : MapperView). m.state) wrote.same) requests.ensures.mapped
+    (rw wrote.same) requests.ensures.mapped
     (c.in-Ok.ensures.closed _ _ (wrote.wrote _ _ requests.ensures.writes requests.ensures.mapped))
 
 pub returns-in-Err-clause-ran : goal.returns-in-Err-clause-ran

@@ -1,7 +1,7 @@
-use Rattle.std.proofs.Common.{◌≡◌, ◌∙◌, sym, ap, subst, None, Some, Ok, Err}
+use Rattle.std.proofs.Common.{◌≡◌, ◌∙◌, sym, ap, None, Some, Ok, Err}
 use Rattle.dm_stack.specs.Description.{Description}
-use Rattle.dm_map.specs.pieces.Units.{IsOnDisk, units_of}
-use Rattle.dm_stream.specs.pieces.Pending.{Pending, piece_of}
+use Rattle.dm_map.specs.pieces.Units.{units_of}
+use Rattle.dm_stream.specs.pieces.Pending.{piece_of}
 use Rattle.dm_stream.specs.runs.Outcome.{step_of}
 use Rattle.dm_stream.specs.requests.Requests.{numbered}
 use Rattle.dm_stream.specs.pieces.Pieces.{fewest}
@@ -13,7 +13,7 @@ use Rattle.dm_stream.proofs.runs.request_mapper.write_joined.Goals as goal
 
 -- what is said of a mapper's stack and of the writer that a join began with, is said of the join's stack and of its writer before
 before_begin : {W : Type 0} (P : Description → W → Type 0) (stack other : Description) (writer begun : W) → other ≡ stack → begun ≡ writer → P other begun → P stack writer
-before_begin P stack other writer begun same kept fact = subst (λ (s : Description). P s writer) same (subst (λ w. P other w) kept fact)
+before_begin P stack other writer begun same kept fact = rw (← same, ← kept) fact
 
 pub returns-in-Ok-None-clause-wrote : goal.returns-in-Ok-None-clause-wrote
 returns-in-Ok-None-clause-wrote g c =
@@ -26,20 +26,20 @@ pub write_range-requires : goal.write_range-requires
 write_range-requires g c =
     let begun = c.begin.new.self in let new = c.request_or_home.new.sink in
     let home = at_home _ c.request_or_home.result c.in-Ok-Some.home (c.in-Ok-Some.is ∙ ap Ok c.in-Ok-Some.field-0-is) c.request_or_home.ensures.took in
-    let stack : new.held.stack ≡ c.args.mapper.now.stack = ap (λ j. j.held.stack) home.1 ∙ ap (λ (h : Pending). h.stack) c.begin.ensures.number ∙ sym c.requires.stack in
-    c.at.ensures.held new.held.stack c.args.request.now.at_least (subst (λ (s : Description). IsOnDisk s c.in-Ok-Some.home.disk c.in-Ok-Some.home.start c.args.request.now.len) (sym stack) home.0.lies)
+    let stack : new.held.stack ≡ c.args.mapper.now.stack = rw (home.1, c.begin.ensures.number, c.requires.stack) in
+    c.at.ensures.held new.held.stack c.args.request.now.at_least (rw stack home.0.lies)
 
 pub returns-in-Ok-None-clause-state : goal.returns-in-Ok-None-clause-state
 returns-in-Ok-None-clause-state g c =
     let a = c.args in
     let state = state_at c.request_or_home.result None _ (c.in-Ok-None.is ∙ ap Ok c.in-Ok-None.field-0-is) c.request_or_home.ensures.state in
-    on_ok c.finish.result _ (subst (λ (s : Description). c.request_or_home.new.self.state ≡ (step_of s a.device (numbered a.request.now) a.mapper.now.state).state) c.requires.stack state)
+    on_ok c.finish.result _ (rw c.requires.stack at state)
 
 pub returns-in-Ok-Some-clause-state : goal.returns-in-Ok-Some-clause-state
 returns-in-Ok-Some-clause-state g c =
     let a = c.args in
     let state = state_at c.request_or_home.result (Some c.in-Ok-Some.home) _ (c.in-Ok-Some.is ∙ ap Ok c.in-Ok-Some.field-0-is) c.request_or_home.ensures.state in
-    on_ok c.write_range.result _ (subst (λ (s : Description). c.request_or_home.new.self.state ≡ (step_of s a.device (numbered a.request.now) a.mapper.now.state).state) c.requires.stack state)
+    on_ok c.write_range.result _ (rw c.requires.stack at state)
 
 pub returns-in-Ok-Some-clause-wrote : goal.returns-in-Ok-Some-clause-wrote
 returns-in-Ok-Some-clause-wrote g c =

@@ -1,9 +1,8 @@
-use Rattle.std.proofs.Common.{◌≡◌, ◌+◌, ◌++◌, ◌∙◌, ℕ, List, Option, Some, ap, subst, sym, drop, take, rules}
+use Rattle.std.proofs.Common.{◌≡◌, ◌+◌, ◌++◌, ◌∙◌, ℕ, List, Some, ap, sym, drop, take, rules}
 use Rattle.std.specs.Prelude.{IfSome}
 use Rattle.std.specs.List.{flat_map}
 use Rattle.std.proofs.lemmas.Result.{err_from_is_err_and}
 use Rattle.dm_table.proofs.WriteLemmas.{stopped, and_then, flat_map_at}
-use Rattle.dm_stack.specs.declared.lines.found_line.FoundSnapshot.{FoundSnapshot}
 use Rattle.dm_stack.specs.Description.{Description, device_len, name_at}
 use Rattle.dm_stack.specs.checks.Snapshots.{IsSnapshot}
 use Rattle.dm_map.specs.declared.state.usage.Usage.{Usage}
@@ -11,7 +10,7 @@ use Rattle.dm_map.specs.Mapper.{MapperView, with_looked}
 use Rattle.dm_map.specs.state.State.{taken_at}
 use Rattle.dm_map.specs.state.Tables.{snapshot_at, snapshot_of_line}
 use Rattle.dm_map.specs.state.Usage.{usage_of}
-use Rattle.dm_stream.specs.runs.StatusLines.{after_name, line_if, status_line}
+use Rattle.dm_stream.specs.runs.StatusLines.{after_name, status_line}
 use Rattle.dm_stream.proofs.runs.status_lines.write_status.Goals as goal
 
 -- what is written of a snapshot is its line
@@ -20,11 +19,11 @@ line_of : (stack : Description) (old mapper : MapperView) (device : ℕ) (usage 
     → name_at stack device ++ after_name (device_len stack device) usage ≡ status_line stack old.state device
 line_of stack old mapper device usage of_stack same is used =
     let at : snapshot_at stack device ≡ Some is.snapshot = ap snapshot_of_line is.line in
-    let of_old = subst (λ (m : MapperView). IfSome (snapshot_at m.stack device) (λ snapshot. usage ≡ usage_of m.stack snapshot (taken_at m.state device))) same used in
-    let here = subst (λ (s : Description). IfSome (snapshot_at s device) (λ snapshot. usage ≡ usage_of s snapshot (taken_at old.state device))) of_stack of_old in
+    let of_old = rw same at used in
+    let here = rw of_stack at of_old in
     let full : usage ≡ usage_of stack is.snapshot (taken_at old.state device) =
-    subst (λ (s : Option FoundSnapshot). IfSome s (λ snapshot. usage ≡ usage_of stack snapshot (taken_at old.state device))) at here in
-    ap (λ (u : Usage). name_at stack device ++ after_name (device_len stack device) u) full ∙ ap (line_if stack old.state device) (sym at)
+    rw at at here in
+    rw (full, at)
 
 pub returns-in_err-write_line-clause-wrote : goal.returns-in_err-write_line-clause-wrote
 returns-in_err-write_line-clause-wrote g c =
@@ -39,4 +38,4 @@ returns-in_err-write_line-clause-wrote g c =
     let line_is : line ≡ f x = line_of stack c.args.mapper.now c.loop-device.mapper x c.usage-usage.result c.requires c.loop-device.invariant.0 is c.usage-usage.ensures.usage in
     let rest = flat_map f (drop (i + 1) xs) in
     rw (p.1, p.2) (and_then (flat_map f (take i xs)) (f x ++ rest) (ap (flat_map f) (sym c.snapshots-device-items.ensures.ids) ∙ flat_map_at f xs i x c.loop-device-test.true c.device-item.is) c.loop-device.invariant.1
-    (stopped line rest (ap (λ (t : List ℕ). t ++ rest) (sym line_is)) c.in_err-write_line.ensures))
+    (stopped line rest (rw line_is) c.in_err-write_line.ensures))

@@ -1,6 +1,3 @@
-use Rattle.std.proofs.Common.{◌≡◌, ◌<◌, List, ℕ, length, take, subst}
-use Rattle.dm_table.specs.io.DeviceIo.{Stand}
-use Rattle.dm_stream.specs.requests.Lines.{next_answer, line_parts, ALine}
 use Rattle.dm_stream.proofs.requests.LineParts.{next_held}
 use Rattle.dm_stream.proofs.requests.lines.Lines.look.Goals as goal
 
@@ -8,5 +5,4 @@ pub returns-else-n-gt-MOST_LINE_BYTES : goal.returns-else-n-gt-MOST_LINE_BYTES
 returns-else-n-gt-MOST_LINE_BYTES c =
     let n = c.in-Some.n in
     let found = c.in-Some.ensures in
-    subst (λ (held : List ℕ). (n < length held) × ((stand : Stand) → next_answer stand (line_parts held) ≡ ALine (take n held))) c.self.view_is
-    (found.0, λ stand. next_held stand _ n found.0 c.if-n-gt-MOST_LINE_BYTES.false found.1)
+    rw (← c.self.view_is) (found.0, λ stand. next_held stand _ n found.0 c.if-n-gt-MOST_LINE_BYTES.false found.1)

@@ -1,5 +1,4 @@
-use Rattle.std.proofs.Common.{◌∙◌, sym, ap, List, ℕ, drop, refl}
-use Rattle.dm_stream.specs.requests.Lines.{next_answer, line_parts, ALine}
+use Rattle.std.proofs.Common.{◌∙◌, ap, drop, refl}
 use Rattle.dm_table.specs.io.DeviceIo.{delivery}
 use Rattle.dm_stream.proofs.requests.Held.{line_at, after_bytes}
 use Rattle.dm_stream.proofs.requests.lines.Lines.next.Goals as goal
@@ -16,7 +15,6 @@ returns-in-Line g c =
         reads = c.in-Line.ensures.reads;
         quiet = c.in-Line.ensures.quiet;
         answer =
-            ap ALine (line_at a.buffer held a.start a.end n c.self.view_is c.in-Line.ensures.fits)
-            ∙ sym c.in-Line.ensures.answer ∙ ap (λ (h : List ℕ). next_answer stand (line_parts h)) c.in-Line.ensures.held;
+            rw (line_at a.buffer held a.start a.end n c.self.view_is c.in-Line.ensures.fits, ← c.in-Line.ensures.answer, c.in-Line.ensures.held);
       },
     )

@@ -1,8 +1,3 @@
-use Rattle.std.proofs.Common.{subst}
-use Rattle.dm_table.specs.io.DeviceIo.{since}
-use Rattle.dm_table.specs.io.WriteAll.{IsCutShort}
-use Rattle.dm_stack.specs.Description.{Description}
-use Rattle.dm_stream.specs.runs.Outcome.{request_answer}
 use Rattle.dm_stream.specs.requests.Requests.{numbered}
 use Rattle.dm_stream.proofs.runs.RequestMapped.{request_cut}
 use Rattle.dm_stream.proofs.runs.request_mapper.RequestMapperHandler.handle.Goals as goal
@@ -15,7 +10,7 @@ returns-in-Err-clause-stopped g c =
     let w0 = (g.W.Output.past old.join.writer.now).written in
     let w1 = (g.W.Output.past c.write_joined.new.join.writer.now).written in (
       request_cut c.args._stack.now c.in-Some.device request _ c.args.mapper.now.state c.write_joined.new.mapper w0 w1 c.requires.found c.in-Some.is
-          (subst (λ (stack : Description). IsCutShort (request_answer stack c.in-Some.device request c.args.mapper.now.state) (since w0 w1)) c.requires.ready.joined failed.wrote.left),
+          (rw c.requires.ready.joined at failed.wrote.left),
       record { moved = failed.wrote.moved; same_reference = failed.same_reference },
       failed.stack,
       failed.nothing,
