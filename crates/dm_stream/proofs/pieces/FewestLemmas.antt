@@ -1,5 +1,5 @@
 -- The fewest pieces are pieces of their units and apart, no other pieces are, and none are fewer.
-use Rattle.std.proofs.Common.{◌≡◌, ℕ, zero, suc, ◌<◌, ◌≤◌, Bool, true, false, cond, List, [], ◌∷◌, ◌++◌, length, refl, sym, ap, subst, ◌∙◌, arith}
+use Rattle.std.proofs.Common.{◌≡◌, ℕ, zero, suc, ◌<◌, ◌≤◌, Bool, true, false, cond, List, [], ◌∷◌, ◌++◌, length, refl, sym, ap, ◌∙◌, arith}
 use Rattle.std.specs.List.{flat_map, AllByRecursion}
 use Rattle.std.proofs.lemmas.List.{append-nil}
 use Rattle.dm_map.specs.pieces.Units.{BlockUnit, next_unit, units_in}
@@ -20,7 +20,7 @@ some_len len = omega arith
 -- pieces stay apart where the first of them is lengthened at its front
 apart-longer : (unit first : BlockUnit) (len : ℕ) (pieces : List UnitRun) → first ≡ next_unit unit → NoneContinues (record { first = first; len = len } ∷ pieces) → NoneContinues (record { first = unit; len = suc len } ∷ pieces)
 apart-longer unit first len [] e h = tt
-apart-longer unit first len (next ∷ pieces) e h = (is_after-more unit len next.first ∙ ap (λ (u : BlockUnit). is_after u len next.first) (sym e) ∙ h.0, h.1)
+apart-longer unit first len (next ∷ pieces) e h = (cc (is_after-more unit len next.first), h.1)
 
 onto_adds : (unit : BlockUnit) (pieces : List UnitRun) → AddsUnit unit pieces (onto unit pieces)
 onto_adds unit [] = record { flatten = refl; each = λ h. (some_len 0, tt); apart = λ h. tt; most = omega arith }
@@ -30,7 +30,7 @@ onto_adds unit (piece ∷ pieces) =
     let P : Bool → Type 0 = λ b. joins unit piece.first ≡ b → AddsUnit unit (piece ∷ pieces) (cond b longer beside) in
     (elim (joins unit piece.first) as P [
       | true ↦ λ e. record {
-        flatten = ap (λ (u : BlockUnit). unit ∷ units_in u piece.len ++ flat_map piece_units pieces) (sym (joined_next unit piece.first e));
+        flatten = cc (joined_next unit piece.first e);
         each = λ h. (some_len piece.len, h.1);
         apart = λ h. apart-longer unit piece.first piece.len pieces (joined_next unit piece.first e) h;
         most = omega arith;
@@ -44,7 +44,7 @@ fewest_are [] = record { flatten = refl; each = tt }
 fewest_are (unit ∷ units) =
     let later = fewest_are units in
     let adds = onto_adds unit (fewest units) in
-    record { flatten = adds.flatten ∙ ap (λ (us : List BlockUnit). unit ∷ us) later.flatten; each = adds.each later.each }
+    record { flatten = cc; each = adds.each later.each }
 
 fewest_apart : (units : List BlockUnit) → NoneContinues (fewest units)
 fewest_apart [] = tt
@@ -57,7 +57,7 @@ fewest-before first (suc len) next rest pieces some next_some apart e =
     let P : ℕ → Type 0 = λ n. 0 < n → fewest (units_in next.first n ++ rest) ≡ pieces → fewest (units_in first (suc len) ++ (units_in next.first n ++ rest)) ≡ record { first = first; len = suc len } ∷ pieces in
     (elim next.len as P [
       | zero ↦ λ none f. absurd (omega (arith, none))
-      | suc n ↦ λ one f. fewest-apart first len next.first (units_in (next_unit next.first) n ++ rest) apart ∙ ap (λ (ps : List UnitRun). record { first = first; len = suc len } ∷ ps) f
+      | suc n ↦ λ one f. cc (fewest-apart first len next.first (units_in (next_unit next.first) n ++ rest) apart)
     ]) next_some e
 
 -- pieces that are apart are the fewest of their units
@@ -91,7 +91,7 @@ fewest_least (piece ∷ pieces) h =
     (elim piece.len as P [ zero ↦ λ none. absurd (omega arith) | suc len ↦ λ some. omega (arith, one_more piece.first len (flat_map piece_units pieces), later) ]) h.0
 
 fewest_of : (units : List BlockUnit) (pieces : List UnitRun) → ArePiecesOf units pieces → length (fewest units) ≤ length pieces
-fewest_of units pieces are = subst (λ (us : List BlockUnit). length (fewest us) ≤ length pieces) are.flatten (fewest_least pieces are.each)
+fewest_of units pieces are = rw are.flatten at (fewest_least pieces are.each)
 
 pub fewest_is : (units : List BlockUnit) → AreFewest units (fewest units)
 fewest_is units = record { are = fewest_are units; apart = fewest_apart units; only = fewest_only_of units; least = fewest_of units }

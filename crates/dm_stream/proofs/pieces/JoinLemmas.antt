@@ -10,7 +10,7 @@ use Rattle.dm_stream.specs.pieces.Pending.{Pending, HoldsNoRange, IsHeld, IsNoRa
 use Rattle.dm_stream.specs.declared.pieces.disk_range.DiskRange.{DiskRange}
 use Rattle.dm_stream.specs.pieces.Join.{HasUnits, HasLeft}
 use Rattle.dm_stream.specs.laws.Join.{last_of_units, some_before, beginning-before}
-use Rattle.dm_stream.specs.pieces.Pieces.{UnitRun, fewest, is_after}
+use Rattle.dm_stream.specs.pieces.Pieces.{fewest, is_after}
 use Rattle.dm_table.specs.words.Fields.{all_but_last}
 use Rattle.dm_stream.specs.pieces.PieceText.{piece_text, pieces_text}
 use Rattle.dm_table.specs.io.WriteAll.{IsBeginning, IsCutShort}
@@ -21,9 +21,7 @@ pub fewest-whole : (first after : BlockUnit) (len more : ℕ) (rest : List Block
 fewest-whole first after zero more rest some one apart = absurd (omega arith)
 fewest-whole first after (suc len) zero rest some one apart = absurd (omega arith)
 fewest-whole first after (suc len) (suc more) rest some one apart =
-    ap fewest (append_assoc (units_in first (suc len)) (units_in after (suc more)) rest)
-    ∙ fewest-apart first len after (units_in (next_unit after) more ++ rest) apart
-    ∙ ap (λ (ps : List UnitRun). ps ++ fewest (units_in after (suc more) ++ rest)) (sym (fewest-run first len))
+    cc (append_assoc (units_in first (suc len)) (units_in after (suc more)) rest, fewest-apart first len after (units_in (next_unit after) more ++ rest) apart, fewest-run first len)
 
 -- what is held and a piece that does not go on from it
 pub held_apart : (stack : Description) (old : Option coded.Piece) (piece : coded.Piece) → IsHeld stack old → 1 ≤ piece_len piece → goes_on old piece ≡ false
@@ -34,9 +32,7 @@ held_apart stack (Some held) piece fits one apart rest = fewest-whole (first_uni
 -- the held piece and one that does, as one
 pub held_joined : (old : Option coded.Piece) (held piece both : coded.Piece) → old ≡ Some held → goes_on old piece ≡ true → first_unit both ≡ first_unit held → piece_len both ≡ piece_len held + piece_len piece → units_of both ≡ held_units old ++ units_of piece
 held_joined old held piece both is after first len =
-    ap (λ (u : BlockUnit). units_in u (piece_len both)) first ∙ ap (units_in (first_unit held)) len
-    ∙ units_joined (first_unit held) (first_unit piece) (piece_len held) (piece_len piece) (sym (ap (λ (p : Option coded.Piece). goes_on p piece) is) ∙ after)
-    ∙ ap (λ (p : Option coded.Piece). held_units p ++ units_of piece) (sym is)
+    cc (units_joined (first_unit held) (first_unit piece) (piece_len held) (piece_len piece) (sym (ap (λ (p : Option coded.Piece). goes_on p piece) is) ∙ after))
 
 -- a range has the length of its piece
 pub piece_len-range : (is_write : Bool) (disk start len : ℕ) → piece_len (range_piece is_write disk start len) ≡ len
@@ -64,15 +60,13 @@ held_text stack number piece some = text_run stack number (first_unit piece) (pi
 -- so is the line of a piece beside what is held
 pub line_beside : (inside held : Pending) (piece : coded.Piece) → inside ≡ held → 1 ≤ piece_len piece → piece_text inside.stack inside.number (piece_view piece) ≡ pieces_text held.stack held.number (fewest (units_of piece))
 line_beside inside held piece same some =
-    held_text inside.stack inside.number piece some ∙ ap (λ (h : Pending). pieces_text h.stack h.number (fewest (units_of piece))) same
+    cc (held_text inside.stack inside.number piece some)
 
 -- the line of the held piece is the text of what is held
 pub held_line : (inside held : Pending) (piece : coded.Piece) → inside ≡ held → inside.piece ≡ Some piece → IsHeld inside.stack inside.piece
     → piece_text inside.stack inside.number (piece_view piece) ≡ pieces_text held.stack held.number (fewest (held_units held.piece))
 held_line inside held piece same is fits =
-    held_text inside.stack inside.number piece (subst (IsHeld inside.stack) is fits).0
-    ∙ ap (λ (p : Option coded.Piece). pieces_text inside.stack inside.number (fewest (held_units p))) (sym is)
-    ∙ ap (λ (h : Pending). pieces_text h.stack h.number (fewest (held_units h.piece))) same
+    cc (held_text inside.stack inside.number piece (subst (IsHeld inside.stack) is fits).0)
 
 some_units : (unit : BlockUnit) (len : ℕ) → 1 ≤ len → HasUnits (units_in unit len)
 some_units unit zero some = absurd (omega arith)
@@ -86,13 +80,8 @@ pub left_apart : (old mid new : Pending) (piece : coded.Piece) (w0 w1 : List ℕ
 left_apart old mid new piece w0 w1 some same emptied apart cut = record {
   some = some_units (first_unit piece) (piece_len piece) some;
   beginning = λ rest.
-      subst (λ (xs : List ℕ). IsBeginning xs (since w0 w1))
-      (sym (ap (λ (ps : List UnitRun). pieces_text old.stack old.number (all_but_last ps)) (apart rest)
-      ∙ ap (pieces_text old.stack old.number) (last_of_units (fewest (held_units old.piece)) (units_of piece ++ rest) (some_before (units_of piece) rest (some_units (first_unit piece) (piece_len piece) some)))
-      ∙ flat_map-append (piece_text old.stack old.number) (fewest (held_units old.piece)) (all_but_last (fewest (units_of piece ++ rest)))))
-      (beginning-before (pieces_text old.stack old.number (fewest (held_units old.piece))) _ (since w0 w1)
-      (subst (λ (h : Pending). IsBeginning (pieces_text h.stack h.number (fewest (held_units h.piece))) (since w0 w1)) same (cut.0 ∷ cut.1, cut.2)));
-  nothing = ap (λ (h : Pending). h.piece) emptied;
-  stack = ap (λ (h : Pending). h.stack) emptied ∙ ap (λ (h : Pending). h.stack) same;
-  number = ap (λ (h : Pending). h.number) emptied ∙ ap (λ (h : Pending). h.number) same;
+      rw (apart rest, last_of_units (fewest (held_units old.piece)) (units_of piece ++ rest) (some_before (units_of piece) rest (some_units (first_unit piece) (piece_len piece) some)), flat_map-append (piece_text old.stack old.number) (fewest (held_units old.piece)) (all_but_last (fewest (units_of piece ++ rest)))) (beginning-before (pieces_text old.stack old.number (fewest (held_units old.piece))) _ (since w0 w1) (subst (λ (h : Pending). IsBeginning (pieces_text h.stack h.number (fewest (held_units h.piece))) (since w0 w1)) same (cut.0 ∷ cut.1, cut.2)));
+  nothing = cc;
+  stack = cc;
+  number = cc;
 }

@@ -1,5 +1,5 @@
 -- The text of a number of which only the last digit is new.
-use Rattle.std.proofs.Common.{◌≡◌, ℕ, zero, suc, ◌+◌, ◌-◌, ◌<◌, ◌^◌, ◌/◌, ◌%◌, ◌++◌, List, [], ◌∷◌, ◌≤◌, length, take, set, decimal, refl, sym, ap, ◌∙◌, arith, append_assoc, length-append, length-take-le, inl, inr}
+use Rattle.std.proofs.Common.{◌≡◌, ℕ, zero, suc, ◌+◌, ◌-◌, ◌<◌, ◌^◌, ◌/◌, ◌%◌, ◌++◌, List, [], ◌∷◌, ◌≤◌, length, take, set, decimal, refl, ap, arith, append_assoc, length-append, length-take-le, inl, inr}
 use Rattle.std.proofs.Math.Nat.{div-eq_of_lt, mod-eq_of_lt}
 use Rattle.std.proofs.Math.Seq.{set-append_seam, take-set-lt}
 use Rattle.std.proofs.lemmas.Bool.{cases_lt}
@@ -18,10 +18,10 @@ some_tens (suc tens) some = refl
 -- a number's digits are those of its tens, and its last one
 tens_and_last : (n : ℕ) → n < 2 ^ 64 → decimal n ≡ tens_text (n / 10) ++ (48 + n % 10) ∷ []
 tens_and_last n fits = elim (cases_lt n 10) [
-  | inl small ↦ decimal_digit n small ∙ ap (λ (d : ℕ). (48 + d) ∷ []) (sym (mod-eq_of_lt small)) ∙ ap (λ (t : ℕ). tens_text t ++ (48 + n % 10) ∷ []) (sym (div-eq_of_lt small))
+  | inl small ↦ cc (decimal_digit n small, mod-eq_of_lt small, div-eq_of_lt small)
   | inr large ↦
       let some : 0 < n / 10 = omega arith in
-      decimal_step n large fits ∙ ap (λ (ds : List ℕ). ds ++ (48 + n % 10) ∷ []) (some_tens (n / 10) some)
+      cc (decimal_step n large fits, some_tens (n / 10) some)
 ]
 
 -- the prefix at the front of some room, with the last digit set
@@ -30,12 +30,6 @@ last_digit_set text end old new some within old_fits new_fits tens is =
     let first = tens_text (old / 10) in
     let digit = 48 + new % 10 in
     let split : take end text ≡ first ++ (48 + old % 10) ∷ 32 ∷ [] =
-    is ∙ ap (λ (ds : List ℕ). ds ++ 32 ∷ []) (tens_and_last old old_fits) ∙ append_assoc first ((48 + old % 10) ∷ []) (32 ∷ []) in
+    cc (tens_and_last old old_fits, append_assoc first ((48 + old % 10) ∷ []) (32 ∷ [])) in
     let place : end - 2 ≡ length first = omega (arith, length-take-le end text within, ap length split, length-append first ((48 + old % 10) ∷ 32 ∷ [])) in
-    take-set-lt end text (end - 2) digit (omega arith)
-    ∙ ap (λ (k : ℕ). set (take end text) k digit) place
-    ∙ ap (λ (ds : List ℕ). set ds (length first) digit) split
-    ∙ set-append_seam first (48 + old % 10) (32 ∷ []) digit
-    ∙ ap (λ (t : ℕ). tens_text t ++ digit ∷ 32 ∷ []) (sym tens)
-    ∙ sym (append_assoc (tens_text (new / 10)) (digit ∷ []) (32 ∷ []))
-    ∙ ap (λ (ds : List ℕ). ds ++ 32 ∷ []) (sym (tens_and_last new new_fits))
+    cc (take-set-lt end text (end - 2) digit (omega arith), set-append_seam first (48 + old % 10) (32 ∷ []) digit, append_assoc (tens_text (new / 10)) (digit ∷ []) (32 ∷ []), tens_and_last new new_fits)

@@ -53,7 +53,7 @@ further-none Fails = refl
 further-none (CopyOf disk sector to to_sector) =
     let e : sector + 0 ≡ sector = omega arith in
     let f : to_sector + 0 ≡ to_sector = omega arith in
-    ap (λ (n : ℕ). CopyOf disk n to (to_sector + 0)) e ∙ ap (CopyOf disk sector to) f
+    cc
 further-none (FillOf disk sector) = let e : sector + 0 ≡ sector = omega arith in ap (FillOf disk) e
 
 pub further-more : (unit : BlockUnit) (len : ℕ) → further unit (suc len) ≡ further (next_unit unit) len
@@ -65,26 +65,25 @@ further-more Fails len = refl
 further-more (CopyOf disk sector to to_sector) len =
     let e : sector + suc len ≡ suc sector + len = omega arith in
     let f : to_sector + suc len ≡ suc to_sector + len = omega arith in
-    ap (λ (n : ℕ). CopyOf disk n to (to_sector + suc len)) e ∙ ap (CopyOf disk (suc sector + len) to) f
+    cc
 further-more (FillOf disk sector) len = let e : sector + suc len ≡ suc sector + len = omega arith in ap (FillOf disk) e
 
 -- the unit after a piece of one, and after a longer piece
 pub is_after-one : (unit after : BlockUnit) → is_after unit 1 after ≡ joins unit after
-is_after-one unit after = ap (λ (u : BlockUnit). is_unit u after) (further-more unit 0 ∙ further-none (next_unit unit))
+is_after-one unit after = cc (further-more unit 0, further-none (next_unit unit))
 
 pub is_after-more : (unit : BlockUnit) (len : ℕ) (after : BlockUnit) → is_after unit (suc len) after ≡ is_after (next_unit unit) len after
-is_after-more unit len after = ap (λ (u : BlockUnit). is_unit u after) (further-more unit len)
+is_after-more unit len after = cc (further-more unit len)
 
 -- units that go on from a piece lengthen it
 units-longer : (unit : BlockUnit) (len more : ℕ) → units_in unit len ++ units_in (further unit len) more ≡ units_in unit (len + more)
-units-longer unit zero more = let e : 0 + more ≡ more = omega arith in ap (λ (u : BlockUnit). units_in u more) (further-none unit) ∙ ap (units_in unit) (sym e)
+units-longer unit zero more = let e : 0 + more ≡ more = omega arith in cc (further-none unit)
 units-longer unit (suc len) more =
     let e : suc len + more ≡ suc (len + more) = omega arith in
-    ap (λ (us : List BlockUnit). unit ∷ us) (ap (λ (u : BlockUnit). units_in (next_unit unit) len ++ units_in u more) (further-more unit len) ∙ units-longer (next_unit unit) len more)
-    ∙ ap (units_in unit) (sym e)
+    cc (further-more unit len, units-longer (next_unit unit) len more)
 
 pub units_joined : (unit after : BlockUnit) (len more : ℕ) → is_after unit len after ≡ true → units_in unit (len + more) ≡ units_in unit len ++ units_in after more
-units_joined unit after len more e = sym (ap (λ (u : BlockUnit). units_in unit len ++ units_in u more) (sym (one_unit (further unit len) after e)) ∙ units-longer unit len more)
+units_joined unit after len more e = cc (units-longer unit len more, one_unit (further unit len) after e)
 
 -- a unit before pieces, by whether the first of them continues it
 pub onto-joined : (unit first : BlockUnit) (len : ℕ) (pieces : List UnitRun) → joins unit first ≡ true → onto unit (record { first = first; len = len } ∷ pieces) ≡ record { first = unit; len = suc len } ∷ pieces
@@ -97,7 +96,7 @@ onto-apart unit first len pieces e = rw e refl
 pub fewest-apart : (unit : BlockUnit) (len : ℕ) (after : BlockUnit) (rest : List BlockUnit) → is_after unit (suc len) after ≡ false → fewest (units_in unit (suc len) ++ after ∷ rest) ≡ record { first = unit; len = suc len } ∷ fewest (after ∷ rest)
 fewest-apart unit zero after rest e =
     let b = onto_begins after (fewest rest) in
-    ap (onto unit) b.is ∙ onto-apart unit after b.len b.later (sym (is_after-one unit after) ∙ e) ∙ ap (λ (ps : List UnitRun). record { first = unit; len = 1 } ∷ ps) (sym b.is)
+    cc (onto-apart unit after b.len b.later (sym (is_after-one unit after) ∙ e))
 fewest-apart unit (suc len) after rest e =
     ap (onto unit) (fewest-apart (next_unit unit) len after rest (sym (is_after-more unit (suc len) after) ∙ e))
     ∙ onto-joined unit (next_unit unit) (suc len) (fewest (after ∷ rest)) (joins-next unit)
