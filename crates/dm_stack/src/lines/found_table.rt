@@ -3,7 +3,7 @@
 //! A device's end and its read-only flag stand with its lines, so that a request asks for all three in one
 //! place.
 //!
-//! The sectors up to the start of the last line are cut into buckets, each of as many sectors as about two
+//! The sectors up to the start of the last line are cut into buckets, each of as many sectors as one or two
 //! lines have on average. The line of each bucket's first sector is kept, so a search goes from that line to
 //! the one of the next bucket's first sector; these are mostly close to each other.
 
@@ -22,7 +22,7 @@ use std::marker::Model;
 pub(crate) struct FoundTable {
     lines: Listed<FoundLine>,
     /// The index of the line of each bucket's first sector.
-    firsts: Reserved<u32>,
+    firsts: Reserved<u16>,
     /// A bucket has two to this power of sectors.
     shift: u32,
 }
@@ -50,7 +50,7 @@ pub(crate) struct FoundDevice {
 impl FoundTable {
     /// The lines as one value. It fails only when out of memory.
     ///
-    /// Cost: linear in the lines, with memory for about 3 bytes a line.
+    /// Cost: linear in the lines, with memory for 1 to 2 bytes a line.
     pub(crate) fn from_vec(alloc: Global, lines: Vec<FoundLine>) -> Result<FoundTable, AllocError>
         ensures { IfOk result (λ table. table ≡ lines.items) }
     {
@@ -118,11 +118,14 @@ impl FoundTable {
     }
 }
 
-/// A number made of the starts of three lines in a row, which a search in a bucket mostly does with.
+/// A number made of the starts of four lines in a row: a search in a bucket mostly does with two, and a request
+/// that is longer than a line goes on to the next.
 #[inline(always)]
 fn starts_from(lines: &[FoundLine], first: usize) -> u64 {
     match lines.get(first..) {
-        Some([line, next, after_next, ..]) => line.start ^ next.start ^ after_next.start,
+        Some([line, second, third, fourth, ..]) => {
+            line.start ^ second.start ^ third.start ^ fourth.start
+        }
         _ => 0,
     }
 }
@@ -140,7 +143,7 @@ fn chunk_in(line: &FoundLine, sector: u64) -> Prefetched {
 
 /// The index of the line of each bucket's first sector, and the shift of a sector to its bucket. There are
 /// no buckets for up to three lines, which are compared one by one, nor for lines that no load lets through.
-fn firsts_of(alloc: Global, lines: &[FoundLine]) -> Result<(Vec<u32>, u32), AllocError>
+fn firsts_of(alloc: Global, lines: &[FoundLine]) -> Result<(Vec<u16>, u32), AllocError>
     ensures { IfOk result (λ found. AreFirsts lines.now found.0.items found.1) }
 {
     let count = lines.len();
@@ -149,7 +152,7 @@ fn firsts_of(alloc: Global, lines: &[FoundLine]) -> Result<(Vec<u32>, u32), Allo
     }
     let last = count - 1;
     let end = lines[last].start;
-    let shift = (end / (count / 3) as u64).checked_ilog2().unwrap_or(0);
+    let shift = (end / (count / 2) as u64).checked_ilog2().unwrap_or(0);
     let width = 1u64 << shift;
     let buckets = (end >> shift) as usize;
     let mut firsts = Vec::with_capacity(alloc, buckets.saturating_add(2))?;
@@ -161,7 +164,7 @@ fn firsts_of(alloc: Global, lines: &[FoundLine]) -> Result<(Vec<u32>, u32), Allo
         while index < last && lines[index + 1].start <= from {
             index += 1;
         }
-        firsts.push(index as u32)?;
+        firsts.push(index as u16)?;
     }
     Ok((firsts, shift))
 }

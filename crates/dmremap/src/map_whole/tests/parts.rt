@@ -106,17 +106,17 @@ fn most_lines(rt: &impl Abort, alloc: Global) -> Stack {
     stack_of(rt, alloc, &source, false)
 }
 
-/// Asserts that the line of a sector is found in at most two comparisons, where each line has one sector.
+/// Asserts that the line of a sector is found in at most one comparison, where each line has one sector.
 fn check_found(rt: &impl Abort, stack: &Stack, sector: u64) {
     let device = stack.device("a").expect(rt, "a device");
     let mut looker = stack.looker();
     assert!(rt; sector < looker.len(device), "a sector of the device");
     let line = looker.look(device, sector);
     assert_eq!(rt; (line.start, line.len), (sector, 1));
-    assert!(rt; looker.comparisons() <= 2, "few comparisons");
+    assert!(rt; looker.comparisons() <= 1, "few comparisons");
 }
 
-/// Each bucket of as many lines as there may be, the last one too, has at most three of them.
+/// The line of a sector is one of at most two, in each bucket of as many lines as there may be, the last one too.
 #[test]
 fn buckets_of_the_most_lines(rt: HostRuntime) {
     let stack = most_lines(&rt, rt.alloc());
