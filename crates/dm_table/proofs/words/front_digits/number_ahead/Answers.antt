@@ -1,6 +1,7 @@
-use Rattle.std.proofs.Common.{◌≡◌, ℕ, zero, suc, ◌+◌, ◌-◌, ◌*◌, ◌^◌, ◌<◌, ◌++◌, List, get_or, length, take, drop, refl, sym, arith, length-drop, length-take-le}
+use Rattle.std.proofs.Common.{◌≡◌, ℕ, true, eqb, ◌+◌, ◌-◌, ◌*◌, ◌^◌, ◌<◌, ◌++◌, List, get_or, length, take, drop, refl, sym, arith, length-drop, length-take-le}
 use Rattle.std.specs.Int.Digits.{number_from_digits}
 use Rattle.std.proofs.Math.Seq.{take-add}
+use Rattle.std.proofs.lemmas.Bool.{agree_below_at, eqb-true}
 use Rattle.std.proofs.lemmas.Int.Digits.{number_after_append}
 use Rattle.std.proofs.lemmas.List.{take-take}
 use Rattle.dm_table.specs.declared.words.front_digits.TheConstants.{POWERS}
@@ -8,15 +9,7 @@ use Rattle.dm_table.proofs.words.LaneDigits.{each_part, number_after}
 use Rattle.dm_table.proofs.words.front_digits.number_ahead.Goals as goal
 
 powers : (k : ℕ) → k < 8 → get_or POWERS k 0 ≡ 10 ^ k
-powers zero few = refl
-powers (suc zero) few = refl
-powers (suc (suc zero)) few = refl
-powers (suc (suc (suc zero))) few = refl
-powers (suc (suc (suc (suc zero)))) few = refl
-powers (suc (suc (suc (suc (suc zero))))) few = refl
-powers (suc (suc (suc (suc (suc (suc zero)))))) few = refl
-powers (suc (suc (suc (suc (suc (suc (suc zero))))))) few = refl
-powers (suc (suc (suc (suc (suc (suc (suc (suc k)))))))) few = absurd (omega arith)
+powers k few = eqb-true _ _ (agree_below_at (λ n. eqb (get_or POWERS n 0) (10 ^ n)) (λ n. true) 8 k refl few)
 
 -- some digits are the first eight of them and the others
 in_two : (len : ℕ) (digits : List ℕ) → 8 < len → take len digits ≡ take 8 digits ++ take (len - 8) (drop 8 digits)
