@@ -53,8 +53,7 @@ next_line items rest i line within is = rw (next_of items i line within is)
 pub crowded_passes : (stack : Description) (used places : ℕ) (items rest : List Line) (i : ℕ) (line : Line) → i < length items → line ≡ get_or items i line → places ≡ line_places stack line → used + places ≤ 4194304
     → first_or (crowded_from stack (used + places) (drop (i + 1) items ++ rest)) None ≡ first_or (crowded_from stack used (drop i items ++ rest)) None
 crowded_passes stack used places items rest i line within is are few =
-    rw are (sym (ap (λ (lines : List Line). first_or (crowded_from stack used lines) None) (next_line items rest i line within is)
-    ∙ ap (λ (faults : List LoadFault). first_or faults None) (crowded_next stack used line (drop (i + 1) items ++ rest) (omega (arith, are, few)))))
+    rw are (cc (crowded_next stack used line (drop (i + 1) items ++ rest) (omega (arith, are, few)), next_line items rest i line within is))
 
 -- Where no line is found
 

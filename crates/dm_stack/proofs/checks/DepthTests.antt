@@ -23,7 +23,7 @@ same_tests kind p q i (device ∷ devices) same =
 pub told_depths : (stack : Description) (depths : List ℕ) → depths ≡ depths_to (links stack) 33 → faults_by_id Deep (λ id. nat_lt 32 (get_or depths id 0)) 0 stack.devices ≡ deep stack
 told_depths stack depths e =
     same_tests Deep (λ id. nat_lt 32 (get_or depths id 0)) (λ id. nat_lt 32 (depth_of stack id)) 0 stack.devices
-    (λ id below. ap (λ (all : List ℕ). nat_lt 32 (get_or all id 0)) e ∙ ap (nat_lt 32) (depths_to-at (links stack) 33 id (omega (arith, length-map stack.devices (device_links stack)))))
+    (λ id below. cc (depths_to-at (links stack) 33 id (omega (arith, length-map stack.devices (device_links stack)))))
 
 pub depth_each : (stack : Description) (depths : List ℕ) → depths ≡ depths_to (links stack) 33 → length depths ≡ length stack.devices
 depth_each stack depths e = rw e (depths_to-length (links stack) 33 ∙ length-map stack.devices (device_links stack))

@@ -74,7 +74,7 @@ pub line_later : (devices : List DeviceSpec) (i left : ℕ) (device : DeviceSpec
 line_later devices i left device within is after =
     let at : drop i devices ≡ device ∷ drop (i + 1) devices = rw is (drop_more devices i device within) in
     let sum : length device.lines + (left - length device.lines) ≡ left = omega arith in
-    rw at (sym (get_right device.lines (all_lines (drop (i + 1) devices)) (left - length device.lines)) ∙ ap (λ (n : ℕ). slice_get (device.lines ++ all_lines (drop (i + 1) devices)) n) sum)
+    rw at (cc (get_right device.lines (all_lines (drop (i + 1) devices)) (left - length device.lines)))
 
 -- The end of lines
 
@@ -86,4 +86,4 @@ pub end_of_last : (lines : List Line) (line : Line) → slice_get lines (length 
 end_of_last [] line e = absurd cc
 end_of_last (first ∷ lines) line e =
     let place : length (first ∷ lines) - 1 ≡ length lines = omega arith in
-    last_end first line lines (subst (λ (i : ℕ). slice_get (first ∷ lines) i ≡ Some line) place e)
+    last_end first line lines (rw place at e)

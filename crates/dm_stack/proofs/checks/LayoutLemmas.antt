@@ -82,7 +82,7 @@ in_row_after before (line ∷ lines) each =
     let later = all_of-map (IsPlacedAfter before) (further_on line) (with_before lines) each.1 in
     let moved = all_changed (λ l. IsPlacedAfter before (further_on line l)) (IsPlacedAfter (before ++ line ∷ [])) (with_before lines)
     (λ l placed. placed ∙ ap end_of (sym (append_assoc before (line ∷ []) l.before))) later in
-    (each.0 ∙ ap end_of (append-nil before), subst (λ (end : ℕ). AreInRow end lines) (end_of-more before line) (in_row_after (before ++ line ∷ []) lines moved))
+    (each.0 ∙ ap end_of (append-nil before), rw end_of-more at (in_row_after (before ++ line ∷ []) lines moved))
 
 pub in_row : (lines : List Line) → misplaced_in lines ≡ [] → AreInRow 0 lines
 in_row lines e =

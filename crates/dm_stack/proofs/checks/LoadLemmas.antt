@@ -66,7 +66,7 @@ found_or_memory kind found memory = by_kind kind found memory (is_memory kind)
 -- why a load is refused, by whether memory ran out
 pub refused_if : (stack : Description) (at : LoadFault) → IsRefusedBy stack at ⊎ IsMemoryFault Source at → at.kind ≢ Memory → IsRefusedBy stack at
 refused_if stack at (inl refused) other = refused
-refused_if stack at (inr memory) other = absurd (other (ap (λ (f : LoadFault). f.kind) memory))
+refused_if stack at (inr memory) other = absurd (other (cc))
 
 pub memory_if : (stack : Description) (at : LoadFault) → IsRefusedBy stack at ⊎ IsMemoryFault Source at → at.kind ≡ Memory → IsMemoryFault Source at
 memory_if stack at (inl refused) is = absurd (refused_not_memory stack at refused is)
@@ -74,7 +74,7 @@ memory_if stack at (inr memory) is = memory
 
 -- what was made is as it was promised
 pub made_ok : {T E : Type 0} (made : Result T E) (value : T) (P : T → Type 0) → made ≡ Ok value → IfOk made P → P value
-made_ok {T} {E} made value P is holds = subst (λ (r : Result T E). IfOk r P) is holds
+made_ok {T} {E} made value P is holds = rw is at holds
 
 -- What is named is there
 

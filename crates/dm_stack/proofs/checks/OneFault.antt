@@ -10,7 +10,7 @@ use Rattle.dm_stack.specs.Description.{Description}
 use Rattle.dm_stack.specs.checks.Soundness.{Early, HasNoCycle, IsFirstCycle, IsRefusedBy, IsSound, Late, OnCycle}
 
 ring_within : (stack : Description) (found : LoadFault) (ring : IsFirstCycle stack found) → length ring.before < length stack.devices
-ring_within stack found ring = omega (arith, ap (λ (devices : List DeviceSpec). length devices) ring.split, length-append ring.before (ring.device ∷ ring.after))
+ring_within stack found ring = omega (arith, ap length ring.split, length-append ring.before (ring.device ∷ ring.after))
 
 no_cycle : (stack : Description) (found : LoadFault) → HasNoCycle stack → IsFirstCycle stack found → ⊥
 no_cycle stack found acyclic ring = acyclic (length ring.before) (ring_within stack found ring) ring.cycle

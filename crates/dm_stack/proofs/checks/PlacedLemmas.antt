@@ -30,8 +30,7 @@ device_at : (kind : LoadKind) (test : Line → Bool) (devices : List DeviceSpec)
     → first_or (faults_by kind (λ line. line.at) test (all_lines (drop i devices))) None ≡ first_or (faults_by kind (λ line. line.at) test device.lines) (first_or (faults_by kind (λ line. line.at) test (all_lines (drop (i + 1) devices))) None)
 device_at kind test devices i device within is =
     let at = next_of devices i device within is in
-    rw at (ap (λ (faults : List LoadFault). first_or faults None) (by_append kind (λ line. line.at) test device.lines (all_lines (drop (i + 1) devices)))
-    ∙ first_append (faults_by kind (λ line. line.at) test device.lines) (faults_by kind (λ line. line.at) test (all_lines (drop (i + 1) devices))) None)
+    rw (at, by_append, first_append)
 
 pub device_stops : (kind : LoadKind) (test : Line → Bool) (devices : List DeviceSpec) (i : ℕ) (device : DeviceSpec) (found : LoadFault) → i < length devices → device ≡ get_or devices i device
     → first_or (faults_by kind (λ line. line.at) test device.lines) None ≡ Some found → first_or (faults_by kind (λ line. line.at) test (all_lines (drop i devices))) None ≡ Some found

@@ -32,10 +32,10 @@ depths_to-round g n closed = fill_by_all (λ d. depth_to g (suc n) d) (map (dept
 
 -- where a round changes nothing, no later one does
 pub depths_to-last : (g : List (List ℕ)) (n k : ℕ) → IsClosed g → depths_to g (suc n) ≡ depths_to g n → depths_to g (n + k) ≡ depths_to g n
-depths_to-last g n zero closed last = ap (λ (m : ℕ). depths_to g m) (omega arith)
+depths_to-last g n zero closed last = ap (depths_to g) (omega arith)
 depths_to-last g n (suc k) closed last =
     let e : n + suc k ≡ suc (n + k) = omega arith in
-    rw e (sym (depths_to-round g (n + k) closed) ∙ ap (λ (xs : List ℕ). map (depth_over xs) g) (depths_to-last g n k closed last) ∙ depths_to-round g n closed ∙ last)
+    rw e (cc (depths_to-round g (n + k) closed, depths_to-last g n k closed last, depths_to-round g n closed))
 
 -- no level gives no depth
 get_or-zeros : (n k : ℕ) → ◌≡◌ {A = ℕ} (get_or (replicate n 0) k 0) 0
@@ -60,25 +60,25 @@ depths_to-bounded g n most le = All-map (λ depth. depth ≤ most) (λ d. depth_
 -- what a list of links names lies within the depths, where all that is named does
 pub named_within : (links : List (Vec ℕ Global)) (n d : ℕ) (named : Vec ℕ Global) → d < length links → named ≡ get_or links d named → ((d e : ℕ) → Names (links_in links) d e → e < n) → (named_items : List ℕ) → named_items ≡ named.items → All (λ e. e < n) named_items
 named_within links n d named below is_named closed named_items is_items k default inner =
-    closed d (get_or named_items k default) (subst (λ (xs : List ℕ). Contains xs (get_or named_items k default)) (is_items ∙ sym (links_of-at links d named below is_named)) (Contains-get_or named_items k default inner))
+    closed d (get_or named_items k default) (rw (links_of-at links d named below is_named, ← is_items) (Contains-get_or named_items k default inner))
 
 -- a round after that of n levels
 pub round_after : (g : List (List ℕ)) (n : ℕ) (before passed after : List ℕ) → IsClosed g → before ≡ depths_to g n → passed ≡ before → after ≡ map (depth_over passed) g → after ≡ depths_to g (n + 1)
 round_after g n before passed after closed is_before is_passed is_after =
     let e : suc n ≡ n + 1 = omega arith in
-    rw (← e) (is_after ∙ ap (λ (xs : List ℕ). map (depth_over xs) g) (is_passed ∙ is_before) ∙ depths_to-round g n closed)
+    rw (← e) (cc (depths_to-round g n closed))
 
 -- and one that changes nothing is that of each greater number of levels
 pub round_last : (g : List (List ℕ)) (n most : ℕ) (before after : List ℕ) → IsClosed g → n < most → before ≡ depths_to g n → after ≡ depths_to g (n + 1) → after ≡ before → before ≡ depths_to g most
 round_last g n most before after closed less is_before is_after same =
     let e : n + (most - n) ≡ most = omega arith in
     let next : suc n ≡ n + 1 = omega arith in
-    let unchanged : depths_to g (suc n) ≡ depths_to g n = ap (λ (m : ℕ). depths_to g m) next ∙ sym is_after ∙ same ∙ is_before in
-    is_before ∙ sym (depths_to-last g n (most - n) closed unchanged) ∙ ap (λ (m : ℕ). depths_to g m) e
+    let unchanged : depths_to g (suc n) ≡ depths_to g n = cc in
+    cc (depths_to-last g n (most - n) closed unchanged)
 
 -- what is named lies within the depths of n levels
 pub within_depths : (links : List (Vec ℕ Global)) (n : ℕ) (before passed : List ℕ) → IsClosed (links_in links) → before ≡ depths_to (links_in links) n → passed ≡ before → (d e : ℕ) → Names (links_in links) d e → e < length passed
-within_depths links n before passed closed is_before is_passed d e named = omega (arith, closed d e named, ap (λ (xs : List ℕ). length xs) (is_passed ∙ is_before), depths_to-length (links_in links) n)
+within_depths links n before passed closed is_before is_passed d e named = omega (arith, closed d e named, ap length (is_passed ∙ is_before), depths_to-length (links_in links) n)
 
 -- and these pass no greater bound
 pub bounded_depths : (g : List (List ℕ)) (n most : ℕ) (before passed : List ℕ) → n ≤ most → before ≡ depths_to g n → passed ≡ before → All (λ depth. depth ≤ most) passed
@@ -91,5 +91,5 @@ depths-length links n depths is = ap length is ∙ depths_to-length (links_in li
 -- a depth that is below the levels that it was followed through is that of a device that does not reach itself
 pub shallow_at : (links : List (Vec ℕ Global)) (n d : ℕ) (depths : List ℕ) → depths ≡ depths_to (links_in links) n → d < length depths → get_or depths d 0 < n → Reaches (links_in links) d d → ⊥
 shallow_at links n d depths is below shallow =
-    let inside : d < length (links_in links) = omega (arith, ap (λ (xs : List ℕ). length xs) is, depths_to-length (links_in links) n) in
+    let inside : d < length (links_in links) = omega (arith, ap length is, depths_to-length (links_in links) n) in
     depth_to-no_cycle (links_in links) n d (omega (arith, ap (λ (xs : List ℕ). get_or xs d 0) is, depths_to-at (links_in links) n d inside))

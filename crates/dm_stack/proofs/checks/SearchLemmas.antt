@@ -29,7 +29,7 @@ marked_same visited d below = get_or-set_same visited d true false below
 
 marked_kept : (visited : List Bool) (d e : ℕ) → d < length visited → IsVisited visited e → IsVisited (set visited d true) e
 marked_kept visited d e below is =
-    elim (cases_eq e d) [ inl same ↦ subst (λ (x : ℕ). IsVisited (set visited d true) x) (sym same) (marked_same visited d below) | inr other ↦ get_or-set_other visited d e true false other ∙ is ]
+    elim (cases_eq e d) [ inl same ↦ rw same (marked_same visited d below) | inr other ↦ get_or-set_other visited d e true false other ∙ is ]
 
 marked_only : (visited : List Bool) (d e : ℕ) → IsVisited (set visited d true) e → IsVisited visited e ⊎ (d ≡ e)
 marked_only visited d e is = elim (cases_eq e d) [ inl same ↦ inr (sym same) | inr other ↦ inl (sym (get_or-set_other visited d e true false other) ∙ is) ]
@@ -51,7 +51,7 @@ marks_whole n after before same is_n =
 -- one more is named, which is visited already
 skipped : (front : List ℕ) (x : ℕ) (before after : List Bool) (waited waits : List ℕ) → Visits front before after waited waits → IsVisited after x → Visits (front ++ x ∷ []) before after waited waits
 skipped front x before after waited waits so_far is =
-    let named : (e : ℕ) → Contains (front ++ x ∷ []) e → IsVisited after e = λ e there. elim (Contains-push_cases front x e there) [ inl earlier ↦ (so_far.marks e).1 (inr earlier) | inr same ↦ subst (λ (y : ℕ). IsVisited after y) same is ] in
+    let named : (e : ℕ) → Contains (front ++ x ∷ []) e → IsVisited after e = λ e there. elim (Contains-push_cases front x e there) [ inl earlier ↦ (so_far.marks e).1 (inr earlier) | inr same ↦ rw same at is ] in
     let only : (e : ℕ) → IsVisited after e → IsVisited before e ⊎ Contains (front ++ x ∷ []) e =
     λ e marked. elim ((so_far.marks e).0 marked) [ inl earlier ↦ inl earlier | inr there ↦ inr (Contains-append_left front (x ∷ []) e there) ] in
     record {
@@ -75,21 +75,21 @@ pushed front x before after waited waits so_far inside unmarked =
     let here = marked_same after x inside in
     let keep : (e : ℕ) → IsVisited after e → IsVisited (set after x true) e = λ e is. marked_kept after x e inside is in
     let named : (e : ℕ) → Contains (front ++ x ∷ []) e → IsVisited (set after x true) e =
-    λ e there. elim (Contains-push_cases front x e there) [ inl earlier ↦ keep e ((so_far.marks e).1 (inr earlier)) | inr same ↦ subst (λ (y : ℕ). IsVisited (set after x true) y) same here ] in
+    λ e there. elim (Contains-push_cases front x e there) [ inl earlier ↦ keep e ((so_far.marks e).1 (inr earlier)) | inr same ↦ rw (← same) here ] in
     let only : (e : ℕ) → IsVisited (set after x true) e → IsVisited before e ⊎ Contains (front ++ x ∷ []) e = λ e is. elim (marked_only after x e is) [
       | inl earlier ↦ elim ((so_far.marks e).0 earlier) [ inl old ↦ inl old | inr there ↦ inr (Contains-append_left front (x ∷ []) e there) ]
-      | inr same ↦ inr (subst (λ (y : ℕ). Contains (front ++ x ∷ []) y) same (Contains-push front x))
+      | inr same ↦ inr (rw (← same) (Contains-push front x))
     ] in
     record {
       marks = λ e. (only e, λ either. elim either [ inl earlier ↦ keep e ((so_far.marks e).1 (inl earlier)) | inr there ↦ named e there ]);
       still = λ e there. Contains-append_left waits (x ∷ []) e (so_far.still e there);
       fresh = λ e is. elim (marked_only after x e is) [
         | inl earlier ↦ elim (so_far.fresh e earlier) [ inl old ↦ inl old | inr there ↦ inr (Contains-append_left waits (x ∷ []) e there) ]
-        | inr same ↦ inr (subst (λ (y : ℕ). Contains (waits ++ x ∷ []) y) same (Contains-push waits x))
+        | inr same ↦ inr (rw (← same) (Contains-push waits x))
       ];
       only = λ e there. elim (Contains-push_cases waits x e there) [
         | inl earlier ↦ elim (so_far.only e earlier) [ inl old ↦ inl old | inr is ↦ inr (keep e is) ]
-        | inr same ↦ inr (subst (λ (y : ℕ). IsVisited (set after x true) y) same here)
+        | inr same ↦ inr (rw (← same) here)
       ];
       left = omega (arith, marked_left after x inside unmarked, length_push waits x, so_far.left);
     }
@@ -133,7 +133,7 @@ Searched-next g d next before after rest waits size search visit =
         | inl earlier ↦ elim (search.looked e earlier) [
           | inl waited ↦ elim (Contains-push_cases rest next e waited) [
             | inl still ↦ inl (visit.still e still)
-            | inr same ↦ inr (subst (λ (x : ℕ). (f : ℕ) → Names g x f → IsVisited after f) same next_named)
+            | inr same ↦ inr (rw same at next_named)
           ]
           | inr closed ↦ inr (λ f there. kept f (closed f there))
         ]
@@ -156,7 +156,7 @@ pub named_is : (links : List (Vec ℕ Global)) (d : ℕ) (named : Vec ℕ Global
 named_is links d named passed below is_named is_passed = is_passed ∙ sym (links_of-at links d named below is_named)
 
 pub named_inside : (g : List (List ℕ)) (d n : ℕ) (passed : List ℕ) → IsClosed g → passed ≡ links_of g d → n ≡ length g → (e : ℕ) → Contains passed e → e < n
-named_inside g d n passed closed is_passed is_n e there = omega (arith, closed d e (subst (λ (xs : List ℕ). Contains xs e) is_passed there))
+named_inside g d n passed closed is_passed is_n e there = omega (arith, closed d e (rw is_passed at there))
 
 -- one that waits is a device
 pub Searched-below : (links : List (Vec ℕ Global)) (d next : ℕ) (marks : List Bool) (waited rest : List ℕ) → Searched (links_in links) d marks waited → waited ≡ rest ++ next ∷ [] → next < length links
@@ -169,7 +169,7 @@ pub Searched-none : (g : List (List ℕ)) (d : ℕ) (visited : List Bool) (waiti
 Searched-none g d visited waiting read search none is_read unread reaches =
     let at_end : Searched g d visited [] = rw (← none) search in
     let is : IsVisited visited d = Searched-last g d d visited at_end reaches in
-    let not_is : get_or visited d false ≡ false = sym (subst (λ (b : Bool). b ≡ get_or visited d b) unread is_read) in
+    let not_is : get_or visited d false ≡ false = sym (rw unread at is_read) in
     absurd (true≢false (sym is ∙ not_is))
 
 -- the first visit, as the code makes it: in place, over all marks

@@ -116,7 +116,7 @@ depth_first g device = lt-leb _ 0 (omega arith)
 marked : (p : ℕ → Bool) (device : ℕ) (ids : List ℕ) (may : Bool) → (may ≡ false → p device ≡ false) → list_all p (ids ++ cond may [] (device ∷ [])) ≡ (may && list_all p ids)
 marked p device ids true barred = rw (append-nil ids)
 marked p device ids false barred =
-    list_all-append p ids (device ∷ []) ∙ ap (λ (b : Bool). list_all p ids && (b && true)) (barred refl) ∙ and_no (list_all p ids)
+    rw (list_all-append, barred, and_no)
   where
     and_no : (b : Bool) → (b && false) ≡ false
     and_no true = refl
@@ -125,7 +125,7 @@ marked p device ids false barred =
 barred_at : (stack : Description) (levels device : ℕ) → may_store (is_ro_at stack device) (lines_at stack device) ≡ false → is_store_device stack levels device ≡ false
 unfolding is_store_to
 barred_at stack zero device barred = refl
-barred_at stack (suc levels) device barred = store_step stack levels device ∙ ap (λ (may : Bool). may && list_all (is_store_device stack levels) (links_of (links stack) device)) barred
+barred_at stack (suc levels) device barred = rw (store_step, barred)
 
 links_there : (stack : Description) (device : ℕ) → device < length stack.devices → links_of (store_links stack) device ≡ store_links_at stack device
 links_there stack device within = get_or-map-range_with_len (store_links_at stack) 0 (length stack.devices) device device [] within (omega arith)
@@ -139,12 +139,11 @@ all_marked stack levels device = by_place (cases_lt device (length stack.devices
   where
     by_place : (device < length stack.devices) ⊎ (length stack.devices ≤ device) → list_all (is_store_device stack levels) (links_of (store_links stack) device) ≡ (may_store (is_ro_at stack device) (lines_at stack device) && list_all (is_store_device stack levels) (links_of (links stack) device))
     by_place (inl within) =
-        ap (λ (ids : List ℕ). list_all (is_store_device stack levels) ids) (links_there stack device within)
-        ∙ marked (is_store_device stack levels) device (links_of (links stack) device) (may_store (is_ro_at stack device) (lines_at stack device)) (barred_at stack levels device)
+        rw links_there (marked (is_store_device stack levels) device (links_of (links stack) device) (may_store (is_ro_at stack device) (lines_at stack device)) (barred_at stack levels device))
     by_place (inr past) =
         let none = slice_get_past stack.devices device past in
         let named = named_lines stack stack.devices device in
-        ap (λ (ids : List ℕ). list_all (is_store_device stack levels) ids) (links_past stack device past) ∙ rw (named, none)
+        rw (links_past, named, none)
 
 pub store_depth : (stack : Description) (levels device : ℕ) → nat_le (depth_to (store_links stack) (suc levels) device) levels ≡ is_store_device stack levels device
 unfolding is_store_to
@@ -176,10 +175,10 @@ closed_stores stack closed d e named = by_place (cases_lt d (length stack.device
 
     by_place : (d < length stack.devices) ⊎ (length stack.devices ≤ d) → e < length (store_links stack)
     by_place (inl within) =
-        let here = subst (λ (ids : List ℕ). Contains ids e) (links_there stack d within) named in
+        let here = rw links_there at named in
         let below = closed_marked d e (length stack.devices) _ (links_of (links stack) d) within (λ other is. let inside = closed d other is in omega (arith, inside, length-map stack.devices (device_links stack))) here in
         omega (arith, below, count)
-    by_place (inr past) = let here = subst (λ (ids : List ℕ). Contains ids e) (links_past stack d past) named in absurd (omega (arith, here.1))
+    by_place (inr past) = let here = rw links_past at named in absurd (omega (arith, here.1))
 
 -- The depths that were counted
 
@@ -192,7 +191,7 @@ past_store stack device past =
 shallow_same : (stack : Description) (depths : List ℕ) (lower : Lower) → depths ≡ depths_to (store_links stack) 33 → is_shallow depths lower ≡ is_store_to stack 32 lower
 unfolding is_store_to
 shallow_same stack depths (Disk disk) is = refl
-shallow_same stack depths (Device device) is = ap (λ (all : List ℕ). nat_le (get_or all device 0) 32) is ∙ by_place (cases_lt device (length stack.devices))
+shallow_same stack depths (Device device) is = cc (by_place (cases_lt device (length stack.devices)))
   where
     count : length (store_links stack) ≡ length stack.devices
     count = length-map-range_with_len (store_links_at stack) 0 (length stack.devices)
@@ -221,10 +220,7 @@ store_links_here stack id device named links_at within is below is_links are =
 pub store_links_next : (stack : Description) (id : ℕ) (device : DeviceSpec) (named before : List (Vec ℕ Global)) (links_at new : Vec ℕ Global) → id < length stack.devices → device ≡ get_or stack.devices id device → id < length named → links_at ≡ get_or named id links_at → links_in named ≡ links stack
     → links_in before ≡ map (store_links_at stack) (range_with_len 0 id) → new.items ≡ store_links_of (may_store device.ro device.lines) id links_at.items → links_in (before ++ new ∷ []) ≡ map (store_links_at stack) (range_with_len 0 (id + 1))
 store_links_next stack id device named before links_at new within is below is_links are earlier made =
-    map-append (λ (v : Vec ℕ Global). v.items) before (new ∷ [])
-    ∙ ap (λ (all : List (List ℕ)). all ++ new.items ∷ []) earlier
-    ∙ ap (λ (ids : List ℕ). map (store_links_at stack) (range_with_len 0 id) ++ ids ∷ []) (made ∙ store_links_here stack id device named links_at within is below is_links are)
-    ∙ sym (map-range_with_len_more (store_links_at stack) 0 id id (omega arith))
+    cc (map-append (λ (v : Vec ℕ Global). v.items) before (new ∷ []), store_links_here stack id device named links_at within is below is_links are, map-range_with_len_more (store_links_at stack) 0 id id (omega arith))
 
 pub links_length : (stack : Description) (named : List (Vec ℕ Global)) → links_in named ≡ links stack → length named ≡ length stack.devices
 links_length stack named are =

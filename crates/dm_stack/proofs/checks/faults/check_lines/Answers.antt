@@ -11,12 +11,12 @@ returns-in_err-check_each g c test computes =
     let p = err_from_is_err_and c.from_residual.result c.from_residual.ensures.1 in
     let of_lines = c.in_err-check_each.ensures test (λ line bad called. computes line bad (record { shown = called.shown; shows = called.shows; says = record { met = called.says.met } })) in
     let here : first_or (faults_by c.args.kind (λ line. line.at) test c.device-item.result.lines) None ≡ Some c.in_err-check_each.field-0.0 =
-    ap (λ (lines : List Line). first_or (faults_by c.args.kind (λ line. line.at) test lines) None) (sym c.as_slice.ensures) ∙ sym of_lines in
+    cc in
     rw (p.1, p.2) (sym (device_stops c.args.kind test c.args.devices.now c.loop-device.device-index c.device-item.result _ c.loop-device-test.true c.device-item.is here) ∙ c.loop-device.invariant test computes)
 
 pub loop-device-preserved : goal.loop-device-preserved
 loop-device-preserved g c test computes =
     let of_lines = c.in_ok-check_each.ensures test (λ line bad called. computes line bad (record { shown = called.shown; shows = called.shows; says = record { met = called.says.met } })) in
     let here : first_or (faults_by c.args.kind (λ line. line.at) test c.device-item.result.lines) None ≡ None =
-    ap (λ (lines : List Line). first_or (faults_by c.args.kind (λ line. line.at) test lines) None) (sym c.as_slice.ensures) ∙ sym of_lines in
+    cc in
     device_passes c.args.kind test c.args.devices.now c.loop-device.device-index c.device-item.result c.loop-device-test.true c.device-item.is here ∙ c.loop-device.invariant test computes

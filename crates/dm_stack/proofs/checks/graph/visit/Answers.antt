@@ -20,10 +20,10 @@ loop-device-preserved c =
       | then-not-visited-device+in_ok-push w ↦
           let inside : get_or named index 0 < length c.loop-device.visited = omega (arith, c.requires (get_or named index 0) (Contains-get_or named index 0 c.loop-device-test.true)) in
           Visits-push named index c.args.visited.now c.loop-device.visited c.if-not-visited-device.visited c.args.waiting.now.items c.loop-device.waiting.items c.if-not-visited-device.waiting.items c.loop-device-test.true c.loop-device.invariant inside w.if-not-visited-device.true w.visited-is (
-          ap (λ (v : Vec ℕ Global). v.items) w.waiting-is ∙ w.in_ok-push.ensures.items
+          rw w.waiting-is w.in_ok-push.ensures.items
           )
       | else-not-visited-device w ↦
           Visits-skip named index c.args.visited.now c.loop-device.visited c.if-not-visited-device.visited c.args.waiting.now.items c.loop-device.waiting.items c.if-not-visited-device.waiting.items c.loop-device-test.true c.loop-device.invariant w.if-not-visited-device.false w.visited-is (
-          ap (λ (v : Vec ℕ Global). v.items) w.waiting-is
+          cc
           )
     ]

@@ -15,7 +15,7 @@ pub loop-line-preserved : goal.loop-line-preserved
 loop-line-preserved c =
     record {
       end = sym (end_of-next c.args.lines.now c.loop-line.line-index c.line-item.result c.loop-line-test.true c.line-item.is);
-      left = ap (λ faults. first_or faults None) (placed_here c.args.lines.now c.loop-line.line-index c.loop-line.end c.line-item.result c.loop-line-test.true c.line-item.is c.loop-line.invariant.end c.if-end-line.false c.if-line-end.false) ∙ c.loop-line.invariant.left;
+      left = cc (placed_here c.args.lines.now c.loop-line.line-index c.loop-line.end c.line-item.result c.loop-line-test.true c.line-item.is c.loop-line.invariant.end c.if-end-line.false c.if-line-end.false);
     }
 
 pub returns : goal.returns

@@ -6,7 +6,7 @@ use Rattle.dm_stack.proofs.checks.limits.line_at.Goals as goal
 
 pub returns-then-left-lines : goal.returns-then-left-lines
 returns-then-left-lines c =
-    let lines = ap (λ xs. length xs) c.as_slice-lines.ensures in
+    let lines = ap length c.as_slice-lines.ensures in
     let within : c.loop-device.device-index < length c.args.devices.now = c.loop-device-test.true in
     let inside : c.loop-device.left < length c.device-item.result.lines = rw (← c.as_slice-lines.ensures) c.if-left-lines.true in
     let here : slice_get c.device-item.result.lines c.loop-device.left ≡ Some c.index-lines-left.result = rw (← c.as_slice-lines.ensures) (slice_get_read _ _ _ _ refl c.if-left-lines.true c.index-lines-left.is) in

@@ -74,8 +74,8 @@ returns-in_err-check_cycles-clause-fault c =
     let stack : Description = record { devices = c.args.devices.now; disks = c.args.disks.now } in
     let p = err_from_is_err_and c.from_residual-in_err-check_cycles.result c.from_residual-in_err-check_cycles.ensures.1 in
     let is = c.new-stack.ensures in
-    let before = early_passed stack (sym c.in_ok-check_counts.ensures, (sym c.in_ok-check_numbers.ensures, (c.in_ok-names.ensures.apart, (sym c.in_ok-check_lengths.ensures, (sym c.in_ok-check_starts.ensures, (ap (λ (described : Description). first_or (unknown described) None) (sym is) ∙ sym c.in_ok-check_references.ensures, tt)))))) in
-    rw (p.1, p.2) (inl (OnCycle before (subst (λ (described : Description). IsFirstCycle described c.in_err-check_cycles.field-0.0) is c.in_err-check_cycles.ensures.fault)))
+    let before = early_passed stack (sym c.in_ok-check_counts.ensures, (sym c.in_ok-check_numbers.ensures, (c.in_ok-names.ensures.apart, (sym c.in_ok-check_lengths.ensures, (sym c.in_ok-check_starts.ensures, (cc c.in_ok-check_references.ensures, tt)))))) in
+    rw (p.1, p.2) (inl (OnCycle before (rw is at c.in_err-check_cycles.ensures.fault)))
 
 pub check_cycles-requires : goal.check_cycles-requires
 check_cycles-requires c = made_ok c.follow.result c.in_ok-graph.graph (λ graph. IsFirstRing (links c.new-stack.result) graph.cycle) c.in_ok-graph.ensures.made c.follow.ensures.cycle
@@ -101,13 +101,13 @@ passed c =
     let is = c.new-stack.ensures in
     record {
       same = is;
-      before = early_passed stack (sym c.in_ok-check_counts.ensures, (sym c.in_ok-check_numbers.ensures, (c.in_ok-names.ensures.apart, (sym c.in_ok-check_lengths.ensures, (sym c.in_ok-check_starts.ensures, (ap (λ (described : Description). first_or (unknown described) None) (sym is) ∙ sym c.in_ok-check_references.ensures, tt))))));
-      acyclic = subst (λ (described : Description). HasNoCycle described) is c.in_ok-check_cycles.ensures.passed;
-      told = told_deep stack c.deref.result.now stack.devices (subst (λ (described : Description). c.deref.result.now ≡ depths_to (links described) 33) is (depths_are c)) refl;
+      before = early_passed stack (sym c.in_ok-check_counts.ensures, (sym c.in_ok-check_numbers.ensures, (c.in_ok-names.ensures.apart, (sym c.in_ok-check_lengths.ensures, (sym c.in_ok-check_starts.ensures, (cc c.in_ok-check_references.ensures, tt))))));
+      acyclic = rw is at c.in_ok-check_cycles.ensures.passed;
+      told = told_deep stack c.deref.result.now stack.devices (rw is at (depths_are c)) refl;
     }
 
 pub check_depths-requires : goal.check_depths-requires
-check_depths-requires c = depth_each c.new-stack.result c.deref.result.now (depths_are c) ∙ ap (λ (described : Description). length described.devices) c.new-stack.ensures
+check_depths-requires c = rw (depth_each c.new-stack.result c.deref.result.now (depths_are c), c.new-stack.ensures)
 
 pub returns-in_err-check_depths-clause-fault : goal.returns-in_err-check_depths-clause-fault
 returns-in_err-check_depths-clause-fault c =
@@ -125,25 +125,25 @@ pub returns-in_err-check_ranges-clause-fault : goal.returns-in_err-check_ranges-
 returns-in_err-check_ranges-clause-fault c =
     let p = err_from_is_err_and c.from_residual-in_err-check_ranges.result c.from_residual-in_err-check_ranges.ensures.1 in
     let k = passed (goal.at.returns-in_err-check_ranges-clause-fault c).After-deref in
-    rw (p.1, p.2) (inl (refused_late _ 2 _ k.before k.acyclic (sym k.told ∙ sym c.in_ok-check_depths.ensures, (sym c.in_ok-check_stripes.ensures, tt)) (ap (λ (described : Description). first_or (range described) None) (sym k.same) ∙ sym c.in_err-check_ranges.ensures)))
+    rw (p.1, p.2) (inl (refused_late _ 2 _ k.before k.acyclic (sym k.told ∙ sym c.in_ok-check_depths.ensures, (sym c.in_ok-check_stripes.ensures, tt)) (cc (k.same, c.in_err-check_ranges.ensures))))
 
 pub returns-in_err-check_snapshots-clause-fault : goal.returns-in_err-check_snapshots-clause-fault
 returns-in_err-check_snapshots-clause-fault c =
     let p = err_from_is_err_and c.from_residual-in_err-check_snapshots.result c.from_residual-in_err-check_snapshots.ensures.1 in
     let k = passed (goal.at.returns-in_err-check_snapshots-clause-fault c).After-deref in
-    rw (p.1, p.2) (inl (refused_late _ 3 _ k.before k.acyclic (sym k.told ∙ sym c.in_ok-check_depths.ensures, (sym c.in_ok-check_stripes.ensures, (ap (λ (described : Description). first_or (range described) None) (sym k.same) ∙ sym c.in_ok-check_ranges.ensures, tt))) (ap (λ (described : Description). first_or (snapshot described) None) (sym k.same) ∙ sym c.in_err-check_snapshots.ensures)))
+    rw (p.1, p.2) (inl (refused_late _ 3 _ k.before k.acyclic (sym k.told ∙ sym c.in_ok-check_depths.ensures, (sym c.in_ok-check_stripes.ensures, (cc (k.same, c.in_ok-check_ranges.ensures), tt))) (cc (k.same, c.in_err-check_snapshots.ensures))))
 
 pub returns-in_err-check_stores-clause-fault : goal.returns-in_err-check_stores-clause-fault
 returns-in_err-check_stores-clause-fault c =
     let p = err_from_is_err_and c.from_residual-in_err-check_stores.result c.from_residual-in_err-check_stores.ensures.1 in
     let k = passed (goal.at.returns-in_err-check_stores-clause-fault c).After-deref in
-    rw (p.1, p.2) (inl (refused_late _ 4 _ k.before k.acyclic (sym k.told ∙ sym c.in_ok-check_depths.ensures, (sym c.in_ok-check_stripes.ensures, (ap (λ (described : Description). first_or (range described) None) (sym k.same) ∙ sym c.in_ok-check_ranges.ensures, (ap (λ (described : Description). first_or (snapshot described) None) (sym k.same) ∙ sym c.in_ok-check_snapshots.ensures, tt)))) (ap (λ (described : Description). first_or (store described) None) (sym k.same) ∙ sym c.in_err-check_stores.ensures)))
+    rw (p.1, p.2) (inl (refused_late _ 4 _ k.before k.acyclic (sym k.told ∙ sym c.in_ok-check_depths.ensures, (sym c.in_ok-check_stripes.ensures, (cc (k.same, c.in_ok-check_ranges.ensures), (cc (k.same, c.in_ok-check_snapshots.ensures), tt)))) (cc (k.same, c.in_err-check_stores.ensures))))
 
 pub returns-in_err-check_places-clause-fault : goal.returns-in_err-check_places-clause-fault
 returns-in_err-check_places-clause-fault c =
     let p = err_from_is_err_and c.from_residual-in_err-check_places.result c.from_residual-in_err-check_places.ensures.1 in
     let k = passed (goal.at.returns-in_err-check_places-clause-fault c).After-deref in
-    rw (p.1, p.2) (inl (refused_late _ 5 _ k.before k.acyclic (sym k.told ∙ sym c.in_ok-check_depths.ensures, (sym c.in_ok-check_stripes.ensures, (ap (λ (described : Description). first_or (range described) None) (sym k.same) ∙ sym c.in_ok-check_ranges.ensures, (ap (λ (described : Description). first_or (snapshot described) None) (sym k.same) ∙ sym c.in_ok-check_snapshots.ensures, (ap (λ (described : Description). first_or (store described) None) (sym k.same) ∙ sym c.in_ok-check_stores.ensures, tt))))) (ap (λ (described : Description). first_or (crowded described) None) (sym k.same) ∙ sym c.in_err-check_places.ensures)))
+    rw (p.1, p.2) (inl (refused_late _ 5 _ k.before k.acyclic (sym k.told ∙ sym c.in_ok-check_depths.ensures, (sym c.in_ok-check_stripes.ensures, (cc (k.same, c.in_ok-check_ranges.ensures), (cc (k.same, c.in_ok-check_snapshots.ensures), (cc (k.same, c.in_ok-check_stores.ensures), tt))))) (cc (k.same, c.in_err-check_places.ensures))))
 
 pub check_starts-requires : goal.check_starts-requires
 check_starts-requires c =
@@ -189,12 +189,11 @@ returns-clause-loaded c =
     let k = passed (goal.at.returns-clause-loaded c).After-deref in
     record {
       sound = are_sound _ k.before k.acyclic
-          (sym k.told ∙ sym c.in_ok-check_depths.ensures, (sym c.in_ok-check_stripes.ensures, (ap (λ (described : Description). first_or (range described) None) (sym k.same) ∙ sym c.in_ok-check_ranges.ensures, (ap (λ (described : Description). first_or (snapshot described) None) (sym k.same) ∙ sym c.in_ok-check_snapshots.ensures, (ap (λ (described : Description). first_or (store described) None) (sym k.same) ∙ sym c.in_ok-check_stores.ensures, (ap (λ (described : Description). first_or (crowded described) None) (sym k.same) ∙ sym c.in_ok-check_places.ensures, tt))))));
+          (sym k.told ∙ sym c.in_ok-check_depths.ensures, (sym c.in_ok-check_stripes.ensures, (cc (k.same, c.in_ok-check_ranges.ensures), (cc (k.same, c.in_ok-check_snapshots.ensures), (cc (k.same, c.in_ok-check_stores.ensures), (cc (k.same, c.in_ok-check_places.ensures), tt))))));
       device_names = c.in_ok-names.ensures.devices;
       disk_names = c.in_ok-names.ensures.disks;
       found =
-          made_ok c.found_devices.result c.in_ok-found.found (λ found. found.items ≡ map (found_device c.new-stack.result) c.new-stack.result.devices) c.in_ok-found.ensures.made c.found_devices.ensures
-          ∙ ap (λ (stack : Description). map (found_device stack) stack.devices) k.same;
+          rw (made_ok c.found_devices.result c.in_ok-found.found (λ found. found.items ≡ map (found_device c.new-stack.result) c.new-stack.result.devices) c.in_ok-found.ensures.made c.found_devices.ensures, k.same);
       depth =
           c.deepest.ensures ∙ ap greatest (c.deref-3.ensures.value ∙ sym c.deref.ensures.value) ∙ deepest_is c.new-stack.result c.deref.result.now (depths_are (goal.at.returns-clause-loaded c).After-deref) ∙ ap stack_depth k.same;
       snapshots = made_ok c.snapshots.result c.in_ok-snapshots.snapshots (λ ids. ids.items ≡ snapshots (record { devices = c.args.devices.now; disks = [] })) c.in_ok-snapshots.ensures.made c.snapshots.ensures;

@@ -7,9 +7,9 @@ use Rattle.dm_stack.proofs.checks.load.check_cycles.Goals as goal
 
 pub returns-in-Some-clause-fault : goal.returns-in-Some-clause-fault
 returns-in-Some-clause-fault c =
-    let ring = subst (λ (found : Option ℕ). IsFirstRing (links c.args.stack.now) found) c.in-Some.is c.requires in
+    let ring = rw c.in-Some.is at c.requires in
     ring_fault c.args.stack.now c.in-Some.device (get_or c.devices.result.now c.in-Some.device c.index-devices-device.result) c.index-devices-device.result ring
-    (ap (λ (devices : List DeviceSpec). get_or devices c.in-Some.device c.index-devices-device.result) c.devices.ensures.devices)
+    (cc)
 
 pub returns-in-None-clause-passed : goal.returns-in-None-clause-passed
-returns-in-None-clause-passed c = no_ring c.args.stack.now (subst (λ (found : Option ℕ). IsFirstRing (links c.args.stack.now) found) c.in-None.is c.requires)
+returns-in-None-clause-passed c = no_ring c.args.stack.now (rw c.in-None.is at c.requires)

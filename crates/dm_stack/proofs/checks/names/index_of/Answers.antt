@@ -23,17 +23,16 @@ loop-item-preserved g c =
     let place = g.T.Placed.place_of in
     let new : seen_in (name c.item-item.result) c.loop-item.names ≡ false = rw (← c.name.ensures) (not-true _ (sym c.in-Ok-true.ensures.new ∙ c.in-Ok-true.field-0-test)) in
     let added : c.add.new.self ≡ c.loop-item.names ++ name c.item-item.result ∷ [] =
-    c.in-Ok-true.ensures.added ∙ ap (λ (b : Bool). cond b (c.loop-item.names ++ c.name.result.now ∷ []) c.loop-item.names) c.in-Ok-true.field-0-test ∙ ap (λ (text : List ℕ). c.loop-item.names ++ text ∷ []) c.name.ensures in
+    cc (c.in-Ok-true.ensures.added, c.in-Ok-true.field-0-test, c.name.ensures) in
     record {
-      left = ap (λ (faults : List LoadFault). first_or faults None) (stands_once name place c.args.list.now c.loop-item.item-index c.item-item.result _ c.loop-item-test.true c.item-item.is c.loop-item.invariant.indexed new) ∙ c.loop-item.invariant.left;
+      left = cc (stands_once name place c.args.list.now c.loop-item.item-index c.item-item.result _ c.loop-item-test.true c.item-item.is c.loop-item.invariant.indexed new);
       indexed =
-          added ∙ ap (λ (names : List (List ℕ)). names ++ name c.item-item.result ∷ []) c.loop-item.invariant.indexed
-          ∙ sym (names_more name c.args.list.now c.loop-item.item-index c.item-item.result c.loop-item-test.true c.item-item.is);
+          cc (names_more name c.args.list.now c.loop-item.item-index c.item-item.result c.loop-item-test.true c.item-item.is);
     }
 
 pub returns : goal.returns
 returns g c =
     let name = g.T.Named.name_of in
     let none : first_or (twice_in name g.T.Placed.place_of c.args.list.now) None ≡ None =
-    sym c.loop-item.invariant.left ∙ ap (λ (faults : List LoadFault). first_or faults None) (stands_nowhere name g.T.Placed.place_of c.args.list.now c.loop-item.item-index c.loop-item-test.false) in
-    ap (λ (fault : Option LoadFault). unless fault (map name c.args.list.now)) none ∙ ap Ok (sym (c.loop-item.invariant.indexed ∙ ap (map name) (take_all c.loop-item.item-index c.args.list.now c.loop-item-test.false)))
+    rw (← c.loop-item.invariant.left, stands_nowhere name g.T.Placed.place_of c.args.list.now c.loop-item.item-index c.loop-item-test.false) in
+    rw (none, ← take_all c.loop-item.item-index c.args.list.now c.loop-item-test.false, ← c.loop-item.invariant.indexed)

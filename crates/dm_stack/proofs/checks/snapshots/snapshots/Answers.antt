@@ -6,6 +6,4 @@ use Rattle.dm_stack.proofs.checks.snapshots.snapshots.Goals as goal
 
 pub loop-id-preserved : goal.loop-id-preserved
 loop-id-preserved c =
-    c.in_ok-add_snapshot.ensures ∙ ap (λ (lines : List Line). c.loop-id.ids.items ++ cond (has_snapshot lines) (c.loop-id.id ∷ []) []) c.as_slice.ensures
-    ∙ ap (λ (ids : List ℕ). ids ++ cond (has_snapshot c.index-devices-id.result.lines) (c.loop-id.id ∷ []) []) c.loop-id.invariant
-    ∙ sym (ids_next c.args.devices.now c.loop-id.id c.index-devices-id.result c.loop-id-test.true c.index-devices-id.is)
+    rw (c.in_ok-add_snapshot.ensures, c.as_slice.ensures, c.loop-id.invariant, ← ids_next c.args.devices.now c.loop-id.id c.index-devices-id.result c.loop-id-test.true c.index-devices-id.is)

@@ -10,6 +10,4 @@ use Rattle.dm_stack.proofs.checks.stores.check_stores.Goals as goal
 
 pub returns : goal.returns
 returns c =
-    c.check_lines.ensures (λ line. has_deep_store c.args.stack.now c.args.depths.now line.target) (λ line bad called. search (rules, tests))
-    ∙ ap (λ (devices : List DeviceSpec). first_or (faults_by Store (λ line. line.at) (λ line. has_deep_store c.args.stack.now c.args.depths.now line.target) (all_lines devices)) None) c.devices.ensures.devices
-    ∙ ap (λ (faults : List LoadFault). first_or faults None) (deep_stores c.args.stack.now c.args.depths.now c.requires)
+    cc (c.check_lines.ensures (λ line. has_deep_store c.args.stack.now c.args.depths.now line.target) (λ line bad called. search (rules, tests)), deep_stores c.args.stack.now c.args.depths.now c.requires)

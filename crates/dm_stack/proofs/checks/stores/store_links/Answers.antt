@@ -6,16 +6,16 @@ use Rattle.dm_stack.proofs.checks.StoreLemmas.{links_length, store_links_next}
 use Rattle.dm_stack.proofs.checks.stores.store_links.Goals as goal
 
 pub bounds-named-id : goal.bounds-named-id
-bounds-named-id c = omega (arith, c.loop-id-test.true, links_length c.args.stack.now c.args.named.now c.requires, ap (λ (devices : List DeviceSpec). length devices) c.devices-device-items.ensures.devices)
+bounds-named-id c = omega (arith, c.loop-id-test.true, links_length c.args.stack.now c.args.named.now c.requires, ap length c.devices-device-items.ensures.devices)
 
 pub loop-id-preserved : goal.loop-id-preserved
 loop-id-preserved c =
     let id = c.loop-id.id in
     let device = c.device-item.result in
-    let count = ap (λ (devices : List DeviceSpec). length devices) c.devices-device-items.ensures.devices in
+    let count = ap length c.devices-device-items.ensures.devices in
     let within : id < length c.args.stack.now.devices = omega (arith, c.loop-id-test.true, count) in
     let below : id < length c.args.named.now = omega (arith, within, links_length c.args.stack.now c.args.named.now c.requires) in
-    let is : device ≡ get_or c.args.stack.now.devices id device = c.device-item.is ∙ ap (λ (devices : List DeviceSpec). get_or devices id device) c.devices-device-items.ensures.devices in
+    let is : device ≡ get_or c.args.stack.now.devices id device = cc in
     ap links_in c.in_ok-push.ensures.items
     ∙ store_links_next c.args.stack.now id device c.args.named.now c.loop-id.marked.items c.index-named-id.result c.in_ok-store_links_of.field-0 within is below c.index-named-id.is c.requires c.loop-id.invariant
-    (c.in_ok-store_links_of.ensures ∙ ap (λ (may : Bool). store_links_of may id c.index-named-id.result.items) c.may_store.ensures)
+    (cc (c.in_ok-store_links_of.ensures, c.may_store.ensures))
