@@ -92,7 +92,7 @@ stands_nowhere own place xs i past = let none = none-with_before xs i past in rw
 
 -- what is returned where a name stands twice
 pub refused_twice : {Y : Type 0} (part : Part) (place : Place) (found : Option LoadFault) (value : Y) → found ≡ Some (fault Twice place) → (Twice ≡ Memory → IsMemoryFault part (fault Twice place)) × (Twice ≢ Memory → unless found value ≡ Err (fault Twice place))
-refused_twice {Y} part place found value e = (λ memory. absurd cc, λ other. ap (λ (o : Option LoadFault). unless o value) e)
+refused_twice {Y} part place found value e = (λ memory. absurd cc, λ other. cc)
 
 -- Names that are looked up, by the elements that have them
 

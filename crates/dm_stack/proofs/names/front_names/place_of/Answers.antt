@@ -7,7 +7,7 @@ use Rattle.dm_stack.proofs.names.front_names.place_of.Goals as goal
 pub returns : goal.returns
 returns c = λ short. record {
   name = c.index-devices-index.result.name;
-  key = subst (λ text. IsKeyOf text c.of.result) (c.as_bytes.ensures.value ∙ c.as_str.ensures.text ∙ ap (λ (device : DeviceSpec). device.name) (sym c.index-devices-index.is)) (c.of.ensures short);
+  key = rw (c.index-devices-index.is, ← c.as_str.ensures.text, ← c.as_bytes.ensures.value) (c.of.ensures short);
   named = search rules;
   found =
       c.requires.apart c.args.index c.index-devices-index.result (slice_get_read c.args.devices.now _ c.args.index c.index-devices-index.result refl c.requires.within c.index-devices-index.is)

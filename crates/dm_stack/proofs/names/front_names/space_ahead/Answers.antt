@@ -12,8 +12,4 @@ returns-in-Some-clause-space c =
     let shown = c.in_ok-get.ensures.lookup.0 in
     let chunk = c.in_ok-room.ensures.cases in
     let size : length rest + from ≡ length text = shown.3 in
-    sym (get_or-chunk from (length text - from) text at 0 (omega (arith, size, chunk.enough, c.in-Some.ensures.within)))
-    ∙ ap (λ (xs : List ℕ). get_or xs at 0) (sym shown.2)
-    ∙ sym (get_or-take 16 rest at 0 c.in-Some.ensures.within)
-    ∙ ap (λ (xs : List ℕ). get_or xs at 0) (sym chunk.same)
-    ∙ c.in-Some.ensures.space
+    rw (← get_or-chunk from (length text - from) text at 0 (omega (arith, size, chunk.enough, c.in-Some.ensures.within)), ← shown.2, ← get_or-take 16 rest at 0 c.in-Some.ensures.within, ← chunk.same) c.in-Some.ensures.space

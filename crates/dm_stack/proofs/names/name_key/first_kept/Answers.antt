@@ -29,4 +29,4 @@ returns c =
     let room = c.args.room.now in
     let len = c.args.len in
     let kept = c.as_room-kept.ensures ∙ kept_are len c.requires in
-    ap (λ (mask : List ℕ). zip2 (λ a b. bit_and a b) room mask) kept ∙ and_kept room len (16 - len) (omega (arith, c.told-room, c.requires)) c.fits-room
+    cc (and_kept room len (16 - len) (omega (arith, c.told-room, c.requires)) c.fits-room)

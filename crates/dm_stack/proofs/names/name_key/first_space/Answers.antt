@@ -16,8 +16,7 @@ bits_of room = mask_l (map (top 7) (zip2 (λ a b. cond (nat_eq a b) 255 0) room 
 
 spaces_are : (room : List ℕ) → length room ≡ 16 → bits_of room ≡ mask_l (map (λ x. nat_eq x 32) room)
 spaces_are room long =
-    ap (λ bits. mask_l bits % 2 ^ 64) (tops_compared w8 nat_eq room (replicate 16 32) ∙ zip2_splat nat_eq room 16 32 long)
-    ∙ mask_l-mod (map (λ x. nat_eq x 32) room) 64 (omega (arith, length-map room (λ x. nat_eq x 32), long))
+    cc (tops_compared w8 nat_eq room (replicate 16 32), zip2_splat nat_eq room 16 32 long, mask_l-mod (map (λ x. nat_eq x 32) room) 64 (omega (arith, length-map room (λ x. nat_eq x 32), long)))
 
 -- the first of them
 first_is : (room : List ℕ) (at : ℕ) → length room ≡ 16 → (bits_of room ≡ 0 → ⊥) → at ≡ count_trailing_zeros 64 (bits_of room) → (at < 16) × (get_or room at 0 ≡ 32)
@@ -27,7 +26,7 @@ first_is room at long others is =
     let place : at ≡ prefix_len (λ x. not (nat_eq x 32)) room = is ∙ ap (count_trailing_zeros 64) bits ∙ trailing_mask_l (λ x. nat_eq x 32) 64 room (omega (arith, long)) some in
     let within = some_lane (λ x. nat_eq x 32) room some in (
       omega (arith, place, within, long),
-      eqb-true (get_or room at 0) 32 (subst (λ (k : ℕ). nat_eq (get_or room k 0) 32 ≡ true) (sym place) (passes_at_first (λ x. nat_eq x 32) room 0 within)),
+      eqb-true (get_or room at 0) 32 (rw place (passes_at_first (λ x. nat_eq x 32) room 0 within)),
     )
 
 pub returns-clause-within : goal.returns-clause-within

@@ -12,15 +12,14 @@ pub loop-place-init : goal.loop-place-init
 loop-place-init c =
     let places = c.as_slice-places.result.now in
     let part = c.in_ok-place-items.place-items.now in (
-      subst (λ (xs : List Place). All (Contains xs) part) (c.as_slice-places.ensures ∙ ap (λ (names : Fronts). names.places) c.self.view_is)
-          (part_of places c.in_ok-ahead.ahead.now part c.first_place.result 8 c.in_ok-ahead.ensures.lookup.0.2 c.in_ok-place-items.ensures.lookup.0.2),
+      rw (← c.self.view_is, ← c.as_slice-places.ensures) (part_of places c.in_ok-ahead.ahead.now part c.first_place.result 8 c.in_ok-ahead.ensures.lookup.0.2 c.in_ok-place-items.ensures.lookup.0.2),
       λ i d none same. absurd (omega (arith, none)),
     )
 
 pub returns-then-is-clause-found : goal.returns-then-is-clause-found
 returns-then-is-clause-found c =
     let place = c.place-item.result in
-    subst (Contains c.args.self.now.places) (sym c.place-item.is ∙ ap (λ (key : NameKey). record { key = key; device = place.device }) (c.if-is.ensures.0 refl))
+    subst (Contains c.args.self.now.places) (rw (← c.place-item.is, c.if-is.ensures.0 refl))
     (c.loop-place.invariant.0 c.loop-place.place-index place c.loop-place-test.true)
 
 false_true : false ≡ true → ⊥
@@ -34,8 +33,8 @@ loop-place-preserved c =
         | inl before ↦ c.loop-place.invariant.1 i d before same
         | inr here ↦
             let at : i ≡ c.loop-place.place-index = omega (arith, within, here) in
-            let it : get_or items i d ≡ c.place-item.result = ap (λ (n : ℕ). get_or items n d) at ∙ get_or_default items c.loop-place.place-index d c.place-item.result c.loop-place-test.true ∙ sym c.place-item.is in
-            false_true (sym c.if-is.false ∙ c.is.ensures.1 (ap (λ (place : Place). place.key) (sym it) ∙ same))
+            let it : get_or items i d ≡ c.place-item.result = cc (get_or_default items c.loop-place.place-index d c.place-item.result c.loop-place-test.true) in
+            false_true (sym c.if-is.false ∙ c.is.ensures.1 (cc))
       ],
     )
 
@@ -45,19 +44,15 @@ returns-clause-none c =
     let ahead = c.in_ok-ahead.ensures.lookup.0 in
     let items = c.in_ok-place-items.ensures.lookup.0 in
     let is : c.in_ok-place-items.place-items.now ≡ tried c.args.self.now c.args.key.now =
-    part_at c.as_slice-places.result.now c.in_ok-ahead.ahead.now c.in_ok-place-items.place-items.now c.first_place.result ahead.2 items.2
-    ∙ ap (λ (n : ℕ). take 8 (drop n c.as_slice-places.result.now)) c.first_place.ensures
-    ∙ ap (λ (places : List Place). take 8 (drop (first_place c.args.key.now c.self.inside.shift) places)) c.as_slice-places.ensures
-    ∙ ap (λ (names : Fronts). tried names c.args.key.now) c.self.view_is in
-    subst (λ (places : List Place). All (λ place. place.key ≢ c.args.key.now) places) is
-    (λ i d within. c.loop-place.invariant.1 i d (omega (arith, within, c.loop-place-test.false)))
+    cc (part_at c.as_slice-places.result.now c.in_ok-ahead.ahead.now c.in_ok-place-items.place-items.now c.first_place.result ahead.2 items.2) in
+    rw (← is) (λ i d within. c.loop-place.invariant.1 i d (omega (arith, within, c.loop-place-test.false)))
 
 -- as many as are tried are there
 pub returns-in_err-place-items-clause-none : goal.returns-in_err-place-items-clause-none
 returns-in_err-place-items-clause-none c =
     let there = c.self.invariant.there c.args.key.now in
     let first = c.first_place.ensures in
-    let places : length c.as_slice-places.result.now ≡ length c.self.inside.places.items = ap (λ (xs : List Place). length xs) c.as_slice-places.ensures in
+    let places : length c.as_slice-places.result.now ≡ length c.self.inside.places.items = cc in
     elim c.in_err-place-items.ensures.lookup.0 [
       | inl none ↦ absurd (omega (arith, none))
       | inr few ↦ absurd (omega (arith, few, there, first, places, c.in_ok-ahead.ensures.lookup.0.3))

@@ -15,6 +15,6 @@ invariant_of-result c = record {
       let digits = c.place_digits-digits in
       let below : first_place key (64 - digits.result) < 2 ^ digits.result =
       shifted (bit_xor key.first (rotate_left w64 key.last 29) * 0x9E3779B97F4A7C15) digits.result digits.ensures.some digits.ensures.few in
-      let len = ap (λ (places : List Place). length places) c.from_vec.ensures.items ∙ c.loop-index.invariant.1 in
+      let len = ap length c.from_vec.ensures.items ∙ c.loop-index.invariant.1 in
       omega (arith, below, len);
 }
