@@ -60,4 +60,4 @@ pub deeper_by_one : (stack : Description) → IsSound stack → IsDeeperByOne st
 deeper_by_one stack sound device within =
     let d = there stack.devices device within in
     let named : links_of (links stack) device ≡ flat_map (line_links stack) d.it.lines = device_named stack device d.it d.at in
-    rw (lines_there stack device d.it d.at) (depth_to-deeper (links stack) 32 device (shallow_device stack device sound within) ∙ ap (λ (ids : List ℕ). suc (greatest (map (depth_of stack) ids))) (named ∙ sym (lines_links stack d.it.lines)) ∙ ap suc (spans_depth stack (flat_map spans d.it.lines)))
+    rw (lines_there stack device d.it d.at) (cc (depth_to-deeper (links stack) 32 device (shallow_device stack device sound within), lines_links stack d.it.lines, spans_depth stack (flat_map spans d.it.lines)))

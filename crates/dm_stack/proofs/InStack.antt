@@ -24,7 +24,7 @@ pub disk_there : (stack : Description) (disk sector : ℕ) → sector < disk_len
 disk_there stack disk sector inside =
     elim (cases_lt disk (length stack.disks)) [
       | inl there ↦ there
-      | inr past ↦ absurd (let none : disk_len stack disk ≡ 0 = ap (λ (found : Option Disk). option_map_or (λ disk. disk.len) found 0) (slice_get_past stack.disks disk past) in omega arith)
+      | inr past ↦ absurd (let none : disk_len stack disk ≡ 0 = rw slice_get_past in omega arith)
     ]
 
 -- nothing is longer than a line may be

@@ -92,10 +92,7 @@ is_whole stack device lines sound within are row alone =
       only = are ∙ alone.is;
       over = alone.over;
       at =
-          ap (λ (ls : List Line). option_map (found_line stack) (line_of ls 0)) (are ∙ alone.is)
-          ∙ ap (option_map (found_line stack)) (line_from line (omega (arith, len, some)) from)
-          ∙ ap (λ (s : ℕ). Some (record { start = s; len = line.len; target = found_target stack line.target })) from
-          ∙ ap (λ (l : ℕ). Some (record { start = 0; len = l; target = found_target stack line.target })) len;
+          cc (line_from line (omega (arith, len, some)) from);
     }
 
 pub snapshot_line : (stack : Description) → IsSound stack → (device : ℕ) → device < length stack.devices → has_snapshot (lines_at stack device) ≡ true → IsSnapshotLine stack device
@@ -103,7 +100,7 @@ snapshot_line stack sound device within is =
     let d = there stack.devices device within in
     let lines = lines_there stack device d.it d.at in
     let s = device_sound stack device d.it sound d.at in
-    let has = subst (λ (ls : List Line). has_snapshot ls ≡ true) lines is in
+    let has = rw lines at is in
     is_whole stack device d.it.lines sound within lines s.placed (alone d.it.lines (one_of stack (length d.it.lines) d.it.lines s.fitting has) has)
 
 each_snapshot : (stack : Description) → IsSound stack → (device : ℕ) → device < length stack.devices → has_snapshot (lines_at stack device) ≡ true → IsSnapshot stack device

@@ -4,7 +4,6 @@ use Rattle.std.specs.Prelude.{◌/◌, ◌%◌, ◌==◌, ◌||◌, ◌&&◌, no
 use Rattle.std.specs.List.{AllByRecursion, flat_map, list_any, position_or_len}
 use Rattle.std.proofs.lemmas.Bool.{and_parts, or_parts, leb-true, le-leb, ltb-true, ltb-false, lt-ltb, eqb-true, not-false}
 use Rattle.std.proofs.lemmas.List.{length-map}
-use Rattle.std.proofs.lemmas.List.Elements.{All-from_recursion}
 use Rattle.std.proofs.Math.Nat.{div-add-mod, mul_comm}
 use Rattle.dm_table.specs.declared.tables.table.Column.{Column}
 use Rattle.dm_table.specs.declared.tables.table.DevRef.{DevRef}
@@ -21,9 +20,9 @@ use Rattle.dm_stack.specs.Description.{Description, lines_at, lines_or_none, end
 use Rattle.dm_stack.specs.lines.Below.{holds, line_of, found_line, found_columns, found_target, found_at, LiesIn, AreStripes, IsOriginSound, IsSnapshotSound, IsTargetSound}
 use Rattle.dm_stack.specs.declared.checks.limits.TheConstants.{MOST_LENGTH}
 use Rattle.dm_stack.specs.lines.Over.{found_snapshot, snapshots_over}
-use Rattle.dm_stack.specs.checks.Soundness.{all_lines, is_large, without_lines, empty_in, misplaced_in, is_bad_chunk, is_bad_snapshot, is_bad_stripe, has_bad_store, has_bad_stripes, is_past, passes_end, bad_snapshots_in, HaveSmallEnds, IsSound}
+use Rattle.dm_stack.specs.checks.Soundness.{all_lines, is_large, without_lines, empty_in, misplaced_in, is_bad_chunk, is_bad_snapshot, is_bad_stripe, has_bad_store, has_bad_stripes, is_past, passes_end, bad_snapshots_in, IsSound}
 use Rattle.dm_table.specs.tables.Span.{column_span, target_spans}
-use Rattle.dm_stack.proofs.checks.HandedOn.{line_within, lines_within}
+use Rattle.dm_stack.proofs.checks.HandedOn.{line_within}
 use Rattle.dm_stack.proofs.checks.LayoutLemmas.{AreInRow, in_row}
 use Rattle.dm_stack.proofs.checks.ChunkLemmas.{chunk_within}
 use Rattle.dm_stack.proofs.checks.Passes.{append_none, all_parts, faults_by_none, passes_all}
@@ -62,7 +61,7 @@ holds_from line sector from before = rw (le-leb line.start sector from, lt-ltb s
 
 passed : (line : Line) (sector : ℕ) → line.start ≤ sector → holds sector line ≡ false → line.start + line.len ≤ sector
 passed line sector from none =
-    let parts : nat_lt sector (line.start + line.len) ≡ false = subst (λ (b : Bool). (b && nat_lt sector (line.start + line.len)) ≡ false) (le-leb line.start sector from) none in
+    let parts : nat_lt sector (line.start + line.len) ≡ false = rw le-leb at none in
     ltb-false _ _ parts
 
 pub held : (end : ℕ) (lines : List Line) (sector : ℕ) → AreInRow end lines → end ≤ sector → sector < end_of lines → IsHeld lines sector
@@ -236,7 +235,7 @@ sector_found stack id sector sound within inside =
     let d = there stack.devices id within in
     let lines = lines_there stack id d.it d.at in
     let s = device_sound stack id d.it sound d.at in
-    let h = held 0 d.it.lines sector s.placed (omega arith) (subst (λ (ls : List Line). sector < end_of ls) lines inside) in
+    let h = held 0 d.it.lines sector s.placed (omega arith) (rw lines at inside) in
     let a = found (λ line. is_large line ≡ false) (holds sector) d.it.lines h.line s.small h.is in
     let b = found (λ line. has_bad_stripes line line.target ≡ false) (holds sector) d.it.lines h.line s.striped h.is in
     let c = found (λ line. passes_end stack line ≡ false) (holds sector) d.it.lines h.line s.inside h.is in
@@ -245,7 +244,7 @@ sector_found stack id sector sound within inside =
     let parts = and_parts (nat_le h.line.start sector) (nat_lt sector (h.line.start + h.line.len)) a.0 in
     record {
       line = found_line stack h.line;
-      is = ap (option_map (found_line stack)) (ap (λ (ls : List Line). line_of ls sector) lines ∙ h.is);
+      is = cc;
       soundly = record {
         from = leb-true _ _ parts.0;
         before = ltb-true _ _ parts.1;
@@ -304,6 +303,3 @@ pub disk_small : (stack : Description) (id : ℕ) (disk : Disk) → IsSound stac
 disk_small stack id disk sound at =
     let p = passes_all stack sound in
     ltb-false _ _ (got (λ d. nat_lt (2 ^ 50) d.len ≡ false) stack.disks id disk (faults_by_none Limit (λ d. d.at) (λ d. nat_lt (2 ^ 50) d.len) stack.disks (append_none _ _ p.small).1) at)
-
-pub small_ends : (lines : List Line) → AllByRecursion (λ line. is_large line ≡ false) lines → HaveSmallEnds lines
-small_ends lines small = All-from_recursion (λ line. line.start + line.len ≤ 2 ^ 50) lines (lines_within lines small)

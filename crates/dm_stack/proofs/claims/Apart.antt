@@ -51,7 +51,7 @@ one_in_device stack device p q i j l m x y pairs on_p on_q at_i at_j never neith
     let lines : l ≡ m = line_is l m (sym on_p ∙ ap (slice_get (lines_at stack device)) places ∙ on_q) in (
       lines,
       same_place NeverMeet (line_claims stack device l) i j x y (pairs_part NeverMeet (line_claims stack device) (lines_at stack device) p l pairs on_p)
-          at_i (subst (λ (z : Line). slice_get (line_claims stack device z) j ≡ Some y) (sym lines) at_j) never neither,
+          at_i (rw lines at_j) never neither,
     )
 
 pub record AreOne (d e i j : ℕ) (l m : Line) : Type 0 where
@@ -62,7 +62,7 @@ pub record AreOne (d e i j : ℕ) (l m : Line) : Type 0 where
 by_device : (stack : Description) (d e p q i j : ℕ) (l m : Line) (x y : Claim) → d ≡ e → PairsAt NeverMeet (device_claims stack d) → slice_get (lines_at stack d) p ≡ Some l → slice_get (lines_at stack e) q ≡ Some m
     → slice_get (line_claims stack d l) i ≡ Some x → slice_get (line_claims stack e m) j ≡ Some y → (NeverMeet x y → ⊥) → (NeverMeet y x → ⊥) → AreOne d e i j l m
 by_device stack d e p q i j l m x y same pairs on_p on_q at_i at_j never neither =
-    let parts = one_in_device stack d p q i j l m x y pairs on_p (subst (λ (z : ℕ). slice_get (lines_at stack z) q ≡ Some m) (sym same) on_q) at_i (subst (λ (z : ℕ). slice_get (line_claims stack z m) j ≡ Some y) (sym same) at_j) never neither in
+    let parts = one_in_device stack d p q i j l m x y pairs on_p (rw same on_q) at_i (rw same at_j) never neither in
     record { devices = same; lines = parts.0; columns = parts.1 }
 
 -- two columns that name one sector are one, where they may not share it

@@ -67,7 +67,7 @@ rivals_turn count one other = rw (and_turn (nat_lt one.number count) (nat_lt oth
 
 meets_at : (one other : Claim) (lower : Lower) (sector : ℕ) → MeetAt one other lower sector → meets one other ≡ true
 meets_at one other lower sector met =
-    and_from _ _ (ap (λ (l : Lower). is_same_lower l other.to) (met.here.on ∙ sym met.there.on) ∙ self_same other.to)
+    and_from _ _ (cc (self_same other.to))
     (and_from _ _ (lt-ltb (max one.start other.start) (min one.end other.end) (omega (arith, met.here.from, met.here.before, met.there.from, met.there.before))) (ap not met.rivals))
 
 pub never_meet_from : (one other : Claim) → meets one other ≡ false → NeverMeet one other

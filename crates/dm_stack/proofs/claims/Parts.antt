@@ -50,7 +50,7 @@ pairs_across R us vs i j a b pairs at on = pairs i (length us + j) a b (get_left
 pub part_there : {X Y : Type 0} (f : X → List Y) (xs : List X) (p k : ℕ) (x : X) (a : Y) → slice_get xs p ≡ Some x → slice_get (f x) k ≡ Some a → (n : ℕ) × (slice_get (flat_map f xs) n ≡ Some a)
 part_there f [] p k x a at on = absurd cc
 part_there {X = X} f (first ∷ xs) zero k x a at on =
-    let same : x ≡ first = cc in (k, get_left (f first) (flat_map f xs) k a (subst (λ (y : X). slice_get (f y) k ≡ Some a) same on))
+    let same : x ≡ first = cc in (k, get_left (f first) (flat_map f xs) k a (rw same at on))
 part_there f (first ∷ xs) (suc p) k x a at on =
     let later = part_there f xs p k x a at on in (length (f first) + later.0, get_right (f first) (flat_map f xs) later.0 a later.1)
 
@@ -65,10 +65,10 @@ same_part R f [] p q k l x y a b pairs at on in_x in_y never neither = absurd cc
 same_part R f (first ∷ xs) zero zero k l x y a b pairs at on in_x in_y never neither = refl
 same_part {X = X} R f (first ∷ xs) zero (suc q) k l x y a b pairs at on in_x in_y never neither =
     let same : x ≡ first = cc in let later = part_there f xs q l y b on in_y in
-    absurd (never (pairs_across R (f first) (flat_map f xs) k later.0 a b pairs (subst (λ (z : X). slice_get (f z) k ≡ Some a) same in_x) later.1))
+    absurd (never (pairs_across R (f first) (flat_map f xs) k later.0 a b pairs (rw same at in_x) later.1))
 same_part {X = X} R f (first ∷ xs) (suc p) zero k l x y a b pairs at on in_x in_y never neither =
     let same : y ≡ first = cc in let later = part_there f xs p k x a at in_x in
-    absurd (neither (pairs_across R (f first) (flat_map f xs) l later.0 b a pairs (subst (λ (z : X). slice_get (f z) l ≡ Some b) same in_y) later.1))
+    absurd (neither (pairs_across R (f first) (flat_map f xs) l later.0 b a pairs (rw same at in_y) later.1))
 same_part R f (first ∷ xs) (suc p) (suc q) k l x y a b pairs at on in_x in_y never neither =
     ap suc (same_part R f xs p q k l x y a b (pairs_right R (f first) (flat_map f xs) pairs) at on in_x in_y never neither)
 

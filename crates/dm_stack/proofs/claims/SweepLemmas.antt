@@ -137,9 +137,9 @@ search_here count order k next within is =
 pub search_more : (count : ℕ) (order : List Numbered) (k : ℕ) (next : Numbered) (all : Bool) → k < length order → next ≡ get_or order k next
     → list_any (λ one. rivals count one next) (take k order) ≡ false → has_pair (rivals count) (take k order) (drop k order) ≡ all → has_pair (rivals count) (take (k + 1) order) (drop (k + 1) order) ≡ all
 search_more count order k next all within is none left =
-    ap (λ (b : Bool). b || has_pair (rivals count) (take (k + 1) order) (drop (k + 1) order)) (sym none) ∙ sym (search_here count order k next within is) ∙ left
+    cc (search_here count order k next within is)
 
 pub search_ends : (count : ℕ) (order : List Numbered) (k : ℕ) (next : Numbered) (all : Bool) → k < length order → next ≡ get_or order k next
     → list_any (λ one. rivals count one next) (take k order) ≡ true → has_pair (rivals count) (take k order) (drop k order) ≡ all → all ≡ true
 search_ends count order k next all within is some left =
-    sym left ∙ search_here count order k next within is ∙ ap (λ (b : Bool). b || has_pair (rivals count) (take (k + 1) order) (drop (k + 1) order)) some
+    cc (search_here count order k next within is)

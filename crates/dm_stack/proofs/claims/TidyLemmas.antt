@@ -26,8 +26,7 @@ numbered_append number (x ∷ xs) ys later e = rw (numbered_append (suc number) 
 pub numbered_next : (claims : List Claim) (k : ℕ) (claim : Claim) → k < length claims → claim ≡ get_or claims k claim → numbered 0 (take (k + 1) claims) ≡ numbered 0 (take k claims) ++ record { number = k; claim = claim } ∷ []
 numbered_next claims k claim within is =
     let long = length-take k claims in
-    ap (numbered 0) (take_more claims k claim within ∙ ap (λ (one : Claim). take k claims ++ one ∷ []) (sym is))
-    ∙ numbered_append 0 (take k claims) (claim ∷ []) k (omega arith)
+    cc (take_more claims k claim within, numbered_append 0 (take k claims) (claim ∷ []) k (omega arith))
 
 pub numbered_length : (number : ℕ) (claims : List Claim) → length (numbered number claims) ≡ length claims
 numbered_length number [] = refl

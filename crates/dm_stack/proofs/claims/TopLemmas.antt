@@ -88,10 +88,10 @@ by_ids : (stack : Description) (test : List Line → Bool) (before devices : Lis
     → list_any (λ device. test (lines_at stack device)) (range_with_len id (length devices)) ≡ list_any (λ device. test device.lines) devices
 by_ids stack test before [] id split is = refl
 by_ids stack test before (device ∷ devices) id split is =
-    let within : id < length stack.devices = omega (arith, ap (λ (all : List DeviceSpec). length all) split, length-append before (device ∷ devices)) in
+    let within : id < length stack.devices = omega (arith, ap length split, length-append before (device ∷ devices)) in
     let at : slice_get stack.devices id ≡ Some device =
     slice_get_read stack.devices (length stack.devices) id device refl within
-    (sym (get_or-append_seam before device devices device) ∙ ap (λ (n : ℕ). get_or (before ++ device ∷ devices) n device) (sym is) ∙ ap (λ (all : List DeviceSpec). get_or all id device) (sym split)) in
+    (rw (split, is, get_or-append_seam)) in
     let here : test (lines_at stack id) ≡ test device.lines = ap test (ap lines_or_none at) in
     let later = by_ids stack test (before ++ device ∷ []) devices (id + 1) (split ∙ sym (append_assoc before (device ∷ []) devices)) (omega (arith, is, length-append before (device ∷ []))) in
     rw (here, later)
@@ -118,7 +118,7 @@ top_from stack device none k d within on =
 named_from : (stack : Description) (device : ℕ) → is_named stack device ≡ true → IsTop stack device → ⊥
 named_from stack device some top =
     let claim = Any-from_list_any (λ claim. is_device device claim.to) (claims stack) (named_by_claims stack device ∙ some) in
-    top claim.0 claim.1 claim.2 (ap (λ (one : Claim). one.to) claim.3 ∙ device_is device claim.1.to claim.4)
+    top claim.0 claim.1 claim.2 (cc (device_is device claim.1.to claim.4))
 
 top_by : (stack : Description) (device : ℕ) (b : Bool) → is_named stack device ≡ b → IsTrue (not b) ↔ IsTop stack device
 top_by stack device true is = (λ e. absurd (true≢false (sym e)), λ top. absurd (named_from stack device is top))
@@ -181,10 +181,10 @@ stands all clash is =
     let whole = front ++ is.later ∷ is.after in
     let front_length = length-append is.before (is.earlier ∷ is.between) in
     let whole_length = length-append front (is.later ∷ is.after) in
-    let same_length = ap (λ (list : List Claim). length list) is.split in
+    let same_length = ap length is.split in
     let at : (i : ℕ) (d : Claim) → i < length front → get_or all i d ≡ get_or front i d = λ i d below. rw is.split (get_or_append_left front (is.later ∷ is.after) d i below) in
     let early : (d : Claim) → is.earlier ≡ get_or all (length is.before) d = λ d. sym (at (length is.before) d (omega arith) ∙ get_or-append_seam is.before is.earlier is.between d) in
-    let late : (d : Claim) → is.later ≡ get_or all (length front) d = λ d. sym (ap (λ (list : List Claim). get_or list (length front) d) is.split ∙ get_or-append_seam front is.later is.after d) in
+    let late : (d : Claim) → is.later ≡ get_or all (length front) d = λ d. rw (is.split, get_or-append_seam) in
     record {
       one = length is.before;
       other = length front;
@@ -203,8 +203,7 @@ in_turn a b less more = grind (arith, less, more)
 
 same_parts : (a b : Clash) → a.lower ≡ b.lower → a.sector ≡ b.sector → a.first ≡ b.first → a.second ≡ b.second → a ≡ b
 same_parts a b lower sector first second =
-    ap (λ (l : Lower). make l a.sector a.first a.second) lower ∙ ap (λ (s : ℕ). make b.lower s a.first a.second) sector
-    ∙ ap (λ (one : ℕ). make b.lower b.sector one a.second) first ∙ ap (λ (other : ℕ). make b.lower b.sector b.first other) second
+    rw (lower, sector, first, second)
   where
     make : Lower → ℕ → ℕ → ℕ → Clash
     make lower sector first second = record { lower = lower; sector = sector; first = first; second = second }
@@ -216,14 +215,14 @@ same_clash all a b d x y =
     (λ more. x.pairs y.one y.other d y.in_order more b.lower b.sector (y.meet d)) in
     let there : get_or all x.other d ≡ get_or all y.other d = rw other in
     let one : x.one ≡ y.one = in_turn x.one y.one
-    (λ less. y.earliest x.one d less a.lower a.sector (subst (λ (claim : Claim). MeetAt (get_or all x.one d) claim a.lower a.sector) there (x.meet d)))
-    (λ more. x.earliest y.one d more b.lower b.sector (subst (λ (claim : Claim). MeetAt (get_or all y.one d) claim b.lower b.sector) (sym there) (y.meet d))) in
+    (λ less. y.earliest x.one d less a.lower a.sector (rw there at (x.meet d)))
+    (λ more. x.earliest y.one d more b.lower b.sector (rw there (y.meet d))) in
     let here : get_or all x.one d ≡ get_or all y.one d = rw one in
     let lower : a.lower ≡ b.lower = cc (sym (x.meet d).there.on, there, (y.meet d).there.on) in
     let meet_a : MeetAt (get_or all y.one d) (get_or all y.other d) b.lower a.sector = rw (← here, ← there, ← lower) (x.meet d) in
     let meet_b : MeetAt (get_or all x.one d) (get_or all x.other d) a.lower b.sector = rw (here, there, lower) (y.meet d) in
     let sector : a.sector ≡ b.sector = in_turn a.sector b.sector (λ less. y.least d a.sector less meet_a) (λ more. x.least d b.sector more meet_b) in
-    same_parts a b lower sector (x.of_one d ∙ ap (λ (claim : Claim). claim.device) here ∙ sym (y.of_one d)) (x.of_other d ∙ ap (λ (claim : Claim). claim.device) there ∙ sym (y.of_other d))
+    same_parts a b lower sector (cc (x.of_one d, y.of_one d)) (cc (x.of_other d, y.of_other d))
 
 pub one_clash : (all : List Claim) (found other : Option Clash) → IsFirstClash all found → IsFirstClash all other → found ≡ other
 one_clash all None None a b = refl
@@ -271,8 +270,8 @@ by_length xs id len none_len true is some = ltb-true id (length xs) is
 by_length xs id len none_len false is some = absurd (omega (arith, some, none_len (slice_get_past xs id (ltb-false id (length xs) is))))
 
 lower_there : (stack : Description) (lower : Lower) → 0 < lower_len stack lower → IsLower stack lower
-lower_there stack (Device id) some = by_length stack.devices id (lower_len stack (Device id)) (λ none. ap (λ (found : Option DeviceSpec). end_of (lines_or_none found)) none) (nat_lt id (length stack.devices)) refl some
-lower_there stack (Disk id) some = by_length stack.disks id (lower_len stack (Disk id)) (λ none. ap (λ (found : Option ListedDisk). option_map_or (λ disk. disk.len) found 0) none) (nat_lt id (length stack.disks)) refl some
+lower_there stack (Device id) some = by_length stack.devices id (lower_len stack (Device id)) (λ none. cc) (nat_lt id (length stack.devices)) refl some
+lower_there stack (Disk id) some = by_length stack.disks id (lower_len stack (Disk id)) (λ none. cc) (nat_lt id (length stack.disks)) refl some
 
 clash_there : (stack : Description) (clash : Clash) → IsSound stack → IsClash (claims stack) clash → IsThere stack clash
 clash_there stack clash sound is =

@@ -46,6 +46,6 @@ pub record IsDivided (x d q r : ℕ) : Type 0 where
 
 pub divided : (x d q r : ℕ) → r < d → x ≡ q * d + r → IsDivided x d q r
 divided x d q r small whole = record {
-  quotient = sym (ap (λ n. n / d) whole ∙ div-mul-add q d r small);
-  remainder = sym (ap (λ n. n % d) whole ∙ mod-mul-add q d r small);
+  quotient = rw (whole, div-mul-add);
+  remainder = rw (whole, mod-mul-add);
 }

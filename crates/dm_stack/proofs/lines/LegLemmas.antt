@@ -47,7 +47,7 @@ pub column_small : (chunk_size distance n : ℕ) (columns : List FoundColumn) (p
     → column ≡ get_or columns position.column column → column.offset + (position.chunk_start + position.past) ≤ 2 ^ 50
 column_small chunk_size distance n columns position column some has at read =
     let stripes : AreStripes has.stack has.line_len chunk_size columns = has.lies in
-    let got = column_got chunk_size distance columns column stripes.some (subst (λ (i : ℕ). column ≡ get_or columns i column) at.column read) in
+    let got = column_got chunk_size distance columns column stripes.some (rw at.column at read) in
     let inside = column_inside has.stack has.line_len chunk_size distance _ columns column stripes (omega (arith, some, has.inside)) got in
     let small = lower_small has.stack column.to has.sound in
     omega (arith, inside, small, at.chunk_start, at.past)

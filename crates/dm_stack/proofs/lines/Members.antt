@@ -67,7 +67,7 @@ flat_there give [] x y named given = absurd (none_there x named)
 flat_there {X} {Y} give (first ∷ xs) x y named given = by_part (flat_there give xs x y) (Contains-append_cases (first ∷ []) xs x named)
   where
     by_part : (Contains xs x → Contains (give x) y → Contains (flat_map give xs) y) → Contains (first ∷ []) x ⊎ Contains xs x → Contains (flat_map give (first ∷ xs)) y
-    by_part more (inl here) = Contains-append_left (give first) (flat_map give xs) y (subst (λ (z : X). Contains (give z) y) (sym (only x first here)) given)
+    by_part more (inl here) = Contains-append_left (give first) (flat_map give xs) y (rw (only x first here) given)
     by_part more (inr later) = Contains-append_right (give first) (flat_map give xs) y (more later given)
 
 -- Numbers from 0 on

@@ -52,7 +52,7 @@ record IsTargetOf (stack : Description) (device : ℕ) (target : Target) (one : 
 target_one : (stack : Description) (device : ℕ) (target : Target) (one : FoundOver) → Contains (over_of stack device target) one → IsTargetOf stack device target one
 target_one stack device (targets.Snapshot origin store kind chunk) one named =
     let same = only one (record { device = device; snapshot = found_snapshot stack origin store kind chunk }) named in
-    record { here = sym (ap (λ (o : FoundOver). o.device) same); over = refl; is = cc (same) }
+    record { here = cc; over = refl; is = cc (same) }
 target_one stack device _ one named = absurd (none_there one named)
 
 has_one : (stack : Description) (device : ℕ) (lines : List Line) (one : FoundOver) → Contains (flat_map (λ line. over_of stack device line.target) lines) one → has_snapshot lines ≡ true
@@ -73,20 +73,19 @@ over_device : (stack : Description) (device : ℕ) (one : FoundOver) → IsSound
 over_device stack device one sound within named =
     let line = snapshot_line stack sound device within (has_one stack device (lines_at stack device) one named) in
     let alone : device_over stack device ≡ over_of stack device line.line.target =
-    ap (λ (lines : List Line). flat_map (λ (l : Line). over_of stack device l.target) lines) line.only ∙ append-nil (over_of stack device line.line.target) in
-    let of = target_one stack device line.line.target one (subst (λ (all : List FoundOver). Contains all one) alone named) in
+    cc (append-nil (over_of stack device line.line.target)) in
+    let of = target_one stack device line.line.target one (rw alone at named) in
     record {
-      there = subst (λ (d : ℕ). d < length stack.devices) (sym of.here) within;
+      there = rw of.here within;
       line =
-          subst (λ (d : ℕ). found_at stack d 0 ≡ Some (record { start = 0; len = device_len stack d; target = found.Snapshot one.snapshot })) (sym of.here)
-          (line.at ∙ ap (λ (t : FoundTarget). Some (record { start = 0; len = device_len stack device; target = t })) of.is);
+          rw of.here (cc);
     }
 
 -- each snapshot of an origin is the whole of its device, with that origin
 pub over_sound : (stack : Description) (to : Lower) (one : FoundOver) → IsSound stack → Contains (snapshots_over stack to) one → IsSnapshotDevice stack one × (one.snapshot.origin ≡ to)
 over_sound stack to one sound named =
-    let passes = kept_parts (λ (o : FoundOver). is_same_lower o.snapshot.origin to) (all_over stack) one (subst (λ (all : List FoundOver). Contains all one) (sym (over_is stack to)) named) in
-    let by = flat_part (device_over stack) (range_with_len 0 (length stack.devices)) one (subst (λ (all : List FoundOver). Contains all one) (sym (all_is stack)) passes.0) in
+    let passes = kept_parts (λ (o : FoundOver). is_same_lower o.snapshot.origin to) (all_over stack) one (rw (← over_is) at named) in
+    let by = flat_part (device_over stack) (range_with_len 0 (length stack.devices)) one (rw all_is passes.0) in
     (over_device stack by.by one sound (range_within (length stack.devices) by.by by.there) by.given, same_is one.snapshot.origin to passes.1)
 
 -- From a device to the list
@@ -94,7 +93,7 @@ over_sound stack to one sound named =
 target_all : (stack : Description) (device : ℕ) (target : Target) (snapshot : FoundSnapshot) → found_target stack target ≡ found.Snapshot snapshot → Contains (over_of stack device target) (record { device = device; snapshot = snapshot })
 target_all stack device (targets.Snapshot origin store kind chunk) snapshot is =
     let same : found_snapshot stack origin store kind chunk ≡ snapshot = cc in
-    only_there (record { device = device; snapshot = snapshot }) _ (ap (λ (s : FoundSnapshot). let one : FoundOver = record { device = device; snapshot = s } in one) same)
+    only_there (record { device = device; snapshot = snapshot }) _ (cc)
 target_all stack device _ snapshot is = absurd cc
 
 found_over : (stack : Description) (device : ℕ) (test : Line → Bool) (lines : List Line) (line : FoundLine) (snapshot : FoundSnapshot) → option_map (found_line stack) (find test lines) ≡ Some line → line.target ≡ found.Snapshot snapshot
@@ -119,6 +118,5 @@ over_all stack device line snapshot at is =
     let lines = lines_at stack device in
     let within = lines_within stack device (any_found stack (holds 0) lines line snapshot at is) in
     let all : Contains (all_over stack) one =
-    subst (λ (all : List FoundOver). Contains all one) (all_is stack)
-    (flat_there (device_over stack) (range_with_len 0 (length stack.devices)) device one (in_range (length stack.devices) device within) (found_over stack device (holds 0) lines line snapshot at is)) in
+    rw all_is at (flat_there (device_over stack) (range_with_len 0 (length stack.devices)) device one (in_range (length stack.devices) device within) (found_over stack device (holds 0) lines line snapshot at is)) in
     rw (← over_is stack snapshot.origin) (kept (λ (o : FoundOver). is_same_lower o.snapshot.origin snapshot.origin) (all_over stack) one (self_same snapshot.origin) all)

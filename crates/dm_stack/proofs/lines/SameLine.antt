@@ -66,9 +66,9 @@ same_found stack id sector other line sound within is from before =
     let m = mapped (found_line stack) (line_of (lines_at stack id) sector) line is in
     let start : m.x.start ≡ line.start = cc (m.value) in
     let len : m.x.len ≡ line.len = cc (m.value) in
-    let held : line_of d.it.lines sector ≡ Some m.x = sym (ap (λ (ls : List Line). line_of ls sector) lines) ∙ m.is in
+    let held : line_of d.it.lines sector ≡ Some m.x = cc in
     let same = same_line 0 d.it.lines sector other m.x s.placed held (omega (arith, start, from)) (omega (arith, start, len, before)) in
-    ap (option_map (found_line stack)) (ap (λ (ls : List Line). line_of ls other) lines ∙ same) ∙ ap Some m.value
+    cc
 
 -- so what a search finds is the line of its sector
 pub found_line_of : (stack : Description) (id sector : ℕ) (line : FoundLine) → IsSound stack → id < length stack.devices → found_at stack id sector ≡ Some line → HoldsSoundly stack id line sector → IsLineOf stack id line sector

@@ -25,4 +25,4 @@ spans_left left = drop left.index (spans left.line.now)
 
 -- from the start it gives all spans of its line
 pub yields_spans : (line : Line) (all : Spans) → all.line.now ≡ line → all.index ≡ 0 → YieldsList (YieldsFirstBy (λ (span : Span). span) spans_left) (λ span. span) all (spans line)
-yields_spans line all of from = YieldsList-from_first (λ (span : Span). span) spans_left (spans line) (rw (from, of) refl)
+yields_spans line all of from = YieldsList-from_first (λ (span : Span). span) spans_left (spans line) (rw (from, of))

@@ -63,7 +63,7 @@ pub below_chunk : (chunk_size distance i : ℕ) (columns : List FoundColumn) (co
 below_chunk chunk_size distance i columns column position some chunk_some at within is =
     let left : i < chunk_size - distance % chunk_size = omega (arith, within, at.past) in
     let same = in_chunk chunk_size distance i chunk_some left in
-    let there : column ≡ get_or columns (column_of chunk_size (length columns) (distance + i)) column = rw same.number (subst (λ (k : ℕ). column ≡ get_or columns k column) at.column is) in
+    let there : column ≡ get_or columns (column_of chunk_size (length columns) (distance + i)) column = rw same.number (rw at.column at is) in
     let sum : in_column chunk_size (length columns) (distance + i) ≡ position.chunk_start + position.past + i = rw (same.number, same.position) (omega (arith, at.chunk_start, at.past)) in
     rw (column_got chunk_size (distance + i) columns column some there) (ap (Lies column.to) (rw sum (omega arith)))
 
@@ -105,7 +105,7 @@ position_within chunk_size count distance position some at within =
     let quotient : (distance / chunk_size + 1) / count ≡ distance / chunk_size / count = rw on (div-mul-add (distance / chunk_size / count) count _ small) in
     let rest : (distance / chunk_size + 1) % count ≡ distance / chunk_size % count + 1 = rw on (mod-mul-add (distance / chunk_size / count) count _ small) in
     rw at.past (record {
-      column = rw (next.number, rest) (ap (λ (n : ℕ). n + 1) at.column);
+      column = rw (next.number, rest) (cc);
       chunk_start = rw (next.number, quotient) at.chunk_start;
       past = sym next.past;
     })

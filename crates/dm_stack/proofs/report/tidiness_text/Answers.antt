@@ -15,7 +15,7 @@ returns c =
     IfOk-weaker c.format.result _ (λ text. SaysTidiness stack (string_bytes text))
     (λ text is. record {
       found = Some clash;
-      clash = subst (λ (found : Option Clash). IsFirstClash (claims stack) found) c.in-Some.is c.in_ok-clash.ensures.clash;
+      clash = rw c.in-Some.is at c.in_ok-clash.ensures.clash;
       is =
           rw (← c.name.ensures, ← c.name-2.ensures) (clash_line words.0.now words.1.now (lower_text stack clash.lower) (decimal clash.sector) c.name.result.now c.name-2.result.now c.lower_words-lower.ensures) ∙ sym is;
     }) c.format.ensures.ok

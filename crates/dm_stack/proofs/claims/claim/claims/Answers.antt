@@ -12,8 +12,7 @@ loop-id-preserved c =
     let device = c.device-item.result in
     let before = c.loop-id.claims.items in
     let devices = c.devices-device-items.ensures.devices in
-    let within : id < length c.args.stack.now.devices = omega (arith, c.loop-id-test.true, ap (λ (all : List DeviceSpec). length all) devices) in
-    let is : device ≡ get_or c.args.stack.now.devices id device = c.device-item.is ∙ ap (λ (all : List DeviceSpec). get_or all id device) devices in
+    let within : id < length c.args.stack.now.devices = omega (arith, c.loop-id-test.true, ap length devices) in
+    let is : device ≡ get_or c.args.stack.now.devices id device = cc in
     device_next (line_claims c.args.stack.now) c.args.stack.now id device before c.add_lines.new.claims.items within is c.loop-id.invariant
-    (c.in_ok-add_lines.ensures ∙ ap (λ (d : ℕ). before ++ flat_map (line_claims c.args.stack.now d) c.as_slice.result.now) c.new.ensures
-    ∙ ap (λ (lines : List Line). before ++ flat_map (line_claims c.args.stack.now id) lines) c.as_slice.ensures)
+    (cc (c.in_ok-add_lines.ensures, c.new.ensures, c.as_slice.ensures))

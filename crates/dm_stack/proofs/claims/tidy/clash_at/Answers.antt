@@ -15,9 +15,7 @@ returns-then-meets c later there =
     let before = take c.args.index claims in
     let read = slice_get_read claims (length claims) c.args.index c.index-claims-index.result refl c.requires c.index-claims-index.is in
     let same = some_is c.index-claims-index.result later (sym read ∙ there) in
-    ap (λ (sector : _). Some (record { lower = c.index-claims-index.result.to; sector = sector; first = c.earlier-item.result.device; second = c.index-claims-index.result.device })) c.max.ensures
-    ∙ sym (clash_here before c.loop-earlier.earlier-index c.earlier-item.result c.index-claims-index.result c.loop-earlier-test.true c.earlier-item.is (sym c.meets.ensures ∙ c.if-meets.true))
-    ∙ c.loop-earlier.invariant ∙ ap (clash_with before) same
+    cc (clash_here before c.loop-earlier.earlier-index c.earlier-item.result c.index-claims-index.result c.loop-earlier-test.true c.earlier-item.is (sym c.meets.ensures ∙ c.if-meets.true))
 
 pub returns : goal.returns
 returns c later there =

@@ -26,13 +26,11 @@ pub tidy_len-requires-clause-clash : goal.tidy_len-requires-clause-clash
 tidy_len-requires-clause-clash c =
     let claims = c.args.claims.now in
     let order = c.in_ok-order.order.items in
-    ap (λ (all : List Numbered). is_tidy_to (length all) all) c.deref-2.ensures.value
-    ∙ ap (λ (n : ℕ). is_tidy_to n order) (order_length claims order c.in_ok-order.ensures.same)
-    ∙ ap (is_tidy_to (length claims)) (sym c.deref.ensures.value) ∙ sym c.in_ok-is_tidy_to.ensures ∙ c.if-branch.false
+    rw (c.deref-2.ensures.value, order_length claims order c.in_ok-order.ensures.same, ← c.deref.ensures.value, ← c.in_ok-is_tidy_to.ensures) c.if-branch.false
 
 pub clash_at-requires : goal.clash_at-requires
 clash_at-requires c =
-    omega (arith, c.in_ok-tidy.ensures.within, ap (λ (all : List Numbered). length all) c.deref-2.ensures.value, order_length c.args.claims.now c.in_ok-order.order.items c.in_ok-order.ensures.same)
+    omega (arith, c.in_ok-tidy.ensures.within, ap length c.deref-2.ensures.value, order_length c.args.claims.now c.in_ok-order.order.items c.in_ok-order.ensures.same)
 
 pub returns : goal.returns
 returns c =
@@ -40,7 +38,7 @@ returns c =
     let order = c.in_ok-order.order.items in
     let index = c.in_ok-tidy.tidy in
     let within : index < length claims =
-    omega (arith, c.in_ok-tidy.ensures.within, ap (λ (all : List Numbered). length all) c.deref-2.ensures.value, order_length claims order c.in_ok-order.ensures.same) in
+    omega (arith, c.in_ok-tidy.ensures.within, ap length c.deref-2.ensures.value, order_length claims order c.in_ok-order.ensures.same) in
     let later = at claims index within in
     subst (IsFirstClash claims) (sym (c.clash_at.ensures later.claim later.read))
     (first_is claims order index later.claim c.in_ok-order.ensures.same within later.is

@@ -18,24 +18,20 @@ loop-next-preserved c =
     elim c.if-next-count.branch [
       | then-next-count+else-meets w ↦
           let none : list_any (λ one. rivals c.args.count one next) (take k order) ≡ false =
-          met c.args.count order k next c.requires.sorted within is w.if-next-count.true
-          ∙ ap (λ (reach : Reach). reach_meets reach next.claim) (sym (w.at.ensures ∙ c.loop-next.invariant.reaches next.claim.to)) ∙ sym w.meets.ensures ∙ w.if-meets.false in
+          cc (met c.args.count order k next c.requires.sorted within is w.if-next-count.true, c.loop-next.invariant.reaches next.claim.to) in
           record {
             reaches = λ lower.
-                ap (λ (all : Reaches). reach_at all lower) w.reaches-is ∙ w.add.ensures.reach lower
-                ∙ ap (λ (reach : Reach). cond (is_same_lower next.claim.to lower) (reach_with reach next.claim) reach) (c.loop-next.invariant.reaches lower)
-                ∙ counted c.args.count lower (reach_of c.args.count lower (take k order)) next w.if-next-count.true ∙ sym (reach_more c.args.count lower order k next within is);
+                rw (w.reaches-is, w.add.ensures.reach lower, c.loop-next.invariant.reaches lower, reach_more c.args.count lower order k next within is) (counted c.args.count lower (reach_of c.args.count lower (take k order)) next w.if-next-count.true);
             left = search_more c.args.count order k next _ within is none c.loop-next.invariant.left;
-            devices = ap (λ (all : Reaches). length all.devices.items) w.reaches-is ∙ w.add.ensures.devices ∙ c.loop-next.invariant.devices;
-            disks = ap (λ (all : Reaches). length all.disks.items) w.reaches-is ∙ w.add.ensures.disks ∙ c.loop-next.invariant.disks;
+            devices = cc;
+            disks = cc;
           }
       | else-next-count w ↦ record {
         reaches = λ lower.
-            ap (λ (all : Reaches). reach_at all lower) w.reaches-is ∙ c.loop-next.invariant.reaches lower
-            ∙ uncounted c.args.count lower (reach_of c.args.count lower (take k order)) next w.if-next-count.false ∙ sym (reach_more c.args.count lower order k next within is);
+            cc (c.loop-next.invariant.reaches lower, uncounted c.args.count lower (reach_of c.args.count lower (take k order)) next w.if-next-count.false, reach_more c.args.count lower order k next within is);
         left = search_more c.args.count order k next _ within is (not_met c.args.count next (take k order) w.if-next-count.false) c.loop-next.invariant.left;
-        devices = ap (λ (all : Reaches). length all.devices.items) w.reaches-is ∙ c.loop-next.invariant.devices;
-        disks = ap (λ (all : Reaches). length all.disks.items) w.reaches-is ∙ c.loop-next.invariant.disks;
+        devices = cc;
+        disks = cc;
       }
     ]
 
@@ -45,6 +41,5 @@ returns-then-meets c =
     let k = c.loop-next.next-index in
     let next = c.next-item.result in
     let some : list_any (λ one. rivals c.args.count one next) (take k order) ≡ true =
-    met c.args.count order k next c.requires.sorted c.loop-next-test.true c.next-item.is c.if-next-count.true
-    ∙ ap (λ (reach : Reach). reach_meets reach next.claim) (sym (c.at.ensures ∙ c.loop-next.invariant.reaches next.claim.to)) ∙ sym c.meets.ensures ∙ c.if-meets.true in
+    cc (met c.args.count order k next c.requires.sorted c.loop-next-test.true c.next-item.is c.if-next-count.true, c.loop-next.invariant.reaches next.claim.to) in
     ap not (sym (search_ends c.args.count order k next _ c.loop-next-test.true c.next-item.is some c.loop-next.invariant.left))

@@ -7,5 +7,4 @@ use Rattle.dm_stack.proofs.lines.resolve.check_references.Goals as goal
 
 pub returns : goal.returns
 returns c =
-    c.check_lines.ensures (is_unknown c.args.stack.now) (λ line bad called. search (rules, tests))
-    ∙ ap (λ (devices : List DeviceSpec). first_or (faults_by Unknown (λ line. line.at) (is_unknown c.args.stack.now) (all_lines devices)) None) c.devices.ensures.devices
+    cc (c.check_lines.ensures (is_unknown c.args.stack.now) (λ line bad called. search (rules, tests)))

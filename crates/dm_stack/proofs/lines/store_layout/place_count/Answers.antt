@@ -8,12 +8,12 @@ pub returns-in-Persistent : goal.returns-in-Persistent
 returns-in-Persistent c =
     let args = c.args in
     let rest = c.saturating_sub-rest.result in
-    let counted : rest - rest / (32 * args.chunk + 1) ≡ places_in (32 * args.chunk) (args.store_len / args.chunk - 2) = ap (λ (n : ℕ). n - n / (32 * args.chunk + 1)) c.saturating_sub-rest.ensures in
+    let counted : rest - rest / (32 * args.chunk + 1) ≡ places_in (32 * args.chunk) (args.store_len / args.chunk - 2) = cc in
     let count : rest - rest / (32 * args.chunk + 1) ≡ place_count args.kind args.chunk args.store_len = elim c.in-Persistent.is [
       | inl is ↦ rw is counted
       | inr is ↦ rw is counted
     ] in
     record {
       count = count;
-      law = λ number. subst (λ (n : ℕ). (number < n) ↔ ((place args.kind args.chunk number + 1) * args.chunk ≤ args.store_len)) (sym count) (has_place args.kind args.chunk args.store_len number c.requires.some);
+      law = λ number. rw count (has_place args.kind args.chunk args.store_len number c.requires.some);
     }

@@ -12,9 +12,9 @@ disk_read : (c : goal.After-index-as_slice-index) → slice_get c.self.inside.di
 disk_read c =
     let disks = c.self.inside.disks in
     let disk = c.index-as_slice-index.result in
-    let within : c.args.disk < length disks = subst (λ (stack : Description). c.args.disk < length stack.disks) (sym c.self.view_is) c.requires in
-    let there = subst (λ (all : List Disk). disk ≡ get_or all c.index.result disk) c.as_slice.ensures c.index-as_slice-index.is in
-    let is = subst (λ (i : ℕ). disk ≡ get_or disks i disk) c.index.ensures there in
+    let within : c.args.disk < length disks = rw (← c.self.view_is) at c.requires in
+    let there = rw c.as_slice.ensures at c.index-as_slice-index.is in
+    let is = rw c.index.ensures at there in
     slice_get_read disks (length disks) c.args.disk disk refl within is
 
 -- a disk of a sound stack has sectors
@@ -22,7 +22,4 @@ pub returns-clause-size : goal.returns-clause-size
 returns-clause-size c =
     let disk = c.index-as_slice-index.result in
     let is = disk_read c in
-    subst (λ (disk : Disk). IsLength disk.len) c.index-as_slice-index.is (record {
-      some = disk_some _ c.args.disk disk c.self.invariant.sound is;
-      small = disk_small _ c.args.disk disk c.self.invariant.sound is;
-    })
+    rw (← c.index-as_slice-index.is) (record { some = disk_some _ c.args.disk disk c.self.invariant.sound is; small = disk_small _ c.args.disk disk c.self.invariant.sound is })

@@ -29,17 +29,16 @@ returns c =
     let lines = c.found.ensures.lines in
     let shown = c.lines-lines.ensures ∙ lines in
     let there = line_there st c.args.device c.find-index.result.0 c.args.sector sound c.requires.device c.requires.sector
-    (subst (λ (ls : List FoundLine). StartsBy ls c.find-index.result.0 c.args.sector) lines c.find-index.ensures.found.line.from)
-    (subst (λ (ls : List FoundLine). StartsAfter ls (suc c.find-index.result.0) c.args.sector) lines
-    (subst (λ (index : ℕ). StartsAfter c.found.result.now.table index c.args.sector) (add-one c.find-index.result.0) c.find-index.ensures.found.line.next)) in
+    (rw lines at c.find-index.ensures.found.line.from)
+    (rw (add-one, lines) at c.find-index.ensures.found.line.next) in
     let here = slice_get_read c.lines-lines.result.now _ c.find-index.result.0 c.index-lines-index.result refl (rw c.lines-lines.ensures c.find-index.ensures.found.line.within) c.index-lines-index.is in
     let is : found_at st c.args.device c.args.sector ≡ Some c.index-lines-index.result =
-    sym there ∙ ap (λ (ls : List FoundLine). slice_get ls c.find-index.result.0) (sym shown) ∙ here in
+    cc in
     let f = sector_found st c.args.device c.args.sector sound c.requires.device c.requires.sector in
     let same : f.line ≡ c.index-lines-index.result = let known = f.is in cc in
-    let few = subst (λ (n : ℕ). c.find-index.result.1 ≤ binary_digits n) (ap length lines ∙ length-map (lines_at st c.args.device) _) c.find-index.ensures.found.few in
+    let few = rw (lines, length-map) at c.find-index.ensures.found.few in
     record {
-      line = found_line_of st c.args.device c.args.sector c.index-lines-index.result sound c.requires.device is (subst (λ (line : FoundLine). HoldsSoundly st c.args.device line c.args.sector) same f.soundly);
+      line = found_line_of st c.args.device c.args.sector c.index-lines-index.result sound c.requires.device is (rw same at f.soundly);
       few = few;
       most = few_halvings st c.args.device c.find-index.result.1 sound c.requires.device few;
       last = last_kept st c.args.device c.args.last.now c.find-index.new.last c.requires.last (rw lines at c.find-index.ensures.last);

@@ -24,7 +24,7 @@ is_of c =
     let place = found.0 in
     let of = All-contains (λ (p : Place). p.key.len < ROOM → IsPlaceOf c.self.inside.devices p) c.self.inside.fronts.places place c.self.invariant.fronts found.1 found.2 in
     let len = c.in-Some.len in
-    let room : take len c.in_ok-room.room.now ≡ take len c.args.text.now = ap (λ (xs : List ℕ). take len xs) c.in_ok-room.ensures.cases.same ∙ take-take len 16 c.args.text.now (omega (arith, c.in-Some.ensures.within)) in
+    let room : take len c.in_ok-room.room.now ≡ take len c.args.text.now = rw c.in_ok-room.ensures.cases.same (take-take len 16 c.args.text.now (omega (arith, c.in-Some.ensures.within))) in
     record {
       place = place;
       of = of;
@@ -36,11 +36,10 @@ pub returns-clause-device : goal.returns-clause-device
 returns-clause-device c =
     let is = is_of (goal.at.returns-clause-device c).In_ok-device in
     let name = take c.in-Some.len c.args.text.now in
-    subst (λ (of : Description). position (λ device. is_same device.name name) of.devices ≡ Some c.in_ok-device.device) c.self.view_is
-    (ap (λ (text : List ℕ). position (λ device. is_same device.name text) c.self.inside.devices) is.name ∙ is.of.found ∙ ap Some is.device)
+    rw (← c.self.view_is, is.name, is.of.found, is.device)
 
 pub returns-clause-name : goal.returns-clause-name
-returns-clause-name c = let is = is_of (goal.at.returns-clause-name c).In_ok-device in subst (λ (text : List ℕ). is_device_name text ≡ true) (sym is.name) is.of.named
+returns-clause-name c = let is = is_of (goal.at.returns-clause-name c).In_ok-device in rw is.name is.of.named
 
 pub returns-clause-space : goal.returns-clause-space
 returns-clause-space c =
@@ -48,5 +47,5 @@ returns-clause-space c =
     let len = c.in-Some.len in
     let room = c.in_ok-room.ensures.cases in
     let within = c.in-Some.ensures.within in
-    let is : get_or text len 0 ≡ 32 = sym (get_or-take 16 text len 0 within) ∙ ap (λ (xs : List ℕ). get_or xs len 0) (sym room.same) ∙ c.in-Some.ensures.space in
+    let is : get_or text len 0 ≡ 32 = rw (← c.in-Some.ensures.space, room.same, get_or-take) in
     space_cut text len (omega (arith, within, room.enough)) is

@@ -10,4 +10,4 @@ use Rattle.dm_stack.proofs.stack.Stack.indexed.Goals as goal
 pub new-requires-clause-small : goal.new-requires-clause-small
 new-requires-clause-small c =
     let stack : Description = record { devices = c.self.inside.devices; disks = c.self.inside.disks } in
-    subst (λ (devices : List DeviceSpec). All (λ device. HaveSmallEnds device.lines) devices) (sym c.as_slice.ensures) (ends_within stack (passes_all stack c.self.invariant.sound).small)
+    rw c.as_slice.ensures (ends_within stack (passes_all stack c.self.invariant.sound).small)

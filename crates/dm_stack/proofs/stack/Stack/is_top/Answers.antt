@@ -10,4 +10,4 @@ pub returns : goal.returns
 returns c =
     let stack = c.args.self.now in
     let is = c.is_named.ensures ∙ ap (λ (described : Description). is_named described c.args.device) c.indexed.ensures.description in
-    subst (λ (named : Bool). IsTrue (not named) ↔ IsTop stack c.args.device) (sym is) (top_is stack c.args.device)
+    rw is (top_is stack c.args.device)

@@ -4,6 +4,6 @@ use Rattle.dm_stack.proofs.stack.Stack.len.Goals as goal
 
 pub returns-clause-size : goal.returns-clause-size
 returns-clause-size c = record {
-  some = subst (λ (len : ℕ). 0 < len) (sym c.found.ensures.end) (device_some c.args.self.now c.args.device c.found.ensures.sound c.requires);
-  small = subst (λ (len : ℕ). len ≤ 1125899906842624) (sym c.found.ensures.end) (device_small c.args.self.now c.args.device c.found.ensures.sound c.requires);
+  some = rw c.found.ensures.end (device_some c.args.self.now c.args.device c.found.ensures.sound c.requires);
+  small = rw c.found.ensures.end (device_small c.args.self.now c.args.device c.found.ensures.sound c.requires);
 }

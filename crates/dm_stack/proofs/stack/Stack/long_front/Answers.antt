@@ -15,7 +15,6 @@ returns-then-are_same-clause-device c =
     let same : name ≡ spec.name = sym c.if-are_same.ensures.same ∙ c.as_bytes.ensures.value ∙ c.as_str.ensures.text in
     let found = c.in_ok-spec.ensures.lookup in
     let read : slice_get c.as_slice.result.now c.index.result ≡ Some spec = slice_get_read c.as_slice.result.now _ c.index.result spec refl found.3.0 found.1 in
-    let at = subst (λ (id : ℕ). slice_get devices id ≡ Some spec) c.index.ensures (subst (λ (all : List DeviceSpec). slice_get all c.index.result ≡ Some spec) c.as_slice.ensures read) in
+    let at = rw (c.as_slice.ensures, c.index.ensures) at read in
     let one = apart_sound stack c.self.invariant.sound c.in_ok-device.device spec at in
-    subst (λ (of : Description). position (λ device. is_same device.name name) of.devices ≡ Some c.in_ok-device.device) c.self.view_is
-    (ap (λ (text : List ℕ). position (λ device. is_same device.name text) devices) same ∙ one)
+    rw (← c.self.view_is, same) one

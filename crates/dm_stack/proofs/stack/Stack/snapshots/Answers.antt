@@ -8,7 +8,7 @@ use Rattle.dm_stack.proofs.stack.Stack.snapshots.Goals as goal
 
 pub returns-clause-all : goal.returns-clause-all
 returns-clause-all c =
-    subst (λ (ids : List ℕ). AreSnapshots c.args.self.now ids) (sym (c.as_slice.ensures ∙ c.self.invariant.snapshots ∙ ap (λ (stack : Description). snapshots stack) c.self.view_is))
+    subst (λ (ids : List ℕ). AreSnapshots c.args.self.now ids) (cc)
     (are_snapshots c.args.self.now (subst IsSound c.self.view_is c.self.invariant.sound))
 
 pub returns-clause-places : goal.returns-clause-places

@@ -17,7 +17,7 @@ first_clash-requires c =
 pub returns-clause-clash : goal.returns-clause-clash
 returns-clause-clash c =
     let made = are_claims c.args.self.now c.indexed.result c.deref.result.now c.in_ok-claims.claims.items c.deref.ensures.value c.in_ok-claims.ensures c.indexed.ensures.description in
-    subst (λ (all : List Claim). IfOk c.first_clash.result (λ found. IsFirstClash all found)) made c.first_clash.ensures
+    rw made at c.first_clash.ensures
 
 pub returns-clause-tidy : goal.returns-clause-tidy
 returns-clause-tidy c = tidiness c.args.self.now c.first_clash.result (returns-clause-clash c)

@@ -20,6 +20,5 @@ invariant_of-self c =
 pub returns-clause-leg : goal.returns-clause-leg
 returns-clause-leg c =
     let l = c.self.inside in
-    let leg = striped_leg l.chunk_size l.distance l.left c.min-len.result _ l.columns.now l.position c.index-self-self.result (omega arith) c.self.invariant.there (c.self.invariant.at (omega arith)) c.index-self-self.is (ap (λ (p : ℕ). c.index-self-self.result.offset + p) c.in_column.ensures) c.min-len.ensures in
-    subst (λ (column : FoundColumn). IsLeg c.args.self.now.target c.args.self.now.distance c.args.self.now.left (record { below = Lies column.to (column.offset + c.in_column.result); len = c.min-len.result })) c.index-self-self.is
-    (subst (λ (v : LegsView). IsLeg v.target v.distance v.left (record { below = Lies c.index-self-self.result.to (c.index-self-self.result.offset + c.in_column.result); len = c.min-len.result })) c.self.view_is leg)
+    let leg = striped_leg l.chunk_size l.distance l.left c.min-len.result _ l.columns.now l.position c.index-self-self.result (omega arith) c.self.invariant.there (c.self.invariant.at (omega arith)) c.index-self-self.is (cc) c.min-len.ensures in
+    rw (← c.index-self-self.is, ← c.self.view_is) leg

@@ -13,5 +13,5 @@ returns-in_err-span-clause-steps c =
 
 pub returns-clause-goes : goal.returns-clause-goes
 returns-clause-goes c =
-    let left = ap (λ (xs : _). length xs) (drop_at (spans c.args.self.now.line.now) c.args.self.now.index c.in_ok-span.span c.in_ok-span.ensures.span) in
+    let left = ap length (drop_at (spans c.args.self.now.line.now) c.args.self.now.index c.in_ok-span.span c.in_ok-span.ensures.span) in
     record { on = λ ends. (tt, tt, omega (arith, left)); keeps = tt; rests = λ ends. tt }
