@@ -267,9 +267,6 @@ over d at.Key h = rw (eqb-true d 0 h)
 over d p h = absurd cc
 
 pub not_over : (d : ℕ) (p : Stage) → is_over d p ≡ false → ◌≢◌ {A = State} (d, p) done
-not_over d at.Key h e = let wrong : true ≡ false = sym (eq-eqb d 0 (ap (λ (s : State). s.0) e)) ∙ h in absurd cc
-not_over d at.AfterKey h e = let wrong : at.AfterKey ≡ at.Key = ap (λ (s : State). s.1) e in absurd cc
-not_over d at.Content h e = let wrong : at.Content ≡ at.Key = ap (λ (s : State). s.1) e in absurd cc
-not_over d at.First h e = let wrong : at.First ≡ at.Key = ap (λ (s : State). s.1) e in absurd cc
-not_over d at.Next h e = let wrong : at.Next ≡ at.Key = ap (λ (s : State). s.1) e in absurd cc
-not_over d at.After h e = let wrong : at.After ≡ at.Key = ap (λ (s : State). s.1) e in absurd cc
+not_over d p h = λ e.
+    let same = some_pair_parts d 0 p at.Key (ap Some e) in
+    let wrong : true ≡ false = sym (eq-eqb d 0 same.0) ∙ rw same.1 at h in absurd cc

@@ -2,7 +2,7 @@
 use Rattle.std.proofs.Common.{◌≡◌, ℕ, true, false, List, [], ◌∷◌, ◌++◌, drop, Option, Some, None, refl, sym, ap, subst, ◌∙◌, append_assoc, inl, inr, ◌⊎◌}
 use Rattle.std.specs.Prelude.{option_map}
 use Rattle.std.proofs.lemmas.List.{append-nil}
-use Rattle.std.proofs.lemmas.Option.{same_Some}
+use Rattle.std.proofs.lemmas.Option.{some_pair_parts}
 use Rattle.lvm_text.specs.Token.{Token, Word, Text, Open, Close, ListOpen, ListClose, Equals, Comma, TokenAtLine}
 use Rattle.lvm_text.specs.Tree.{Scalar, Values, Nothing, Section, Single, Several}
 use Rattle.lvm_text.specs.Grammar.{ReadsListBy, ReadsMoreBy, ReadsBy}
@@ -50,11 +50,9 @@ item_is : (ts : List TokenAtLine) (ss : List Scalar) (b : List TokenAtLine) (s :
 item_is ts [] b s a (inl h) e = let wrong : ◌≡◌ {A = Option (Scalar × List TokenAtLine)} None (Some (s, a)) = sym (closed ts h.0 b h.1) ∙ e in absurd cc
 item_is ts [] b s a (inr h) e = let wrong : ◌≡◌ {A = Option (Scalar × List TokenAtLine)} None (Some (s, a)) = sym (closed ts h.0 b h.1) ∙ e in absurd cc
 item_is ts (x ∷ ss) b s a (inl h) e =
-    let same : ◌≡◌ {A = Scalar × List TokenAtLine} (x, h.2) (s, a) = same_Some _ _ (sym (ap item_of h.3 ∙ item_first h.1 h.0 x h.2 h.4) ∙ e) in
-    record { left = ss; first = ap (λ (p : Scalar × List TokenAtLine). p.0 ∷ ss) same; after = subst (λ (p : Scalar × List TokenAtLine). ReadsMoreBy bounded_of p.1 ss b) same h.5 }
+    let same = some_pair_parts _ _ _ _ (sym (ap item_of h.3 ∙ item_first h.1 h.0 x h.2 h.4) ∙ e) in record { left = ss; first = rw same.0; after = rw same.1 at h.5 }
 item_is ts (x ∷ ss) b s a (inr h) e =
-    let same : ◌≡◌ {A = Scalar × List TokenAtLine} (x, h.3) (s, a) = same_Some _ _ (sym (ap item_of h.4 ∙ item_next h.0 h.1 h.2 x h.3 h.5) ∙ e) in
-    record { left = ss; first = ap (λ (p : Scalar × List TokenAtLine). p.0 ∷ ss) same; after = subst (λ (p : Scalar × List TokenAtLine). ReadsMoreBy bounded_of p.1 ss b) same h.6 }
+    let same = some_pair_parts _ _ _ _ (sym (ap item_of h.4 ∙ item_next h.0 h.1 h.2 x h.3 h.5) ∙ e) in record { left = ss; first = rw same.0; after = rw same.1 at h.6 }
 
 no_item : (ts : List TokenAtLine) (ss : List Scalar) (b : List TokenAtLine) → ReadsItems ts ss b → item_of ts ≡ None → (ss ≡ []) × (drop 1 ts ≡ b)
 no_item ts [] b (inl h) e = (refl, ap (drop 1) h.1)
@@ -152,8 +150,9 @@ pub record SameKey (k q : List ℕ) (line n : ℕ) (ts us : List TokenAtLine) : 
 pub same_key : (k q : List ℕ) (line n : ℕ) (ts us : List TokenAtLine) → ◌≡◌ {A = List TokenAtLine} ((Word k, line) ∷ ts) ((Word q, n) ∷ us) → SameKey k q line n ts us
 same_key k q line n ts us e =
     let x = list_same (Word k, line) (Word q, n) ts us e in
-    let word : Word k ≡ Word q = ap (λ (p : TokenAtLine). p.0) x.0 in
-    record { key = cc; at = ap (λ (p : TokenAtLine). p.1) x.0; after = x.1 }
+    let same = some_pair_parts _ _ _ _ (ap Some x.0) in
+    let word : Word k ≡ Word q = same.0 in
+    record { key = cc; at = same.1; after = x.1 }
 
 -- the second token, after the key, is no other
 not_open : (first : TokenAtLine) (after : List TokenAtLine) (tokens : List TokenAtLine) (t : Token) (n : ℕ) (us : List TokenAtLine) → tokens ≡ first ∷ after → tokens ≡ (t, n) ∷ us → is_open first.0 ≡ is_open t

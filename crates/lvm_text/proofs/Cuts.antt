@@ -4,7 +4,7 @@ use Rattle.std.specs.Prelude.{MatchOption, option_map}
 use Rattle.std.specs.List.{list_all}
 use Rattle.std.proofs.lemmas.Bool.{cond_both, and_parts, eqb-true}
 use Rattle.std.proofs.lemmas.Bool.Decides.{nat_tests}
-use Rattle.std.proofs.lemmas.Option.{same_Some}
+use Rattle.std.proofs.lemmas.Option.{some_pair_parts}
 use Rattle.lvm_text.specs.Bytes.{code}
 use Rattle.lvm_text.specs.Token.{Token, Word, Text, Open, Close, ListOpen, ListClose, Equals, Comma, TokenAtLine}
 use Rattle.lvm_text.specs.Spelling.{Element, White, Comment, Lexeme, spelling, token_spelling, IsWord, IsToken, IsElement, Begins, Cut, is_white, is_line, is_word_byte, is_end, line_after, tokens_from, put_token, newlines, Spells, IsBadToken}
@@ -140,9 +140,9 @@ one_cut text [] [] r s h k = (refl, sym h.cut ∙ k.cut)
 one_cut text [] (q ∷ qs) r s h k = absurd (both (element_at text) q k.cut.0 (element_again text q k.cut.0 k.cut.1) (ap element_at h.cut ∙ h.over))
 one_cut text (p ∷ ps) [] r s h k = absurd (both (element_at text) p h.cut.0 (element_again text p h.cut.0 h.cut.1) (ap element_at k.cut ∙ k.over))
 one_cut text (p ∷ ps) (q ∷ qs) r s h k =
-    let same : ◌≡◌ {A = Element × List ℕ} (p, h.cut.0) (q, k.cut.0) = same_Some _ _ (sym (element_again text p h.cut.0 h.cut.1) ∙ element_again text q k.cut.0 k.cut.1) in
-    let rest = one_cut h.cut.0 ps qs r s (record { cut = h.cut.2; over = h.over }) (record { cut = subst (λ (x : List ℕ). Cut x qs s) (sym (ap (λ (x : Element × List ℕ). x.1) same)) k.cut.2; over = k.over }) in
-    (ap (λ (x : Element × List ℕ). x.0 ∷ ps) same ∙ ap (λ (xs : List Element). q ∷ xs) rest.0, rest.1)
+    let same = some_pair_parts _ _ _ _ (sym (element_again text p h.cut.0 h.cut.1) ∙ element_again text q k.cut.0 k.cut.1) in
+    let rest = one_cut h.cut.0 ps qs r s (record { cut = h.cut.2; over = h.over }) (record { cut = rw same.1 k.cut.2; over = k.over }) in
+    (rw (same.0, rest.0), rest.1)
 
 found_none : (bs : List ℕ) (o : Option (Element × List ℕ)) → MatchOption o (Unit {0}) (Found bs) → ((p : Element) (after : List ℕ) → ¬ (Begins bs p after)) → o ≡ None
 found_none bs None h bad = refl

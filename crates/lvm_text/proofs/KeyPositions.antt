@@ -27,7 +27,7 @@ position_split (suc n) [] key first = refl
 position_split (suc n) (e ∷ es) key first =
     cond_both (bytes_eq e.key.now key) (Some first) (position_of key (first + 1) es) (λ o. o ≡ either_position (cond (bytes_eq e.key.now key) (Some first) (position_of key (first + 1) (take n es))) (position_of key (first + suc n) (drop n es)))
     (λ same. rw same)
-    (λ other. rw other (position_split n es key (first + 1) ∙ ap (λ m. either_position (position_of key (first + 1) (take n es)) (position_of key m (drop n es))) (omega arith)))
+    (λ other. let next : first + 1 + n ≡ first + suc n = omega arith in rw (other, position_split n es key (first + 1), next))
 
 split_here : (m : ℕ) (es : List Entry) (key : List ℕ) → position_of key 0 es ≡ either_position (position_of key 0 (take m es)) (position_of key m (drop m es))
 split_here m es key = cc (position_split m es key 0, zero-add m)
@@ -55,7 +55,7 @@ position_push [] e key first = rw add-zero
 position_push (x ∷ es) e key first =
     cond_both (bytes_eq x.key.now key) (Some first) (position_of key (first + 1) es) (λ o. cond (bytes_eq x.key.now key) (Some first) (position_of key (first + 1) (es ++ e ∷ [])) ≡ either_position o (cond (bytes_eq e.key.now key) (Some (first + length (x ∷ es))) None))
     (λ same. rw same)
-    (λ other. rw other (position_push es e key (first + 1) ∙ ap (λ m. either_position (position_of key (first + 1) es) (cond (bytes_eq e.key.now key) (Some m) None)) (omega arith)))
+    (λ other. let next : first + 1 + length es ≡ first + suc (length es) = omega arith in rw (other, position_push es e key (first + 1), next))
 
 -- the index of entries of which one more is added: the first few are not in it
 pub finds_few : (es : List Entry) (e : Entry) (index : BTreeMap (Bor (List ℕ)) ℕ) → length es < FEW → Finds index es → Finds index (es ++ e ∷ [])
@@ -69,9 +69,7 @@ finds_put es e old new m is many fresh finds updates = λ key.
   where
     after : (key : List ℕ) → position_of key FEW (drop FEW (es ++ e ∷ [])) ≡ either_position (position_of key FEW (drop FEW es)) (cond (bytes_eq e.key.now key) (Some (length es)) None)
     after key =
-        ap (position_of key FEW) (drop-append-le FEW es (e ∷ []) many)
-        ∙ position_push (drop FEW es) e key FEW
-        ∙ ap (λ n. either_position (position_of key FEW (drop FEW es)) (cond (bytes_eq e.key.now key) (Some n) None)) (omega (arith, many, length-drop FEW es))
+        let all : FEW + length (drop FEW es) ≡ length es = omega (arith, many, length-drop FEW es) in rw (drop-append-le FEW es (e ∷ []) many, position_push (drop FEW es) e key FEW, all)
 
     none_at : (key : List ℕ) → bytes_eq e.key.now key ≡ true → position_of key FEW (drop FEW es) ≡ None
     none_at key same =

@@ -137,7 +137,7 @@ stop_at bs i p inv h =
     record {
       same = rw (← plus_plus, ← at, ← raw_skip) inv;
       within = omega (arith, length-drop i bs);
-      stops = rw (← (ap (λ (xs : List ℕ). get_or xs 0 0) at ∙ first_of_drop bs (i + p))) hit;
+      stops = rw (← first_of_drop bs (i + p), ← at) hit;
     }
 
 rest_some : (bs : List ℕ) (k : ℕ) → k < length bs → 0 < length (drop k bs)

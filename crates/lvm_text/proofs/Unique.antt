@@ -1,7 +1,7 @@
 -- A text says one thing: one tree, or one fault.
 use Rattle.std.proofs.Common.{◌≡◌, ◌≢◌, ℕ, ◌+◌, true, false, List, [], ◌∷◌, ◌++◌, Some, None, refl, sym, ap, subst, ◌∙◌, append_assoc, inl, inr, ◌⊎◌}
 use Rattle.std.specs.Prelude.{Result, Ok, Err, IfOk, IfErr}
-use Rattle.std.proofs.lemmas.Option.{same_Some}
+use Rattle.std.proofs.lemmas.Option.{same_Some, some_pair_parts}
 use Rattle.std.proofs.lemmas.List.{append-nil}
 use Rattle.lvm_text.specs.Token.{Token, Word, Open, Close, ListOpen, ListClose, Equals, Comma, TokenAtLine}
 use Rattle.lvm_text.specs.Tree.{Scalar, Values, Nothing, Section, Single, Several, Tree}
@@ -22,7 +22,7 @@ abbrev One : {X : Type 0} → X → X → List TokenAtLine → List TokenAtLine 
 One v w m n = (v ≡ w) × (m ≡ n)
 
 token_same : (t u : Token) (m n : ℕ) (ts us : List TokenAtLine) → ◌≡◌ {A = List TokenAtLine} ((t, m) ∷ ts) ((u, n) ∷ us) → (t ≡ u) × (ts ≡ us)
-token_same t u m n ts us e = let x = list_same (t, m) (u, n) ts us e in (ap (λ (p : TokenAtLine). p.0) x.0, x.1)
+token_same t u m n ts us e = let x = list_same (t, m) (u, n) ts us e in ((some_pair_parts _ _ _ _ (ap Some x.0)).0, x.1)
 
 scalar_same : (t u : Token) (s x : Scalar) → t ≡ u → scalar_of t ≡ Some s → scalar_of u ≡ Some x → s ≡ x
 scalar_same t u s x e p q = same_Some s x (sym p ∙ ap scalar_of e ∙ q)
