@@ -10,7 +10,7 @@ use Rattle.lvm_volume.specs.checks.Extents.{name_faults, snapshot_faults, unknow
 use Rattle.lvm_volume.specs.fields.Fields.{faults_of_fields}
 use Rattle.lvm_volume.specs.group.Group.{Group, group_of}
 use Rattle.lvm_volume.specs.tables.Tables.{members_of, checks_of_parts, extent_faults, group_checks, unnamed}
-use Rattle.lvm_volume.proofs.fields.Faults.{first_kept}
+use Rattle.lvm_volume.proofs.fields.Faults.{err_is, first_kept}
 use Rattle.lvm_volume.proofs.checks.FaultKinds.{NoMemory, first_kind, of_walk, of_unknown, of_extents, of_snapshots, of_unnamed}
 
 -- what is returned where a fault is found
@@ -25,14 +25,6 @@ refused_by refused (inr memory) = (λ kind. memory, λ other. absurd (other (rw 
 pub found_later : (faults : List LoadFault) (later : Option LoadFault) → first_or faults None ≡ None → first_or faults later ≡ later
 found_later [] later e = refl
 found_later (f ∷ faults) later e = absurd cc
-
-err_is : {X : Type 0} (o : Option LoadFault) (x : X) (fault : LoadFault) → unless o x ≡ Err fault → o ≡ Some fault
-err_is None x fault e = absurd cc
-err_is (Some f) x fault e = cc
-
-pub ok_is : {X : Type 0} (o : Option LoadFault) (x y : X) → unless o x ≡ Ok y → (o ≡ None) × (x ≡ y)
-ok_is None x y e = (refl, cc)
-ok_is (Some f) x y e = absurd cc
 
 -- The two checks of fields
 

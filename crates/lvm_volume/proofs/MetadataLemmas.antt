@@ -11,6 +11,7 @@ use Rattle.dm_table.specs.declared.load.load_fault.LoadFault.{LoadFault}
 use Rattle.dm_table.specs.declared.tables.table.DeviceSpec.{DeviceSpec}
 use Rattle.dm_table.specs.declared.tables.disk.Disk.{Disk}
 use Rattle.dm_table.specs.load.LoadFault.{Answers, first_fault, first_or, unless}
+use Rattle.lvm_volume.proofs.fields.Faults.{err_is}
 use Rattle.lvm_volume.specs.group.Group.{Group, group_of}
 use Rattle.lvm_volume.specs.Metadata.{SaysTree, IsRefusedText, OfText, OfGroup, metadata_checks}
 use Rattle.lvm_volume.specs.tables.Tables.{group_checks, tables_of, text_fault, unnamed}
@@ -31,14 +32,10 @@ no_fault : {X : Type 0} (found : Option LoadFault) (x y : X) → unless found x 
 no_fault None x y is = (refl, cc)
 no_fault (Some fault) x y is = absurd cc
 
-one_fault : {X : Type 0} (found : Option LoadFault) (x : X) (fault : LoadFault) → unless found x ≡ Err fault → found ≡ Some fault
-one_fault None x fault is = absurd cc
-one_fault (Some found) x fault is = cc
-
 -- the checks of a group, then the one of names
 pub refused_group : (top : Tree) (fault : LoadFault) → unless (first_fault (group_checks top)) (group_of top) ≡ Err fault → unless (first_fault (metadata_checks top)) (tables_of (group_of top)) ≡ Err fault
 refused_group top fault is =
-    rw (earlier_check (group_checks top) (unnamed (group_of top)) fault (one_fault (first_fault (group_checks top)) (group_of top) fault is))
+    rw (earlier_check (group_checks top) (unnamed (group_of top)) fault (err_is (first_fault (group_checks top)) (group_of top) fault is))
 
 pub named_group : (top : Tree) (group : Group) → unless (first_fault (group_checks top)) (group_of top) ≡ Ok group
     → unless (first_or (unnamed group) None) (tables_of group) ≡ unless (first_fault (metadata_checks top)) (tables_of (group_of top))
@@ -52,7 +49,7 @@ pub refused_tables : {X : Type 0} (source : List ℕ) (tree : Tree) (view : X �
     → Answers Source view result (unless (first_fault (metadata_checks tree)) (tables_of (group_of tree))) → IfErr result (λ fault. fault.kind ≢ Memory → IsRefusedText source fault)
 refused_tables source tree view (Ok x) says answers = tt
 refused_tables source tree view (Err fault) says answers =
-    λ not_memory. OfGroup tree says (one_fault (first_fault (metadata_checks tree)) (tables_of (group_of tree)) fault (answers.1 not_memory))
+    λ not_memory. OfGroup tree says (err_is (first_fault (metadata_checks tree)) (tables_of (group_of tree)) fault (answers.1 not_memory))
 
 pub refused_text : (source : List ℕ) (found : TextFault) → IsUtf8 source → (found ≢ texts.Memory → HasFault source found) → (text_fault found).kind ≢ Memory → IsRefusedText source (text_fault found)
 refused_text source found utf8 has not_memory = OfText utf8 found (has (λ is. not_memory (rw is))) refl

@@ -3,7 +3,7 @@ use Rattle.std.proofs.Common.{◌≡◌, ◌≢◌, ℕ, suc, ◌+◌, ◌<◌, 
 use Rattle.std.specs.Prelude.{Result, Err, IfSome, IsTrue, option_map, MatchOption, option_and_then, is_none, nat_le}
 use Rattle.std.specs.List.{list_all}
 use Rattle.std.specs.Str.Pattern.{LacksTextAt, HasTextAt}
-use Rattle.std.proofs.lemmas.Bool.{eqb-true, and_parts, and_from, leb-true, le-leb, lt-leb}
+use Rattle.std.proofs.lemmas.Bool.{cond_both, eqb-true, and_parts, and_from, leb-true, le-leb, lt-leb}
 use Rattle.std.proofs.lemmas.Bool.Decides.{nat_tests}
 use Rattle.std.proofs.lemmas.List.{append-nil, take_more, take-append-drop}
 use denote.Ref.{Bor}
@@ -15,34 +15,29 @@ use Rattle.lvm_volume.specs.Cuts.{slice_length, first_slice, after_hyphen, later
 use Rattle.lvm_volume.specs.declared.fault.NameFault.{NameFault}
 use Rattle.lvm_volume.specs.declared.fault.NameFault.TheVariants.{Letter, HyphenFirst, Empty, Long, Memory}
 
--- what holds of both values of a choice, each under its test
-cond_elim : {X : Type 0} (b : Bool) (P : X → Type 0) (x y : X) → (b ≡ true → P x) → (b ≡ false → P y) → P (cond b x y)
-cond_elim true P x y f g = f refl
-cond_elim false P x y f g = g refl
-
 -- Doubled parts
 
 plain_length : (b : ℕ) (bs : List ℕ) → eqb b (code "-") ≡ false → slice_length (b ∷ bs) ≡ suc (slice_length bs)
-plain_length b [] e = rw e refl
-plain_length b (c ∷ bs) e = rw e refl
+plain_length b [] e = rw e
+plain_length b (c ∷ bs) e = rw e
 
 plain_undoubled : (b : ℕ) (bs : List ℕ) → eqb b (code "-") ≡ false → undoubled (b ∷ bs) ≡ b ∷ undoubled bs
 plain_undoubled b [] e = refl
-plain_undoubled b (c ∷ bs) e = rw e refl
+plain_undoubled b (c ∷ bs) e = rw e
 
 pub undoubled-doubled : (w : List ℕ) → undoubled (doubled w) ≡ w
 undoubled-doubled [] = refl
 undoubled-doubled (b ∷ w) =
-    cond_elim (eqb b (code "-")) (λ xs. undoubled xs ≡ b ∷ w) (code "-" ∷ code "-" ∷ doubled w) (b ∷ doubled w)
+    cond_both (eqb b (code "-")) (code "-" ∷ code "-" ∷ doubled w) (b ∷ doubled w) (λ xs. undoubled xs ≡ b ∷ w)
     (λ e. rw (undoubled-doubled w, ← eqb-true b (code "-") e))
     (λ e. rw (plain_undoubled b (doubled w) e, undoubled-doubled w))
 
 pub doubled-append : (xs ys : List ℕ) → doubled (xs ++ ys) ≡ doubled xs ++ doubled ys
 doubled-append [] ys = refl
 doubled-append (b ∷ xs) ys =
-    cond_elim (eqb b (code "-")) (λ zs. cond (eqb b (code "-")) (code "-" ∷ code "-" ∷ doubled (xs ++ ys)) (b ∷ doubled (xs ++ ys)) ≡ zs ++ doubled ys) (code "-" ∷ code "-" ∷ doubled xs) (b ∷ doubled xs)
-    (λ e. rw e (rw (doubled-append xs ys)))
-    (λ e. rw e (rw (doubled-append xs ys)))
+    cond_both (eqb b (code "-")) (code "-" ∷ code "-" ∷ doubled xs) (b ∷ doubled xs) (λ zs. cond (eqb b (code "-")) (code "-" ∷ code "-" ∷ doubled (xs ++ ys)) (b ∷ doubled (xs ++ ys)) ≡ zs ++ doubled ys)
+    (λ e. rw (e, doubled-append xs ys))
+    (λ e. rw (e, doubled-append xs ys))
 
 -- a byte of a part after those of its front
 pub doubled_more : (xs : List ℕ) (i : ℕ) → i < length xs → doubled (take (i + 1) xs) ≡ doubled (take i xs) ++ doubled (get_or xs i 0 ∷ [])
@@ -59,8 +54,8 @@ push_hyphen xs i old t one two e lt at grown is is_hyphen last =
 pub push_plain : (xs : List ℕ) (i : ℕ) (old t one e : List ℕ) → i < length xs → t ≡ old ++ doubled (take i xs) → one ≡ t ++ e → e ≡ get_or xs i 0 ∷ [] → (get_or xs i 0 ≡ code "-" → ⊥) → one ≡ old ++ doubled (take (i + 1) xs)
 push_plain xs i old t one e lt at grown is plain =
     let b = get_or xs i 0 in
-    let own : doubled (b ∷ []) ≡ b ∷ [] = rw (not_equal b (code "-") (eqb b (code "-")) refl plain) refl in
-    rw (doubled_more xs i lt, own) (rw (grown, is, at, append_assoc old (doubled (take i xs)) (b ∷ [])))
+    let own : doubled (b ∷ []) ≡ b ∷ [] = rw (not_equal b (code "-") (eqb b (code "-")) refl plain) in
+    rw (doubled_more xs i lt, own, grown, is, at, append_assoc old (doubled (take i xs)) (b ∷ []))
 
 letter_ascii : (b : ℕ) → is_letter b ≡ true → b < 128
 letter_ascii b h = grind (arith, nat_tests)
@@ -87,20 +82,20 @@ not_zero n false e = refl
 
 begins-doubled : (c b : ℕ) (w more : List ℕ) → begins_with c (doubled (b ∷ w) ++ more) ≡ eqb b c
 begins-doubled c b w more =
-    cond_elim (eqb b (code "-")) (λ xs. begins_with c (xs ++ more) ≡ eqb b c) (code "-" ∷ code "-" ∷ doubled w) (b ∷ doubled w)
+    cond_both (eqb b (code "-")) (code "-" ∷ code "-" ∷ doubled w) (b ∷ doubled w) (λ xs. begins_with c (xs ++ more) ≡ eqb b c)
     (λ e. rw (← eqb-true b (code "-") e))
     (λ e. refl)
 
 empty-doubled : (b : ℕ) (w : List ℕ) → eqb (length (doubled (b ∷ w))) 0 ≡ false
 empty-doubled b w =
-    cond_elim (eqb b (code "-")) (λ xs. eqb (length xs) 0 ≡ false) (code "-" ∷ code "-" ∷ doubled w) (b ∷ doubled w)
+    cond_both (eqb b (code "-")) (code "-" ∷ code "-" ∷ doubled w) (b ∷ doubled w) (λ xs. eqb (length xs) 0 ≡ false)
     (λ e. not_zero (length (code "-" ∷ doubled w)) _ refl)
     (λ e. not_zero (length (doubled w)) _ refl)
 
 letters-doubled : (w : List ℕ) → list_all is_letter (doubled w) ≡ list_all is_letter w
 letters-doubled [] = refl
 letters-doubled (b ∷ w) =
-    cond_elim (eqb b (code "-")) (λ xs. list_all is_letter xs ≡ (is_letter b && list_all is_letter w)) (code "-" ∷ code "-" ∷ doubled w) (b ∷ doubled w)
+    cond_both (eqb b (code "-")) (code "-" ∷ code "-" ∷ doubled w) (b ∷ doubled w) (λ xs. list_all is_letter xs ≡ (is_letter b && list_all is_letter w))
     (λ e. rw (eqb-true b (code "-") e) (letters-doubled w))
     (λ e. rw (letters-doubled w))
 
@@ -163,7 +158,7 @@ device_doubled : (w : List ℕ) → list_all is_letter w ≡ true → list_all i
 device_doubled [] h = refl
 device_doubled (b ∷ w) h =
     let a = and_parts (is_letter b) (list_all is_letter w) h in
-    cond_elim (eqb b (code "-")) (λ (xs : List ℕ). list_all is_device_byte xs ≡ true) (code "-" ∷ code "-" ∷ doubled w) (b ∷ doubled w)
+    cond_both (eqb b (code "-")) (code "-" ∷ code "-" ∷ doubled w) (b ∷ doubled w) (λ (xs : List ℕ). list_all is_device_byte xs ≡ true)
     (λ e. device_doubled w a.1)
     (λ e. and_from (is_device_byte b) (list_all is_device_byte (doubled w)) (letter_device b a.0) (device_doubled w a.1))
 
@@ -232,13 +227,13 @@ IsEnd (b ∷ bs) = (b ≡ code "-") × (begins_with (code "-") bs ≡ false)
 
 end_length : (rest : List ℕ) → IsEnd rest → slice_length rest ≡ 0
 end_length [] h = refl
-end_length (b ∷ []) h = rw h.0 refl
-end_length (b ∷ c ∷ bs) h = rw h.0 (rw h.1 refl)
+end_length (b ∷ []) h = rw h.0
+end_length (b ∷ c ∷ bs) h = rw (h.0, h.1)
 
 length_doubled : (w rest : List ℕ) → IsEnd rest → slice_length (doubled w ++ rest) ≡ length (doubled w)
 length_doubled [] rest h = end_length rest h
 length_doubled (b ∷ w) rest h =
-    cond_elim (eqb b (code "-")) (λ xs. slice_length (xs ++ rest) ≡ length xs) (code "-" ∷ code "-" ∷ doubled w) (b ∷ doubled w)
+    cond_both (eqb b (code "-")) (code "-" ∷ code "-" ∷ doubled w) (b ∷ doubled w) (λ xs. slice_length (xs ++ rest) ≡ length xs)
     (λ e. rw (length_doubled w rest h))
     (λ e. rw (← length_doubled w rest h) (plain_length b (doubled w ++ rest) e))
 
@@ -273,7 +268,7 @@ front_pair b c bs e d f = record {
 front_plain : (b : ℕ) (bs : List ℕ) → eqb b (code "-") ≡ false → Front bs (slice_length bs) → Front (b ∷ bs) (suc (slice_length bs))
 front_plain b bs e f = record {
   part = b ∷ f.part;
-  is = ap (λ (xs : List ℕ). b ∷ xs) f.is ∙ sym (rw e refl);
+  is = ap (λ (xs : List ℕ). b ∷ xs) f.is ∙ sym (rw e);
   end = f.end;
 }
 
@@ -283,12 +278,12 @@ front_end bs h = record { part = []; is = refl; end = h }
 front : (bs : List ℕ) → Front bs (slice_length bs)
 front [] = front_end [] tt
 front (b ∷ []) =
-    cond_elim (eqb b (code "-")) (Front (b ∷ [])) 0 1
+    cond_both (eqb b (code "-")) 0 1 (Front (b ∷ []))
     (λ e. front_end (b ∷ []) (eqb-true b (code "-") e, refl))
     (λ e. front_plain b [] e (front_end [] tt))
 front (b ∷ c ∷ bs) =
-    cond_elim (eqb b (code "-")) (Front (b ∷ c ∷ bs)) (cond (eqb c (code "-")) (suc (suc (slice_length bs))) 0) (suc (slice_length (c ∷ bs)))
-    (λ e. cond_elim (eqb c (code "-")) (Front (b ∷ c ∷ bs)) (suc (suc (slice_length bs))) 0
+    cond_both (eqb b (code "-")) (cond (eqb c (code "-")) (suc (suc (slice_length bs))) 0) (suc (slice_length (c ∷ bs))) (Front (b ∷ c ∷ bs))
+    (λ e. cond_both (eqb c (code "-")) (suc (suc (slice_length bs))) 0 (Front (b ∷ c ∷ bs))
     (λ d. front_pair b c bs e d (front bs))
     (λ d. front_end (b ∷ c ∷ bs) (eqb-true b (code "-") e, d)))
     (λ e. front_plain b (c ∷ bs) e (front (c ∷ bs)))
@@ -308,7 +303,7 @@ hyphen_at bs lt = (subst IsEnd (drop-cons bs (slice_length bs) 0 lt) (front bs).
 pub after_is : (bs : List ℕ) (r : Option (Bor (List ℕ))) → MatchOption r ((rest : List ℕ) → bs ≢ code "-" ∷ rest) (λ x. bs ≡ code "-" ∷ x.now) → option_map (λ t. t.now) r ≡ after_hyphen bs
 after_is [] None m = refl
 after_is (b ∷ bs) None m =
-    cond_elim (eqb b (code "-")) (λ (o : Option (List ℕ)). None ≡ o) (Some bs) None
+    cond_both (eqb b (code "-")) (Some bs) None (λ (o : Option (List ℕ)). None ≡ o)
     (λ e. absurd (m bs (rw (eqb-true b (code "-") e))))
     (λ e. refl)
 after_is bs (Some x) m = sym (ap after_hyphen m)
@@ -316,7 +311,7 @@ after_is bs (Some x) m = sym (ap after_hyphen m)
 -- after a part comes nothing, or a hyphen and more
 end_is : (bs : List ℕ) → IsEnd bs → bs ≡ with_hyphen (after_hyphen bs)
 end_is [] h = refl
-end_is (b ∷ bs) h = rw h.0 refl
+end_is (b ∷ bs) h = rw h.0
 
 -- a text is a doubled part, and what comes after a hyphen
 record FirstSlice (bs : List ℕ) : Type 0 where
@@ -461,7 +456,7 @@ some_split name s None e is n le =
 apart_undoubled : (x : ℕ) (zs : List ℕ) → ((rest : List ℕ) → x ∷ zs ≢ code "-" ∷ code "-" ∷ rest) → undoubled (x ∷ zs) ≡ x ∷ undoubled zs
 apart_undoubled x [] h = refl
 apart_undoubled x (y ∷ zs) h =
-    cond_elim (eqb x (code "-") && eqb y (code "-")) (λ (r : List ℕ). r ≡ x ∷ undoubled (y ∷ zs)) (code "-" ∷ undoubled zs) (x ∷ undoubled (y ∷ zs))
+    cond_both (eqb x (code "-") && eqb y (code "-")) (code "-" ∷ undoubled zs) (x ∷ undoubled (y ∷ zs)) (λ (r : List ℕ). r ≡ x ∷ undoubled (y ∷ zs))
     (λ e. let both = and_parts (eqb x (code "-")) (eqb y (code "-")) e in absurd (h zs (rw (eqb-true x (code "-") both.0, eqb-true y (code "-") both.1))))
     (λ e. refl)
 
@@ -484,4 +479,4 @@ undoubled_step s before after i j lacks has b a n =
 
 pub undoubled_joined : (all whole rest before after one two : List ℕ) → all ≡ whole ++ rest → rest ≡ before ++ code "-" ∷ after → one ≡ whole ++ before → two ≡ one ++ code "-" ∷ [] → all ≡ two ++ after
 undoubled_joined all whole rest before after one two a r o t =
-    rw t (rw (a, r, ← append_assoc whole before (code "-" ∷ after), ← o, ← append_assoc one (code "-" ∷ []) after))
+    rw (t, a, r, ← append_assoc whole before (code "-" ∷ after), ← o, ← append_assoc one (code "-" ∷ []) after)

@@ -25,8 +25,8 @@ meets_is claim [] = refl
 meets_is claim (c ∷ used) = by_position (claim.physical == c.physical) refl (meets_is claim used) where
   by_position : (b : Bool) → (claim.physical == c.physical) ≡ b → list_any (meets claim) used ≡ list_any (reaches claim.first claim.end) (ranges_of claim.physical used)
       → list_any (meets claim) (c ∷ used) ≡ list_any (reaches claim.first claim.end) (ranges_of claim.physical (c ∷ used))
-  by_position true e rest = rw (e, rest) refl
-  by_position false e rest = rw (e, rest) refl
+  by_position true e rest = rw (e, rest)
+  by_position false e rest = rw (e, rest)
 
 -- an empty map keeps nothing
 pub keeps_nothing : (m : BTreeMap ℕ ℕ) → ((q : ℕ) → get nat_cmp m q ≡ None) → HasRanges m []
@@ -54,13 +54,13 @@ holds_more maps new claim used holds within keeps = record { at = λ i d below. 
       let same : i ≡ claim.physical = eqb-true i claim.physical e in
       let has : HasRanges (get_or (set maps claim.physical new) claim.physical d) ((claim.first, claim.end) ∷ ranges_of claim.physical used) =
       rw (get_or-set_same maps claim.physical new d within) keeps in
-      let more : (claim.first, claim.end) ∷ ranges_of claim.physical used ≡ ranges_of claim.physical (claim ∷ used) = rw (same_eqb claim.physical) refl in
+      let more : (claim.first, claim.end) ∷ ranges_of claim.physical used ≡ ranges_of claim.physical (claim ∷ used) = rw (same_eqb claim.physical) in
       subst (λ (j : ℕ). HasRanges (get_or (set maps claim.physical new) j d) (ranges_of j (claim ∷ used))) (sym same)
       (rw (← more) has)
   at_position i d below false e =
       let has : HasRanges (get_or (set maps claim.physical new) i d) (ranges_of i used) =
       rw (get_or-set_other maps claim.physical i new d (eqb-false i claim.physical e)) (holds.at i d below) in
-      let same : ranges_of i used ≡ ranges_of i (claim ∷ used) = rw e refl in
+      let same : ranges_of i used ≡ ranges_of i (claim ∷ used) = rw e in
       rw (← same) has
 
 pub holds_nothing : (maps : List (BTreeMap ℕ ℕ)) (m : BTreeMap ℕ ℕ) → Holds maps [] → HasRanges m [] → Holds (maps ++ m ∷ []) []

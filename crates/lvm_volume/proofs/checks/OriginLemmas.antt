@@ -2,7 +2,7 @@
 use Rattle.std.proofs.Common.{◌≡◌, ℕ, zero, suc, ◌+◌, ◌<◌, ◌==◌, Bool, true, false, cond, not, List, [], ◌∷◌, ◌++◌, length, map, refl, sym, ap, subst, ◌∙◌, arith}
 use Rattle.std.specs.Prelude.{◌||◌, filter, nat_lt, slice_index_or}
 use Rattle.std.specs.List.{AllByRecursion, enumerate_from, list_any}
-use Rattle.std.proofs.lemmas.Bool.{eq-eqb, eqb-true, ltb-true}
+use Rattle.std.proofs.lemmas.Bool.{eq-eqb, eqb-true, ltb-true, not-false, or_parts, or_right}
 use Rattle.lvm_volume.specs.declared.group.roles.Record.{Record}
 use Rattle.lvm_volume.specs.declared.group.roles.Role.{Role}
 use Rattle.lvm_volume.specs.declared.group.roles.Role.TheVariants as roles
@@ -35,10 +35,6 @@ all_filtered P test (x ∷ xs) a = by_test (test x) refl (all_filtered P test xs
   by_test false is more = more
 
 -- each is among those with its origin
-or_true : (p q : Bool) → q ≡ true → (p || q) ≡ true
-or_true true q is = refl
-or_true false q is = is
-
 abbrev has_origin : List Record → Record → Type 0
 has_origin snapshots snapshot = list_any (λ other. other.origin == snapshot.origin) snapshots ≡ true
 
@@ -46,7 +42,7 @@ all_among : (snapshots : List Record) → AllByRecursion (has_origin snapshots) 
 all_among [] = tt
 all_among (snapshot ∷ snapshots) = (
   rw (eq-eqb snapshot.origin snapshot.origin refl),
-  all_by (has_origin snapshots) (has_origin (snapshot ∷ snapshots)) (λ other is. or_true (snapshot.origin == other.origin) _ is) snapshots (all_among snapshots),
+  all_by (has_origin snapshots) (has_origin (snapshot ∷ snapshots)) (λ other is. or_right (snapshot.origin == other.origin) _ is) snapshots (all_among snapshots),
 )
 
 -- What the checks leave of a record
@@ -56,20 +52,12 @@ record IsAllowed (count : ℕ) (all : List Role) (snapshot : Record) : Type 0 wh
   no_record : is_record (role_at all snapshot.origin) ≡ false
   store : is_store (role_at all snapshot.store) ≡ true
 
-or_false : (p q : Bool) → (p || q) ≡ false → (p ≡ false) × (q ≡ false)
-or_false true q e = absurd cc
-or_false false q e = (refl, e)
-
-not_false : (b : Bool) → not b ≡ false → b ≡ true
-not_false true e = refl
-not_false false e = absurd cc
-
 allowed_target : (count : ℕ) (volumes : List Volume) (all : List Role) (extents line : ℕ) (target : SegmentType) → list_any (λ position. not (nat_lt position count)) (volumes_named target) ≡ false → is_bad_target volumes all true extents target ≡ false
     → AllByRecursion (IsAllowed count all) (snapshot_of line target)
 allowed_target count volumes all extents line (Snapshot chunk_size origin store) known good =
-    let a = or_false (is_record (role_at all origin)) _ good in
-    let b = or_false (not (is_store (role_at all store))) _ a.1 in
-    (record { there = ltb-true origin count (not_false (nat_lt origin count) (or_false (not (nat_lt origin count)) _ known).0); no_record = a.0; store = not_false (is_store (role_at all store)) b.0 }, tt)
+    let a = or_parts (is_record (role_at all origin)) _ good in
+    let b = or_parts (not (is_store (role_at all store))) _ a.1 in
+    (record { there = ltb-true origin count (not-false (nat_lt origin count) (or_parts (not (nat_lt origin count)) _ known).0); no_record = a.0; store = not-false (is_store (role_at all store)) b.0 }, tt)
 allowed_target count volumes all extents line (Striped stripe_size stripes) known good = tt
 allowed_target count volumes all extents line Zero known good = tt
 allowed_target count volumes all extents line Error known good = tt
@@ -78,7 +66,7 @@ allowed_in : (physicals count : ℕ) (volumes : List Volume) (all : List Role) (
     → AllByRecursion (λ segment. is_bad_snapshot volumes all (length segments == 1) segment ≡ false) segments → AllByRecursion (IsAllowed count all) (recorded segments)
 allowed_in physicals count volumes all [] known good = tt
 allowed_in physicals count volumes all (segment ∷ []) known good =
-    allowed_target count volumes all segment.count segment.line segment.target (or_false (list_any (λ stripe. not (nat_lt stripe.physical physicals)) (stripes_of segment.target)) _ known.0).1 good.0
+    allowed_target count volumes all segment.count segment.line segment.target (or_parts (list_any (λ stripe. not (nat_lt stripe.physical physicals)) (stripes_of segment.target)) _ known.0).1 good.0
 allowed_in physicals count volumes all (segment ∷ second ∷ more) known good = tt
 
 all_allowed : (physicals count : ℕ) (volumes : List Volume) (all : List Role) (left : List Volume) → AllByRecursion (λ volume. AllByRecursion (λ segment. is_unknown physicals count segment ≡ false) volume.segments) left

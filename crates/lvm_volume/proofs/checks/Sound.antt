@@ -2,7 +2,7 @@
 use Rattle.std.proofs.Common.{◌≡◌, ℕ, suc, zero, ◌+◌, ◌*◌, ◌/◌, ◌%◌, ◌^◌, ◌<◌, ◌≤◌, ◌==◌, Bool, true, false, not, ◌||◌, List, [], ◌∷◌, ◌++◌, length, map, Option, Some, None, refl, sym, ap, ◌∙◌, arith, mul-le-mul_right, if◌then◌else◌}
 use Rattle.std.specs.Prelude.{nat_lt, codes}
 use Rattle.std.specs.List.{AllByRecursion, flat_map, list_any, range_with_len}
-use Rattle.std.proofs.lemmas.Bool.{ltb-false, ltb-true}
+use Rattle.std.proofs.lemmas.Bool.{ltb-false, ltb-true, or_parts}
 use Rattle.lvm_text.specs.Tree.{Tree, Shown, Content, Inner, Whole, Items, Int, Text, node_of, sections_of}
 use Rattle.dm_table.specs.declared.load.load_fault.LoadKind.{LoadKind}
 use Rattle.dm_table.specs.declared.load.load_fault.LoadKind.TheVariants.{Extents, Unknown}
@@ -49,20 +49,16 @@ if-nil : (b : Bool) (x : LoadFault) → (if b then x ∷ [] else []) ≡ [] → 
 if-nil true x e = absurd cc
 if-nil false x e = refl
 
-or_false : (p q : Bool) → (p || q) ≡ false → (p ≡ false) × (q ≡ false)
-or_false true q e = absurd cc
-or_false false q e = (refl, e)
-
 -- Integers in the limits
 
 content-limit : (size : ℕ) (content : Content) → is_far size kinds.Extents content ≡ false → number_in content * size ≤ most
-content-limit size (Whole (Int n)) e = ltb-false most (n * size) (or_false (nat_lt most n) _ e).1
+content-limit size (Whole (Int n)) e = ltb-false most (n * size) (or_parts (nat_lt most n) _ e).1
 content-limit size (Whole (Text text)) e = omega arith
 content-limit size (Items items) e = omega arith
 content-limit size (Inner tree) e = omega arith
 
 content-most : (size : ℕ) (kind : Kind) (content : Content) → is_far size kind content ≡ false → number_in content ≤ most
-content-most size kind (Whole (Int n)) e = ltb-false most n (or_false (nat_lt most n) _ e).0
+content-most size kind (Whole (Int n)) e = ltb-false most n (or_parts (nat_lt most n) _ e).0
 content-most size kind (Whole (Text text)) e = omega arith
 content-most size kind (Items items) e = omega arith
 content-most size kind (Inner tree) e = omega arith
@@ -166,16 +162,16 @@ IsKnown physicals segment = AllByRecursion (λ stripe. stripe.physical < physica
 within : (physicals : List Physical) (used : List Claim) (share : ℕ) (stripes : List Stripe) → have_clash physicals used (claims_by share stripes) ≡ false → AllByRecursion (λ stripe. stripe.extent ≤ extents_at physicals stripe.physical) stripes
 within physicals used share [] e = tt
 within physicals used share (stripe ∷ stripes) e =
-    let a = or_false (nat_lt (extents_at physicals stripe.physical) (stripe.extent + share)) _ e in
-    let b = or_false (list_any (meets (record { physical = stripe.physical; first = stripe.extent; end = stripe.extent + share })) used) _ a.1 in
+    let a = or_parts (nat_lt (extents_at physicals stripe.physical) (stripe.extent + share)) _ e in
+    let b = or_parts (list_any (meets (record { physical = stripe.physical; first = stripe.extent; end = stripe.extent + share })) used) _ a.1 in
     (omega (arith, ltb-false (extents_at physicals stripe.physical) (stripe.extent + share) a.0), within physicals (record { physical = stripe.physical; first = stripe.extent; end = stripe.extent + share } ∷ used) share stripes b.1)
 
 placed : (physicals : List Physical) (used : List Claim) (end : ℕ) (segment : Segment) → is_misplaced physicals used end segment ≡ false → BeginsIn physicals segment
 placed physicals used end segment e =
-    let a = or_false (not (segment.start == end)) _ e in
-    let b = or_false (segment.count == 0) _ a.1 in
-    let c = or_false (parts_of segment.target == 0) _ b.1 in
-    let d = or_false (not (segment.count % parts_of segment.target == 0)) _ c.1 in
+    let a = or_parts (not (segment.start == end)) _ e in
+    let b = or_parts (segment.count == 0) _ a.1 in
+    let c = or_parts (parts_of segment.target == 0) _ b.1 in
+    let d = or_parts (not (segment.count % parts_of segment.target == 0)) _ c.1 in
     within physicals used (segment.count / parts_of segment.target) (stripes_of segment.target) d.1
 
 all_placed : (physicals : List Physical) (used : List Claim) (end : ℕ) (segments : List Segment) → segment_faults physicals used end segments ≡ [] → AllByRecursion (BeginsIn physicals) segments
@@ -193,7 +189,7 @@ volumes_placed physicals used (volume ∷ volumes) e =
 known_stripes : (physicals : ℕ) (stripes : List Stripe) → list_any (λ stripe. not (nat_lt stripe.physical physicals)) stripes ≡ false → AllByRecursion (λ stripe. stripe.physical < physicals) stripes
 known_stripes physicals [] e = tt
 known_stripes physicals (stripe ∷ stripes) e =
-    let a = or_false (not (nat_lt stripe.physical physicals)) _ e in
+    let a = or_parts (not (nat_lt stripe.physical physicals)) _ e in
     (ltb-true stripe.physical physicals (not-false_true (nat_lt stripe.physical physicals) a.0), known_stripes physicals stripes a.1) where
       not-false_true : (b : Bool) → not b ≡ false → b ≡ true
       not-false_true true h = refl
@@ -220,7 +216,7 @@ no_line kind (Some line) h = absurd cc
 known_segments : (physicals volumes : ℕ) (segments : List Segment) → AllByRecursion (λ segment. is_unknown physicals volumes segment ≡ false) segments → AllByRecursion (IsKnown physicals) segments
 known_segments physicals volumes [] none = tt
 known_segments physicals volumes (segment ∷ segments) none =
-    (known_stripes physicals (stripes_of segment.target) (or_false (list_any (λ stripe. not (nat_lt stripe.physical physicals)) (stripes_of segment.target)) _ none.0).0, known_segments physicals volumes segments none.1)
+    (known_stripes physicals (stripes_of segment.target) (or_parts (list_any (λ stripe. not (nat_lt stripe.physical physicals)) (stripes_of segment.target)) _ none.0).0, known_segments physicals volumes segments none.1)
 
 known_volumes : (physicals count : ℕ) (volumes : List Volume) → AllByRecursion (λ volume. AllByRecursion (λ segment. is_unknown physicals count segment ≡ false) volume.segments) volumes
     → AllByRecursion (λ volume. AllByRecursion (IsKnown physicals) volume.segments) volumes

@@ -5,23 +5,19 @@ use Rattle.std.specs.Prelude.{IsSome, nat_lt}
 use Rattle.std.specs.List.{list_any, AllByRecursion}
 use Rattle.std.specs.Ordering.{nat_cmp}
 use Rattle.std.specs.BTreeMap.{BTreeMap, Updates, get, is_at}
-use Rattle.std.proofs.lemmas.Bool.{and_from, lt-ltb, ltb-false, ltb-true, le-ltb, cases_order}
+use Rattle.std.proofs.lemmas.Bool.{and_from, and_right, or_right, lt-ltb, ltb-false, ltb-true, le-ltb, cases_order}
 use Rattle.lvm_volume.specs.checks.Used.{HasRanges, reaches}
 
 -- no range of a map reaches, where none that the map finds does
 none_reach : (used : BTreeMap ℕ ℕ) (test : ℕ × ℕ → Bool) → ((a b : ℕ) → get nat_cmp used a ≡ Some b → test (a, b) ≡ false) → (ranges : List (ℕ × ℕ)) → AllByRecursion (λ range. get nat_cmp used range.0 ≡ Some range.1) ranges → list_any test ranges ≡ false
 none_reach used test never [] all = refl
-none_reach used test never ((a, b) ∷ ranges) all = rw (never a b all.0, none_reach used test never ranges all.1) refl
-
-and_false : (p : Bool) → (p && false) ≡ false
-and_false true = refl
-and_false false = refl
+none_reach used test never ((a, b) ∷ ranges) all = rw (never a b all.0, none_reach used test never ranges all.1)
 
 reaches_not : (first end a b : ℕ) → (a < end → b ≤ first) → reaches first end (a, b) ≡ false
 reaches_not first end a b h = by_test (nat_lt a end) refl where
   by_test : (t : Bool) → nat_lt a end ≡ t → reaches first end (a, b) ≡ false
-  by_test true e = rw (le-ltb first b (h (ltb-true a end e))) refl
-  by_test false e = rw e (and_false (nat_lt first b))
+  by_test true e = rw (le-ltb first b (h (ltb-true a end e)))
+  by_test false e = and_right (nat_lt first b) _ e
 
 pub none_before : (used : BTreeMap ℕ ℕ) (ranges : List (ℕ × ℕ)) (first end : ℕ) → HasRanges used ranges → ((q : ℕ) → q < end → get nat_cmp used q ≡ None) → list_any (reaches first end) ranges ≡ false
 none_before used ranges first end keeps none = none_reach used (reaches first end) (λ a b is. reaches_not first end a b (λ below. absurd (some_none (get nat_cmp used a) b is (none a below)))) ranges keeps.all where
@@ -52,10 +48,6 @@ last_before used ranges first end s e keeps some below is greatest = by_test (na
 
 ne_at : (a b : ℕ) → (a ≡ b → ⊥) → is_at (nat_cmp a) b ≡ false
 ne_at a b ne = grind (arith, common_steps)
-
-or_true : (p : Bool) → (p || true) ≡ true
-or_true true = refl
-or_true false = refl
 
 -- what a map has with one range more
 pub record Adds (old new : BTreeMap ℕ ℕ) (first end : ℕ) : Type 0 where
@@ -112,8 +104,8 @@ keeps_more old new ranges first end keeps some free added = record {
   only_at : (s e : ℕ) → get nat_cmp new s ≡ Some e → (a b : ℕ) → reaches a b (s, e) ≡ true → (first ≡ s) ⊎ (get nat_cmp new s ≡ get nat_cmp old s) → (reaches a b (first, end) || list_any (reaches a b) ranges) ≡ true
   only_at s e is a b hit (inl same) =
       let ends : e ≡ end = same_end (get nat_cmp new s) e end is (ap (get nat_cmp new) (sym same) ∙ added.here) in
-      rw (same, ← ends, hit) refl
-  only_at s e is a b hit (inr other) = rw (keeps.only s e (sym other ∙ is) a b hit) (or_true (reaches a b (first, end)))
+      rw (same, ← ends, hit)
+  only_at s e is a b hit (inr other) = or_right (reaches a b (first, end)) _ (keeps.only s e (sym other ∙ is) a b hit)
 
   some_at : (s e : ℕ) → get nat_cmp new s ≡ Some e → (first ≡ s) ⊎ (get nat_cmp new s ≡ get nat_cmp old s) → s < e
   some_at s e is (inl same) = omega (arith, same, some, same_end (get nat_cmp new s) e end is (ap (get nat_cmp new) (sym same) ∙ added.here))

@@ -4,7 +4,7 @@ use Rattle.std.specs.List.{flat_map, range_with_len}
 use Rattle.std.specs.Result.{result_err}
 use Rattle.dm_table.specs.declared.load.place.Part.TheVariants.{Source}
 use Rattle.dm_table.specs.declared.load.load_fault.LoadFault.{LoadFault}
-use Rattle.dm_table.specs.load.LoadFault.{IsMemoryFault, first_or}
+use Rattle.dm_table.specs.load.LoadFault.{IsMemoryFault, first_or, unless}
 use Rattle.lvm_volume.specs.fields.Fields.{IsChecked}
 
 -- what is found first is found first of more, and where nothing is found the others are asked
@@ -25,6 +25,15 @@ pub found_more : {a b : Option LoadFault} {fault : LoadFault} → (a ≡ Some fa
 found_more more (inl found) = inl (more found)
 found_more more (inr memory) = inr memory
 
+-- what was found, where a check refuses or gives its value
+pub err_is : {X : Type 0} (o : Option LoadFault) (x : X) (fault : LoadFault) → unless o x ≡ Err fault → o ≡ Some fault
+err_is None x fault e = absurd cc
+err_is (Some f) x fault e = cc
+
+pub ok_is : {X : Type 0} (o : Option LoadFault) (x y : X) → unless o x ≡ Ok y → (o ≡ None) × (x ≡ y)
+ok_is None x y e = (refl, cc)
+ok_is (Some f) x y e = absurd cc
+
 -- a check that takes no memory
 pub checked : {X : Type 0} (r : Result X LoadFault) (found : Option LoadFault) → result_err r ≡ found → IsChecked r found
 checked (Ok done) found e = sym e
@@ -32,7 +41,7 @@ checked (Err fault) found e = inl (sym e)
 
 -- over numbers from 1 on
 pub range_more : (i end : ℕ) → i < end → range_with_len (i + 1) (end - i) ≡ (i + 1) ∷ range_with_len (i + 1 + 1) (end - (i + 1))
-range_more i end below = let n : end - i ≡ suc (end - (i + 1)) = omega arith in rw n refl
+range_more i end below = let n : end - i ≡ suc (end - (i + 1)) = omega arith in rw n
 
 -- what is made so far, and what the numbers that are left give
 pub made_more : {X : Type 0} (f : ℕ → List X) (made more : List X) (i end : ℕ) → i < end → more ≡ made ++ f (i + 1) → more ++ flat_map f (range_with_len (i + 1 + 1) (end - (i + 1))) ≡ made ++ flat_map f (range_with_len (i + 1) (end - i))

@@ -12,21 +12,14 @@ use Rattle.lvm_volume.specs.group.PhysicalFields as spec
 use Rattle.lvm_volume.specs.group.PhysicalFields.{Fields, all_named, devices_in, fields_of, fields_view}
 use Rattle.dm_table.specs.declared.load.load_fault.LoadKind.TheVariants.{Name}
 use Rattle.dm_table.specs.load.LoadFault.{fault_at}
+use Rattle.lvm_volume.proofs.fields.Faults.{err_is, ok_is}
 use Rattle.dm_table.specs.declared.load.place.Part.TheVariants.{Source}
 
 pub named : (p : Physical) → is_disk_name p.disk ≡ true → unless (first_or (name_faults (p ∷ [])) None) p ≡ Ok p
-named p e = rw e refl
+named p e = rw e
 
 pub unnamed : (p : Physical) → is_disk_name p.disk ≡ false → unless (first_or (name_faults (p ∷ [])) None) p ≡ Err (fault_at Source Name p.line)
-unnamed p e = rw e refl
-
-err_is : {X : Type 0} (o : Option LoadFault) (x : X) (fault : LoadFault) → unless o x ≡ Err fault → o ≡ Some fault
-err_is None x fault e = absurd cc
-err_is (Some f) x fault e = cc
-
-ok_is : {X : Type 0} (o : Option LoadFault) (x y : X) → unless o x ≡ Ok y → (o ≡ None) × (x ≡ y)
-ok_is None x y e = (refl, cc)
-ok_is (Some f) x y e = absurd cc
+unnamed p e = rw e
 
 alone : (b : Bool) (x : LoadFault) (ys : List LoadFault) (fault : LoadFault) → first_or (if b then x ∷ [] else []) None ≡ Some fault → first_or (if b then x ∷ ys else ys) None ≡ Some fault
 alone true x ys fault e = e

@@ -52,22 +52,22 @@ not_before : (change : Role → Role) (position first : ℕ) (all : List Role) �
 not_before change position first [] below = refl
 not_before change position first (role ∷ all) below =
     let other : (position == first) ≡ false = ne_eqb position first (λ same. omega (arith, same, below)) in
-    rw (other, not_before change position (first + 1) all (omega (arith, below))) refl
+    rw (other, not_before change position (first + 1) all (omega (arith, below)))
 
 pub not_after : (change : Role → Role) (position first : ℕ) (all : List Role) → first + length all ≤ position → changed change position first all ≡ all
 not_after change position first [] past = refl
 not_after change position first (role ∷ all) past =
     let other : (position == first) ≡ false = ne_eqb position first (λ same. omega (arith, same, past)) in
-    rw (other, not_after change position (first + 1) all (omega (arith, past))) refl
+    rw (other, not_after change position (first + 1) all (omega (arith, past)))
 
 set_at : (change : Role → Role) (position first i : ℕ) (all : List Role) (d : Role) → position ≡ first + i → i < length all → changed change position first all ≡ set all i (change (get_or all i d))
 set_at change position first i [] d is within = absurd (omega (arith, within))
 set_at change position first zero (role ∷ all) d is within =
     let same : (position == first) ≡ true = eq-eqb position first (omega (arith, is)) in
-    rw (same, not_before change position (first + 1) all (omega (arith, is))) refl
+    rw (same, not_before change position (first + 1) all (omega (arith, is)))
 set_at change position first (suc i) (role ∷ all) d is within =
     let other : (position == first) ≡ false = ne_eqb position first (λ same. omega (arith, same, is)) in
-    rw (other, set_at change position (first + 1) i all d (omega (arith, is)) (omega (arith, within))) refl
+    rw (other, set_at change position (first + 1) i all d (omega (arith, is)) (omega (arith, within)))
 
 pub changed_one : (change : Role → Role) (position : ℕ) (all : List Role) (d : Role) → position < length all → changed change position 0 all ≡ set all position (change (get_or all position d))
 changed_one change position all d within = set_at change position 0 position all d (omega arith) within

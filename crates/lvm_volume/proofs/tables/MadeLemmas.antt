@@ -96,7 +96,7 @@ all_made group sound named =
 
 pub names_of : (group : Group) (name : List ℕ) (all : List Role) (volumes : List Volume) → name ≡ group.name → all ≡ roles_of group.volumes → volumes ≡ group.volumes
     → first_or (flat_map (unnamed_volume name) (zip all volumes)) None ≡ first_or (unnamed group) None
-names_of group name all volumes is_name are_roles are_volumes = rw (is_name, are_roles, are_volumes) refl
+names_of group name all volumes is_name are_roles are_volumes = rw (is_name, are_roles, are_volumes)
 
 pub made_of : (group : Group) (name : List ℕ) (physicals : List Physical) (volumes : List Volume) (all : List Role) → name ≡ group.name → physicals ≡ group.physicals → volumes ≡ group.volumes → all ≡ roles_of group.volumes
     → AllByRecursion (IsMadeIn group) (members_of group) → AllByRecursion (IsMadeIn (record { name = name; extent_size = group.extent_size; physicals = physicals; volumes = volumes })) (zip all volumes)

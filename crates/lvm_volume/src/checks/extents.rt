@@ -164,7 +164,7 @@ fn claim_all(
     ensures len { length maps.new ≡ length maps.old }
 {
     for stripe in stripes {
-        if passes_end(physicals, stripe, share) {
+        if passes_physical_end(physicals, stripe, share) {
             return Ok(true);
         }
         if !claim(maps, stripe.physical, stripe.extent, stripe.extent + share)? {
@@ -176,7 +176,7 @@ fn claim_all(
 
 /// Whether `share` extents of a stripe pass the end of its physical volume; nothing is added up, so nothing
 /// wraps.
-fn passes_end(physicals: &[Physical], stripe: &Stripe, share: u64) -> bool
+fn passes_physical_end(physicals: &[Physical], stripe: &Stripe, share: u64) -> bool
     requires { 0 < share }
     ensures value { result
         ≡ nat_lt (extents_at physicals.now stripe.now.physical) (stripe.now.extent + share) }

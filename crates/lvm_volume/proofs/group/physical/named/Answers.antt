@@ -13,7 +13,7 @@ returns-in-Ok c = λ devices counts.
     let fields = fields_view c.args.fields.now in
     let disk = ap (λ (shared : Bool). chosen shared fields.key fields.device) (c.is_shared-shared.ensures ∙ ap (nat_lt 1) (counts fields.device)) in
     let same : spec.named devices fields ≡ record { disk = c.in-Ok.disk; size = fields.size; start = fields.start; count = fields.count; line = fields.line } =
-    rw (← disk, ← c.in-Ok.ensures.named) refl in
+    rw (← disk, ← c.in-Ok.ensures.named) in
     rw (← same) (named (spec.named devices fields) (ap is_disk_name (sym disk) ∙ c.in-Ok.ensures.tested))
 
 pub returns-in-Err-Form : goal.returns-in-Err-Form

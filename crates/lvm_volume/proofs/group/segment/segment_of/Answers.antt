@@ -29,4 +29,4 @@ returns-clause-step c = then_goes c.in_ok-start.ensures.step (then_goes c.in_ok-
 
 pub returns-clause-value : goal.returns-clause-value
 unfolding segment_of
-returns-clause-value c = rw (c.in_ok-start.ensures.value, c.in_ok-count.ensures.value, c.in_ok-target.ensures.value, c.line.ensures) refl
+returns-clause-value c = rw (c.in_ok-start.ensures.value, c.in_ok-count.ensures.value, c.in_ok-target.ensures.value, c.line.ensures)

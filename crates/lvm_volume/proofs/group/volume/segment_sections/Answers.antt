@@ -22,7 +22,7 @@ loop-i-init c =
     let volume = c.args.volume.now in
     let all : c.args.count - 0 ≡ c.args.count = omega arith in
     record {
-      made = rw c.new-sections.ensures.items (rw all);
+      made = rw (c.new-sections.ensures.items, all);
       step = λ failed left reader. in_words (λ check. rw all) (left reader);
     }
 

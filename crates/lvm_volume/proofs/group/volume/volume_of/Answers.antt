@@ -48,4 +48,4 @@ returns-clause-value c =
     let count = c.in_ok-head.ensures.count in
     let all : map section_view c.deref.result.now ≡ segments_of volume = rw (← count) (ap (map section_view) c.deref.ensures.value ∙ c.in_ok-sections.ensures.value) in
     let made = c.in_ok-segments.ensures.value ∙ ap (map (segment_of c.args.positions.now)) all in
-    rw (c.in-Ok.ensures, c.in_ok-head.ensures.ro, made, c.line.ensures) refl
+    rw (c.in-Ok.ensures, c.in_ok-head.ensures.ro, made, c.line.ensures)

@@ -16,7 +16,8 @@ use Rattle.lvm_volume.specs.group.PhysicalFields.{all_named, fields_view}
 use Rattle.lvm_volume.specs.tables.Tables.{IsSoundGroup, checks_of_parts}
 use Rattle.lvm_volume.proofs.checks.Sound.{one-in_limits, one_section, sound_group}
 use Rattle.lvm_volume.proofs.group.PhysicalLemmas.{all_said}
-use Rattle.lvm_volume.proofs.GroupLemmas.{accepted, at_fields, at_names, at_parts, both_none, of_both, ok_is, refused_by}
+use Rattle.lvm_volume.proofs.GroupLemmas.{accepted, at_fields, at_names, at_parts, both_none, of_both, refused_by}
+use Rattle.lvm_volume.proofs.fields.Faults.{ok_is}
 use Rattle.lvm_volume.proofs.volume_group.VolumeGroup.read.Goals as goal
 
 pub returns-in-Err : goal.returns-in-Err
@@ -44,7 +45,7 @@ made top fields all physicals none said is got =
     record {
       fields = none;
       names = rw (← named) h.0;
-      same = λ name is_name. let are : (group_of top).physicals ≡ physicals = sym named ∙ h.1 in rw (is_name, said.extent_size, ← are, said.volumes) refl;
+      same = λ name is_name. let are : (group_of top).physicals ≡ physicals = sym named ∙ h.1 in rw (is_name, said.extent_size, ← are, said.volumes);
     }
 
 -- what the checks of the parts find is found in the group
