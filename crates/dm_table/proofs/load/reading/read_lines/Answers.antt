@@ -1,8 +1,9 @@
 -- Where all bytes are text, what is read of the rows is what is read of the text.
-use Rattle.std.proofs.Common.{◌≡◌, ◌+◌, [], length, map}
+use Rattle.std.proofs.Common.{◌≡◌, ◌+◌, [], List, Result, length, map, sym, subst}
 use Rattle.std.proofs.lemmas.List.{length-map}
+use Rattle.dm_table.specs.declared.load.load_fault.LoadFault.{LoadFault}
 use Rattle.dm_table.specs.words.Fields.{parts_at, lines_of, rest_of}
-use Rattle.dm_table.specs.load.LoadFault.{first_fault, not_text, row_checks}
+use Rattle.dm_table.specs.load.LoadFault.{Answers, first_fault, not_text, row_checks}
 use Rattle.dm_table.specs.load.Reading.{with_rows}
 use Rattle.dm_table.specs.load.RowFaults.{no_faults, noted_rest, noted_rows, row_fault}
 use Rattle.dm_table.proofs.load.FaultLemmas.{unless-passed}
@@ -20,4 +21,5 @@ returns-in-Ok g c =
     let later = first_fault (row_checks part form.is_row form.has_values form.has_names rows (rest_of text)) in
     let passed = (unless-passed (not_text part (parts_at 10 text)) later tt c.in_default.field-0 all c.in_default.ensures).1 in
     let kept : seen ≡ noted_rest part (noted_rows part (row_fault form.is_row form.has_values form.has_names) no_faults 1 rows) (length rows + 1) (rest_of text) = rw length-map c.in-Ok.ensures.faults in
-    rw passed (rows_answer part form.is_row form.has_values form.has_names rows (rest_of text) seen c.in-Ok.reading.values all c.finish.result c.finish.ensures kept c.in-Ok.ensures.values)
+    subst (λ (x : Result (List g.row.T.Denot) LoadFault). Answers part (λ v. v.items) c.finish.result x) (sym passed)
+    (rows_answer part form.is_row form.has_values form.has_names rows (rest_of text) seen c.in-Ok.reading.values all c.finish.result c.finish.ensures kept c.in-Ok.ensures.values)

@@ -8,7 +8,7 @@ returns-then-line-lt2-clause-other c = no_op c.args.line.now (λ op rest e. absu
 
 pub returns-in_err-op-clause-other : goal.returns-in_err-op-clause-other
 returns-in_err-op-clause-other c =
-    rw c.from_residual.ensures (no_op c.args.line.now (λ op rest e. c.in_err-op.ensures.other op (cc)))
+    rw c.from_residual.ensures (no_op c.args.line.now (λ op rest e. c.in_err-op.ensures.other op (rw e)))
 
 pub returns-in_err-rest-clause-other : goal.returns-in_err-rest-clause-other
 returns-in_err-rest-clause-other c =
