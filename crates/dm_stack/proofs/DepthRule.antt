@@ -1,5 +1,5 @@
 -- In a sound stack a device is one deeper than the deepest of what it names.
-use Rattle.std.proofs.Common.{◌≡◌, ℕ, zero, suc, ◌+◌, ◌<◌, ◌≤◌, Bool, false, List, [], ◌∷◌, ◌++◌, Some, arith, refl, sym, ap, ◌∙◌, length, map, max}
+use Rattle.std.proofs.Common.{◌≡◌, ℕ, zero, suc, ◌+◌, ◌<◌, ◌≤◌, Bool, false, List, [], ◌∷◌, ◌++◌, Some, arith, refl, ap, ◌∙◌, length, map, max}
 use Rattle.std.specs.Prelude.{nat_lt, slice_get, option_map}
 use Rattle.std.specs.List.{flat_map}
 use Rattle.std.proofs.lemmas.Bool.{ltb-false}

@@ -1,5 +1,5 @@
 -- Checks that test each device by its id.
-use Rattle.std.proofs.Common.{◌≡◌, ℕ, suc, ◌+◌, ◌<◌, Bool, List, [], ◌∷◌, None, arith, refl, ap, ◌∙◌, get_or, length}
+use Rattle.std.proofs.Common.{◌≡◌, ℕ, suc, ◌+◌, ◌<◌, Bool, List, [], ◌∷◌, None, arith, refl, ◌∙◌, get_or, length}
 use Rattle.std.specs.Prelude.{nat_lt}
 use Rattle.std.proofs.lemmas.List.{length-map}
 use Rattle.dm_table.specs.declared.load.load_fault.LoadKind.{LoadKind}

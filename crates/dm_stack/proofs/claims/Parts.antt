@@ -1,5 +1,5 @@
 -- What holds of each two elements of a list, where the list is made of parts: two elements of which it does not hold stand at one place.
-use Rattle.std.proofs.Common.{◌≡◌, ℕ, zero, suc, ◌+◌, ◌<◌, inl, inr, Bool, true, false, cond, List, [], ◌∷◌, ◌++◌, Option, Some, length, refl, ap, subst, ◌∙◌, arith}
+use Rattle.std.proofs.Common.{◌≡◌, ℕ, zero, suc, ◌+◌, ◌<◌, inl, inr, Bool, true, false, cond, List, [], ◌∷◌, ◌++◌, Option, Some, length, refl, ap, ◌∙◌, arith}
 use Rattle.std.specs.Prelude.{find, slice_get}
 use Rattle.std.specs.List.{AllPairs, flat_map, range_with_len}
 use Rattle.std.proofs.lemmas.Bool.{cases_order}

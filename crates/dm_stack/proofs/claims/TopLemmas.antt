@@ -9,7 +9,6 @@ use Rattle.std.proofs.lemmas.Bool.{eq-eqb, eqb-true, ltb-false, ltb-true, or_par
 use Rattle.std.proofs.lemmas.List.{append_assoc, get_or_default, get_or_append_left, length-append}
 use Rattle.std.proofs.lemmas.List.Elements.{All-from_recursion}
 use Rattle.std.proofs.lemmas.List.Folds.{Any-from_list_any}
-use Rattle.std.specs.Option.{option_map_or}
 use Rattle.std.proofs.lemmas.Option.{slice_get_past, slice_get_read}
 use Rattle.dm_table.specs.declared.tables.table.DevRef.{DevRef}
 use Rattle.dm_table.specs.declared.tables.table.DevRef.TheVariants as refs
@@ -20,8 +19,7 @@ use Rattle.dm_stack.specs.declared.claims.clash.Clash.{Clash}
 use Rattle.dm_stack.specs.declared.id.Lower.{Lower}
 use Rattle.dm_stack.specs.declared.id.Lower.TheVariants.{Device, Disk}
 use Rattle.dm_stack.specs.claims.Claims.{AreTops, NeverMeet, IsClash, IsFirstClash, IsLower, IsThere, IsTidy, IsTop, MeetAt, claims, device_claims, line_claims, span_claim, span_end}
-use Rattle.dm_table.specs.declared.tables.disk.Disk.{Disk as ListedDisk}
-use Rattle.dm_stack.specs.Description.{Description, end_of, is_same, lines_at, lines_or_none, lower_len, lower_of}
+use Rattle.dm_stack.specs.Description.{Description, is_same, lines_at, lines_or_none, lower_len, lower_of}
 use Rattle.dm_stack.specs.claims.Naming.{is_device, is_named, line_names}
 use Rattle.dm_stack.specs.Report.{IsReport, report_text}
 use Rattle.dm_stack.specs.checks.Soundness.{IsSound, is_past, passes, passes_end}

@@ -1,5 +1,5 @@
 -- Legs: what a target without a state has below its sectors goes on in a row as far as a leg does, and lies inside what it names.
-use Rattle.std.proofs.Common.{◌≡◌, ℕ, ◌+◌, ◌-◌, ◌^◌, ◌<◌, ◌≤◌, false, List, Option, Some, None, length, get_or, refl, sym, ap, subst, ◌∙◌, arith}
+use Rattle.std.proofs.Common.{◌≡◌, ℕ, ◌+◌, ◌-◌, ◌^◌, ◌<◌, ◌≤◌, false, List, Option, Some, None, length, get_or, refl, sym, ap, ◌∙◌, arith}
 use Rattle.std.specs.Prelude.{min, slice_get}
 use Rattle.dm_stack.specs.declared.lines.found_columns.FoundColumn.{FoundColumn}
 use Rattle.dm_stack.specs.declared.lines.found_line.FoundTarget.{FoundTarget}

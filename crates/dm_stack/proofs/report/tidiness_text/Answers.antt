@@ -1,8 +1,6 @@
-use Rattle.std.proofs.Common.{Option, Some, sym, subst, ◌∙◌}
+use Rattle.std.proofs.Common.{Some, sym, ◌∙◌}
 use Rattle.std.specs.Prelude.{decimal, string_bytes}
 use Rattle.std.proofs.lemmas.Result.{IfOk-weaker}
-use Rattle.dm_stack.specs.declared.claims.clash.Clash.{Clash}
-use Rattle.dm_stack.specs.claims.Claims.{IsFirstClash, claims}
 use Rattle.dm_stack.specs.Report.{SaysTidiness, lower_text}
 use Rattle.dm_stack.proofs.ReportLemmas.{clash_line}
 use Rattle.dm_stack.proofs.report.tidiness_text.Goals as goal

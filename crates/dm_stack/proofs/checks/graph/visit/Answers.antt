@@ -1,6 +1,5 @@
 -- A device that was visited before adds nothing; another one is visited and waits.
-use Rattle.std.proofs.Common.{ℕ, ◌<◌, length, get_or, Vec, ap, ◌∙◌, arith}
-use Rattle.std.specs.Global.{Global}
+use Rattle.std.proofs.Common.{◌<◌, length, get_or, arith}
 use Rattle.std.proofs.lemmas.List.Elements.{Contains-get_or}
 use Rattle.dm_stack.proofs.checks.SearchLemmas.{Visits-skip, Visits-push}
 use Rattle.dm_stack.proofs.checks.graph.visit.Goals as goal

@@ -1,5 +1,5 @@
 -- Each check finds its fault where those before it find nothing.
-use Rattle.std.proofs.Common.{◌≡◌, ℕ, List, [], None, refl, sym, ap, subst, ◌∙◌, get_or, inl, inr, length, map}
+use Rattle.std.proofs.Common.{◌≡◌, ℕ, List, [], None, refl, sym, ap, ◌∙◌, get_or, inl, inr, map}
 use Rattle.std.specs.Prelude.{nat_lt}
 use Rattle.std.proofs.lemmas.Result.{err_from_is_err_and}
 use Rattle.dm_table.specs.declared.load.load_fault.LoadKind.TheVariants.{Deep}
@@ -12,7 +12,7 @@ use Rattle.dm_stack.specs.names.FrontNames.{ArePlaces}
 use Rattle.dm_stack.specs.Stack.{found_device}
 use Rattle.dm_stack.specs.checks.Snapshots.{snapshots}
 use Rattle.dm_stack.specs.checks.Depth.{stack_depth}
-use Rattle.dm_stack.specs.checks.Soundness.{HasNoCycle, IsFirstCycle, OnCycle, checks_before, crowded, deep, faults_by_id, range, snapshot, store, too_large, unknown}
+use Rattle.dm_stack.specs.checks.Soundness.{HasNoCycle, OnCycle, checks_before, crowded, deep, faults_by_id, range, snapshot, store, too_large, unknown}
 use Rattle.dm_stack.specs.checks.Store.{store_links}
 use Rattle.dm_stack.proofs.names.ApartLemmas.{apart_checked}
 use Rattle.dm_stack.proofs.checks.ChunkLemmas.{good_chunks}
@@ -74,7 +74,7 @@ returns-in_err-check_cycles-clause-fault c =
     let stack : Description = record { devices = c.args.devices.now; disks = c.args.disks.now } in
     let p = err_from_is_err_and c.from_residual-in_err-check_cycles.result c.from_residual-in_err-check_cycles.ensures.1 in
     let is = c.new-stack.ensures in
-    let before = early_passed stack (sym c.in_ok-check_counts.ensures, (sym c.in_ok-check_numbers.ensures, (c.in_ok-names.ensures.apart, (sym c.in_ok-check_lengths.ensures, (sym c.in_ok-check_starts.ensures, (cc c.in_ok-check_references.ensures, tt)))))) in
+    let before = early_passed stack (sym c.in_ok-check_counts.ensures, (sym c.in_ok-check_numbers.ensures, (c.in_ok-names.ensures.apart, (sym c.in_ok-check_lengths.ensures, (sym c.in_ok-check_starts.ensures, (ap (λ (described : Description). first_or (unknown described) None) (sym is) ∙ sym c.in_ok-check_references.ensures, tt)))))) in
     rw (p.1, p.2) (inl (OnCycle before (rw is at c.in_err-check_cycles.ensures.fault)))
 
 pub check_cycles-requires : goal.check_cycles-requires
@@ -101,7 +101,7 @@ passed c =
     let is = c.new-stack.ensures in
     record {
       same = is;
-      before = early_passed stack (sym c.in_ok-check_counts.ensures, (sym c.in_ok-check_numbers.ensures, (c.in_ok-names.ensures.apart, (sym c.in_ok-check_lengths.ensures, (sym c.in_ok-check_starts.ensures, (cc c.in_ok-check_references.ensures, tt))))));
+      before = early_passed stack (sym c.in_ok-check_counts.ensures, (sym c.in_ok-check_numbers.ensures, (c.in_ok-names.ensures.apart, (sym c.in_ok-check_lengths.ensures, (sym c.in_ok-check_starts.ensures, (ap (λ (described : Description). first_or (unknown described) None) (sym is) ∙ sym c.in_ok-check_references.ensures, tt))))));
       acyclic = rw is at c.in_ok-check_cycles.ensures.passed;
       told = told_deep stack c.deref.result.now stack.devices (rw is at (depths_are c)) refl;
     }
@@ -125,25 +125,25 @@ pub returns-in_err-check_ranges-clause-fault : goal.returns-in_err-check_ranges-
 returns-in_err-check_ranges-clause-fault c =
     let p = err_from_is_err_and c.from_residual-in_err-check_ranges.result c.from_residual-in_err-check_ranges.ensures.1 in
     let k = passed (goal.at.returns-in_err-check_ranges-clause-fault c).After-deref in
-    rw (p.1, p.2) (inl (refused_late _ 2 _ k.before k.acyclic (sym k.told ∙ sym c.in_ok-check_depths.ensures, (sym c.in_ok-check_stripes.ensures, tt)) (cc (k.same, c.in_err-check_ranges.ensures))))
+    rw (p.1, p.2) (inl (refused_late _ 2 _ k.before k.acyclic (sym k.told ∙ sym c.in_ok-check_depths.ensures, (sym c.in_ok-check_stripes.ensures, tt)) (rw (c.in_err-check_ranges.ensures, k.same))))
 
 pub returns-in_err-check_snapshots-clause-fault : goal.returns-in_err-check_snapshots-clause-fault
 returns-in_err-check_snapshots-clause-fault c =
     let p = err_from_is_err_and c.from_residual-in_err-check_snapshots.result c.from_residual-in_err-check_snapshots.ensures.1 in
     let k = passed (goal.at.returns-in_err-check_snapshots-clause-fault c).After-deref in
-    rw (p.1, p.2) (inl (refused_late _ 3 _ k.before k.acyclic (sym k.told ∙ sym c.in_ok-check_depths.ensures, (sym c.in_ok-check_stripes.ensures, (cc (k.same, c.in_ok-check_ranges.ensures), tt))) (cc (k.same, c.in_err-check_snapshots.ensures))))
+    rw (p.1, p.2) (inl (refused_late _ 3 _ k.before k.acyclic (sym k.told ∙ sym c.in_ok-check_depths.ensures, (sym c.in_ok-check_stripes.ensures, (ap (λ (described : Description). first_or (range described) None) (sym k.same) ∙ sym c.in_ok-check_ranges.ensures, tt))) (rw (c.in_err-check_snapshots.ensures, k.same))))
 
 pub returns-in_err-check_stores-clause-fault : goal.returns-in_err-check_stores-clause-fault
 returns-in_err-check_stores-clause-fault c =
     let p = err_from_is_err_and c.from_residual-in_err-check_stores.result c.from_residual-in_err-check_stores.ensures.1 in
     let k = passed (goal.at.returns-in_err-check_stores-clause-fault c).After-deref in
-    rw (p.1, p.2) (inl (refused_late _ 4 _ k.before k.acyclic (sym k.told ∙ sym c.in_ok-check_depths.ensures, (sym c.in_ok-check_stripes.ensures, (cc (k.same, c.in_ok-check_ranges.ensures), (cc (k.same, c.in_ok-check_snapshots.ensures), tt)))) (cc (k.same, c.in_err-check_stores.ensures))))
+    rw (p.1, p.2) (inl (refused_late _ 4 _ k.before k.acyclic (sym k.told ∙ sym c.in_ok-check_depths.ensures, (sym c.in_ok-check_stripes.ensures, (ap (λ (described : Description). first_or (range described) None) (sym k.same) ∙ sym c.in_ok-check_ranges.ensures, (ap (λ (described : Description). first_or (snapshot described) None) (sym k.same) ∙ sym c.in_ok-check_snapshots.ensures, tt)))) (rw (c.in_err-check_stores.ensures, k.same))))
 
 pub returns-in_err-check_places-clause-fault : goal.returns-in_err-check_places-clause-fault
 returns-in_err-check_places-clause-fault c =
     let p = err_from_is_err_and c.from_residual-in_err-check_places.result c.from_residual-in_err-check_places.ensures.1 in
     let k = passed (goal.at.returns-in_err-check_places-clause-fault c).After-deref in
-    rw (p.1, p.2) (inl (refused_late _ 5 _ k.before k.acyclic (sym k.told ∙ sym c.in_ok-check_depths.ensures, (sym c.in_ok-check_stripes.ensures, (cc (k.same, c.in_ok-check_ranges.ensures), (cc (k.same, c.in_ok-check_snapshots.ensures), (cc (k.same, c.in_ok-check_stores.ensures), tt))))) (cc (k.same, c.in_err-check_places.ensures))))
+    rw (p.1, p.2) (inl (refused_late _ 5 _ k.before k.acyclic (sym k.told ∙ sym c.in_ok-check_depths.ensures, (sym c.in_ok-check_stripes.ensures, (ap (λ (described : Description). first_or (range described) None) (sym k.same) ∙ sym c.in_ok-check_ranges.ensures, (ap (λ (described : Description). first_or (snapshot described) None) (sym k.same) ∙ sym c.in_ok-check_snapshots.ensures, (ap (λ (described : Description). first_or (store described) None) (sym k.same) ∙ sym c.in_ok-check_stores.ensures, tt))))) (rw (c.in_err-check_places.ensures, k.same))))
 
 pub check_starts-requires : goal.check_starts-requires
 check_starts-requires c =
@@ -189,7 +189,7 @@ returns-clause-loaded c =
     let k = passed (goal.at.returns-clause-loaded c).After-deref in
     record {
       sound = are_sound _ k.before k.acyclic
-          (sym k.told ∙ sym c.in_ok-check_depths.ensures, (sym c.in_ok-check_stripes.ensures, (cc (k.same, c.in_ok-check_ranges.ensures), (cc (k.same, c.in_ok-check_snapshots.ensures), (cc (k.same, c.in_ok-check_stores.ensures), (cc (k.same, c.in_ok-check_places.ensures), tt))))));
+          (sym k.told ∙ sym c.in_ok-check_depths.ensures, (sym c.in_ok-check_stripes.ensures, (ap (λ (described : Description). first_or (range described) None) (sym k.same) ∙ sym c.in_ok-check_ranges.ensures, (ap (λ (described : Description). first_or (snapshot described) None) (sym k.same) ∙ sym c.in_ok-check_snapshots.ensures, (ap (λ (described : Description). first_or (store described) None) (sym k.same) ∙ sym c.in_ok-check_stores.ensures, (ap (λ (described : Description). first_or (crowded described) None) (sym k.same) ∙ sym c.in_ok-check_places.ensures, tt))))));
       device_names = c.in_ok-names.ensures.devices;
       disk_names = c.in_ok-names.ensures.disks;
       found =

@@ -1,7 +1,4 @@
-use Rattle.std.proofs.Common.{ℕ, List, Option, ap, subst, get_or}
-use Rattle.dm_table.specs.declared.tables.table.DeviceSpec.{DeviceSpec}
-use Rattle.dm_stack.specs.Description.{links}
-use Rattle.dm_stack.specs.checks.Graph.{IsFirstRing}
+use Rattle.std.proofs.Common.{get_or}
 use Rattle.dm_stack.proofs.checks.LoadLemmas.{no_ring, ring_fault}
 use Rattle.dm_stack.proofs.checks.load.check_cycles.Goals as goal
 

@@ -1,9 +1,8 @@
 -- A name that is in the index stands before, and one that is new does not.
-use Rattle.std.proofs.Common.{◌≡◌, ℕ, Bool, List, [], ◌∷◌, ◌++◌, Option, None, Ok, true, false, cond, sym, ap, ◌∙◌, map}
+use Rattle.std.proofs.Common.{◌≡◌, [], ◌∷◌, ◌++◌, None, true, false, sym, ◌∙◌}
 use Rattle.std.proofs.lemmas.Bool.{not-true, not-false}
 use Rattle.std.proofs.lemmas.List.{take_all}
-use Rattle.dm_table.specs.load.LoadFault.{first_or, unless}
-use Rattle.dm_table.specs.declared.load.load_fault.LoadFault.{LoadFault}
+use Rattle.dm_table.specs.load.LoadFault.{first_or}
 use Rattle.dm_table.specs.declared.load.place.Part.TheVariants.{Source}
 use Rattle.dm_stack.specs.checks.Soundness.{twice_in}
 use Rattle.dm_stack.proofs.names.NameLemmas.{names_more, refused_twice, seen_in, stands_nowhere, stands_once, stands_twice}
@@ -23,11 +22,11 @@ loop-item-preserved g c =
     let place = g.T.Placed.place_of in
     let new : seen_in (name c.item-item.result) c.loop-item.names ≡ false = rw (← c.name.ensures) (not-true _ (sym c.in-Ok-true.ensures.new ∙ c.in-Ok-true.field-0-test)) in
     let added : c.add.new.self ≡ c.loop-item.names ++ name c.item-item.result ∷ [] =
-    cc (c.in-Ok-true.ensures.added, c.in-Ok-true.field-0-test, c.name.ensures) in
+    rw (c.in-Ok-true.ensures.added, c.in-Ok-true.field-0-test, c.name.ensures) in
     record {
-      left = cc (stands_once name place c.args.list.now c.loop-item.item-index c.item-item.result _ c.loop-item-test.true c.item-item.is c.loop-item.invariant.indexed new);
+      left = rw (stands_once name place c.args.list.now c.loop-item.item-index c.item-item.result _ c.loop-item-test.true c.item-item.is c.loop-item.invariant.indexed new) c.loop-item.invariant.left;
       indexed =
-          cc (names_more name c.args.list.now c.loop-item.item-index c.item-item.result c.loop-item-test.true c.item-item.is);
+          rw (names_more name c.args.list.now c.loop-item.item-index c.item-item.result c.loop-item-test.true c.item-item.is, ← c.loop-item.invariant.indexed) added;
     }
 
 pub returns : goal.returns

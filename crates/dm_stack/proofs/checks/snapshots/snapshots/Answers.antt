@@ -1,6 +1,3 @@
-use Rattle.std.proofs.Common.{List, ℕ, [], ◌∷◌, ◌++◌, cond, sym, ap, ◌∙◌}
-use Rattle.dm_table.specs.declared.tables.table.Line.{Line}
-use Rattle.dm_stack.specs.checks.Snapshots.{has_snapshot}
 use Rattle.dm_stack.proofs.checks.SnapshotIds.{ids_next}
 use Rattle.dm_stack.proofs.checks.snapshots.snapshots.Goals as goal
 

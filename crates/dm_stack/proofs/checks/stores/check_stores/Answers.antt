@@ -1,9 +1,4 @@
-use Rattle.std.proofs.Common.{None, List, ap, ◌∙◌, rules, tests}
-use Rattle.dm_table.specs.load.LoadFault.{faults_by, first_or}
-use Rattle.dm_table.specs.declared.load.load_fault.LoadFault.{LoadFault}
-use Rattle.dm_table.specs.declared.load.load_fault.LoadKind.TheVariants.{Store}
-use Rattle.dm_table.specs.declared.tables.table.DeviceSpec.{DeviceSpec}
-use Rattle.dm_stack.specs.checks.Soundness.{all_lines}
+use Rattle.std.proofs.Common.{rules, tests}
 use Rattle.dm_stack.specs.checks.Store.{has_deep_store}
 use Rattle.dm_stack.proofs.checks.StoreLemmas.{deep_stores}
 use Rattle.dm_stack.proofs.checks.stores.check_stores.Goals as goal

@@ -1,7 +1,5 @@
-use Rattle.std.proofs.Common.{◌≡◌, ◌<◌, Bool, List, ap, ◌∙◌, arith, get_or, length}
-use Rattle.dm_table.specs.declared.tables.table.DeviceSpec.{DeviceSpec}
+use Rattle.std.proofs.Common.{◌≡◌, ◌<◌, ap, ◌∙◌, arith, get_or, length}
 use Rattle.dm_stack.specs.checks.Graph.{links_in}
-use Rattle.dm_stack.specs.checks.Store.{store_links_of}
 use Rattle.dm_stack.proofs.checks.StoreLemmas.{links_length, store_links_next}
 use Rattle.dm_stack.proofs.checks.stores.store_links.Goals as goal
 

@@ -1,7 +1,4 @@
-use Rattle.std.proofs.Common.{◌≡◌, ◌<◌, ◌++◌, List, ℕ, ap, ◌∙◌, arith, get_or, length}
-use Rattle.std.specs.List.{flat_map}
-use Rattle.dm_table.specs.declared.tables.table.Line.{Line}
-use Rattle.dm_table.specs.declared.tables.table.DeviceSpec.{DeviceSpec}
+use Rattle.std.proofs.Common.{◌≡◌, ◌<◌, ap, arith, get_or, length}
 use Rattle.dm_stack.specs.claims.Claims.{line_claims}
 use Rattle.dm_stack.proofs.lines.ByDevice.{device_next}
 use Rattle.dm_stack.proofs.claims.claim.claims.Goals as goal
@@ -13,6 +10,6 @@ loop-id-preserved c =
     let before = c.loop-id.claims.items in
     let devices = c.devices-device-items.ensures.devices in
     let within : id < length c.args.stack.now.devices = omega (arith, c.loop-id-test.true, ap length devices) in
-    let is : device ≡ get_or c.args.stack.now.devices id device = cc in
+    let is : device ≡ get_or c.args.stack.now.devices id device = rw (← devices) c.device-item.is in
     device_next (line_claims c.args.stack.now) c.args.stack.now id device before c.add_lines.new.claims.items within is c.loop-id.invariant
-    (cc (c.in_ok-add_lines.ensures, c.new.ensures, c.as_slice.ensures))
+    (rw (c.in_ok-add_lines.ensures, c.new.ensures, c.as_slice.ensures))

@@ -1,7 +1,6 @@
-use Rattle.std.proofs.Common.{◌≡◌, ◌<◌, ◌+◌, true, List, ℕ, length, sym, ap, subst, ◌∙◌, arith}
+use Rattle.std.proofs.Common.{◌≡◌, ◌<◌, ◌+◌, true, length, sym, ap, subst, ◌∙◌, arith}
 use Rattle.std.specs.List.{AllPairs}
 use Rattle.std.proofs.lemmas.List.{take_all}
-use Rattle.dm_stack.specs.declared.claims.tidy.Numbered.{Numbered}
 use Rattle.dm_stack.specs.claims.Claims.{NeverMeet, IsFirstClash}
 use Rattle.dm_stack.specs.claims.Sweep.{is_tidy_to}
 use Rattle.dm_stack.proofs.claims.TidyLemmas.{at, first_is, order_length, counted_kept, tidy_below}

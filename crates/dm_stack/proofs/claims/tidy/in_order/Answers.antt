@@ -1,6 +1,5 @@
-use Rattle.std.proofs.Common.{List, ◌++◌, ◌∷◌, [], rules, sym, ap, ◌∙◌}
+use Rattle.std.proofs.Common.{rules}
 use Rattle.std.proofs.lemmas.List.Sorted.{IsNonDecreasingBy-from_sort_by_key}
-use Rattle.dm_stack.specs.declared.claims.tidy.Numbered.{Numbered}
 use Rattle.dm_stack.proofs.claims.TidyLemmas.{numbered_next}
 use Rattle.dm_stack.proofs.claims.tidy.in_order.Goals as goal
 

@@ -1,6 +1,5 @@
-use Rattle.std.proofs.Common.{◌≡◌, ℕ, ◌+◌, ◌-◌, ◌*◌, ◌/◌, ◌<◌, ◌≤◌, inl, inr, ap, sym, subst}
-use Rattle.std.specs.Prelude.{◌↔◌}
-use Rattle.dm_stack.specs.lines.StoreLayout.{place, place_count, places_in}
+use Rattle.std.proofs.Common.{◌≡◌, ◌+◌, ◌-◌, ◌*◌, ◌/◌, inl, inr}
+use Rattle.dm_stack.specs.lines.StoreLayout.{place_count, places_in}
 use Rattle.dm_stack.proofs.lines.StoreLayoutLemmas.{has_place}
 use Rattle.dm_stack.proofs.lines.store_layout.place_count.Goals as goal
 

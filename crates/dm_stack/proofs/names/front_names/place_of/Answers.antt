@@ -1,7 +1,5 @@
-use Rattle.std.proofs.Common.{◌∙◌, Some, ap, refl, sym, subst, rules}
+use Rattle.std.proofs.Common.{◌∙◌, Some, ap, refl, sym, rules}
 use Rattle.std.proofs.lemmas.Option.{slice_get_read}
-use Rattle.dm_table.specs.declared.tables.table.DeviceSpec.{DeviceSpec}
-use Rattle.dm_stack.specs.names.FrontNames.{IsKeyOf}
 use Rattle.dm_stack.proofs.names.front_names.place_of.Goals as goal
 
 pub returns : goal.returns

@@ -1,6 +1,5 @@
-use Rattle.std.proofs.Common.{◌≡◌, ℕ, zero, suc, ◌-◌, ◌<◌, ◌++◌, List, replicate, refl, ap, ◌∙◌, arith, bit_and}
+use Rattle.std.proofs.Common.{◌≡◌, ℕ, zero, suc, ◌-◌, ◌<◌, ◌++◌, replicate, refl, ◌∙◌, arith}
 use Rattle.std.specs.Prelude.{slice_range}
-use lib.Lanes.{zip2}
 use Rattle.dm_stack.specs.declared.names.name_key.TheConstants.{KEPT}
 use Rattle.dm_stack.proofs.names.KeyLemmas.{and_kept}
 use Rattle.dm_stack.proofs.names.name_key.first_kept.Goals as goal

@@ -1,6 +1,5 @@
-use Rattle.std.proofs.Common.{Some, sym, ap, ◌∙◌}
-use Rattle.std.specs.Prelude.{position}
-use Rattle.dm_stack.specs.Description.{Description, is_same}
+use Rattle.std.proofs.Common.{sym}
+use Rattle.dm_stack.specs.Description.{is_same}
 use Rattle.dm_stack.proofs.SoundLines.{position-map}
 use Rattle.dm_stack.proofs.stack.Stack.device.Goals as goal
 

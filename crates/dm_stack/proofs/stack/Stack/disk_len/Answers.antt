@@ -1,9 +1,6 @@
-use Rattle.std.proofs.Common.{◌≡◌, ℕ, ◌<◌, List, length, get_or, Some, refl, sym, subst}
+use Rattle.std.proofs.Common.{◌≡◌, ◌<◌, length, Some, refl}
 use Rattle.std.specs.Prelude.{slice_get}
 use Rattle.std.proofs.lemmas.Option.{slice_get_read}
-use Rattle.dm_table.specs.declared.tables.disk.Disk.{Disk}
-use Rattle.dm_stack.specs.Description.{Description}
-use Rattle.dm_stack.specs.Stack.{IsLength}
 use Rattle.dm_stack.proofs.SoundLines.{disk_some, disk_small}
 use Rattle.dm_stack.proofs.stack.Stack.disk_len.Goals as goal
 

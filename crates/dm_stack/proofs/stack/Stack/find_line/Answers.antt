@@ -1,14 +1,10 @@
-use Rattle.std.proofs.Common.{◌≡◌, ◌≤◌, ℕ, suc, List, Some, length, refl, subst, sym, ap, ◌∙◌, add-one}
-use Rattle.std.specs.Prelude.{slice_get}
+use Rattle.std.proofs.Common.{◌≡◌, Some, refl, ◌∙◌, add-one}
 use Rattle.std.proofs.lemmas.List.{length-map}
 use Rattle.std.proofs.lemmas.Option.{slice_get_read}
-use Rattle.dm_stack.specs.declared.lines.found_line.FoundLine.{FoundLine}
 use Rattle.dm_stack.specs.lines.Below.{found_at}
-use Rattle.dm_stack.specs.lines.LineSearch.{StartsAfter, StartsBy, binary_digits}
-use Rattle.dm_stack.specs.Description.{lines_at}
 use Rattle.dm_stack.proofs.lines.LineSearchLemmas.{few_halvings, first_starts, last_kept, line_there, next_after, small_there}
 use Rattle.dm_stack.proofs.lines.SameLine.{found_line_of}
-use Rattle.dm_stack.proofs.SoundLines.{HoldsSoundly, sector_found}
+use Rattle.dm_stack.proofs.SoundLines.{sector_found}
 use Rattle.dm_stack.proofs.stack.Stack.find_line.Goals as goal
 
 pub find-index-requires-clause-first : goal.find-index-requires-clause-first

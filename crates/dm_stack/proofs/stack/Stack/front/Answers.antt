@@ -1,9 +1,6 @@
-use Rattle.std.proofs.Common.{◌≡◌, ◌<◌, List, ℕ, Some, get_or, take, true, sym, ap, subst, ◌∙◌, arith}
-use Rattle.std.specs.Prelude.{position}
+use Rattle.std.proofs.Common.{◌≡◌, ◌<◌, get_or, take, sym, ◌∙◌, arith}
 use Rattle.std.proofs.lemmas.List.{get_or-take, take-take}
 use Rattle.std.proofs.lemmas.List.Elements.{All-contains}
-use Rattle.dm_table.specs.words.Name.{is_device_name}
-use Rattle.dm_stack.specs.Description.{Description, is_same}
 use Rattle.dm_stack.specs.names.FrontNames.{IsPlaceOf}
 use Rattle.dm_stack.specs.declared.names.front_names.Place.{Place}
 use Rattle.dm_stack.specs.declared.names.name_key.TheConstants.{ROOM}

@@ -1,8 +1,4 @@
-use Rattle.std.proofs.Common.{List, subst, sym}
-use Rattle.std.specs.List.{All}
-use Rattle.dm_table.specs.declared.tables.table.DeviceSpec.{DeviceSpec}
 use Rattle.dm_stack.specs.Description.{Description}
-use Rattle.dm_stack.specs.checks.Soundness.{HaveSmallEnds}
 use Rattle.dm_stack.proofs.checks.HandedOn.{ends_within}
 use Rattle.dm_stack.proofs.checks.Passes.{passes_all}
 use Rattle.dm_stack.proofs.stack.Stack.indexed.Goals as goal

@@ -1,6 +1,4 @@
-use Rattle.std.proofs.Common.{Bool, not, sym, ap, subst, ◌∙◌}
-use Rattle.std.specs.Prelude.{◌↔◌, IsTrue}
-use Rattle.dm_stack.specs.claims.Claims.{IsTop}
+use Rattle.std.proofs.Common.{ap, ◌∙◌}
 use Rattle.dm_stack.specs.Description.{Description}
 use Rattle.dm_stack.specs.claims.Naming.{is_named}
 use Rattle.dm_stack.proofs.claims.TopLemmas.{top_is}

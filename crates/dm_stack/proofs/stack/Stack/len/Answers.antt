@@ -1,4 +1,3 @@
-use Rattle.std.proofs.Common.{ℕ, ◌<◌, ◌≤◌, subst, sym}
 use Rattle.dm_stack.proofs.SoundLines.{device_some, device_small}
 use Rattle.dm_stack.proofs.stack.Stack.len.Goals as goal
 

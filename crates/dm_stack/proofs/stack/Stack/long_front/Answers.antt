@@ -1,8 +1,7 @@
-use Rattle.std.proofs.Common.{◌≡◌, List, ℕ, Some, take, refl, sym, ap, subst, ◌∙◌}
-use Rattle.std.specs.Prelude.{position, slice_get}
+use Rattle.std.proofs.Common.{◌≡◌, Some, take, refl, sym, ◌∙◌}
+use Rattle.std.specs.Prelude.{slice_get}
 use Rattle.std.proofs.lemmas.Option.{slice_get_read}
-use Rattle.dm_table.specs.declared.tables.table.DeviceSpec.{DeviceSpec}
-use Rattle.dm_stack.specs.Description.{Description, is_same}
+use Rattle.dm_stack.specs.Description.{Description}
 use Rattle.dm_stack.proofs.names.ApartLemmas.{apart_sound}
 use Rattle.dm_stack.proofs.stack.Stack.long_front.Goals as goal
 

@@ -1,6 +1,5 @@
-use Rattle.std.proofs.Common.{List, ℕ, sym, ap, subst, ◌∙◌}
-use Rattle.dm_stack.specs.Description.{Description}
-use Rattle.dm_stack.specs.checks.Snapshots.{AreSnapshots, snapshots}
+use Rattle.std.proofs.Common.{List, ℕ, subst}
+use Rattle.dm_stack.specs.checks.Snapshots.{AreSnapshots}
 use Rattle.dm_stack.specs.checks.Soundness.{IsSound}
 use Rattle.dm_stack.proofs.checks.CrowdLemmas.{few_places}
 use Rattle.dm_stack.proofs.SnapshotRule.{are_snapshots}

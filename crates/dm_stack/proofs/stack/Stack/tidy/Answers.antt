@@ -1,7 +1,4 @@
-use Rattle.std.proofs.Common.{List, subst, sym}
-use Rattle.std.specs.Prelude.{IfOk}
-use Rattle.dm_stack.specs.declared.claims.claim.Claim.{Claim}
-use Rattle.dm_stack.specs.claims.Claims.{IsFirstClash}
+use Rattle.std.proofs.Common.{subst, sym}
 use Rattle.dm_stack.specs.checks.Soundness.{IsSound}
 use Rattle.dm_stack.proofs.claims.TopLemmas.{are_claims, claims_within, none_passes, one_clash, result_there, tidiness}
 use Rattle.dm_stack.proofs.stack.Stack.tidy.Goals as goal

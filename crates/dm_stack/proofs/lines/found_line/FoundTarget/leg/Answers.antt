@@ -1,5 +1,4 @@
-use Rattle.std.proofs.Common.{◌+◌, refl, subst, arith}
-use Rattle.dm_stack.specs.lines.Leg.{IsLeg, LegsView}
+use Rattle.std.proofs.Common.{◌+◌, arith}
 use Rattle.dm_stack.proofs.lines.LegLemmas.{leg_lies_inside, lies_small, row_leg}
 use Rattle.dm_stack.proofs.lines.found_line.FoundTarget.leg.Goals as goal
 

@@ -1,7 +1,5 @@
-use Rattle.std.proofs.Common.{ℕ, ◌+◌, ap, subst, arith}
+use Rattle.std.proofs.Common.{ap, arith}
 use Rattle.dm_stack.specs.declared.lines.found_columns.FoundColumn.{FoundColumn}
-use Rattle.dm_stack.specs.declared.lines.leg.Beneath.TheVariants.{Lies}
-use Rattle.dm_stack.specs.lines.Leg.{IsLeg, LegsView}
 use Rattle.dm_stack.proofs.lines.LegLemmas.{column_small, striped_leg, striped_next}
 use Rattle.dm_stack.proofs.lines.legs.Legs.next_leg.Goals as goal
 

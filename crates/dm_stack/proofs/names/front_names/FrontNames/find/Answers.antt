@@ -1,11 +1,9 @@
-use Rattle.std.proofs.Common.{◌≡◌, ◌≢◌, ℕ, true, false, List, inl, inr, drop, get_or, length, take, ap, ◌∙◌, arith, refl, sym, subst}
-use Rattle.std.specs.List.{All, Contains}
+use Rattle.std.proofs.Common.{◌≡◌, true, false, inl, inr, get_or, length, ◌∙◌, arith, refl, sym, subst}
+use Rattle.std.specs.List.{Contains}
 use Rattle.std.proofs.lemmas.Bool.{cases_lt}
 use Rattle.std.proofs.lemmas.List.{get_or_default}
-use Rattle.dm_stack.specs.names.FrontNames.{Fronts, first_place, tried}
+use Rattle.dm_stack.specs.names.FrontNames.{tried}
 use Rattle.dm_stack.proofs.names.KeyLemmas.{part_at, part_of}
-use Rattle.dm_stack.specs.declared.names.front_names.Place.{Place}
-use Rattle.dm_stack.specs.declared.names.name_key.NameKey.{NameKey}
 use Rattle.dm_stack.proofs.names.front_names.FrontNames.find.Goals as goal
 
 pub loop-place-init : goal.loop-place-init
@@ -33,8 +31,8 @@ loop-place-preserved c =
         | inl before ↦ c.loop-place.invariant.1 i d before same
         | inr here ↦
             let at : i ≡ c.loop-place.place-index = omega (arith, within, here) in
-            let it : get_or items i d ≡ c.place-item.result = cc (get_or_default items c.loop-place.place-index d c.place-item.result c.loop-place-test.true) in
-            false_true (sym c.if-is.false ∙ c.is.ensures.1 (cc))
+            let it : get_or items i d ≡ c.place-item.result = rw (at, c.place-item.is) (get_or_default items c.loop-place.place-index d c.place-item.result c.loop-place-test.true) in
+            false_true (sym c.if-is.false ∙ c.is.ensures.1 (rw (← it) same))
       ],
     )
 
@@ -44,7 +42,7 @@ returns-clause-none c =
     let ahead = c.in_ok-ahead.ensures.lookup.0 in
     let items = c.in_ok-place-items.ensures.lookup.0 in
     let is : c.in_ok-place-items.place-items.now ≡ tried c.args.self.now c.args.key.now =
-    cc (part_at c.as_slice-places.result.now c.in_ok-ahead.ahead.now c.in_ok-place-items.place-items.now c.first_place.result ahead.2 items.2) in
+    rw (← c.self.view_is, ← c.as_slice-places.ensures, ← c.first_place.ensures) (part_at c.as_slice-places.result.now c.in_ok-ahead.ahead.now c.in_ok-place-items.place-items.now c.first_place.result ahead.2 items.2) in
     rw (← is) (λ i d within. c.loop-place.invariant.1 i d (omega (arith, within, c.loop-place-test.false)))
 
 -- as many as are tried are there
@@ -52,7 +50,7 @@ pub returns-in_err-place-items-clause-none : goal.returns-in_err-place-items-cla
 returns-in_err-place-items-clause-none c =
     let there = c.self.invariant.there c.args.key.now in
     let first = c.first_place.ensures in
-    let places : length c.as_slice-places.result.now ≡ length c.self.inside.places.items = cc in
+    let places : length c.as_slice-places.result.now ≡ length c.self.inside.places.items = rw c.as_slice-places.ensures in
     elim c.in_err-place-items.ensures.lookup.0 [
       | inl none ↦ absurd (omega (arith, none))
       | inr few ↦ absurd (omega (arith, few, there, first, places, c.in_ok-ahead.ensures.lookup.0.3))

@@ -1,7 +1,6 @@
-use Rattle.std.proofs.Common.{◌<◌, ◌-◌, ◌*◌, ◌^◌, List, length, ap, ◌∙◌, arith, bit_xor}
+use Rattle.std.proofs.Common.{◌<◌, ◌-◌, ◌*◌, ◌^◌, length, ap, ◌∙◌, arith, bit_xor}
 use Rattle.std.specs.Int.{rotate_left, w64}
 use Rattle.dm_stack.specs.names.FrontNames.{first_place}
-use Rattle.dm_stack.specs.declared.names.front_names.Place.{Place}
 use Rattle.dm_stack.proofs.names.KeyLemmas.{shifted}
 use Rattle.dm_stack.proofs.names.front_names.FrontNames.new.Goals as goal
 
