@@ -8,7 +8,6 @@ use Rattle.lvm_text.specs.Tree.{Scalar, Values, Nothing, Section, Single, Severa
 use Rattle.lvm_text.specs.Grammar.{scalar_of, ReadsList, ReadsMore, Reads, IsText, BeginsText, IsBreak, IsSyntaxLine}
 use Rattle.lvm_text.specs.Build.{begins_key}
 use Rattle.lvm_text.specs.Spelling.{Spells, IsBadToken, newlines}
-use Rattle.lvm_text.specs.Checks.{fault_of}
 use Rattle.lvm_text.specs.Reading.{Describes, IsBadSyntax, IsUnsound, HasFault, Answers}
 use Rattle.lvm_text.specs.declared.fault.TextFault.{TextFault}
 use Rattle.lvm_text.specs.declared.fault.TextFault.TheVariants as fault

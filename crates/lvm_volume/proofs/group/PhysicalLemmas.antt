@@ -1,5 +1,5 @@
 -- Physical volumes as they are read, one after the other.
-use Rattle.std.proofs.Common.{◌≡◌, ℕ, ◌+◌, ◌<◌, Bool, true, false, not, List, [], ◌∷◌, length, if◌then◌else◌, get_or, drop, map, Option, Some, None, Ok, Err, refl, sym}
+use Rattle.std.proofs.Common.{◌≡◌, ℕ, ◌+◌, ◌<◌, Bool, true, false, not, List, [], ◌∷◌, length, if◌then◌else◌, get_or, drop, map, Some, None, Ok, Err, refl, sym}
 use Rattle.std.proofs.lemmas.List.{drop_more}
 use Rattle.dm_table.specs.words.Name.{is_disk_name}
 use Rattle.dm_table.specs.declared.load.load_fault.LoadFault.{LoadFault}

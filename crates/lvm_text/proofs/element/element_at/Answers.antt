@@ -1,5 +1,3 @@
-use Rattle.std.proofs.Common.{◌∙◌, ap, List, ℕ, get_or}
-use Rattle.lvm_text.specs.Scan.{element_from}
 use Rattle.lvm_text.proofs.Elements.{element_nil, element_beyond, element_cons, some_bytes}
 use Rattle.lvm_text.proofs.element.element_at.Goals as goal
 

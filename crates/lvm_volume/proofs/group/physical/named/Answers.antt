@@ -1,4 +1,4 @@
-use Rattle.std.proofs.Common.{◌≡◌, Bool, Err, refl, sym, ap, ◌∙◌}
+use Rattle.std.proofs.Common.{◌≡◌, Bool, Err, sym, ap, ◌∙◌}
 use Rattle.std.specs.Prelude.{nat_lt}
 use Rattle.dm_table.specs.declared.load.load_fault.LoadKind.TheVariants.{Memory, Name}
 use Rattle.dm_table.specs.words.Name.{is_disk_name}

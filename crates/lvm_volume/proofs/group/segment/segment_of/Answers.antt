@@ -1,4 +1,3 @@
-use Rattle.std.proofs.Common.{refl}
 use Rattle.std.proofs.lemmas.Result.{err_from_is_err_and}
 use Rattle.lvm_volume.specs.fields.Fields.{field_faults}
 use Rattle.lvm_volume.specs.group.Group.{segment_of}
