@@ -60,7 +60,7 @@ def check_unknown_names(tally, program):
 
 
 def check_disk_names(tally, program):
-    """Disks with names of each length, in lines of reads, of writes, and of both in turn."""
+    """Disks with names of each length, in lines of reads, of writes, and of both in turn, and as parts of one request."""
     names = ["s" * (length - 1) + "d" for length in range(1, MOST_DISK_NAME + 1)]
     table = "".join("a: %d 8 linear %s 5\n" % (8 * at, name) for at, name in enumerate(names))
     disks = "".join("%s 13\n" % name for name in names)
@@ -69,6 +69,10 @@ def check_disk_names(tally, program):
         given = "".join("%s a %d 3\n" % (letter, 8 * at + 1) for letter, at, _ in lines)
         wanted = answers("%s %s 6 3" % (letter, name) for letter, _, name in lines)
         tally.same("names of disks, %s" % letters, program.map(table, disks, given), 0, wanted)
+    for letter in "RW":
+        wanted = "".join("1 %s %s 5 8\n" % (letter, name) for name in names)
+        got = program.map(table, disks, "%s a 0 %d\n" % (letter, 8 * len(names)))
+        tally.same("names of disks, one %s" % letter, got, 0, wanted)
 
 
 def check_numbers(tally, program):
@@ -125,3 +129,12 @@ def check_gathered(tally, program):
         given = "".join("R a %d 7\n" % start for start in starts)
         got = program.map("a: 0 2000000 linear sda 0\n", "sda 2000000\n", given)
         tally.same("%d longer lines" % longer, got, 0, answers("R sda %d 7" % start for start in starts))
+    for length in (1, 27, 28, 29, 30, 31, 32, 127, MOST_DISK_NAME):
+        name = "s" * length
+        for longer in range(0, 24, 4):
+            starts = [10] * longer + [9] * (24 - longer) + [1234567, 9] * 2000
+            lines = [("RW"[at % 3 % 2], start) for at, start in enumerate(starts)]
+            given = "".join("%s a %d 7\n" % line for line in lines)
+            wanted = answers("%s %s %d 7" % (letter, name, start) for letter, start in lines)
+            got = program.map("a: 0 2000000 linear %s 0\n" % name, "%s 2000000\n" % name, given)
+            tally.same("names of %d bytes, %d longer lines" % (length, longer), got, 0, wanted)

@@ -1,11 +1,13 @@
-//! The names of disks as lines have them: each with a space after it.
+//! The names of disks as lines have them: each with a space after it, and in lines of reads and writes a
+//! letter and a space before it.
 //!
 //! Disks are few and lines come by the hundreds of millions, so these texts are made once, at load.
 //! A name is mostly short, and then a room of a fixed size is copied, past the end of its text.
 
-ghost use Rattle.std.specs.Prelude.{◌≡◌, ◌+◌, ◌≤◌, IfOk, length, map, take};
+ghost use Rattle.std.specs.Prelude.{◌≡◌, ◌==◌, ◌∷◌, ◌+◌, ◌<◌, ◌≤◌, IfOk, length, map, take};
 ghost use Rattle.dm_table.specs.io.Block.{IsPut};
-ghost use Rattle.dm_stack.specs.names.DiskText.{disk_text};
+ghost use Rattle.dm_table.specs.words.Bytes.{code};
+ghost use Rattle.dm_stack.specs.names.DiskText.{disk_text, line_head};
 
 use dm_table::{Disk, DiskName, put_bytes, put_room};
 use std::alloc::{AllocError, Global};
@@ -20,18 +22,22 @@ const SHORT: usize = 32;
 /// The name of a disk and a space. A clause sees these bytes.
 #[derive(Drop)]
 pub struct DiskText {
-    text: [u8; ROOM],
     len: usize,
+    /// What lines of reads and of writes have of it, if it is short.
+    heads: [[u8; SHORT]; 2],
+    text: [u8; ROOM],
 }
 
 impl Model for DiskText {
     ghost use Rattle.std.specs.Prelude.{◌≤◌, List, ℕ, take};
+    ghost use Rattle.dm_stack.specs.names.DiskText.{AreHeads};
 
     ghost Value = { List ℕ };
 
     ghost view = { λ disk. take disk.len disk.text };
 
-    ghost invariant = { λ disk. disk.len ≤ 256 };
+    ghost invariant = { λ disk. (disk.len ≤ 256)
+        × (disk.len ≤ 30 → AreHeads disk.heads (take disk.len disk.text)) };
 }
 
 impl DiskText {
@@ -42,7 +48,11 @@ impl DiskText {
         let mut text = [b' '; ROOM];
         let end = put_bytes(&mut text, 0, name.as_str().as_bytes());
         let len = put_bytes(&mut text, end, b" ");
-        DiskText { text, len }
+        let heads = [
+            short_head(b'R', &text[..len]),
+            short_head(b'W', &text[..len]),
+        ];
+        DiskText { len, heads, text }
     }
 
     /// Puts the name and the space at an offset of a block, and returns where they end. The block has
@@ -61,6 +71,34 @@ impl DiskText {
         };
         put_room(block, at, room, self.len)
     }
+
+    /// Puts what lines of reads (0) or of writes (1) have of it, a letter and a space before the name, at an
+    /// offset of a block, and returns where they end. The block has 258 bytes from there on.
+    #[inline(always)]
+    pub fn put_head(&self, block: &mut [u8], at: usize, is_write: u64) -> usize
+        requires one { is_write < 2 }
+        requires room { at + ROOM + 2 ≤ length block.old }
+        ensures put { IsPut (line_head (is_write == 1) self.now) at block.old block.new result }
+        ensures few { result ≤ at + ROOM + 2 }
+    {
+        if self.len > SHORT - 2 {
+            return put_long_head(block, at, is_write, &self.text, self.len);
+        }
+        put_room(block, at, &self.heads[is_write as usize], self.len + 2)
+    }
+}
+
+/// A letter, a space and a text at the front of a room, if they fit.
+fn short_head(letter: u8, text: &[u8]) -> [u8; SHORT]
+    ensures { length text.now ≤ 30
+        → take (length text.now + 2) result ≡ letter ∷ code " " ∷ text.now }
+{
+    let mut head = [b' '; SHORT];
+    if text.len() <= SHORT - 2 {
+        let at = put_bytes(&mut head, 0, &[letter, b' ']);
+        let _end = put_bytes(&mut head, at, text);
+    }
+    head
 }
 
 /// Puts the first bytes of a text at an offset of a block. It is never inlined, since long names are rare.
@@ -74,9 +112,23 @@ fn put_long(block: &mut [u8], at: usize, text: &[u8], len: usize) -> usize
     put_bytes(block, at, &text[..len])
 }
 
+/// The same after a letter and a space.
+#[cold]
+#[inline(never)]
+fn put_long_head(block: &mut [u8], at: usize, is_write: u64, text: &[u8], len: usize) -> usize
+    requires one { is_write < 2 }
+    requires within { len ≤ length text.now }
+    requires room { at + 2 + len ≤ length block.old }
+    ensures { IsPut (line_head (is_write == 1) (take len text.now)) at block.old block.new result }
+{
+    let letter = if is_write == 1 { b'W' } else { b'R' };
+    let at = put_bytes(block, at, &[letter, b' ']);
+    put_bytes(block, at, &text[..len])
+}
+
 /// The text of each disk, in their order.
 ///
-/// Fails only when out of memory. Cost: linear in the disks, with 264 bytes for each.
+/// Fails only when out of memory. Cost: linear in the disks, with 328 bytes for each.
 pub(crate) fn disk_texts(alloc: Global, disks: &[Disk]) -> Result<Vec<DiskText>, AllocError>
     ensures { IfOk result (λ texts. texts.items ≡ map (λ disk. disk_text disk.name) disks.now) }
 {

@@ -1,5 +1,5 @@
 -- How pieces are written: a line each, under the number of their request.
-use Rattle.std.specs.Prelude.{ℕ, Bool, true, false, List, [], ◌∷◌, ◌++◌, codes, decimal}
+use Rattle.std.specs.Prelude.{ℕ, List, [], ◌∷◌, ◌++◌, codes, decimal}
 use Rattle.std.specs.List.{flat_map}
 use Rattle.dm_table.specs.words.Bytes.{code}
 use Rattle.dm_stack.specs.Description.{Description, disk_name_at}
@@ -10,11 +10,6 @@ use Rattle.dm_stream.specs.pieces.Pieces.{UnitRun}
 -- a place on a disk: its name and a sector
 abbrev pub sector_text : Description → ℕ → ℕ → List ℕ
 sector_text stack disk sector = disk_name_at stack disk ++ code " " ∷ decimal sector
-
--- the letter of a write, and else that of a read
-abbrev pub letter_for : (is_write : Bool) → ℕ
-letter_for true = 87
-letter_for false = 82
 
 -- the line of a piece, after the number
 abbrev pub unit_text : Description → BlockUnit → ℕ → List ℕ

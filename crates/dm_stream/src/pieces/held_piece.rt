@@ -144,7 +144,7 @@ impl<'s> HeldPiece<'s> {
                 writer,
                 &self.prefix,
                 &self.ends,
-                &self.text,
+                Some(&self.text),
                 self.stack,
                 range,
             ) {
@@ -178,7 +178,7 @@ impl<'s> HeldPiece<'s> {
                 writer,
                 &self.prefix,
                 &self.ends,
-                &self.text,
+                Some(&self.text),
                 self.stack,
                 range,
             );
@@ -217,8 +217,7 @@ impl<'s> HeldPiece<'s> {
             (pieces_text self.now.stack self.now.number (fewest (units_of (piece_of range.now)))) }
     {
         // The next range isn't likely to be the same, so none is noted.
-        let none = RangeText::new();
-        put_range(writer, &self.prefix, &self.ends, &none, self.stack, range)
+        put_range(writer, &self.prefix, &self.ends, None, self.stack, range)
     }
 }
 

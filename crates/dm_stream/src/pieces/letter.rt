@@ -1,29 +1,27 @@
 //! The letters of reads and writes.
 
-ghost use Rattle.std.specs.Prelude.{◌≡◌, if◌then◌else◌, not};
-ghost use Rattle.dm_stream.specs.pieces.PieceText.{letter_for};
+ghost use Rattle.std.specs.Prelude.{◌≡◌, ◌==◌, ◌<◌, if◌then◌else◌, not};
 
 use std::marker::Model;
 
 /// The letter of a write, or else of a read. A clause sees whether it is that of a write.
 ///
-/// It is kept as a whole word: around a byte, bytes would be cleared each time that one is kept.
+/// It is kept as a whole word, 1 or 0: around a byte, bytes would be cleared each time that one is kept.
 #[derive(Clone, Copy, Drop)]
 pub(crate) struct Letter {
     word: u64,
 }
 
 impl Model for Letter {
-    ghost use Rattle.std.specs.Prelude.{◌≡◌, ◌==◌, Bool};
-    ghost use Rattle.dm_stream.specs.pieces.PieceText.{letter_for};
+    ghost use Rattle.std.specs.Prelude.{◌≡◌, ◌==◌, if◌then◌else◌, Bool};
 
     ghost Value = { Bool };
 
-    ghost view = { λ letter. letter.word == 87 };
+    ghost view = { λ letter. letter.word == 1 };
 
-    ghost inverse = { λ is_write. record { word = letter_for is_write } };
+    ghost inverse = { λ is_write. record { word = if is_write then 1 else 0 } };
 
-    ghost invariant = { λ letter. letter.word ≡ letter_for (letter.word == 87) };
+    ghost invariant = { λ letter. letter.word ≡ (if letter.word == 1 then 1 else 0) };
 }
 
 impl Letter {
@@ -33,16 +31,17 @@ impl Letter {
         ensures { result ≡ is_write }
     {
         Letter {
-            word: if is_write { 87 } else { 82 },
+            word: if is_write { 1 } else { 0 },
         }
     }
 
-    /// It as a byte.
+    /// 1 for that of a write, or else 0.
     #[inline(always)]
-    pub(crate) fn byte(self) -> u8
-        ensures { result ≡ letter_for self }
+    pub(crate) fn is_write(self) -> u64
+        ensures one { result < 2 }
+        ensures write { (result == 1) ≡ self }
     {
-        self.word as u8
+        self.word
     }
 
     /// Whether another one is the same.

@@ -3,7 +3,7 @@
 //! The numbers of requests mostly rise by one, so if only the last digit differs it is changed in
 //! place. The room is copied whole.
 
-ghost use Rattle.std.specs.Prelude.{◌≡◌, ◌+◌, ◌<◌, ◌≤◌, length, take};
+ghost use Rattle.std.specs.Prelude.{◌≡◌, ◌+◌, ◌≤◌, length, take};
 ghost use Rattle.dm_table.specs.io.Block.{IsPut};
 ghost use Rattle.dm_stream.specs.pieces.NumberPrefix.{number_prefix};
 
@@ -72,7 +72,7 @@ impl NumberPrefix {
     pub(crate) fn put_into(&self, block: &mut [u8], at: usize) -> usize
         requires { at + ROOM ≤ length block.old }
         ensures put { IsPut (number_prefix self.now) at block.old block.new result }
-        ensures some { at < result }
+        ensures some { at + 2 ≤ result }
         ensures few { result ≤ at + ROOM }
     {
         put_room(block, at, &self.text, self.end)

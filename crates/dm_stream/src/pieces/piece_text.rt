@@ -4,7 +4,7 @@
 //! through a function of their own. A new kind of piece is an arm of `put_other` or `put_rare` here and of
 //! `unit_text` in `specs/pieces/PieceText`.
 
-ghost use Rattle.std.specs.Prelude.{◌≡◌, ◌++◌, ◌+◌, ◌<◌, ◌≤◌, ◌∷◌, [], length, decimal};
+ghost use Rattle.std.specs.Prelude.{◌≡◌, ◌++◌, ◌+◌, ◌<◌, ◌≤◌, ◌∷◌, [], IfSome, length, decimal};
 ghost use Rattle.dm_table.specs.io.Block.{IsPut};
 ghost use Rattle.dm_stack.specs.Description.{disk_name_at};
 ghost use Rattle.dm_stack.specs.names.DiskText.{disk_text};
@@ -19,7 +19,7 @@ use crate::pieces::disk_range::DiskRange;
 use crate::pieces::line_ends::LineEnds;
 use crate::pieces::number_prefix::NumberPrefix;
 use crate::pieces::plain_word::PlainWord;
-use crate::pieces::range_text::RangeText;
+use crate::pieces::range_text::{RangeText, put_next_range};
 use dm_map::Piece;
 use dm_stack::{DiskId, Stack};
 use dm_table::{OutFault, Output, Text, put_bytes, put_digits};
@@ -30,15 +30,16 @@ use std::marker::Model;
 struct RangeLine<'a> {
     prefix: &'a NumberPrefix,
     ends: &'a LineEnds,
-    text: &'a RangeText,
+    text: Option<&'a RangeText>,
     stack: &'a Stack,
     range: &'a DiskRange,
 }
 
 impl<'a> Model for RangeLine<'a> {
-    ghost use Rattle.std.specs.Prelude.{ℕ, List, ◌<◌, length};
+    ghost use Rattle.std.specs.Prelude.{ℕ, List, ◌<◌, IfSome, length};
+    ghost use Rattle.dm_stack.specs.names.DiskText.{letter_for};
     ghost use Rattle.dm_stream.specs.pieces.RangeText.{IsKept};
-    ghost use Rattle.dm_stream.specs.pieces.PieceText.{letter_for, range_line};
+    ghost use Rattle.dm_stream.specs.pieces.PieceText.{range_line};
 
     ghost Value = { List ℕ };
 
@@ -47,7 +48,7 @@ impl<'a> Model for RangeLine<'a> {
         line.range.now.len };
 
     ghost invariant = { λ line. (line.range.now.disk < length line.stack.now.disks)
-        × IsKept line.text.now line.range.now.start line.range.now.len };
+        × IfSome line.text (λ text. IsKept text.now line.range.now.start line.range.now.len) };
 }
 
 impl<'a> Text for RangeLine<'a> {
@@ -57,15 +58,12 @@ impl<'a> Text for RangeLine<'a> {
     fn put_into(&self, block: &mut [u8], at: usize) -> usize {
         let range = self.range;
         let at = self.prefix.put_into(block, at);
-        let at = put_named(
-            block,
-            at,
-            &[range.letter.byte(), b' '],
-            self.stack,
-            range.disk,
-        );
-        self.text
-            .put_into(self.ends, block, at, range.start, range.len)
+        let name = self.stack.disk_text(range.disk);
+        let at = name.put_head(block, at, range.letter.is_write());
+        match self.text {
+            Some(text) => text.put_into(self.ends, block, at, range.start, range.len),
+            None => put_next_range(self.ends, block, at, range.start, range.len),
+        }
     }
 }
 
@@ -136,12 +134,12 @@ pub(crate) fn put_range<W: Output>(
     writer: &mut W,
     prefix: &NumberPrefix,
     ends: &LineEnds,
-    text: &RangeText,
+    text: Option<&RangeText>,
     stack: &Stack,
     range: &DiskRange,
 ) -> Result<(), OutFault>
     requires lies { IsOnDisks stack.now (piece_of range.now) }
-    requires kept { IsKept text.now range.now.start range.now.len }
+    requires kept { IfSome text (λ text. IsKept text.now range.now.start range.now.len) }
     ensures { Wrote (W.past writer.old) (W.past writer.new) result
         (piece_text stack.now prefix.now (piece_view (piece_of range.now))) }
 {
@@ -251,20 +249,6 @@ fn put_fill(block: &mut [u8], at: usize, stack: &Stack, disk: DiskId, start: u64
     let at = put_bytes(block, at, b" ");
     let at = put_sector(block, at, stack, disk, start);
     put_bytes(block, at, b"\n")
-}
-
-/// Puts a word and the name of a disk of the stack, with a space after it, at an offset in a block.
-#[inline(always)]
-fn put_named(block: &mut [u8], at: usize, word: &[u8], stack: &Stack, disk: DiskId) -> usize
-    requires room { at + 300 ≤ length block.old }
-    requires short { length word.now ≤ 9 }
-    requires there { disk < length stack.now.disks }
-    ensures put { IsPut (word.now ++ disk_text (disk_name_at stack.now disk)) at block.old block.new result }
-    ensures more { at + length word.now < result }
-    ensures few { result ≤ at + 265 }
-{
-    let at = put_bytes(block, at, word);
-    stack.disk_text(disk).put_into(block, at)
 }
 
 /// Puts a sector of a disk of the stack at an offset in a block: the name of the disk and the sector.
