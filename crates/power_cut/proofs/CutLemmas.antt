@@ -17,32 +17,26 @@ pub until_last : (stack : Description) (units : ℕ) (requests first : List Numb
     → map (asked_of stack) first ++ cut_of stack units last ∷ [] ≡ asked_until stack units requests
 until_last stack units requests first last is =
     let most : length first ≡ length (first ++ last ∷ []) - 1 = omega (arith, length_push first last) in
-    ap (λ (front : List NumberedRequest). map (asked_of stack) front ++ cut_of stack units last ∷ []) (sym (take_at first (last ∷ []) (length (first ++ last ∷ []) - 1) most))
-    ∙ ap (λ (back : List NumberedRequest). map (asked_of stack) (take (length (first ++ last ∷ []) - 1) (first ++ last ∷ [])) ++ map (cut_of stack units) back) (sym (drop_at first (last ∷ []) (length (first ++ last ∷ []) - 1) most))
-    ∙ ap (asked_until stack units) (sym is)
+    cc (take_at first (last ∷ []) (length (first ++ last ∷ []) - 1) most, drop_at first (last ∷ []) (length (first ++ last ∷ []) - 1) most)
 
 -- one request more was played
 pub played_more : (stack : Description) (requests : List NumberedRequest) (i : ℕ) (request : NumberedRequest) (now later : List Asked) → i < length requests → request ≡ get_or requests i request
     → now ≡ map (asked_of stack) (take i requests) → later ≡ now ++ asked_of stack request ∷ [] → later ≡ map (asked_of stack) (take (i + 1) requests)
 played_more stack requests i request now later within at were more =
-    more
-    ∙ ap (λ (all : List Asked). all ++ asked_of stack request ∷ []) were
-    ∙ ap (λ (it : NumberedRequest). map (asked_of stack) (take i requests) ++ asked_of stack it ∷ []) at
-    ∙ sym (map_more (asked_of stack) requests i request within)
+    cc (map_more (asked_of stack) requests i request within)
 
 -- what was read back after that is to be written
 pub is_answer : (stack : Description) (units : ℕ) (requests : Requests) (all : List NumberedRequest) (replay later : Replaying) (backs : List ReadBack) → IsTidy stack → requests.ending ≡ Some Done → replay ≡ new_replay stack → all ≡ requests.all
     → AreOfTops replay.stack all → later.stack ≡ replay.stack → later.asked ≡ asked_until replay.stack units all → AreReadBack later.stack later.asked (writes_of all) backs → IsAnswer stack units requests (backs_text stack backs)
 is_answer stack units requests all replay later backs tidy whole new are tops same asked read =
-    let of_stack : later.stack ≡ stack = same ∙ ap (λ (it : Replaying). it.stack) new in
+    let of_stack : later.stack ≡ stack = cc in
     let until : later.asked ≡ asked_until stack units requests.all =
-    asked ∙ ap (λ (it : Replaying). asked_until it.stack units all) new ∙ ap (asked_until stack units) are in
+    cc in
     record {
       tidy = tidy;
       whole = whole;
-      tops = subst (AreOfTops stack) are (subst (λ (it : Replaying). AreOfTops it.stack all) new tops);
+      tops = subst (AreOfTops stack) are (rw new at tops);
       backs = backs;
-      read = subst (λ (it : List NumberedRequest). AreReadBack stack (asked_until stack units requests.all) (writes_of it) backs) are
-          (subst (λ (it : List Asked). AreReadBack stack it (writes_of all) backs) until (subst (λ (it : Description). AreReadBack it later.asked (writes_of all) backs) of_stack read));
+      read = rw are at (subst (λ (it : List Asked). AreReadBack stack it (writes_of all) backs) until (subst (λ (it : Description). AreReadBack it later.asked (writes_of all) backs) of_stack read));
       is = refl;
     }

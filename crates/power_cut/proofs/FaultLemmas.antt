@@ -25,13 +25,12 @@ pub stops_at_next : (fault : Fault) (stack : Description) (requests first : List
     → AreOfTops stack (take i first) → IsUnplayed fault stack next → StopsAt fault stack requests
 stops_at_next fault stack requests first last i next is within at tops cause =
     let split : first ≡ take i first ++ next ∷ drop (i + 1) first =
-    sym (take-append-drop i first)
-    ∙ ap (λ (left : List NumberedRequest). take i first ++ left) (drop-cons first i next within ∙ ap (λ (one : NumberedRequest). one ∷ drop (suc i) first) (sym at) ∙ ap (λ (n : ℕ). next ∷ drop n first) (sym (add-one i))) in
+    cc (take-append-drop i first, drop-cons first i next within, add-one i) in
     record {
       first = take i first;
       last = next;
       later = drop (i + 1) first ++ last ∷ [];
-      split = is ∙ ap (λ (front : List NumberedRequest). front ++ last ∷ []) split ∙ append_assoc (take i first) (next ∷ drop (i + 1) first) (last ∷ []);
+      split = cc (append_assoc (take i first) (next ∷ drop (i + 1) first) (last ∷ []));
       tops = tops;
       cause = cause;
     }

@@ -21,12 +21,12 @@ all_on_disks stack asked (write ∷ writes) [] are = absurd are
 -- one more
 read_more : (stack : Description) (asked : List Asked) (writes : List NumberedRequest) (backs : List ReadBack) (write : NumberedRequest) (back : ReadBack) → AreReadBack stack asked writes backs
     → IsReadBack stack (asked ++ reads_of stack writes) write back → AreReadBack stack asked (writes ++ write ∷ []) (backs ++ back ∷ [])
-read_more stack asked [] [] write back are is = (subst (λ (all : List Asked). IsReadBack stack all write back) (append-nil asked) is, tt)
+read_more stack asked [] [] write back are is = (rw (← append-nil asked) is, tt)
 read_more stack asked (first ∷ writes) (front ∷ backs) write back are is =
     let read = asked_of stack (read_of first) in (
       are.0,
       read_more stack (asked ++ read ∷ []) writes backs write back are.1
-          (subst (λ (all : List Asked). IsReadBack stack all write back) (sym (append_assoc asked (read ∷ []) (reads_of stack writes))) is),
+          (rw (append_assoc asked (read ∷ []) (reads_of stack writes)) is),
     )
 read_more stack asked [] (front ∷ backs) write back are is = absurd are
 read_more stack asked (first ∷ writes) [] write back are is = absurd are
@@ -41,9 +41,7 @@ pub record HasReadBack (old now : Replaying) (writes : List NumberedRequest) (ba
 writes_more : (requests : List NumberedRequest) (i : ℕ) (request : NumberedRequest) → i < length requests → request ≡ get_or requests i request → (b : Bool) → is_write request ≡ b
     → writes_of (take i requests) ++ cond b (request ∷ []) [] ≡ writes_of (take (i + 1) requests)
 writes_more requests i request within at b is =
-    ap (λ (test : Bool). writes_of (take i requests) ++ cond test (request ∷ []) []) (sym is)
-    ∙ ap (λ (it : NumberedRequest). writes_of (take i requests) ++ cond (is_write it) (it ∷ []) []) at
-    ∙ sym (filter_more is_write requests i request within)
+    cc (filter_more is_write requests i request within)
 
 -- of the next request, which is a write
 pub read_next : (old now later : Replaying) (requests : List NumberedRequest) (i : ℕ) (request : NumberedRequest) (backs : List ReadBack) (back : ReadBack) → i < length requests → request ≡ get_or requests i request → is_write request ≡ true
@@ -52,7 +50,7 @@ pub read_next : (old now later : Replaying) (requests : List NumberedRequest) (i
 read_next old now later requests i request backs back within at write has same more is =
     let before = writes_of (take i requests) in
     let next = λ (of : Description). asked_of of (read_of request) in
-    subst (λ (writes : List NumberedRequest). HasReadBack old later writes (backs ++ back ∷ [])) (writes_more requests i request within at true write) (record {
+    rw (← writes_more requests i request within at true write) (record {
       stack = same ∙ has.stack;
       asked = more
           ∙ ap (λ (of : Description). now.asked ++ next of ∷ []) has.stack
@@ -67,4 +65,4 @@ read_next old now later requests i request backs back within at write has same m
 pub read_same : (old now : Replaying) (requests : List NumberedRequest) (i : ℕ) (request : NumberedRequest) (backs : List ReadBack) → i < length requests → request ≡ get_or requests i request → is_write request ≡ false
     → HasReadBack old now (writes_of (take i requests)) backs → HasReadBack old now (writes_of (take (i + 1) requests)) backs
 read_same old now requests i request backs within at read has =
-    subst (λ (writes : List NumberedRequest). HasReadBack old now writes backs) (sym (append-nil (writes_of (take i requests))) ∙ writes_more requests i request within at false read) has
+    rw (← writes_more requests i request within at false read, append-nil (writes_of (take i requests))) has

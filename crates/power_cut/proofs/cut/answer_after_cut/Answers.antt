@@ -14,8 +14,7 @@ pub write_backs-written-requires : goal.write_backs-written-requires
 write_backs-written-requires g c =
     let backs = c.in_ok-backs.backs.items in
     rw c.deref-3.ensures.value
-    (subst (λ (of : Description). AllByRecursion (IsOnDisks (length of.disks)) backs) (c.in_ok-replay-2.ensures.stack ∙ ap (λ (replay : Replaying). replay.stack) c.in_ok-replay.ensures.new)
-    (all_on_disks _ _ _ backs c.in_ok-backs.ensures.backs))
+    (rw (c.in_ok-replay-2.ensures.stack, c.in_ok-replay.ensures.new) at (all_on_disks _ _ _ backs c.in_ok-backs.ensures.backs))
 
 pub returns-in_err-replay-clause-ended : goal.returns-in_err-replay-clause-ended
 returns-in_err-replay-clause-ended g c =

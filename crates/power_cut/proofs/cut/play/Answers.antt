@@ -18,9 +18,9 @@ loop-request-preserved c =
     let did = c.in_ok-play_whole.ensures in record {
       stack = did.stack ∙ l.invariant.stack;
       asked = played_more stack first l.request-index request l.replay.asked c.play_whole.new.replay.asked c.loop-request-test.true c.request-item.is l.invariant.asked
-          (did.asked ∙ ap (λ (of : Description). l.replay.asked ++ asked_of of request ∷ []) l.invariant.stack);
+          (did.asked ∙ rw l.invariant.stack);
       tops = All-more (IsOfTop stack) first l.request-index request c.loop-request-test.true l.invariant.tops
-          (subst (IsOfTop stack) c.request-item.is (subst (λ (of : Description). IsOfTop of request) l.invariant.stack did.top));
+          (subst (IsOfTop stack) c.request-item.is (rw l.invariant.stack at did.top));
     }
 
 pub returns-in_err-play_whole-clause-stops : goal.returns-in_err-play_whole-clause-stops
@@ -29,17 +29,13 @@ returns-in_err-play_whole-clause-stops c =
     let p = err_from_is_err_and c.from_residual.result c.from_residual.ensures.1 in
     rw (p.1, p.2)
     (stops_at_next c.in_err-play_whole.field-0.0 c.args.replay.stack c.args.requests.now c.in-Some.first.now c.in-Some.last.now l.request-index c.request-item.result c.in-Some.ensures.cases.0 c.loop-request-test.true c.request-item.is l.invariant.tops
-    (subst (λ (of : Description). IsUnplayed c.in_err-play_whole.field-0.0 of c.request-item.result) l.invariant.stack c.in_err-play_whole.ensures.unplayed))
+    (rw l.invariant.stack at c.in_err-play_whole.ensures.unplayed))
 
 pub returns-in-Ok-clause-asked : goal.returns-in-Ok-clause-asked
 returns-in-Ok-clause-asked c =
     let l = c.loop-request in let stack = c.args.replay.stack in let units = c.args.units in
     let first = c.in-Some.first.now in let last = c.in-Some.last.now in
-    c.in-Ok.ensures.asked
-    ∙ ap (λ (of : Description). l.replay.asked ++ cut_of of units (numbered c.as_request-request.result) ∷ []) l.invariant.stack
-    ∙ ap (λ (it : NumberedRequest). l.replay.asked ++ cut_of stack units it ∷ []) c.as_request-request.ensures
-    ∙ ap (λ (all : List Asked). all ++ cut_of stack units last ∷ []) (l.invariant.asked ∙ ap (map (asked_of stack)) (take_all l.request-index first c.loop-request-test.false))
-    ∙ until_last stack units c.args.requests.now first last c.in-Some.ensures.cases.0
+    rw (c.in-Ok.ensures.asked, l.invariant.stack, ← until_last stack units c.args.requests.now first last c.in-Some.ensures.cases.0, ← take_all l.request-index first c.loop-request-test.false, ← l.invariant.asked, ← c.as_request-request.ensures)
 
 pub returns-in-Ok-clause-tops : goal.returns-in-Ok-clause-tops
 returns-in-Ok-clause-tops c =
@@ -47,7 +43,7 @@ returns-in-Ok-clause-tops c =
     let first = c.in-Some.first.now in let last = c.in-Some.last.now in
     All-same (IsOfTop stack) c.args.requests.now (first ++ last ∷ []) c.in-Some.ensures.cases.0
     (All-push (IsOfTop stack) first last (subst (AreOfTops stack) (take_all l.request-index first c.loop-request-test.false) l.invariant.tops)
-    (subst (IsOfTop stack) c.as_request-request.ensures (subst (λ (of : Description). IsOfTop of (numbered c.as_request-request.result)) l.invariant.stack c.in-Ok.ensures.top)))
+    (subst (IsOfTop stack) c.as_request-request.ensures (rw l.invariant.stack at c.in-Ok.ensures.top)))
 
 pub returns-in-Err-clause-stops : goal.returns-in-Err-clause-stops
 returns-in-Err-clause-stops c =
@@ -60,6 +56,5 @@ returns-in-Err-clause-stops c =
       later = [];
       split = c.in-Some.ensures.cases.0;
       tops = subst (AreOfTops stack) (take_all l.request-index first c.loop-request-test.false) l.invariant.tops;
-      cause = subst (λ (it : NumberedRequest). IsUnplayed (unplayed asked.number c.in-Err.fault) stack it) c.as_request-request.ensures
-          (subst (λ (of : Description). IsUnplayed (unplayed asked.number c.in-Err.fault) of asked) l.invariant.stack (not_halted c.in-Err.fault asked l.replay c.in-Err.ensures.fault));
+      cause = rw (← c.as_request-request.ensures, ← l.invariant.stack) (not_halted c.in-Err.fault asked l.replay c.in-Err.ensures.fault);
     })
