@@ -1,5 +1,5 @@
 -- What clap's clauses say of the program's own command line.
-use Rattle.std.proofs.Common.{◌≡◌, ◌∙◌, Bool, List, Option, Result, Ok, Err, IfOk, Some, None, option_map, [], ◌&&◌, not, true, false, true≢false, ap, ap₂, refl, subst, sym, inl, inr, cond}
+use Rattle.std.proofs.Common.{◌≡◌, ◌∙◌, Bool, List, Option, Result, Ok, Err, IfOk, Some, None, option_map, [], ◌&&◌, not, true, false, true≢false, ap, ap₂, refl, sym, inl, inr, cond}
 use Rattle.clap.specs.Kinds.{HasKind}
 use Rattle.clap.specs.Words.{AddsSubcommand, App, HasMatchesOf, Row, Text, app_of, fault_of, found_of, is_simple, is_simple_and_free, kind_of, rows_of, shape_of, subcommand_rows_of, with_subcommand}
 use Rattle.clap.specs.declared.builder.command.Command.{Command}
@@ -10,7 +10,7 @@ use Rattle.clap.specs.declared.parser.matches.ArgMatches.{ArgMatches}
 use Rattle.clap.proofs.OnLiterals.{clap_on_literals}
 use Rattle.dmremap.specs.Job.{JobWords}
 use Rattle.dmremap.specs.declared.words.Lack.{Lack}
-use Rattle.dmremap.specs.Words.{HasApp, IsTaken, IsUntaken, TakesFormats, command_line, fault_from, is_memory, said_by, said_in}
+use Rattle.dmremap.specs.Words.{HasApp, IsTaken, IsUntaken, TakesFormats, command_line, fault_from, is_memory, said_by}
 use Rattle.dmremap.specs.declared.words.WordsFault.TheVariants.{Words, Memory}
 
 -- a command that a parse reads as a plain one has no global argument
@@ -27,7 +27,7 @@ plain_local command plain = third _ _ _ _ plain
 pub command_added : {E : Type 0} (app added : App) (line command : Command) (result : Result Command E) → app_of line ≡ app → app_of command ≡ added → added.top.is_plain ≡ true
     → IfOk result (AddsSubcommand line command) → HasApp (with_subcommand app added.top) result
 command_added app added line command (Ok longer) line_is command_is plain adds =
-    adds.shape (plain_local command (ap (λ (a : App). a.top.is_plain) command_is ∙ plain)) ∙ ap₂ (λ (a b : App). with_subcommand a b.top) line_is command_is
+    adds.shape (plain_local command (rw (← plain, ← command_is))) ∙ ap₂ (λ (a b : App). with_subcommand a b.top) line_is command_is
 command_added app added line command (Err fault) line_is command_is plain adds = tt
 
 -- clap's matches are those that the definitions compute, whatever the parser of FORMAT
@@ -50,7 +50,7 @@ refused parser line words error formats kinds line_is = go (is_memory (kind_of e
     go false e = record {
       parser = parser;
       formats = formats;
-      among = elim (subst (λ (a : App). HasKind (fault_of a words) error) line_is (kinds (ap is_simple_and_free line_is ∙ simple_and_free parser))) [
+      among = elim (rw line_is at (kinds (ap is_simple_and_free line_is ∙ simple_and_free parser))) [
         | inl memory ↦ absurd (true≢false (sym (ap is_memory memory) ∙ e))
         | inr among ↦ among
       ];
@@ -73,7 +73,7 @@ pub taken : (parser : ValueParser) (line : App) (words : List Text) (said : Resu
 taken parser line words said matches formats kinds has_matches said_is line_is = record {
   parser = parser;
   formats = formats;
-  taken = ap (λ (a : App). fault_of a words) (sym line_is) ∙ kinds (ap is_simple_and_free line_is ∙ simple_and_free parser);
+  taken = cc (kinds (ap is_simple_and_free line_is ∙ simple_and_free parser));
   says = let met = has_matches (ap is_simple line_is ∙ simple parser) in
-      sym (said_is ∙ ap₂ said_by met.0 met.1 ∙ ap (λ (a : App). said_in a words) line_is);
+      cc (ap₂ said_by met.0 met.1);
 }

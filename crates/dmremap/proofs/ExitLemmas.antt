@@ -2,7 +2,7 @@
 use Rattle.std.proofs.Common.{◌≡◌, ◌≢◌, ◌≤◌, ◌⊎◌, true, false, ℕ, ◌+◌, List, Result, Ok, Err, IsErr, OnErr, OnOk, inl, inr, refl, sym, ap, subst, ◌∙◌, arith}
 use Rattle.dm_table.specs.declared.load.load_fault.LoadKind.{LoadKind}
 use Rattle.dm_table.specs.declared.load.load_fault.LoadKind.TheVariants as kinds
-use Rattle.dm_table.specs.io.DeviceIo.{InputPast, OutputPast, since, written_since}
+use Rattle.dm_table.specs.io.DeviceIo.{InputPast, OutputPast, written_since}
 use Rattle.dm_table.specs.io.Progress.{HasWritten, IsClosedAfter, IsFinished, IsReadOn, Wrote}
 use Rattle.dm_table.specs.laws.Progress.{finished_as, grows-same, written_none}
 use Rattle.dm_stream.specs.declared.runs.ending.Ending.{Ending}
@@ -82,7 +82,7 @@ written_refused old new refusal moved = record {
 -- and nothing was asked of the output
 pub refused_output : (x : OutputPast) (refusal : Refusal) (status : ℕ) → status ≡ refusal_status refusal → OutputWritten status x x
 refused_output x refusal status is =
-    subst (λ (n : ℕ). OutputWritten n x x) (sym is) (written_refused x x refusal (written_none x))
+    rw is (written_refused x x refusal (written_none x))
 
 -- a write failed
 written_failed : (old new : OutputPast) → HasWritten old new 1 → OutputWritten STATUS_WRITE_FAULT old new
@@ -130,7 +130,7 @@ closed_refused exit x refused = absurd cc
 wrote_so : {E : Type 0} (start mid : OutputPast) (exit : Exit) → exit ≢ exits.Ended endings.WriteFault → HasWritten start mid (failed_writes exit)
     → Wrote {E = E} start mid (Ok tt) (written_since start mid)
 wrote_so start mid exit other moved = record {
-  moved = subst (λ (n : ℕ). HasWritten start mid n) (failed_none exit other) moved;
+  moved = rw (← failed_none exit other) moved;
   ok = refl;
   left = tt;
 }
@@ -171,8 +171,8 @@ closed_failed past exit old new fault (Ok done) going other is untouched more by
 }
 closed_failed past exit old new fault (Err before) going other is untouched more bytes closes = record {
   bytes = bytes;
-  ends = inl (sym is, λ shut. ap (λ x. (past x).flushes) untouched.1);
-  output = λ start moved. written_failed start (past new) (subst (λ x. HasWritten start (past x) 1) (sym untouched.1) (subst (λ (e : Exit). HasWritten start (past old) (failed_writes e)) is moved));
+  ends = inl (sym is, λ shut. cc);
+  output = λ start moved. written_failed start (past new) (rw untouched.1 (subst (λ (e : Exit). HasWritten start (past old) (failed_writes e)) is moved));
   flushed = λ flag start moved. absurd cc;
 }
 
@@ -185,9 +185,9 @@ given_same Did text old new exit shut did = did
 
 given : (Did : List ℕ → Exit → Type 0) (text : List ℕ) (old mid new : ℕ) (before after : Exit) → mid ≡ old → EndsAs before mid new after → Did text before → HasGiven Did text old new after
 given Did text old mid new before after same (inl (is, shut)) did =
-    subst (λ (e : Exit). HasGiven Did text old new e) (sym is) (given_same Did text old new before (λ flag. shut flag ∙ same) did)
+    rw is (given_same Did text old new before (λ flag. shut flag ∙ same) did)
 given Did text old mid new before after same (inr (is, flag, more)) did =
-    subst (λ (e : Exit). HasGiven Did text old new e) (sym is) (inr (more ∙ ap (λ (n : ℕ). n + 1) same, (before, flag, did)))
+    rw is (inr (more ∙ ap (λ (n : ℕ). n + 1) same, (before, flag, did)))
 
 -- one that was refused had been so before its output was closed
 refused_before : (before after : Exit) (old new : ℕ) → EndsAs before old new after → is_refused after ≡ true → (is_refused before ≡ true) × (new ≡ old)
@@ -204,7 +204,7 @@ pub exited : (Did : List ℕ → Exit → Type 0) (start mid new : OutputPast) (
     → Did (written_since start mid) before → IsClosedAs before mid new after → HasExited Did start new after
 exited Did start mid new before after moved did closed = record {
   given = given Did (written_since start new) start.flushes mid.flushes new.flushes before after moved.unflushed closed.ends
-      (subst (λ (bytes : List ℕ). Did (since start.written bytes) before) (sym closed.bytes) did);
+      (rw closed.bytes did);
   flushed = λ flag. closed.flushed flag start moved;
   refused = λ so. (refused_before before after mid.flushes new.flushes closed.ends so).1 ∙ moved.unflushed;
 }
@@ -234,8 +234,8 @@ pub ran_requests : (ending : Ending) (status : ℕ) (old new : InputPast) → st
     → HasMet ending old new → RequestsRead status old new
 ran_requests ending status old new is read_on met = record {
   read_on = read_on;
-  read_fault = λ four. subst (λ (e : Ending). HasMet e old new) (four_is ending (sym is ∙ four)) met;
-  no_fault = λ zero. subst (λ (e : Ending). HasMet e old new) (zero_is ending (sym is ∙ zero)) met;
+  read_fault = λ four. rw (four_is ending (sym is ∙ four)) at met;
+  no_fault = λ zero. rw (zero_is ending (sym is ∙ zero)) at met;
   bad_line = λ three. three_met old new ending (sym is ∙ three) met;
   unasked = λ one. absurd (never_one ending (sym is ∙ one));
 }
@@ -279,11 +279,11 @@ asked_read old new exits.Memory asked = record {
 -- and after it, where the flush may have failed
 pub closed_requests : (old new : InputPast) (before after : Exit) (f0 f1 status : ℕ) → EndsAs before f0 f1 after → AskedBy old new before → status ≡ exit_status after → RequestsRead status old new
 closed_requests old new before after f0 f1 status ends_so asked is =
-    subst (λ (n : ℕ). RequestsRead n old new) (sym is) (go ends_so)
+    rw is (go ends_so)
   where
     go : EndsAs before f0 f1 after → RequestsRead (exit_status after) old new
     go (inl (same, shut)) = subst (λ (e : Exit). RequestsRead (exit_status e) old new) (sym same) (asked_read old new before asked)
-    go (inr (failed, flag, more)) = subst (λ (e : Exit). RequestsRead (exit_status e) old new) (sym failed) (ran_requests endings.WriteFault _ old new refl asked.read_on tt)
+    go (inr (failed, flag, more)) = rw failed (ran_requests endings.WriteFault _ old new refl asked.read_on tt)
 
 pub closed_unasked : (old new : InputPast) (before after : Exit) (f0 f1 : ℕ) → EndsAs before f0 f1 after → AskedBy old new before → is_refused after ≡ true → new ≡ old
 closed_unasked old new before after f0 f1 ends_so asked refused = asked.unasked (refused_before before after f0 f1 ends_so refused).0

@@ -1,14 +1,14 @@
 -- The first fault of checks that run before others, what parts give that were read, and inputs of which nothing is asked.
-use Rattle.std.proofs.Common.{◌≡◌, ℕ, List, [], ◌∷◌, ◌++◌, Option, Some, None, subst, sym}
+use Rattle.std.proofs.Common.{◌≡◌, ℕ, List, [], ◌∷◌, ◌++◌, Option, Some, None}
 use Rattle.dm_table.specs.io.DeviceIo.{Delivery, InputPast}
 use Rattle.dm_table.specs.declared.load.load_fault.LoadFault.{LoadFault}
 use Rattle.dm_table.specs.declared.load.place.Part.TheVariants.{Disks, Source}
 use Rattle.dm_table.specs.load.LoadFault.{first_fault}
-use Rattle.dm_table.specs.load.PartInput.{PartRead, TextOf, part_read}
+use Rattle.dm_table.specs.load.PartInput.{TextOf, part_read}
 use Rattle.dmremap.specs.declared.job.Format.TheVariants.{Lvm, Tables}
 use Rattle.dmremap.specs.declared.job.TableForm.{TableForm}
 use Rattle.dmremap.specs.Inputs.{IsReadOnIf}
-use Rattle.dmremap.specs.Load.{Load, MetadataGives, MetadataPartGives, PartsGive, TextPartsGive, TextsGive}
+use Rattle.dmremap.specs.Load.{Load, MetadataGives, PartsGive, TextsGive}
 use Rattle.dmremap.proofs.ExitLemmas.{read_on_none}
 
 -- a fault of the first checks
@@ -27,11 +27,10 @@ first_after ((found ∷ founds) ∷ checks) more fault none e = absurd cc
 pub by_texts : (form : TableForm) (source disks : Delivery) (text list : List ℕ) (load : Load) → part_read Source source ≡ TextOf text → part_read Disks disks ≡ TextOf list
     → TextsGive form text list load → PartsGive (Tables form) source disks load
 by_texts form source disks text list load is listed gives =
-    subst (λ (part : PartRead). TextPartsGive form part (part_read Disks disks) load) (sym is)
-    (subst (λ (part : PartRead). TextPartsGive form (TextOf text) part load) (sym listed) gives)
+    rw (is, listed) gives
 
 pub by_metadata : (source disks : Delivery) (text : List ℕ) (load : Load) → part_read Source source ≡ TextOf text → MetadataGives text load → PartsGive Lvm source disks load
-by_metadata source disks text load is gives = subst (λ (part : PartRead). MetadataPartGives part load) (sym is) gives
+by_metadata source disks text load is gives = rw is gives
 
 -- an input that may be missing, of which nothing is asked
 pub untouched : {X : Type 0} (past : X → InputPast) (x : Option X) → IsReadOnIf past x x

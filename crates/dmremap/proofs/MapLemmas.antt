@@ -1,5 +1,5 @@
 -- What the exit of `map` says of the run.
-use Rattle.std.proofs.Common.{◌≡◌, ◌≢◌, Bool, ℕ, List, [], Option, Some, refl, sym, ap, subst, ◌∙◌}
+use Rattle.std.proofs.Common.{◌≡◌, ◌≢◌, Bool, ℕ, List, [], Option, Some, refl, sym, ap, ◌∙◌}
 use Rattle.dm_table.specs.declared.load.load_fault.LoadFault.{LoadFault}
 use Rattle.dm_table.specs.declared.load.load_fault.LoadKind.TheVariants as kinds
 use Rattle.dm_table.specs.io.DeviceIo.{Delivery, OutputPast, written_since}
@@ -23,14 +23,13 @@ use Rattle.dmremap.specs.declared.status.TheConstants.{STATUS_MEMORY, STATUS_WRI
 use Rattle.dmremap.specs.Exit.{ending_status, exit_message, exit_status, load_status}
 use Rattle.dmremap.specs.Load.{RefusedBy, SoundAs, PartsGive}
 use Rattle.dmremap.specs.Streams.{OutputWritten}
-use Rattle.dmremap.specs.Whole.{Whole, GiveAfter, begun_after, earlier_outcome, ended_if, outcome_after, whole_after, whole_at}
+use Rattle.dmremap.specs.Whole.{Whole, GiveAfter, begun_after, earlier_outcome, outcome_after, whole_at}
 use Rattle.dmremap.proofs.ExitLemmas.{never_one, write_fault_is}
 
 -- a run that was refused, by its exit
 at_exit : (output : List ℕ) (exit refused : Exit) (status : ℕ) → exit ≡ refused → output ≡ [] → status ≡ exit_status exit
     → Some (whole_at [] refused) ≡ Some (record { output = output; message = exit_message exit; status = status })
-at_exit output exit refused status same none is = ap (λ (e : Exit). Some (whole_at [] e)) (sym same) ∙ ap (λ (out : List ℕ). Some (whole_at out exit)) (sym none)
-    ∙ ap (λ (n : ℕ). Some (record { output = output; message = exit_message exit; status = n })) (sym is)
+at_exit output exit refused status same none is = cc
 
 -- a refused load is a whole run
 pub refused_whole : (format : Format) (flag : Bool) (source disks : Delivery) (before : Option Delivery) (requests : Delivery) (output : List ℕ) (fault : LoadFault) (exit : Exit) (status : ℕ) → exit ≡ exits.Refused (refusals.Load fault) → (fault.kind ≢ kinds.Memory → PartsGive format source disks (RefusedBy fault))
@@ -52,18 +51,17 @@ pub refused_after : (format : Format) (flag : Bool) (source disks : Delivery) (b
 refused_after format flag source disks before requests output description fault exit status gives ends same none is = record {
   load = SoundAs description;
   loaded = gives;
-  is = ap (λ (e : Option Ending). begun_after e (outcome_after description flag before requests)) ends
-      ∙ refused_is fault (outcome_after description flag before requests) ∙ at_exit output exit (exits.Refused (refusals.Earlier fault)) status same none is;
+  is = cc (refused_is fault (outcome_after description flag before requests), at_exit output exit (exits.Refused (refusals.Earlier fault)) status same none is);
 }
 
 -- earlier requests were played from the state at the start
 pub played_ending : (description : Description) (start : State) (before : Delivery) (ending : Ending) → start ≡ start_state description → (requests_outcome description start before).ending ≡ Some ending
     → (earlier_outcome description (Some before)).ending ≡ Some ending
-played_ending description start before ending starts ends = subst (λ (state : State). (requests_outcome description state before).ending ≡ Some ending) starts ends
+played_ending description start before ending starts ends = rw starts at ends
 
 pub played_state : (description : Description) (start left : State) (before : Delivery) → start ≡ start_state description → left ≡ (requests_outcome description start before).state
     → left ≡ (earlier_outcome description (Some before)).state
-played_state description start left before starts leaves = leaves ∙ ap (λ (state : State). (requests_outcome description state before).state) starts
+played_state description start left before starts leaves = cc
 
 -- the status of a failed output has one ending
 five_is : (ending : Ending) → ending_status ending ≡ STATUS_WRITE_FAULT → ending ≡ endings.WriteFault
@@ -78,14 +76,13 @@ ran_whole old new format flag source disks before requests description start lef
     let outcome = outcome_after description flag before requests in
     let output = written_since old new in
     let no_fault : ending ≢ endings.WriteFault = λ failed. other (is ∙ ap ending_status failed) in
-    let same_output = subst (λ (state : State). (run_outcome description flag state requests).output ≡ output) starts (ran.output.whole no_fault).0 in
-    let same_ending = subst (λ (state : State). (run_outcome description flag state requests).ending ≡ Some ending) starts (ran.ends no_fault).0 in
+    let same_output = rw starts at (ran.output.whole no_fault).0 in
+    let same_ending = rw starts at (ran.ends no_fault).0 in
     let whole : ℕ → Option Whole = λ n. Some (record { output = output; message = ending_message ending; status = n }) in
     record {
       load = SoundAs description;
       loaded = gives;
-      is = ap (λ (e : Option Ending). begun_after e outcome) played ∙ ap (ended_if outcome.output) same_ending ∙ ap (λ (out : List ℕ). ended_if out (Some ending)) same_output
-          ∙ ap whole (sym is);
+      is = cc;
     }
 
 -- where the output failed, it took a beginning of what there was to write
@@ -93,7 +90,7 @@ pub ran_failed : (old new : OutputPast) (flag : Bool) (before : Option Delivery)
     → HasRun old new (run_outcome description flag start requests) left ending → status ≡ ending_status ending → status ≡ STATUS_WRITE_FAULT
     → FailedOutput (outcome_after description flag before requests).output old new
 ran_failed old new flag before requests description start left ending status starts ran is five =
-    subst (λ (state : State). FailedOutput (run_outcome description flag state requests).output old new) starts (ran.output.failed (five_is ending (sym is ∙ five)))
+    rw starts at (ran.output.failed (five_is ending (sym is ∙ five)))
 
 -- what it wrote and flushed
 pub ran_output : (ending : Ending) (status : ℕ) (outcome : Outcome) (left : State) (old new : OutputPast) → status ≡ ending_status ending → HasRun old new outcome left ending

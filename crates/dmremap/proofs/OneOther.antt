@@ -47,7 +47,7 @@ one_said (map_words from earlier status) source disks a b x y = absurd x
 one_said (replay_words from) source disks a b x y = absurd x
 one_said (print_words form from) source disks a b x y = sym x.is ∙ ap (devices_said form) (one_load (format_of from) source disks x.load y.load x.loaded y.loaded) ∙ y.is
 one_said (check_words from) source disks a b x y =
-    one_report_said y.load a b (subst (λ (load : Load). ReportSays load a) (one_load (format_of from) source disks x.load y.load x.loaded y.loaded) x.says) y.says
+    one_report_said y.load a b (rw (← one_load (format_of from) source disks x.load y.load x.loaded y.loaded) x.says) y.says
 one_said (name_words parts) source disks a b x y = sym x ∙ y
 one_said (split_words name) source disks a b x y = one_split_said name a b x y
 
@@ -72,8 +72,7 @@ one_answer stack asked request a b is_a is_b =
 one_told : (stack : Description) (asked : List Asked) (requests : List NumberedRequest) (a b : List ℕ) → AreAnswered stack asked requests a → AreAnswered stack asked requests b → a ≡ b
 one_told stack asked [] a b are_a are_b = sym are_a ∙ are_b
 one_told stack asked (request ∷ requests) a b (first, rest, is, are, whole) (first', rest', is', are', whole') =
-    sym whole ∙ ap (λ (text : List ℕ). text ++ rest) (one_answer stack asked request first first' is is')
-    ∙ ap (λ (text : List ℕ). first' ++ text) (one_told stack (asked ++ asked_of stack request ∷ []) requests rest rest' are are') ∙ whole'
+    cc (one_answer stack asked request first first' is is', one_told stack (asked ++ asked_of stack request ∷ []) requests rest rest' are are', whole')
 
 abbrev AreTop : Description → List NumberedRequest → Type 0
 AreTop stack requests = AllByRecursion (λ request. HasTop stack request.values.device) requests
@@ -97,23 +96,23 @@ same_front : (stack : Description) (first first' later later' : List NumberedReq
 same_front stack [] [] later later' last last' e tops tops' none none' = (refl, cc)
 same_front stack [] (request ∷ first') later later' last last' e tops tops' none none' =
     let same : last ≡ request = cc in
-    absurd (none (subst (λ (r : NumberedRequest). HasTop stack r.values.device) (sym same) tops'.0))
+    absurd (none (rw same tops'.0))
 same_front stack (request ∷ first) [] later later' last last' e tops tops' none none' =
     let same : request ≡ last' = cc in
-    absurd (none' (subst (λ (r : NumberedRequest). HasTop stack r.values.device) same tops.0))
+    absurd (none' (rw same at tops.0))
 same_front stack (request ∷ first) (request' ∷ first') later later' last last' e tops tops' none none' =
     let same : request ≡ request' = cc in
     let rest : first ++ last ∷ later ≡ first' ++ last' ∷ later' = cc in
     let more = same_front stack first first' later later' last last' rest tops.1 tops'.1 none none' in
-    (ap (λ (r : NumberedRequest). r ∷ first) same ∙ ap (λ (front : List NumberedRequest). request' ∷ front) more.0, more.1)
+    (cc, more.1)
 
 one_stop : (stack : Description) (requests : List NumberedRequest) (number other : ℕ) (a b : List ℕ) → StopsAt (IsOfNone stack number) stack [] requests a → StopsAt (IsOfNone stack other) stack [] requests b
     → (number ≡ other) × (a ≡ b)
 one_stop stack requests number other a b is_a is_b =
     let same = same_front stack is_a.first is_b.first is_a.later is_b.later is_a.last is_b.last (sym is_a.split ∙ is_b.split)
     (told_tops stack [] is_a.first a is_a.told) (told_tops stack [] is_b.first b is_b.told) is_a.cause.none is_b.cause.none in (
-      sym is_a.cause.of_number ∙ ap (λ (r : NumberedRequest). r.number) same.1 ∙ is_b.cause.of_number,
-      one_told stack [] is_b.first a b (subst (λ (first : List NumberedRequest). AreAnswered stack [] first a) same.0 is_a.told) is_b.told,
+      cc,
+      one_told stack [] is_b.first a b (rw same.0 at is_a.told) is_b.told,
     )
 
 -- How it exits

@@ -1,10 +1,10 @@
 -- What is delivered gives one run: the texts describe one description at the most, and none where a check of the texts finds a fault.
-use Rattle.std.proofs.Common.{◌≡◌, inl, inr, Bool, ℕ, List, [], ◌∷◌, ◌++◌, Option, Some, None, sym, ap, subst, ◌∙◌}
+use Rattle.std.proofs.Common.{◌≡◌, inl, inr, Bool, ℕ, List, [], ◌∷◌, ◌++◌, Option, Some, None, sym, ap, ◌∙◌}
 use Rattle.dm_table.specs.declared.tables.table.DeviceSpec.{DeviceSpec}
 use Rattle.dm_table.specs.declared.tables.disk.Disk.{Disk}
 use Rattle.dm_table.specs.declared.load.place.Part.TheVariants.{Source, Disks}
 use Rattle.dm_table.specs.declared.load.load_fault.LoadFault.{LoadFault}
-use Rattle.dm_table.specs.load.LoadFault.{first_or, first_fault}
+use Rattle.dm_table.specs.load.LoadFault.{first_fault}
 use Rattle.dm_table.specs.tables.DiskList.{disk_checks}
 use Rattle.dm_table.specs.io.DeviceIo.{Delivery}
 use Rattle.dm_table.proofs.FaultLemmas.{first_or-none}
@@ -17,11 +17,11 @@ use Rattle.dmremap.specs.declared.job.Format.TheVariants.{Lvm, Tables}
 use Rattle.dmremap.specs.declared.job.TableForm.{TableForm}
 use Rattle.dmremap.specs.declared.job.TableForm.TheVariants.{Concise, Table}
 use Rattle.dm_stack.specs.Description.{Description}
-use Rattle.dm_stack.specs.checks.Soundness.{IsSound, IsRefusedBy}
+use Rattle.dm_stack.specs.checks.Soundness.{IsSound}
 use Rattle.dm_stack.proofs.OneFault.{never_both, one_fault as one_refusal}
 use Rattle.lvm_volume.proofs.OneGroup.{never_refused, one_group, one_refusal as one_text_refusal}
 use Rattle.dmremap.specs.Load.{Load, RefusedBy, SoundAs, Describes, DescribesDevices, DescribesGroupAs, device_checks, GivesFault, MetadataGives, MetadataPartGives, TextsGive, TextPartsGive, PartsGive}
-use Rattle.dmremap.specs.Whole.{Whole, whole_after, GiveAfter}
+use Rattle.dmremap.specs.Whole.{Whole, GiveAfter}
 
 -- What two texts describe
 
@@ -38,15 +38,14 @@ no_fault_of_devices Concise text devices is = (again_concise text devices is).0
 
 pub one_description_of : (form : TableForm) (source list : List ℕ) (a b : Description) → Describes form source list a → Describes form source list b → a ≡ b
 one_description_of form source list a b is_a is_b =
-    ap (λ (devices : List DeviceSpec). described_as devices a.disks) (one_list form source a.devices b.devices is_a.devices is_b.devices)
-    ∙ ap (described_as b.devices) (DescribesDisks-unique list a.disks b.disks is_a.disks is_b.disks)
+    rw (one_list form source a.devices b.devices is_a.devices is_b.devices, DescribesDisks-unique list a.disks b.disks is_a.disks is_b.disks)
 
 -- checks of which none finds anything, before others of which none does
 none_both : (checks more : List (List LoadFault)) → first_fault checks ≡ None → first_fault more ≡ None → first_fault (checks ++ more) ≡ None
 none_both [] more a b = b
 none_both (check ∷ checks) more a b =
     let first = first_or-none check (first_fault checks) a in
-    ap (λ (found : List LoadFault). first_or found (first_fault (checks ++ more))) first.0 ∙ none_both checks more first.1 b
+    cc (none_both checks more first.1 b)
 
 -- no check of the texts finds a fault in texts that describe something
 pub no_fault_of_texts : (form : TableForm) (source list : List ℕ) (description : Description) → Describes form source list description → first_fault (device_checks form source ++ disk_checks list) ≡ None
@@ -62,14 +61,14 @@ one_fault form source list f g (inl a) (inr b) = let none = no_fault_of_texts fo
 one_fault form source list f g (inr a) (inl b) = let none = no_fault_of_texts form source list a.0 a.1 in absurd cc
 one_fault form source list f g (inr a) (inr b) =
     let same = one_description_of form source list a.0 b.0 a.1 b.1 in
-    one_refusal b.0 f g (subst (λ (description : Description). IsRefusedBy description f) same a.2) b.2
+    one_refusal b.0 f g (rw same at a.2) b.2
 
 -- texts that describe what is sound give no fault
 no_fault : (form : TableForm) (source list : List ℕ) (f : LoadFault) (description : Description) → GivesFault form source list f → Describes form source list description → IsSound description → ⊥
 no_fault form source list f description (inl a) is sound = let none = no_fault_of_texts form source list description is in cc
 no_fault form source list f description (inr a) is sound =
     let same = one_description_of form source list a.0 description a.1 is in
-    never_both description f sound (subst (λ (other : Description). IsRefusedBy other f) same a.2)
+    never_both description f sound (rw same at a.2)
 
 one_of_texts : (form : TableForm) (source list : List ℕ) (a b : Load) → TextsGive form source list a → TextsGive form source list b → a ≡ b
 one_of_texts form source list (RefusedBy f) (RefusedBy g) is_a is_b = ap RefusedBy (one_fault form source list f g is_a is_b)
@@ -96,15 +95,15 @@ one_of_metadata source (RefusedBy f) (RefusedBy g) (inl is_a) (inr is_b) = absur
 one_of_metadata source (RefusedBy f) (RefusedBy g) (inr is_a) (inl is_b) = absurd (never_refused source _ g is_a.1 is_b)
 one_of_metadata source (RefusedBy f) (RefusedBy g) (inr is_a) (inr is_b) =
     let same = one_described_group source is_a.0 is_b.0 is_a.1 is_b.1 in
-    ap RefusedBy (one_refusal is_b.0 f g (subst (λ (description : Description). IsRefusedBy description f) same is_a.2) is_b.2)
+    ap RefusedBy (one_refusal is_b.0 f g (rw same at is_a.2) is_b.2)
 one_of_metadata source (RefusedBy f) (SoundAs b) (inl is_a) is_b = absurd (never_refused source _ f is_b.0 is_a)
 one_of_metadata source (RefusedBy f) (SoundAs b) (inr is_a) is_b =
     let same = one_described_group source is_a.0 b is_a.1 is_b.0 in
-    absurd (never_both b f is_b.1 (subst (λ (other : Description). IsRefusedBy other f) same is_a.2))
+    absurd (never_both b f is_b.1 (rw same at is_a.2))
 one_of_metadata source (SoundAs a) (RefusedBy g) is_a (inl is_b) = absurd (never_refused source _ g is_a.0 is_b)
 one_of_metadata source (SoundAs a) (RefusedBy g) is_a (inr is_b) =
     let same = one_described_group source is_b.0 a is_b.1 is_a.0 in
-    absurd (never_both a g is_a.1 (subst (λ (other : Description). IsRefusedBy other g) same is_b.2))
+    absurd (never_both a g is_a.1 (rw same at is_b.2))
 one_of_metadata source (SoundAs a) (SoundAs b) is_a is_b = ap SoundAs (one_described_group source a b is_a.0 is_b.0)
 
 one_of_part : (source : PartRead) (a b : Load) → MetadataPartGives source a → MetadataPartGives source b → a ≡ b
@@ -124,5 +123,5 @@ pub one_after : (format : Format) (flag : Bool) (source disks : Delivery) (befor
     → GiveAfter format flag source disks before requests b → a ≡ b
 one_after format flag source disks before requests a b is_a is_b =
     let same = one_load format source disks is_a.load is_b.load is_a.loaded is_b.loaded in
-    let some : Some a ≡ Some b = sym is_a.is ∙ ap (λ (load : Load). whole_after load flag before requests) same ∙ is_b.is in
+    let some : Some a ≡ Some b = cc in
     cc

@@ -1,5 +1,5 @@
 -- What a command that prints wrote, and how it would exit.
-use Rattle.std.proofs.Common.{◌≡◌, ℕ, List, Result, Ok, Err, refl, sym, ap, subst, arith}
+use Rattle.std.proofs.Common.{◌≡◌, ℕ, List, Result, Ok, Err, refl, sym, ap, arith}
 use Rattle.dm_table.specs.io.DeviceIo.{Delivery, InputPast, OutputPast}
 use Rattle.dm_table.specs.io.Progress.{Wrote}
 use Rattle.dm_stack.specs.Description.{Description}
@@ -18,12 +18,12 @@ use Rattle.dmremap.proofs.ExitLemmas.{read_on_none}
 
 -- a text was written, or a write of it failed
 pub text_done : {E : Type 0} {old new : OutputPast} (result : Result (Unit {0}) E) (text : List ℕ) (exit : Exit) → exit ≡ exit_after result → Wrote old new result text → HasDone (IsTextPrinted text) old new exit
-text_done {old = old} {new = new} (Ok done) text exit is wrote = subst (λ (e : Exit). HasDone (IsTextPrinted text) old new e) (sym is) (record { did = sym wrote.ok; writes = wrote.moved })
-text_done {old = old} {new = new} (Err fault) text exit is wrote = subst (λ (e : Exit). HasDone (IsTextPrinted text) old new e) (sym is) (record { did = wrote.left; writes = wrote.moved })
+text_done {old = old} {new = new} (Ok done) text exit is wrote = rw is (record { did = sym wrote.ok; writes = wrote.moved })
+text_done {old = old} {new = new} (Err fault) text exit is wrote = rw is (record { did = wrote.left; writes = wrote.moved })
 
 -- what was printed of a text, where that is what is said
 pub says_printed : (Says : Said → Type 0) (text output : List ℕ) (exit : Exit) → Says (Prints text) → IsTextPrinted text output exit → IsPrinted Says output exit
-says_printed Says text output (exits.Ended endings.Done) says is = subst (λ (t : List ℕ). Says (Prints t)) is says
+says_printed Says text output (exits.Ended endings.Done) says is = rw is at says
 says_printed Says text output (exits.Ended endings.WriteFault) says cut = (text, says, cut)
 says_printed Says text output exit says is = absurd is
 
@@ -41,7 +41,7 @@ asked_none Says text exit past is = absurd is
 pub stack_printed : (form : TableForm) (format other : Format) (source disks : Delivery) (description : Description) (output : List ℕ) (exit : Exit) → other ≡ format → PartsGive other source disks (SoundAs description)
     → IsTextPrinted (written_as form description.devices) output exit → IsPrinted (FilesSay form format source disks) output exit
 stack_printed form format other source disks description output exit same gives printed =
-    let loaded = subst (λ (f : Format). PartsGive f source disks (SoundAs description)) same gives in
+    let loaded = rw same at gives in
     says_printed (FilesSay form format source disks) (written_as form description.devices) output exit (record { load = SoundAs description; loaded = loaded; is = refl }) printed
 
 -- what is said by one rule is said by another that it gives
@@ -55,7 +55,7 @@ printed_more Says More more output exit is = absurd is
 pub check_printed : (format other : Format) (source disks : Delivery) (description : Description) (output : List ℕ) (exit : Exit) → other ≡ format → PartsGive other source disks (SoundAs description)
     → IsPrinted (ReportSays (SoundAs description)) output exit → IsPrinted (CheckSays format source disks) output exit
 check_printed format other source disks description output exit same gives is =
-    let loaded = subst (λ (f : Format). PartsGive f source disks (SoundAs description)) same gives in
+    let loaded = rw same at gives in
     printed_more (ReportSays (SoundAs description)) (CheckSays format source disks) (λ said says. record { load = SoundAs description; loaded = loaded; says = says }) output exit is
 
 -- a name that is built

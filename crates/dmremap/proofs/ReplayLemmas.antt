@@ -1,5 +1,5 @@
 -- What the requests that a player was handed say of a replay.
-use Rattle.std.proofs.Common.{◌≡◌, ◌≢◌, ℕ, List, [], ◌∷◌, ◌++◌, None, Some, Result, Err, IfErr, refl, sym, ap, subst, ◌∙◌, append_assoc}
+use Rattle.std.proofs.Common.{◌≡◌, ◌≢◌, ℕ, List, [], ◌∷◌, ◌++◌, None, Some, Result, Err, IfErr, refl, sym, ap, append_assoc}
 use Rattle.std.proofs.lemmas.List.{append-nil}
 use Rattle.dm_table.specs.io.DeviceIo.{Delivery, InputPast, since}
 use Rattle.dm_table.specs.io.Progress.{IsReadOn, MetNothing}
@@ -28,7 +28,7 @@ use Rattle.dmremap.specs.Streams.{AskedBy, HasMetBy}
 
 -- what a fault says
 at_fault : {T : Type 0} (r : Result T ReplayFault) (fault : ReplayFault) (Says : ReplayFault → Type 0) → r ≡ Err fault → IfErr r Says → Says fault
-at_fault r fault Says is h = subst (λ (x : Result _ ReplayFault). IfErr x Says) is h
+at_fault r fault Says is h = rw is at h
 
 -- the answer to one request is what is written for it alone
 alone : (stack : Description) (old : List Asked) (request : NumberedRequest) (text : List ℕ) → IsAnswer stack old request text → AreAnswered stack old (request ∷ []) text
@@ -64,19 +64,19 @@ by_name stack request device named = ap (asked_by request) (named_id stack reque
 answers_by_name : (stack of : Description) (old : List Asked) (request : NumberedRequest) (device : ℕ) (runs : List ValueRun) → of ≡ stack → device_of stack request.values.device ≡ Some device
     → flat runs ≡ asked_answers of (world_after of old) (asked_by request device) → flat runs ≡ asked_answers stack (world_after stack old) (asked_of stack request)
 answers_by_name stack of old request device runs same named are =
-    are ∙ ap (λ (s : Description). asked_answers s (world_after s old) (asked_by request device)) same ∙ ap (asked_answers stack (world_after stack old)) (by_name stack request device named)
+    cc (by_name stack request device named)
 
 pub top_by_name : (stack of : Description) (request : NumberedRequest) (device : ℕ) → of ≡ stack → device_of stack request.values.device ≡ Some device → IsTop of device → HasTop stack request.values.device
-top_by_name stack of request device same named top = named_top stack request.values.device device named (subst (λ (s : Description). IsTop s device) same top)
+top_by_name stack of request device same named top = named_top stack request.values.device device named (rw same at top)
 
 pub not_top_by_name : (stack of : Description) (request : NumberedRequest) (device : ℕ) → of ≡ stack → device_of stack request.values.device ≡ Some device → (IsTop of device → ⊥) → HasTop stack request.values.device → ⊥
-not_top_by_name stack of request device same named none has = none (subst (λ (s : Description). IsTop s device) (sym same) (top_named stack request.values.device device named has))
+not_top_by_name stack of request device same named none has = none (rw same (top_named stack request.values.device device named has))
 
 pub played_by_name : (stack of : Description) (old new : List Asked) (request : NumberedRequest) (device : ℕ) (runs : List ValueRun) (w0 w1 : List ℕ) → of ≡ stack → device_of stack request.values.device ≡ Some device → IsTop of device → AreMaximal runs
     → flat runs ≡ asked_answers of (world_after of old) (asked_by request device) → new ≡ old ++ asked_by request device ∷ [] → since w0 w1 ≡ runs_text stack request.number runs → HasPlayed stack old new (request ∷ []) w0 w1
 played_by_name stack of old new request device runs w0 w1 same named top longest are more wrote =
     one_played stack old new request runs w0 w1 (top_by_name stack of request device same named top) longest (answers_by_name stack of old request device runs same named are)
-    (more ∙ ap (λ (asked : Asked). old ++ asked ∷ []) (by_name stack request device named)) wrote
+    (cc (by_name stack request device named)) wrote
 
 pub cut_by_name : (stack of : Description) (old : List Asked) (request : NumberedRequest) (device : ℕ) (runs : List ValueRun) (text : List ℕ) → of ≡ stack → device_of stack request.values.device ≡ Some device → IsTop of device → AreMaximal runs
     → flat runs ≡ asked_answers of (world_after of old) (asked_by request device) → IsCutShort (runs_text stack request.number runs) text → IsCutReplay stack old (request ∷ []) text
@@ -107,7 +107,7 @@ stops_among IsCause stack all first later text is stops = record {
   first = stops.first;
   last = stops.last;
   later = stops.later ++ later;
-  split = is ∙ ap (λ (front : List NumberedRequest). front ++ later) stops.split ∙ append_assoc stops.first (stops.last ∷ stops.later) later;
+  split = cc (append_assoc stops.first (stops.last ∷ stops.later) later);
   told = stops.told;
   cause = stops.cause;
 }
@@ -119,7 +119,7 @@ stopped_among stack exits.Memory requests first later text is stopped = stops_am
 stopped_among stack (exits.Ended endings.WriteFault) requests first later text is stopped = record {
   first = stopped.first;
   later = stopped.later ++ later;
-  split = is ∙ ap (λ (front : List NumberedRequest). front ++ later) stopped.split ∙ append_assoc stopped.first stopped.later later;
+  split = cc (append_assoc stopped.first stopped.later later);
   whole = stopped.whole;
   told = stopped.told;
   cut = stopped.cut;

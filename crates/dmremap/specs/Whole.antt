@@ -7,7 +7,7 @@ use Rattle.dm_stream.specs.declared.runs.earlier.EarlierFault.{EarlierFault}
 use Rattle.dm_stream.specs.declared.runs.earlier.EarlierFault.TheVariants as earlier
 use Rattle.dm_stream.specs.declared.runs.ending.Ending.{Ending}
 use Rattle.dm_stream.specs.declared.runs.ending.Ending.TheVariants as endings
-use Rattle.dm_map.specs.state.State.{State, start_state}
+use Rattle.dm_map.specs.state.State.{start_state}
 use Rattle.dm_stack.specs.Description.{Description}
 use Rattle.dm_stream.specs.runs.Messages.{IsTold}
 use Rattle.dm_stream.specs.runs.Outcome.{Outcome, requests_outcome, run_outcome}

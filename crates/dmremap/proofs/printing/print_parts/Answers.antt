@@ -8,7 +8,7 @@ use Rattle.dmremap.proofs.printing.print_parts.Goals as goal
 
 -- what is so where there is something is so of what there is
 of_some : {T : Type 0} (found : Option T) (value : T) (Holds : T → Type 0) → found ≡ Some value → IfSome found Holds → Holds value
-of_some found value Holds is holds = subst (λ (o : Option _). IfSome o Holds) is holds
+of_some found value Holds is holds = rw is at holds
 
 pub returns-in-Ok-Some : goal.returns-in-Ok-Some
 returns-in-Ok-Some g c =

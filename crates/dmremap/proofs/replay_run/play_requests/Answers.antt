@@ -1,9 +1,8 @@
 use Rattle.std.proofs.Common.{rules, subst}
 use Rattle.dm_table.specs.io.DeviceIo.{delivery, written_since}
 use Rattle.dm_stream.specs.requests.Requests.{requests_of}
-use Rattle.dm_replay.specs.Replay.{Replaying}
 use Rattle.dmremap.specs.declared.exit.Exit.TheVariants as exits
-use Rattle.dmremap.specs.ReplayOutcome.{AreAnswered, HasStopped, IsPlayed}
+use Rattle.dmremap.specs.ReplayOutcome.{IsPlayed}
 use Rattle.dmremap.specs.Done.{HasDone}
 use Rattle.dmremap.proofs.ReplayLemmas.{all_played, part_played, stopped_met}
 use Rattle.dmremap.proofs.replay_run.play_requests.Goals as goal
@@ -17,7 +16,7 @@ returns-in-Ok-clause-played g c =
     let text = written_since (past c.args.output.now) (past new.handler.output.now) in
     subst (λ x. HasDone (IsPlayed stack requests) (past c.args.output.now) (past x) (exits.Ended c.in-Ok.ending)) (search rules)
     (record {
-      did = all_played stack requests text c.in-Ok.ending (subst (λ (r : Replaying). AreAnswered stack r.asked requests.all text) c.requires.new c.in-Ok.ensures.answered.0.told) c.in-Ok.ensures.ending c.in-Ok.ensures.no_write_fault;
+      did = all_played stack requests text c.in-Ok.ending (rw c.requires.new at c.in-Ok.ensures.answered.0.told) c.in-Ok.ensures.ending c.in-Ok.ensures.no_write_fault;
       writes = search rules;
     })
 
@@ -30,7 +29,7 @@ returns-in-Err-clause-played g c =
     let text = written_since (past c.args.output.now) (past new.handler.output.now) in
     subst (λ x. HasDone (IsPlayed stack requests) (past c.args.output.now) (past x) c.in-Err.exit) (search rules)
     (record {
-      did = part_played stack c.in-Err.exit requests text _ (λ first stopped. subst (λ (r : Replaying). HasStopped stack c.in-Err.exit r.asked first text) c.requires.new stopped.0) c.in-Err.ensures.stopped;
+      did = part_played stack c.in-Err.exit requests text _ (λ first stopped. rw c.requires.new at stopped.0) c.in-Err.ensures.stopped;
       writes = c.in-Err.ensures.stopped.holds.1.moved;
     })
 

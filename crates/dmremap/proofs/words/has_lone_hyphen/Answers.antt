@@ -47,7 +47,7 @@ lone-other_at words i d lt no_dashes no_hyphen = ap lone_hyphen_in (texts-drop w
 texts-after_first : (words : List (Bor Text)) → texts (take (length words - 1) (drop 1 words)) ≡ drop 1 (texts words)
 texts-after_first [] = refl
 texts-after_first (word ∷ words) =
-    let less : length (word ∷ words) - 1 ≡ length words = omega arith in ap (λ n. texts (take n words)) less ∙ ap texts (take-length words)
+    let less : length (word ∷ words) - 1 ≡ length words = omega arith in rw (less, take-length words)
 
 pub returns-then-eq-2 : goal.returns-then-eq-2
 returns-then-eq-2 c =

@@ -1,5 +1,4 @@
-use Rattle.std.proofs.Common.{List, refl, subst, sym, ◌∙◌, ℕ}
-use Rattle.dm_stream.specs.runs.Messages.{HasTold}
+use Rattle.std.proofs.Common.{refl, sym, ◌∙◌}
 use Rattle.dm_stream.specs.declared.runs.ending.Ending.TheVariants as endings
 use Rattle.dmremap.specs.declared.exit.Exit.TheVariants as exits
 use Rattle.dmremap.proofs.ExitLemmas.{closed_failed, closed_well}
@@ -12,7 +11,7 @@ returns-in-Ok g c = (
       c.written.ensures.ok c.in-Ok.ensures.untouched c.in-Ok.ensures.bytes c.in-Ok.ensures.closed,
   record {
     is = c.status.ensures;
-    told = subst (λ (message : List ℕ). HasTold message (g.M.Output.past c.args.messages.now) (g.M.Output.past c.close_and_tell.new.messages)) (c.as_slice.ensures.value ∙ c.message.ensures) c.in-Ok.ensures.told;
+    told = rw (c.as_slice.ensures.value, c.message.ensures) at c.in-Ok.ensures.told;
   },
 )
 

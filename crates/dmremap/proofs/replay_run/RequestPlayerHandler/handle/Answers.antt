@@ -1,9 +1,8 @@
-use Rattle.std.proofs.Common.{◌≡◌, ◌∙◌, refl, ap, subst, rules, Err}
+use Rattle.std.proofs.Common.{◌≡◌, ◌∙◌, refl, ap, rules, Err}
 use Rattle.dm_stack.specs.claims.Claims.{IsTop}
 use Rattle.dm_table.specs.laws.Progress.{written_to_none}
 use Rattle.dm_stream.specs.requests.Requests.{numbered}
 use Rattle.dm_table.specs.io.DeviceIo.{written_since}
-use Rattle.dm_table.specs.io.WriteAll.{IsCutShort}
 use Rattle.dm_replay.specs.declared.replay_fault.ReplayFault.TheVariants as faults
 use Rattle.dm_replay.specs.Replay.{IsUnanswered}
 use Rattle.dm_replay.specs.RunText.{runs_text}
@@ -43,7 +42,7 @@ returns-in-Ok-clause-stopped g c =
     let text = written_since (g.W.Output.past c.args.self.now.output.now) (g.W.Output.past c.write_runs.new.writer) in
     let same : c.deref.result.now ≡ c.in-Ok.runs.items = search rules in (
       cut_by_name c.args.stack.now replay.stack replay.asked request c.in-Some.device c.in-Ok.runs.items text c.requires.ready.0 (c.requires.found ∙ c.in-Some.is) did.top did.answered.answers.maximal did.answered.answers.are
-          (subst (λ items. IsCutShort (runs_text c.args.stack.now request.number items) text) same wrote.left),
+          (rw same at wrote.left),
       record { moved = wrote.moved; same_reference = refl },
     )
 
