@@ -25,6 +25,20 @@ ROWS = [
     ("chunks taken against the order of the sectors", "s: 0 16 snapshot base cow P 8\n", "base 16\ncow 32\n",
      "W s 8 1\nW s 0 1\nR s 0 16\n",
      "1 copy base 8 8 cow 16\n1 W cow 16 1\n2 copy base 0 8 cow 24\n2 W cow 24 1\n3 R cow 24 8\n3 R cow 16 8\n"),
+    ("chunks in a row, in a store of two lines",
+     "c: 0 20 linear cow 0\nc: 20 12 linear cow 40\ns: 0 16 snapshot base /dev/mapper/c P 8\n", "base 16\ncow 64\n",
+     "W s 0 16\nR s 0 16\nR s 2 12\n",
+     "1 copy base 0 4 cow 16\n1 copy base 4 4 cow 40\n1 W cow 16 4\n1 W cow 40 4\n1 copy base 8 8 cow 44\n1 W cow 44 8\n"
+     "2 R cow 16 4\n2 R cow 40 12\n3 R cow 18 2\n3 R cow 40 10\n"),
+    ("a chunk that is kept where its origin has it", "s: 0 8 snapshot base base P 1\n", "base 8\n",
+     "W s 2 1\nR s 0 8\nW s 4 1\nR s 1 6\n",
+     "1 copy base 2 1 base 2\n1 W base 2 1\n2 R base 0 8\n3 copy base 4 1 base 3\n3 W base 3 1\n"
+     "4 R base 1 3\n4 R base 3 1\n4 R base 5 2\n"),
+    ("chunks with their low bits in common", "s: 0 96 snapshot base cow P 8\n", "base 96\ncow 48\n",
+     "W s 8 1\nR s 40 8\nW s 48 1\nR s 16 8\nW s 16 1\nR s 0 96\n",
+     "1 copy base 8 8 cow 16\n1 W cow 16 1\n2 R base 40 8\n3 copy base 48 8 cow 24\n3 W cow 24 1\n4 R base 16 8\n"
+     "5 copy base 16 8 cow 32\n5 W cow 32 1\n6 R base 0 8\n6 R cow 16 8\n6 R cow 32 8\n6 R base 24 24\n"
+     "6 R cow 24 8\n6 R base 56 40\n"),
     ("what is written to an origin below a snapshot", "s: 0 8 snapshot base cow P 4\no: 0 8 linear base 0\n",
      "base 8\ncow 32\n", "W s 0 1\nW o 0 8\nR s 0 8\n",
      "1 copy base 0 4 cow 8\n1 W cow 8 1\n2 W base 0 8\n3 R cow 8 4\n3 R base 4 4\n"),

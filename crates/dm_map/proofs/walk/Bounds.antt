@@ -1,5 +1,5 @@
 -- Mapped sectors: those of a line by what lies below them, and those of a device that lie in one line.
-use Rattle.std.proofs.Common.{◌≡◌, ℕ, suc, ◌+◌, ◌-◌, ◌*◌, ◌<◌, ◌≤◌, false, List, [], Some, length, refl, sym, ap, ◌∙◌, arith}
+use Rattle.std.proofs.Common.{◌≡◌, ℕ, suc, ◌+◌, ◌-◌, ◌*◌, ◌<◌, ◌≤◌, false, List, [], ◌∷◌, Some, length, refl, sym, ap, ◌∙◌, arith}
 use Rattle.std.specs.Prelude.{◌==◌, nat_lt, Result}
 use Rattle.std.proofs.lemmas.Bool.{ne_eqb}
 use Rattle.std.proofs.Math.Nat.{mul-le-mul_right}
@@ -10,7 +10,7 @@ use Rattle.dm_stack.specs.declared.lines.found_line.FoundTarget.{FoundTarget}
 use Rattle.dm_stack.specs.declared.checks.graph.TheConstants.{MOST_DEPTH}
 use Rattle.dm_stack.specs.declared.id.Lower.{Lower}
 use Rattle.dm_stack.specs.declared.id.Lower.TheVariants.{Device}
-use Rattle.dm_stack.specs.lines.Below.{Lies, below_target, chunk_at, found_at, is_same_chunk, IsLineOf}
+use Rattle.dm_stack.specs.lines.Below.{Below, Lies, below_target, chunk_at, found_at, is_same_chunk, IsLineOf}
 use Rattle.dm_stack.specs.Description.{Description, device_len}
 use Rattle.dm_stack.specs.checks.Depth.{stack_depth}
 use Rattle.dm_stack.specs.checks.Soundness.{IsSound, depth_of}
@@ -24,28 +24,28 @@ use Rattle.dm_map.specs.walk.Steps.{Step, steps}
 use Rattle.dm_map.specs.state.Walker.{WalkerView}
 use Rattle.dm_map.specs.walk.Range.{line_step, refuses}
 use Rattle.dm_map.proofs.walk.Depths.{below_less, depth_most, depth_some}
-use Rattle.dm_map.proofs.walk.Paths.{other_chunk, other_start, searches_below, searches_line, stretches_after, stretches_same}
+use Rattle.dm_map.proofs.walk.Paths.{other_chunk, other_start, searches_below, searches_line, stretches_below, stretches_same}
 use Rattle.dm_map.proofs.walk.Ranges.{range_line}
 use Rattle.dm_map.proofs.walk.Rows.{walked_as}
 
 -- A line, by what lies below it
 
--- each of these sectors lies on the next one of a device or a disk, and they are in one chunk
+-- each of these sectors lies on the next one of a device or a disk
 pub mapped_below : {S R F : Type 0} {past : SinkPast S} {result : Result R F} {old new : S} {before after : WalkerView} {step : Description → State → ℕ → Step} {sector n : ℕ}
     (op : Op) (levels device start distance at : ℕ) (line : FoundLine) (target : FoundTarget) (to : Lower) → found_at before.stack device at ≡ Some line → line.target ≡ target → 1 ≤ n
-    → ((i : ℕ) → i < n → below_target (read_over (taken_at before.state device)) target (distance + i) ≡ Lies to (sector + i)) → ((i : ℕ) → i < n → chunk_at target (distance + i) ≡ chunk_at target distance)
+    → ((i : ℕ) → i < n → below_target (read_over (taken_at before.state device)) target (distance + i) ≡ Lies to (sector + i))
     → steps (step before.stack) before.state sector n ≡ line_step before.stack op levels device target before.state distance n
     → IsMapped past result old new before after (record (range_mapping op levels to) { step = step }) sector n → IsMapped past result old new before after (target_mapping op levels device start target) distance n
-mapped_below {before} {after} {sector} {n} op levels device start distance at line target to found kind some below chunk same mapped =
-    let stack = before.stack in let state = before.state in let here : PathStep = record { device = device; start = start; chunk = chunk_at target distance } in
+mapped_below {before} {after} {sector} {n} op levels device start distance at line target to found kind some below same mapped =
+    let stack = before.stack in let state = before.state in
     record {
       walked = walked_as same mapped.walked;
       bounded = λ is sound.
           let less = below_less stack state device at (distance + 0) line to (sector + 0) sound found (cc (below 0 (omega (arith, some)))) in
           let few = mapped.bounded is sound in
           let most = searches_below (target_path stack state levels device start target) (path stack state levels to) _ (depth_of stack device - 1) distance sector n before.looked.searches after.looked.searches less
-          (stretches_after (target_path stack state levels device start target) (path stack state levels to) here distance sector n (λ i within.
-          cc (below i within, chunk i within))) (omega (arith, few)) in
+          (stretches_below (target_path stack state levels device start target) (path stack state levels to) (λ i. record { device = device; start = start; chunk = chunk_at target (distance + i) }) distance sector n (λ i within.
+          ap (λ (b : Below). record { device = device; start = start; chunk = chunk_at target (distance + i) } ∷ by_below b [] [] (λ to lower. path stack state levels to lower)) (below i within))) (omega (arith, few)) in
           omega (arith, most);
     }
 

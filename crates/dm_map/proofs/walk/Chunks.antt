@@ -1,6 +1,7 @@
 -- The sectors of one chunk of a snapshot: where they are read, and that they are written there once the chunk is settled.
-use Rattle.std.proofs.Common.{◌≡◌, ℕ, zero, suc, ◌+◌, ◌-◌, ◌*◌, ◌/◌, ◌%◌, ◌<◌, ◌≤◌, true, false, List, [], ◌∷◌, ◌++◌, Option, Some, None, length, append_assoc, refl, sym, ap, ◌∙◌, arith}
+use Rattle.std.proofs.Common.{◌≡◌, ℕ, zero, suc, ◌+◌, ◌-◌, ◌*◌, ◌/◌, ◌%◌, ◌<◌, ◌≤◌, true, false, inl, inr, List, [], ◌∷◌, ◌++◌, Option, Some, None, length, append_assoc, refl, sym, ap, subst, ◌∙◌, arith}
 use Rattle.std.specs.Prelude.{min}
+use Rattle.std.proofs.lemmas.Bool.{cases_lt}
 use Rattle.std.proofs.lemmas.Nat.{div-add-mod', mod-mul-add}
 use Rattle.dm_table.specs.declared.requests.request.Op.TheVariants as ops
 use Rattle.dm_stack.specs.declared.lines.found_line.FoundSnapshot.{FoundSnapshot}
@@ -101,6 +102,21 @@ read_origin stack state device sector len snapshot chunk valid is =
     record {
       lies = λ i within. over_at (taken_at state device) snapshot (sector + i) (sector / snapshot.chunk) None valid (same_chunk snapshot sector i chunk.whole.sound.chunk_some (omega (arith, chunk.part, within))) is;
       inside = omega (arith, chunk.whole.inside, chunk.whole.sound.origin);
+    }
+
+-- and so are those of the next chunk, where they are read right after them
+pub read_on : (stack : Description) (state : State) (device sector part count : ℕ) (snapshot : FoundSnapshot) (source next : ReadAt) → AreReadAt stack state device snapshot sector part source → AreReadAt stack state device snapshot (sector + part) count next
+    → next ≡ record { to = source.to; sector = source.sector + part } → AreReadAt stack state device snapshot sector (part + count) source
+read_on stack state device sector part count snapshot source next first later on =
+    let more : AreReadAt stack state device snapshot (sector + part) count (record { to = source.to; sector = source.sector + part }) = subst (λ (r : ReadAt). AreReadAt stack state device snapshot (sector + part) count r) on later in
+    record {
+      lies = λ i within. elim (cases_lt i part) [
+        | inl before ↦ first.lies i before
+        | inr after ↦
+            let e : sector + part + (i - part) ≡ sector + i = omega (arith, after) in let k : source.sector + part + (i - part) ≡ source.sector + i = omega (arith, after) in
+            rw (e, k) at (more.lies (i - part) (omega (arith, after, within)))
+      ];
+      inside = omega (arith, more.inside);
     }
 
 pub chunk_read : (stack : Description) (levels device sector n len : ℕ) (snapshot : FoundSnapshot) (state : State) (source : ReadAt) → AreReadAt stack state device snapshot sector len source → n ≤ len → line_step stack ops.Read levels device (Snapshot snapshot) state sector n ≡ range_step stack ops.Read levels source.to state source.sector n

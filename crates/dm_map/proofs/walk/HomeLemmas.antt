@@ -63,6 +63,6 @@ home_mapped {S} {F} past sink w op device sector len line home stack is passes o
       bounded = λ read sound. omega arith;
     } in
     let below = mapped_below op 31 device line.start distance line.start line line.target (Disk home.disk) (leg.of.all line.start (omega arith) (omega (arith, some, leg.inside))) refl some
-    (λ i within. below_is (read_over (taken_at w.state device)) line.target (distance + i) leg.is.plain ∙ leg.is.below i within) leg.is.chunk
+    (λ i within. below_is (read_over (taken_at w.state device)) line.target (distance + i) leg.is.plain ∙ leg.is.below i within)
     (sym (leg_lies w.stack op 31 device line.target (Disk home.disk) distance home.start len w.state leg.is)) base in
     rw is (mapped_line op MOST_DEPTH 31 device sector len line refl passes of some inside below)

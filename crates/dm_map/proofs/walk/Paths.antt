@@ -1,22 +1,12 @@
 -- Stretches of paths: where they are the same, and how those of two ranges add up.
-use Rattle.std.proofs.Common.{◌≡◌, ℕ, zero, suc, ◌+◌, ◌-◌, ◌*◌, ◌<◌, ◌≤◌, true, false, List, ◌∷◌, Option, Some, None, refl, sym, ap, arith}
+use Rattle.std.proofs.Common.{◌≡◌, ℕ, zero, suc, ◌+◌, ◌-◌, ◌*◌, ◌<◌, ◌≤◌, Bool, true, false, cond, List, ◌∷◌, Option, refl, sym, ap, arith}
 use Rattle.std.specs.Prelude.{◌==◌}
-use Rattle.std.proofs.lemmas.Bool.{eq-eqb}
+use Rattle.std.proofs.lemmas.Bool.{and_parts, eq-eqb}
 use Rattle.std.proofs.Math.Nat.{mul-le-mul, mul-le-mul_left}
 use Rattle.dm_stack.specs.lines.Below.{is_same_chunk}
 use Rattle.dm_map.specs.walk.Path.{PathStep, changes, is_same_path, is_same_step, stretches}
 
 -- Steps
-
-same_chunk_self : (chunk : Option ℕ) → is_same_chunk chunk chunk ≡ true
-same_chunk_self None = refl
-same_chunk_self (Some chunk) = eq-eqb chunk chunk refl
-
-same_step_self : (step : PathStep) → is_same_step step step ≡ true
-same_step_self step = rw (eq-eqb step.device step.device refl, eq-eqb step.start step.start refl, same_chunk_self step.chunk) refl
-
-head_same : (step : PathStep) (path other : List PathStep) → is_same_path (step ∷ path) (step ∷ other) ≡ is_same_path path other
-head_same step path other = rw (same_step_self step) refl
 
 other_head : (step next : PathStep) (path other : List PathStep) → is_same_step step next ≡ false → is_same_path (step ∷ path) (next ∷ other) ≡ false
 other_head step next path other differs = rw differs refl
@@ -52,11 +42,32 @@ stretches_same f h s t zero each = refl
 stretches_same f h s t (suc n) each = ap suc (changes_same f h s t n (λ i within.
     cc (each i (omega (arith, within)), each (suc i) (omega (arith, within)))))
 
--- paths after one step
-pub stretches_after : (f h : ℕ → List PathStep) (step : PathStep) (s t n : ℕ) → ((i : ℕ) → i < n → f (s + i) ≡ step ∷ h (t + i)) → stretches f s n ≡ stretches h t n
-stretches_after f h step s t zero each = refl
-stretches_after f h step s t (suc n) each = ap suc (changes_same f h s t n (λ i within.
-    cc (each i (omega (arith, within)), each (suc i) (omega (arith, within)), head_same step (h (t + i)) (h (t + suc i)))))
+-- paths that go on in these ones, each after a step of its own
+fewer_here : (a b : Bool) → (a ≡ true → b ≡ true) → cond b 0 1 ≤ cond a 0 1
+fewer_here true b same = rw (same refl) (omega arith)
+fewer_here false true same = omega arith
+fewer_here false false same = omega arith
+
+changes_fewer : (f h : ℕ → List PathStep) (s t n : ℕ) → ((i : ℕ) → i < n → is_same_path (f (s + i)) (f (suc (s + i))) ≡ true → is_same_path (h (t + i)) (h (suc (t + i))) ≡ true) → changes h t n ≤ changes f s n
+changes_fewer f h s t zero each = omega arith
+changes_fewer f h s t (suc n) each =
+    let s0 : s + 0 ≡ s = omega arith in let t0 : t + 0 ≡ t = omega arith in
+    let here = fewer_here (is_same_path (f s) (f (suc s))) (is_same_path (h t) (h (suc t))) (rw (s0, t0) at (each 0 (omega arith))) in
+    let later = changes_fewer f h (suc s) (suc t) n (λ i within.
+    let e : s + suc i ≡ suc s + i = omega arith in let k : t + suc i ≡ suc t + i = omega arith in rw (e, k) at (each (suc i) (omega (arith, within)))) in
+    omega (arith, here, later)
+
+tail_same : (step next : PathStep) (path other : List PathStep) → is_same_path (step ∷ path) (next ∷ other) ≡ true → is_same_path path other ≡ true
+tail_same step next path other same = (and_parts (is_same_step step next) (is_same_path path other) same).1
+
+pub stretches_below : (f h : ℕ → List PathStep) (step : ℕ → PathStep) (s t n : ℕ) → ((i : ℕ) → i < n → f (s + i) ≡ step i ∷ h (t + i)) → stretches h t n ≤ stretches f s n
+stretches_below f h step s t zero each = omega arith
+stretches_below f h step s t (suc n) each =
+    let few = changes_fewer f h s t n (λ i within same.
+    let e : s + suc i ≡ suc (s + i) = omega arith in let k : t + suc i ≡ suc (t + i) = omega arith in
+    let next : f (suc (s + i)) ≡ step (suc i) ∷ h (suc (t + i)) = rw (e, k) at (each (suc i) (omega (arith, within))) in
+    tail_same (step i) (step (suc i)) (h (t + i)) (h (suc (t + i))) (rw (each i (omega (arith, within)), next) at same)) in
+    omega (arith, few)
 
 -- Stretches of two ranges
 
@@ -116,9 +127,9 @@ pub searches_more : (paths : ℕ → List PathStep) (levels sector m n first las
 searches_more paths levels sector m n first last few one = let more = mul-le-mul_left levels (stretches_more paths sector m n few) in omega (arith, one, more)
 
 -- of what lies below, which is less deep
-pub searches_below : (paths lower : ℕ → List PathStep) (fewer levels s t n first last : ℕ) → fewer ≤ levels → stretches paths s n ≡ stretches lower t n → last ≤ first + fewer * stretches lower t n → last ≤ first + levels * stretches paths s n
-searches_below paths lower fewer levels s t n first last less same one =
-    let more : fewer * stretches lower t n ≤ levels * stretches lower t n = mul-le-mul less (omega arith) in rw same (omega (arith, one, more))
+pub searches_below : (paths lower : ℕ → List PathStep) (fewer levels s t n first last : ℕ) → fewer ≤ levels → stretches lower t n ≤ stretches paths s n → last ≤ first + fewer * stretches lower t n → last ≤ first + levels * stretches paths s n
+searches_below paths lower fewer levels s t n first last less few one =
+    let more : fewer * stretches lower t n ≤ levels * stretches paths s n = mul-le-mul less few in omega (arith, one, more)
 
 -- of a line, and the search that found it
 pub searches_line : (paths lower : ℕ → List PathStep) (levels s t n first next last : ℕ) → 1 ≤ levels → 1 ≤ n → next ≤ first + 1 → stretches paths s n ≡ stretches lower t n → last ≤ next + (levels - 1) * stretches lower t n

@@ -103,6 +103,14 @@ next_step : {S : Type 0} {past : SinkPast S} {old middle : S} {before between : 
 next_step {before} {between} {mapping} {first} {len} {at} {rest} n one =
     cc (let e : at ≡ first + (len - rest) = omega (arith, one.position, one.within) in e)
 
+-- reads change nothing
+pub mapped_still : {S : Type 0} {past : SinkPast S} {old middle : S} {before between : WalkerView} {mapping : Mapping} {first len at rest : ℕ} → Keeps mapping → IsMappedTo past old middle before between mapping first len at rest
+    → mapping.op ≡ Read → stack_state between ≡ stack_state before
+mapped_still {before} {between} {mapping} {first} {len} {at} {rest} keeps one is =
+    let walked = one.mapped.walked in
+    let state : between.state ≡ before.state = walked.state ∙ steps_kept (mapping.step before.stack) before.state first (len - rest) (keeps is before.stack) in
+    ap (λ (s : Description). record { stack = s; state = between.state }) walked.stack ∙ ap (λ (s : State). record { stack = before.stack; state = s }) state
+
 -- the searches of those so far and of the next ones
 searches_next : {S F : Type 0} {past : SinkPast S} {result : Result (Unit {0}) F} {old middle new : S} {before between after : WalkerView} {mapping : Mapping} {found first len at rest n : ℕ}
     → Keeps mapping → 1 ≤ n → n ≤ rest → IsMappedTo past old middle before between mapping first len at rest → IsMapped past result middle new between after (record mapping { found = found }) at n
@@ -110,9 +118,7 @@ searches_next : {S F : Type 0} {past : SinkPast S} {result : Result (Unit {0}) F
 searches_next {before} {between} {after} {mapping} {found} {first} {len} {at} {rest} {n} keeps some few one two is sound =
     let done = len - rest in let depth = mapping.depth before.stack in let paths = mapping.path before.stack before.state in let walked = one.mapped.walked in
     let position : at ≡ first + done = omega (arith, one.position, one.within) in
-    let state : between.state ≡ before.state = walked.state ∙ steps_kept (mapping.step before.stack) before.state first done (keeps is before.stack) in
-    let same : stack_state between ≡ stack_state before =
-    cc in
+    let same = mapped_still keeps one is in
     let more : after.looked.searches + found ≤ between.looked.searches + depth * stretches paths at n =
     subst (λ (v : StackState). after.looked.searches + found ≤ between.looked.searches + mapping.depth v.stack * stretches (mapping.path v.stack v.state) at n) same (two.bounded is (subst IsSound (sym walked.stack) sound)) in
     let so_far = one.mapped.bounded is sound in

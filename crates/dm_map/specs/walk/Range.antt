@@ -9,13 +9,14 @@ use Rattle.dm_stack.specs.declared.lines.found_line.FoundOrigin.{FoundOrigin}
 use Rattle.dm_stack.specs.declared.lines.found_line.FoundSnapshot.{FoundSnapshot}
 use Rattle.dm_stack.specs.declared.lines.found_line.FoundTarget.{FoundTarget}
 use Rattle.dm_stack.specs.declared.lines.leg.Leg.{Leg}
+use Rattle.dm_stack.specs.declared.checks.limits.TheConstants.{MOST_LENGTH}
 use Rattle.dm_stack.specs.Description.{Description, is_ro_at, lower_len}
 use Rattle.dm_stack.specs.lines.Below.{Below, below_target, IsLine, IsLineOf}
 use Rattle.dm_stack.specs.lines.Leg.{AreInside, IsBeneath}
 use Rattle.dm_stack.specs.lines.Over.{snapshots_over}
 use Rattle.dm_map.specs.state.Counts.{AreAdded}
 use Rattle.dm_map.specs.pieces.Sink.{OfBeginning, SinkPast}
-use Rattle.dm_map.specs.walk.Chunk.{AreInChunk}
+use Rattle.dm_map.specs.walk.Chunk.{AreInChunk, AreInSnapshot}
 use Rattle.dm_map.specs.walk.Reads.{by_below, read_unit}
 use Rattle.dm_map.specs.walk.Serving.{served_step}
 use Rattle.dm_map.specs.state.Snapshots.{read_over}
@@ -82,6 +83,13 @@ pub record AreAsked {S : Type 0} (past : SinkPast S) (taker : S) (stack : Descri
 pub record AreAskedOfOrigin {S : Type 0} (past : SinkPast S) (taker : S) (stack : Description) (origin : FoundOrigin) (sector len : ℕ) : Type 0 where
   pub over : origin.over ≡ snapshots_over stack origin.to
   pub asked : AreAsked past taker stack origin.to sector len
+
+-- they are asked of a snapshot
+pub record AreAskedOfSnapshot {S : Type 0} (past : SinkPast S) (taker : S) (stack : Description) (device : ℕ) (snapshot : FoundSnapshot) (sector len : ℕ) : Type 0 where
+  pub some : 1 ≤ len
+  pub inside : AreInSnapshot stack device snapshot sector len
+  pub small : sector + len ≤ MOST_LENGTH
+  pub sink : HasRoomFor past taker stack len
 
 -- they are asked of one chunk of a snapshot
 pub record AreAskedOfChunk {S : Type 0} (past : SinkPast S) (taker : S) (stack : Description) (device : ℕ) (snapshot : FoundSnapshot) (sector len : ℕ) : Type 0 where

@@ -66,12 +66,12 @@ static ROWS: [(&str, &str, &str, (u64, u64)); 11] = [
         "W s 0 16",
         (1, 0),
     ),
-    // A snapshot of a device, whose line is looked for in each chunk.
+    // A snapshot of a device, whose line is looked for once for chunks that are read in a row.
     (
         "o: 0 16 zero\ns: 0 16 snapshot /dev/mapper/o cow P 8\n",
         "cow 32\n",
         "R s 0 16",
-        (3, 0),
+        (2, 0),
     ),
     // A write of an origin whose snapshot is lost at its first sector: what follows is one part.
     (

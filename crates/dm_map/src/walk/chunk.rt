@@ -1,7 +1,7 @@
 //! Chunks of a snapshot: how a range is cut at them, and where their sectors are read.
 
 ghost use Rattle.std.specs.Prelude.{◌≡◌, ◌+◌, ◌-◌, ◌*◌, ◌%◌, ◌<◌, ◌≤◌};
-ghost use Rattle.std.specs.Prelude.{false, length, min, IfNone, IfSome};
+ghost use Rattle.std.specs.Prelude.{false, true, length, min, IfNone, IfSome};
 ghost use Rattle.dm_stack.specs.lines.StoreLayout.{place};
 ghost use Rattle.dm_stack.specs.declared.checks.limits.TheConstants.{MOST_LENGTH, MOST_SNAPSHOT_CHUNK};
 ghost use Rattle.dm_map.specs.state.Snapshots.{store_sector};
@@ -70,15 +70,41 @@ pub(crate) fn read_at<T: Taken>(
     if !walker.is_valid(device) {
         return None;
     }
+    Some(source_of(walker, device, snapshot, sector, len))
+}
+
+/// The same of a snapshot that is valid.
+#[inline(always)]
+pub(crate) fn source_of<T: Taken>(
+    walker: &Walker<'_, T>,
+    device: DeviceId,
+    snapshot: &FoundSnapshot,
+    sector: u64,
+    len: u64,
+) -> ReadAt
+    requires some { 1 ≤ len }
+    requires chunk { AreInChunk walker.now.stack device snapshot.now sector len }
+    requires valid { (taken_at walker.now.state device).valid ≡ true }
+    ensures { AreReadAt walker.now.stack walker.now.state device snapshot.now sector len result }
+{
     walker.recall_soundness();
     match walker.find(device, sector / snapshot.chunk as u64) {
-        Some(number) => Some(ReadAt {
+        Some(number) => ReadAt {
             to: snapshot.store,
             sector: store_sector(snapshot, number, sector),
-        }),
-        None => Some(ReadAt {
+        },
+        None => ReadAt {
             to: snapshot.origin,
             sector,
-        }),
+        },
     }
+}
+
+/// Whether sectors are read right after `len` others.
+#[inline(always)]
+pub(crate) fn goes_on(source: &ReadAt, len: u64, next: &ReadAt) -> bool
+    requires { source.now.sector + len ≤ MOST_LENGTH }
+    ensures { result ≡ true → next.now ≡ record { to = source.now.to; sector = source.now.sector + len } }
+{
+    next.to == source.to && next.sector == source.sector + len
 }

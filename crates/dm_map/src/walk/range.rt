@@ -1,37 +1,37 @@
 //! The walk down a stack: hands the units of consecutive sectors to a sink.
 //!
-//! A range goes down as one step: it is cut where a line or a chunk ends, of stripes or of a
-//! snapshot, or, of a write to an origin, where one of its snapshots still needs something, and
-//! nowhere else, and each line that it passes is looked up once. Where the sectors of a line lie is for
-//! its legs to say (`dm_stack`'s `leg`), so a new target that has no state needs nothing here; one with
-//! a state is an arm of `map_leg`, with a loop of its own. Each function says which units it hands
-//! over, which state it leaves, and, of a read, how often it searches: at most once a level for each
-//! stretch of sectors with one path (`specs/walk/Path`).
+//! A range goes down as one step: it is cut where a line ends, or a chunk of stripes or of a snapshot,
+//! unless the next one is read in a row with it, or, of a write to an origin, where one of its snapshots
+//! still needs something, and nowhere else, and each line that it passes is looked up once. Where the
+//! sectors of a line lie is for its legs to say (`dm_stack`'s `leg`), so a new target that has no state
+//! needs nothing here; one with a state is an arm of `map_leg`, with a loop of its own. Each function
+//! says which units it hands over, which state it leaves, and, of a read, how often it searches: at most
+//! once a level for each stretch of sectors with one path (`specs/walk/Path`).
 
 ghost use Rattle.std.specs.Prelude.{◌≡◌, ◌+◌, ◌<◌, ◌≤◌, true, length};
-ghost use Rattle.dm_table.specs.declared.requests.request.Op.TheVariants.{Write};
+ghost use Rattle.dm_table.specs.declared.requests.request.Op.TheVariants.{Read, Write};
 ghost use Rattle.dm_stack.specs.lines.Below.{is_striped, IsLine};
 ghost use Rattle.dm_stack.specs.Description.{Description};
 ghost use Rattle.dm_stack.specs.declared.lines.found_line.FoundTarget.TheVariants.{Snapshot};
 ghost use Rattle.dm_stack.specs.declared.id.Lower.TheVariants.{Device};
 ghost use Rattle.dm_stack.specs.declared.checks.graph.TheConstants.{MOST_DEPTH};
-ghost use Rattle.dm_stack.specs.declared.checks.limits.TheConstants.{MOST_LENGTH};
 ghost use Rattle.dm_map.specs.walk.Bound.{found_mapping, origin_mapping, range_mapping, target_mapping};
 ghost use Rattle.dm_map.specs.walk.Bound.{IsMapped};
 ghost use Rattle.dm_map.specs.pieces.Units.{diskless_len, piece_len, units_in, units_of};
 ghost use Rattle.dm_map.specs.pieces.Units.{Fails, IsOnDisk, IsOnDisks};
 ghost use Rattle.dm_map.specs.walk.Home.{or_home};
 ghost use Rattle.dm_map.specs.walk.Range.{disk_unit, zero_unit, refuses};
-ghost use Rattle.dm_map.specs.walk.Range.{AreAsked, AreAskedOfChunk, AreAskedOfOrigin};
+ghost use Rattle.dm_map.specs.walk.Range.{AreAsked, AreAskedOfOrigin, AreAskedOfSnapshot};
 ghost use Rattle.dm_map.specs.pieces.Sink.{IsHanded};
-ghost use Rattle.dm_map.specs.walk.Range.{HasRoomFor, IsAtLine, IsLegOf};
-ghost use Rattle.dm_map.specs.walk.Chunk.{AreInSnapshot};
+ghost use Rattle.dm_map.specs.walk.Range.{HasRoomFor, IsAtLine, IsLegOf, IsWalked};
+ghost use Rattle.dm_map.specs.walk.SnapshotWrites.{write_snapshot};
+ghost use Rattle.dm_map.specs.walk.Steps.{steps};
 
 use crate::pieces::piece::Piece;
 use crate::pieces::sink::Sink;
 use crate::state::taken::Taken;
 use crate::state::walker::Walker;
-use crate::walk::chunk::{part_of_chunk, read_at};
+use crate::walk::chunk::{goes_on, part_of_chunk, source_of};
 use crate::walk::home::{Home, handed, home_in};
 use crate::walk::serving::{serve, settled_part};
 use crate::walk::step::part_in;
@@ -45,7 +45,8 @@ use dm_table::Op;
 /// Hands over the units of sectors of a device or a disk, through at most this many levels of
 /// devices.
 ///
-/// Each piece is a stretch of sectors whose path down is in one line, and one chunk, of each device.
+/// Each piece is a stretch of sectors whose path down is in one line, and one chunk, of each device, or in
+/// chunks of a snapshot that are read in a row.
 /// A sink that fails ends the walk. It is inlined, so that a part that lies on a disk, as most parts
 /// of stripes do, costs no call.
 #[cycle(walk)]
@@ -93,7 +94,8 @@ pub(crate) fn map_top<S: Sink, T: Taken>(
             return Ok(Some(home));
         }
         if is_snapshot(line) {
-            // It is inlined here, where the line is known to be a snapshot's: the call of `map_snapshot` is left.
+            // It is inlined here, where the line is known to be a snapshot's: the call of `read_snapshot` or
+            // `write_snapshot` is left.
             return handed(map_line(walker, op, MOST_DEPTH, device, line, sector, len, sink));
         }
     }
@@ -267,12 +269,9 @@ fn map_leg<S: Sink, T: Taken>(
     }
 }
 
-/// Hands over the units of sectors of a snapshot, chunk by chunk, through at most this many levels of
-/// devices below it.
-///
-/// It is never inlined: the walk through lines and stripes is the faster for it.
+/// Hands over the units of sectors of a snapshot, through at most this many levels of devices below it.
 #[cycle(walk)]
-#[inline(never)]
+#[inline(always)]
 fn map_snapshot<S: Sink, T: Taken>(
     walker: &mut Walker<'_, T>,
     op: Op,
@@ -283,29 +282,24 @@ fn map_snapshot<S: Sink, T: Taken>(
     len: u64,
     sink: &mut S,
 ) -> Result<(), S::Fault>
-    requires inside { AreInSnapshot walker.old.stack device snapshot.now sector len }
-    requires small { sector + len ≤ MOST_LENGTH }
-    requires sink { HasRoomFor S.past sink.old walker.old.stack len }
+    requires asked { AreAskedOfSnapshot S.past sink.old walker.old.stack device snapshot.now sector len }
     ensures { IsMapped S.past result sink.old sink.new walker.old walker.new
         (target_mapping op levels device 0 (Snapshot snapshot.now)) sector len }
 {
-    let mut from = sector;
-    let mut left = len;
-    while left > 0 {
-        let part = part_of_chunk(snapshot.chunk as u64, from, left);
-        map_chunk(walker, op, levels, device, snapshot, from, part, sink)?;
-        from += part;
-        left -= part;
+    match op {
+        Op::Read => read_snapshot(walker, levels, device, snapshot, sector, len, sink),
+        Op::Write => write_snapshot(walker, device, snapshot, sector, len, sink),
     }
-    Ok(())
 }
 
-/// Hands over the units of sectors of one chunk of a snapshot. All of them are errors if the snapshot
-/// is lost.
+/// Hands over the units of reads of sectors of a snapshot: as many chunks at once as are read in a row. All of
+/// them are errors if the snapshot is lost.
+///
+/// It is never inlined: the walk through lines and stripes is the faster for it.
 #[cycle(walk)]
-fn map_chunk<S: Sink, T: Taken>(
+#[inline(never)]
+fn read_snapshot<S: Sink, T: Taken>(
     walker: &mut Walker<'_, T>,
-    op: Op,
     levels: u32,
     device: DeviceId,
     snapshot: &FoundSnapshot,
@@ -313,23 +307,83 @@ fn map_chunk<S: Sink, T: Taken>(
     len: u64,
     sink: &mut S,
 ) -> Result<(), S::Fault>
-    requires { AreAskedOfChunk S.past sink.old walker.old.stack device snapshot.now sector len }
+    requires asked { AreAskedOfSnapshot S.past sink.old walker.old.stack device snapshot.now sector len }
     ensures { IsMapped S.past result sink.old sink.new walker.old walker.new
-        (target_mapping op levels device 0 (Snapshot snapshot.now)) sector len }
+        (target_mapping Read levels device 0 (Snapshot snapshot.now)) sector len }
 {
-    match op {
-        Op::Write => write_chunk(walker, device, snapshot, sector, len, sink),
-        Op::Read => match read_at(walker, device, snapshot, sector, len) {
-            Some(source) => map_range(walker, op, levels, source.to, source.sector, len, sink),
-            None => sink.piece(Piece::Error { len }),
-        },
+    if !walker.is_valid(device) {
+        return fail(len, sink);
     }
+    walker.recall_soundness();
+    let chunk_size = snapshot.chunk as u64;
+    let mut from = sector;
+    let mut left = len;
+    let mut part = part_of_chunk(chunk_size, from, left);
+    let mut source = source_of(walker, device, snapshot, from, part);
+    'chunks: while part < left {
+        let at = from + part;
+        let count = part_of_chunk(chunk_size, at, left - part);
+        let next = source_of(walker, device, snapshot, at, count);
+        if goes_on(&source, part, &next) {
+            part += count;
+        } else {
+            map_range(
+                walker,
+                Op::Read,
+                levels,
+                source.to,
+                source.sector,
+                part,
+                sink,
+            )?;
+            from = at;
+            left -= part;
+            part = count;
+            source = next;
+        }
+    }
+    map_range(
+        walker,
+        Op::Read,
+        levels,
+        source.to,
+        source.sector,
+        left,
+        sink,
+    )
+}
+
+/// Hands over the units of writes to sectors of a snapshot, chunk by chunk. It is never inlined, as
+/// `read_snapshot` is not.
+#[inline(never)]
+fn write_snapshot<S: Sink, T: Taken>(
+    walker: &mut Walker<'_, T>,
+    device: DeviceId,
+    snapshot: &FoundSnapshot,
+    sector: u64,
+    len: u64,
+    sink: &mut S,
+) -> Result<(), S::Fault>
+    requires asked { AreAskedOfSnapshot S.past sink.old walker.old.stack device snapshot.now sector len }
+    ensures { IsWalked S.past result sink.old sink.new walker.old walker.new
+        (steps (write_snapshot walker.old.stack snapshot.now device) walker.old.state sector len) len }
+{
+    let chunk_size = snapshot.chunk as u64;
+    let mut from = sector;
+    let mut left = len;
+    'chunks: while left > 0 {
+        let part = part_of_chunk(chunk_size, from, left);
+        write_chunk(walker, device, snapshot, from, part, sink)?;
+        from += part;
+        left -= part;
+    }
+    Ok(())
 }
 
 /// Hands over the units of sectors of an origin's device, through at most this many levels of devices
 /// below it: those of the origin, and of a write first what its snapshots still need.
 ///
-/// It is never inlined, as `map_snapshot` is not.
+/// It is never inlined, as `read_snapshot` is not.
 #[cycle(walk)]
 #[inline(never)]
 fn map_origin<S: Sink, T: Taken>(

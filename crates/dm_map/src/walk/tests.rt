@@ -1,7 +1,7 @@
-//! A stretch is the first piece that the walk hands over for a read of the same sectors.
+//! A stretch is a beginning of the first piece that the walk hands over for a read of the same sectors.
 //!
 //! Both are proved to be what the definitions say; these rows show that they also cut alike, so a
-//! copy goes on as long as a read does.
+//! copy goes on as long as a read does, but for chunks of a snapshot that are read in a row.
 
 ghost use Rattle.std.specs.Prelude.{◌≡◌, ◌+◌, ◌≤◌};
 ghost use Rattle.dm_stack.specs.Description.{lower_len};
@@ -29,21 +29,20 @@ const TABLE: &str = "a: 0 4 linear sda 10\na: 4 2 zero\na: 6 2 error\n\
 
 const DISKS: &str = "sda 16\nsdb 4\nsdc 64\nsdd 64\n";
 
-/// A write, a read after it, and how many of its sectors the first stretch has: of a chunk that was
-/// taken, of one that was not, and of one that only the origin took; and of one that a write of the
-/// origin's device took.
-static AFTER_A_WRITE: [(&str, &str, u64); 6] = [
-    ("W s 4 1", "R s 0 16", 4),
-    ("W t 0 8", "R t 3 13", 5),
-    ("W t 0 8", "R t 8 8", 4),
-    ("W s 0 16", "R t 2 14", 2),
-    ("W o 0 1", "R t 0 16", 8),
-    ("W o 0 1", "R o 0 16", 4),
+/// A write, a read after it, and how many of its sectors the first stretch has, and the first piece: of
+/// a chunk that was taken, of one that was not, and of one that only the origin took; and of one that a
+/// write of the origin's device took.
+static AFTER_A_WRITE: [(&str, &str, u64, u64); 6] = [
+    ("W s 4 1", "R s 0 16", 4, 4),
+    ("W t 0 8", "R t 3 13", 5, 5),
+    ("W t 0 8", "R t 8 8", 4, 8),
+    ("W s 0 16", "R t 2 14", 2, 14),
+    ("W o 0 1", "R t 0 16", 8, 8),
+    ("W o 0 1", "R o 0 16", 4, 4),
 ];
 
-/// A stretch as a piece of a read.
-fn piece_of(stretch: &Stretch) -> Piece {
-    let len = stretch.len;
+/// A piece of a read, of this length, that begins as a stretch.
+fn piece_of(stretch: &Stretch, len: u64) -> Piece {
     match &stretch.ground {
         Ground::Disk { disk, start } => Piece::Read {
             disk: *disk,
@@ -56,29 +55,29 @@ fn piece_of(stretch: &Stretch) -> Piece {
 }
 
 #[test]
-fn a_stretch_is_the_first_piece_of_a_read(rt: HostRuntime) {
+fn a_stretch_begins_the_first_piece_of_a_read(rt: HostRuntime) {
     let alloc = rt.alloc();
     let stack = stack_of(&rt, alloc, TABLE, DISKS);
-    for (line, want) in [
-        ("R a 0 8", 4),
-        ("R a 1 2", 2),
-        ("R a 4 4", 2),
-        ("R a 5 3", 1),
-        ("R a 6 2", 2),
-        ("R b 0 8", 2),
-        ("R b 1 7", 1),
-        ("R b 2 6", 2),
-        ("R b 4 4", 2),
-        ("R b 6 2", 2),
-        ("R c 0 3", 1),
-        ("R c 1 2", 2),
-        ("R s 0 16", 4),
-        ("R s 5 2", 2),
-        ("R s 7 9", 1),
-        ("R t 0 16", 4),
-        ("R t 6 10", 2),
-        ("R o 5 2", 2),
-        ("R o 7 9", 1),
+    for (line, want, piece) in [
+        ("R a 0 8", 4, 4),
+        ("R a 1 2", 2, 2),
+        ("R a 4 4", 2, 2),
+        ("R a 5 3", 1, 1),
+        ("R a 6 2", 2, 2),
+        ("R b 0 8", 2, 2),
+        ("R b 1 7", 1, 1),
+        ("R b 2 6", 2, 2),
+        ("R b 4 4", 2, 2),
+        ("R b 6 2", 2, 2),
+        ("R c 0 3", 1, 1),
+        ("R c 1 2", 2, 2),
+        ("R s 0 16", 4, 16),
+        ("R s 5 2", 2, 2),
+        ("R s 7 9", 1, 9),
+        ("R t 0 16", 4, 16),
+        ("R t 6 10", 2, 10),
+        ("R o 5 2", 2, 2),
+        ("R o 7 9", 1, 9),
     ] {
         let request = parse_request(line.as_bytes(), 1).expect(&rt, "a request");
         let device = stack.device(request.device).expect(&rt, "a device");
@@ -98,7 +97,7 @@ fn a_stretch_is_the_first_piece_of_a_read(rt: HostRuntime) {
             .request(&request, device, &mut list)
             .expect(&rt, "pieces");
         let first = list.as_slice().first().copied();
-        assert_eq!(&rt; first, Some(piece_of(&stretch)), "{line}");
+        assert_eq!(&rt; first, Some(piece_of(&stretch, piece)), "{line}");
     }
 }
 
@@ -159,15 +158,15 @@ fn first_read(
 }
 
 #[test]
-fn a_stretch_is_the_first_piece_of_a_read_after_a_write(rt: HostRuntime) {
+fn a_stretch_begins_the_first_piece_of_a_read_after_a_write(rt: HostRuntime) {
     let alloc = rt.alloc();
     let stack = stack_of(&rt, alloc, TABLE, DISKS);
-    for &(write, read, want) in &AFTER_A_WRITE {
+    for &(write, read, want, piece) in &AFTER_A_WRITE {
         let mut walker = walker_after(&rt, alloc, &stack, write);
         let (lower, start, len) = sectors_of(&rt, &stack, read);
         let stretch = first_stretch(&mut walker, MOST_DEPTH, lower, start, len);
         assert_eq!(&rt; stretch.len, want, "{write}, {read}");
         let first = first_read(&rt, alloc, &stack, &mut walker, read);
-        assert_eq!(&rt; first, Some(piece_of(&stretch)), "{write}, {read}");
+        assert_eq!(&rt; first, Some(piece_of(&stretch, piece)), "{write}, {read}");
     }
 }

@@ -1,6 +1,9 @@
-use Rattle.std.proofs.Common.{rules, ◌≡◌, ℕ, ◌+◌, ◌-◌, ◌^◌, ◌≤◌, Some, refl, sym, ap, subst, ◌∙◌, arith}
+use Rattle.std.specs.Prelude.{Result}
+use Rattle.std.proofs.Common.{rules, ◌≡◌, ℕ, ◌+◌, ◌-◌, ◌≤◌, Some, refl, sym, ap, subst, ◌∙◌, arith}
 use Rattle.dm_table.specs.declared.requests.request.Op.{Op}
+use Rattle.dm_table.specs.declared.requests.request.Op.TheVariants.{Read}
 use Rattle.dm_stack.specs.declared.lines.found_line.FoundLine.{FoundLine}
+use Rattle.dm_stack.specs.declared.lines.found_line.FoundSnapshot.{FoundSnapshot}
 use Rattle.dm_stack.specs.declared.lines.found_line.FoundTarget.{FoundTarget}
 use Rattle.dm_stack.specs.declared.lines.found_line.FoundTarget.TheVariants.{Snapshot, Origin}
 use Rattle.dm_stack.specs.declared.lines.leg.Beneath.{Beneath}
@@ -11,20 +14,24 @@ use Rattle.dm_stack.specs.Description.{Description, lower_len}
 use Rattle.dm_map.specs.walk.Bound.{IsMapped, origin_mapping, range_mapping, target_mapping}
 use Rattle.dm_map.specs.state.Snapshots.{read_over}
 use Rattle.dm_map.specs.state.State.{taken_at}
-use Rattle.dm_map.specs.state.Walker.{StackState}
-use Rattle.dm_map.specs.walk.Range.{origin_step, range_step, line_step, AreAsked, AreAskedOfChunk, AreAskedOfOrigin, HasRoomFor, IsAtLine, IsLegOf}
+use Rattle.dm_map.specs.declared.walk.chunk.ReadAt.{ReadAt}
+use Rattle.dm_map.specs.pieces.Sink.{SinkPast}
+use Rattle.dm_map.specs.state.Tables.{snapshot_at}
+use Rattle.dm_map.specs.state.Walker.{StackState, WalkerView, stack_state}
+use Rattle.dm_map.specs.walk.Chunk.{AreReadAt}
+use Rattle.dm_map.specs.walk.Range.{line_step, origin_step, range_step, AreAsked, AreAskedOfOrigin, AreAskedOfSnapshot, HasRoomFor, IsAtLine, IsLegOf}
 use Rattle.dm_stack.proofs.InStack.{device_there, lower_small}
 use Rattle.dm_stack.proofs.StripeLemmas.{other_chunk}
 use Rattle.dm_map.proofs.state.FoundLines.{first_line}
 use Rattle.dm_map.proofs.walk.Bounds.{lines_apart, mapped_below, mapped_line, mapped_target, parts_apart}
-use Rattle.dm_map.proofs.walk.Chunks.{chunk_read, in_one_chunk, in_snapshot, lost_read, same_chunk, write_line_step}
+use Rattle.dm_map.proofs.walk.Chunks.{chunk_read, in_snapshot, lost_read, read_on, write_line_step}
 use Rattle.dm_map.proofs.walk.HomeLemmas.{disk_step}
 use Rattle.dm_map.proofs.walk.LineRanges.{leg_at, leg_of, leg_within, line_sectors}
 use Rattle.dm_map.proofs.walk.Ranges.{beneath_as, leg_errors, leg_lies, leg_zeros, line_served, origin_read, range_deepest, range_refused}
 use Rattle.dm_map.proofs.walk.OriginParts.{line_overs, part_mapped, serve_failed}
 use Rattle.dm_map.proofs.walk.Rows.{walked_as, walked_piece}
 use Rattle.dm_map.proofs.walk.Spans.{below_is}
-use Rattle.dm_map.proofs.walk.WalkedOn.{IsMappedTo, mapped_after_look, mapped_before_look, mapped_cut, mapped_handed, mapped_last, mapped_none, mapped_on, range_keeps, target_keeps}
+use Rattle.dm_map.proofs.walk.WalkedOn.{IsMappedTo, mapped_after_look, mapped_before_look, mapped_cut, mapped_handed, mapped_last, mapped_none, mapped_on, mapped_still, range_keeps, target_keeps}
 use Rattle.dm_map.proofs.walk.range.+walk.Goals as goal
 use Rattle.dm_map.proofs.walk.range.+walk.Goals.{map_device-then-levels-eq0-via-then-levels-eq0, map_device-then-levels-eq0-via-else-levels-eq0+then-refuses}
 
@@ -188,7 +195,7 @@ map_leg-returns-in-Lies g t c line of =
     let a = c.args in let w = a.walker.now in
     let on = beneath_as line.target a.distance a.leg.now.len _ _ c.in-Lies.is of.is in
     mapped_below a.op a.levels a.device line.start a.distance line.start line line.target c.in-Lies.to (of.of.all line.start (omega arith) (omega (arith, of.some, of.inside))) refl of.some
-    (λ i within. below_is (read_over (taken_at w.state a.device)) line.target (a.distance + i) on.plain ∙ on.below i within) on.chunk
+    (λ i within. below_is (read_over (taken_at w.state a.device)) line.target (a.distance + i) on.plain ∙ on.below i within)
     (sym (leg_lies w.stack a.op a.levels a.device line.target c.in-Lies.to a.distance c.in-Lies.sector a.leg.now.len w.state on)) c.map_range.ensures
 
 pub map_leg-returns-in-Zeros : goal.map_leg-returns-in-Zeros
@@ -207,8 +214,12 @@ pub map_leg-map_snapshot-requires : goal.map_leg-map_snapshot-requires
 map_leg-map_snapshot-requires g t c κs within =
     let a = c.args in let line = c.requires.leg.0 in let of = c.requires.leg.1 in
     let kind = beneath_as line.target a.distance a.leg.now.len _ _ c.in-Snapshot.is of.is in
-    let inside = in_snapshot a.walker.now.stack a.device a.distance a.leg.now.len line c.in-Snapshot.snapshot.now of.of kind of.some of.inside in
-    let small : a.distance + a.leg.now.len ≤ 2 ^ 50 = omega (arith, of.inside, of.of.small) in
+    let asked : AreAskedOfSnapshot g.S.Sink.past a.sink.now a.walker.now.stack a.device c.in-Snapshot.snapshot.now a.distance a.leg.now.len = record {
+      some = of.some;
+      inside = in_snapshot a.walker.now.stack a.device a.distance a.leg.now.len line c.in-Snapshot.snapshot.now of.of kind of.some of.inside;
+      small = omega (arith, of.inside, of.of.small);
+      sink = c.requires.sink;
+    } in
     search rules
 
 pub map_leg-returns-in-Snapshot : goal.map_leg-returns-in-Snapshot
@@ -232,62 +243,101 @@ map_leg-returns-in-Origin g t c line of =
     let a = c.args in let w = a.walker.now in let origin = c.in-Origin.origin.now in
     let kind = beneath_as line.target a.distance a.leg.now.len _ _ c.in-Origin.is of.is in
     mapped_target a.op a.levels a.device line.start line.start line.target (Origin origin) refl kind
-    (mapped_below a.op a.levels a.device line.start a.distance line.start line (Origin origin) origin.to (of.of.all line.start (omega arith) (omega (arith, of.some, of.inside))) kind of.some (λ i within. refl) (λ i within. refl)
+    (mapped_below a.op a.levels a.device line.start a.distance line.start line (Origin origin) origin.to (of.of.all line.start (omega arith) (omega (arith, of.some, of.inside))) kind of.some (λ i within. refl)
     (sym (line_served w.stack a.op a.levels a.device origin a.distance a.leg.now.len w.state)) c.map_origin.ensures)
 
 -- A snapshot
 
-pub map_snapshot-map_chunk-requires : goal.map_snapshot-map_chunk-requires
-map_snapshot-map_chunk-requires g t c κs within =
-    let a = c.args in let l = c.loop-left in let part = c.part_of_chunk-part.ensures in let walked = l.invariant.mapped.walked in
-    let asked : AreAskedOfChunk g.S.Sink.past l.sink l.walker.stack a.device a.snapshot.now l.from c.part_of_chunk-part.result = record {
-      some = omega (arith, part, c.loop-left-test.true, c.requires.inside.sound.chunk_some);
-      chunk = in_one_chunk a.walker.now.stack l.walker.stack a.device a.sector a.len l.from l.left c.part_of_chunk-part.result a.snapshot.now c.requires.inside walked.stack l.invariant.position part;
-      sink = record { stack = walked.kept ∙ c.requires.sink.stack ∙ sym walked.stack; room = omega (arith, part, c.requires.sink.room, walked.room, l.invariant.within) };
-    } in
-    search rules
+pub map_snapshot-returns-in-Read : goal.map_snapshot-returns-in-Read
+map_snapshot-returns-in-Read g t c =
+    let a = c.args in let walk = c.read_snapshot in
+    subst (λ (op : Op). IsMapped g.S.Sink.past walk.result a.sink.now walk.new.sink a.walker.now walk.new.walker (target_mapping op a.levels a.device 0 (Snapshot a.snapshot.now)) a.sector a.len) (sym c.in-Read.is) walk.ensures
 
-pub map_snapshot-returns-in_err-map_chunk : goal.map_snapshot-returns-in_err-map_chunk
-map_snapshot-returns-in_err-map_chunk g t c =
-    let a = c.args in let l = c.loop-left in let part = c.part_of_chunk-part.ensures in
-    mapped_cut g.met.S.Sink.lawful (target_keeps a.op a.levels a.device 0 (Snapshot a.snapshot.now)) c.from_residual.ensures.0 l.invariant c.in_err-map_chunk.ensures
-    (omega (arith, part, c.loop-left-test.true, c.requires.inside.sound.chunk_some)) (omega (arith, part))
-
-pub map_snapshot-loop-left-preserved : goal.map_snapshot-loop-left-preserved
-map_snapshot-loop-left-preserved g t c =
-    let a = c.args in let w = a.walker.now in let l = c.loop-left in let part = c.part_of_chunk-part.ensures in let n = c.part_of_chunk-part.result in let chunk_some = c.requires.inside.sound.chunk_some in
-    mapped_on g.met.S.Sink.lawful (target_keeps a.op a.levels a.device 0 (Snapshot a.snapshot.now)) l.invariant c.in_ok-map_chunk.ensures (omega (arith, part, c.loop-left-test.true, chunk_some)) (omega (arith, part))
-    (λ is more. parts_apart w.stack w.state a.levels a.device 0 (l.from + n) (Snapshot a.snapshot.now) (other_chunk a.snapshot.now.chunk l.from n chunk_some (omega (arith, part, more))))
-
--- A chunk of it
-
-pub map_chunk-returns-in-Write : goal.map_chunk-returns-in-Write
-map_chunk-returns-in-Write g t c =
+pub map_snapshot-returns-in-Write : goal.map_snapshot-returns-in-Write
+map_snapshot-returns-in-Write g t c =
     let a = c.args in let w = a.walker.now in
     record {
-      walked = walked_as (write_line_step w.stack a.levels a.device a.sector a.len a.snapshot.now w.state ∙ ap (λ (op : Op). line_step w.stack op a.levels a.device (Snapshot a.snapshot.now) w.state a.sector a.len) (sym c.in-Write.is)) c.write_chunk.ensures;
+      walked = walked_as (write_line_step w.stack a.levels a.device a.sector a.len a.snapshot.now w.state ∙ ap (λ (op : Op). line_step w.stack op a.levels a.device (Snapshot a.snapshot.now) w.state a.sector a.len) (sym c.in-Write.is)) c.write_snapshot.ensures;
       bounded = λ is sound. absurd cc;
     }
 
-pub map_chunk-returns-in-Some : goal.map_chunk-returns-in-Some
-map_chunk-returns-in-Some g t c =
-    let a = c.args in let w = a.walker.now in let snapshot = a.snapshot.now in let at = c.in-Some.ensures.source in let chunk = c.requires.chunk in
-    let first = first_line w.stack a.device snapshot (found_at w.stack a.device 0) refl chunk.whole.is in
-    mapped_below a.op a.levels a.device 0 a.sector 0 first.0 (Snapshot snapshot) c.in-Some.source.to first.1 first.2 c.requires.some at.lies
-    (λ i within. ap Some (same_chunk snapshot a.sector i chunk.whole.sound.chunk_some (omega (arith, chunk.part, within))))
-    (ap (λ (op : Op). range_step w.stack op a.levels c.in-Some.source.to w.state c.in-Some.source.sector a.len) c.in-Read.is
-    ∙ sym (chunk_read w.stack a.levels a.device a.sector a.len a.len snapshot w.state c.in-Some.source at (omega arith))
-    ∙ ap (λ (op : Op). line_step w.stack op a.levels a.device (Snapshot snapshot) w.state a.sector a.len) (sym c.in-Read.is)) c.map_range.ensures
+-- A read of it, run by run
 
-pub map_chunk-returns-in-None : goal.map_chunk-returns-in-None
-map_chunk-returns-in-None g t c =
-    let a = c.args in let w = a.walker.now in let p = c.piece in
+-- sectors that are read in a row, in the state that a walk began with
+run : {S R F : Type 0} {past : SinkPast S} {result : Result R F} {old new : S} {before after : WalkerView} (levels device sector n : ℕ) (snapshot : FoundSnapshot) (source : ReadAt) (first : WalkerView)
+    → stack_state before ≡ stack_state first → snapshot_at first.stack device ≡ Some snapshot → 1 ≤ n → AreReadAt first.stack first.state device snapshot sector n source
+    → IsMapped past result old new before after (range_mapping Read levels source.to) source.sector n → IsMapped past result old new before after (target_mapping Read levels device 0 (Snapshot snapshot)) sector n
+run {before} levels device sector n snapshot source first same is some at mapped =
+    let here = subst (λ (v : StackState). snapshot_at v.stack device ≡ Some snapshot) (sym same) is in
+    let now = subst (λ (v : StackState). AreReadAt v.stack v.state device snapshot sector n source) (sym same) at in
+    let line = first_line before.stack device snapshot (found_at before.stack device 0) refl here in
+    mapped_below Read levels device 0 sector 0 line.0 (Snapshot snapshot) source.to line.1 line.2 some now.lies (sym (chunk_read before.stack levels device sector n n snapshot before.state source now (omega arith))) mapped
+
+pub read_snapshot-returns-then-not-is_valid : goal.read_snapshot-returns-then-not-is_valid
+read_snapshot-returns-then-not-is_valid g t c =
+    let a = c.args in let w = a.walker.now in
+    mapped_handed (target_mapping Read a.levels a.device 0 (Snapshot a.snapshot.now)) refl
+    (sym (lost_read w.stack a.levels a.device a.sector a.len a.snapshot.now w.state (sym c.is_valid.ensures.valid ∙ c.if-not-is_valid.true))) c.fail.ensures
+
+pub read_snapshot-chunks-init : goal.read_snapshot-chunks-init
+read_snapshot-chunks-init g t c =
+    let a = c.args in let asked = c.requires.asked in let part = c.part_of_chunk-part.ensures in let chunk_some = asked.inside.sound.chunk_some in
     record {
-      walked = walked_piece
-          (sym (lost_read w.stack a.levels a.device a.sector a.len a.snapshot.now w.state c.in-None.ensures.lost) ∙ ap (λ (op : Op). line_step w.stack op a.levels a.device (Snapshot a.snapshot.now) w.state a.sector a.len) (sym c.in-Read.is)) (omega arith)
-          p.ensures;
-      bounded = λ is sound. omega arith;
+      so_far = mapped_none g.met.S.Sink.lawful refl;
+      some = omega (arith, part, asked.some, chunk_some);
+      most = omega (arith, part);
+      apart = λ more. other_chunk a.snapshot.now.chunk a.sector c.part_of_chunk-part.result chunk_some (omega (arith, part, more));
+      source = c.source_of-source.ensures;
     }
+
+pub read_snapshot-source_of-next-requires-clause-valid : goal.read_snapshot-source_of-next-requires-clause-valid
+read_snapshot-source_of-next-requires-clause-valid g t c =
+    let a = c.args in let l = c.chunks in
+    ap (λ (v : StackState). (taken_at v.state a.device).valid) (mapped_still (target_keeps Read a.levels a.device 0 (Snapshot a.snapshot.now)) l.invariant.so_far refl) ∙ sym c.is_valid.ensures.valid ∙ c.if-not-is_valid.false
+
+pub read_snapshot-goes_on-requires : goal.read_snapshot-goes_on-requires
+read_snapshot-goes_on-requires g t c =
+    let l = c.chunks in let small = lower_small c.args.walker.now.stack l.source.to c.recall_soundness.ensures in omega (arith, l.invariant.source.inside, small)
+
+pub read_snapshot-chunks-preserved-then-goes_on : goal.read_snapshot-chunks-preserved-then-goes_on
+read_snapshot-chunks-preserved-then-goes_on g t c =
+    let a = c.args in let w = a.walker.now in let l = c.chunks in let count = c.part_of_chunk-count.ensures in let n = c.part_of_chunk-count.result in let it = l.invariant in
+    let same = mapped_still (target_keeps Read a.levels a.device 0 (Snapshot a.snapshot.now)) it.so_far refl in
+    let next = subst (λ (v : StackState). AreReadAt v.stack v.state a.device a.snapshot.now (l.from + l.part) n c.source_of-next.result) same c.source_of-next.ensures in
+    let e : l.from + l.part + n ≡ l.from + (l.part + n) = omega arith in
+    record {
+      so_far = it.so_far;
+      some = omega (arith, it.some);
+      most = omega (arith, count, it.most);
+      apart = λ more. rw e at (other_chunk a.snapshot.now.chunk (l.from + l.part) n c.requires.asked.inside.sound.chunk_some (omega (arith, count, more)));
+      source = read_on w.stack w.state a.device l.from l.part n a.snapshot.now l.source c.source_of-next.result it.source next (c.goes_on.ensures c.if-goes_on.true);
+    }
+
+pub read_snapshot-returns-in_err-map_range : goal.read_snapshot-returns-in_err-map_range
+read_snapshot-returns-in_err-map_range g t c =
+    let a = c.args in let l = c.chunks in let it = l.invariant in let keeps = target_keeps Read a.levels a.device 0 (Snapshot a.snapshot.now) in
+    mapped_cut g.met.S.Sink.lawful keeps c.from_residual.ensures.0 it.so_far
+    (run a.levels a.device l.from l.part a.snapshot.now l.source a.walker.now (mapped_still keeps it.so_far refl) c.requires.asked.inside.is it.some it.source c.in_err-map_range.ensures) it.some it.most
+
+pub read_snapshot-chunks-preserved : goal.read_snapshot-chunks-preserved
+read_snapshot-chunks-preserved g t c =
+    let a = c.args in let w = a.walker.now in let l = c.chunks in let count = c.part_of_chunk-count.ensures in let n = c.part_of_chunk-count.result in let it = l.invariant in
+    let keeps = target_keeps Read a.levels a.device 0 (Snapshot a.snapshot.now) in let same = mapped_still keeps it.so_far refl in let chunk_some = c.requires.asked.inside.sound.chunk_some in
+    record {
+      so_far = mapped_on g.met.S.Sink.lawful keeps it.so_far (run a.levels a.device l.from l.part a.snapshot.now l.source w same c.requires.asked.inside.is it.some it.source c.in_ok-map_range.ensures) it.some it.most
+          (λ is more. parts_apart w.stack w.state a.levels a.device 0 (l.from + l.part) (Snapshot a.snapshot.now) (it.apart more));
+      some = omega (arith, count, c.chunks-test.true, chunk_some);
+      most = omega (arith, count);
+      apart = λ more. other_chunk a.snapshot.now.chunk (l.from + l.part) n chunk_some (omega (arith, count, more));
+      source = subst (λ (v : StackState). AreReadAt v.stack v.state a.device a.snapshot.now (l.from + l.part) n c.source_of-next.result) same c.source_of-next.ensures;
+    }
+
+pub read_snapshot-returns : goal.read_snapshot-returns
+read_snapshot-returns g t c =
+    let a = c.args in let w = a.walker.now in let l = c.chunks in let it = l.invariant in let keeps = target_keeps Read a.levels a.device 0 (Snapshot a.snapshot.now) in
+    let whole : l.part ≡ l.left = omega (arith, it.most, c.chunks-test.false) in let some : 1 ≤ l.left = omega (arith, it.some, it.most) in
+    mapped_last g.met.S.Sink.lawful keeps it.so_far
+    (run a.levels a.device l.from l.left a.snapshot.now l.source w (mapped_still keeps it.so_far refl) c.requires.asked.inside.is some (subst (λ (n : ℕ). AreReadAt w.stack w.state a.device a.snapshot.now l.from n l.source) whole it.source) c.map_range-2.ensures) some
 
 -- An origin
 

@@ -1,9 +1,11 @@
-use Rattle.std.proofs.Common.{◌≡◌, ◌+◌, ◌-◌, ◌*◌, ◌≤◌}
-use Rattle.dm_table.specs.declared.requests.request.Op.TheVariants.{Write}
+use Rattle.std.proofs.Common.{◌≡◌, ◌+◌, ◌-◌, ◌*◌, ◌/◌, ◌<◌, ◌≤◌, false}
+use Rattle.std.specs.Prelude.{◌==◌}
+use Rattle.dm_table.specs.declared.requests.request.Op.TheVariants.{Read, Write}
 use Rattle.dm_stack.specs.declared.lines.found_line.FoundTarget.TheVariants.{Snapshot}
 use Rattle.dm_stack.specs.declared.id.Lower.TheVariants.{Device}
 use Rattle.dm_stack.specs.lines.Below.{IsLineOf}
 use Rattle.dm_map.specs.walk.Bound.{origin_mapping, range_mapping, target_mapping}
+use Rattle.dm_map.specs.walk.Chunk.{AreReadAt}
 use Rattle.dm_map.proofs.walk.WalkedOn.{IsMappedTo}
 use Rattle.dm_map.proofs.walk.range.+walk.Given as goal
 
@@ -22,8 +24,8 @@ decreases-map_leg g l = 8 * l.levels + 5
 abbrev pub decreases-map_snapshot : goal.decreases-map_snapshot
 decreases-map_snapshot g l = 8 * l.levels + 4
 
-abbrev pub decreases-map_chunk : goal.decreases-map_chunk
-decreases-map_chunk g l = 8 * l.levels + 3
+abbrev pub decreases-read_snapshot : goal.decreases-read_snapshot
+decreases-read_snapshot g l = 8 * l.levels + 3
 
 abbrev pub decreases-map_origin : goal.decreases-map_origin
 decreases-map_origin g l = 8 * l.levels + 4
@@ -57,12 +59,17 @@ invariant-map_legs-legs g l = record {
 abbrev pub decreases-map_legs-legs : goal.decreases-map_legs-legs
 decreases-map_legs-legs g l = l.legs.left
 
-abbrev pub invariant-map_snapshot-loop-left : goal.invariant-map_snapshot-loop-left
-invariant-map_snapshot-loop-left g l =
-    IsMappedTo g.S.Sink.past l.fn.sink l.sink l.fn.walker l.walker (target_mapping l.op l.levels l.device 0 (Snapshot l.snapshot)) l.sector l.len l.from l.left
+abbrev pub invariant-read_snapshot-chunks : goal.invariant-read_snapshot-chunks
+invariant-read_snapshot-chunks g l = record {
+  so_far : IsMappedTo g.S.Sink.past l.fn.sink l.sink l.fn.walker l.walker (target_mapping Read l.levels l.device 0 (Snapshot l.snapshot)) l.sector l.len l.from l.left;
+  some : 1 ≤ l.part;
+  most : l.part ≤ l.left;
+  apart : l.part < l.left → ((l.from + l.part - 1) / l.snapshot.chunk == (l.from + l.part) / l.snapshot.chunk) ≡ false;
+  source : AreReadAt l.fn.walker.stack l.fn.walker.state l.device l.snapshot l.from l.part l.source;
+}
 
-abbrev pub decreases-map_snapshot-loop-left : goal.decreases-map_snapshot-loop-left
-decreases-map_snapshot-loop-left g l = l.left
+abbrev pub decreases-read_snapshot-chunks : goal.decreases-read_snapshot-chunks
+decreases-read_snapshot-chunks g l = l.left - l.part
 
 abbrev pub invariant-write_origin-loop-left : goal.invariant-write_origin-loop-left
 invariant-write_origin-loop-left g l = record {

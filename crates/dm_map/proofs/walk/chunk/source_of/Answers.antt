@@ -2,7 +2,7 @@ use Rattle.std.proofs.Common.{sym, ◌∙◌, arith}
 use Rattle.dm_map.proofs.walk.Chunks.{read_store, read_origin}
 use Rattle.dm_map.proofs.state.TableLemmas.{room_place}
 use Rattle.dm_stack.proofs.InStack.{lower_small}
-use Rattle.dm_map.proofs.walk.chunk.read_at.Goals as goal
+use Rattle.dm_map.proofs.walk.chunk.source_of.Goals as goal
 
 pub store_sector-requires-clause-small : goal.store_sector-requires-clause-small
 store_sector-requires-clause-small g c =
@@ -11,13 +11,12 @@ store_sector-requires-clause-small g c =
     let small = lower_small w.stack snapshot.store c.recall_soundness.ensures in
     omega (arith, fits, small)
 
-pub returns-in-Some-clause-source : goal.returns-in-Some-clause-source
-returns-in-Some-clause-source g c =
+pub returns-in-Some : goal.returns-in-Some
+returns-in-Some g c =
     let w = c.args.walker.now in let snapshot = c.args.snapshot.now in
-    rw c.store_sector.ensures (read_store w.stack w.state c.args.device c.args.sector c.args.len c.in-Some.number snapshot c.requires.chunk (sym c.is_valid.ensures.valid ∙ c.if-not-is_valid.false)
-    (sym c.find.ensures.number ∙ c.in-Some.is) c.in-Some.ensures.room)
+    rw c.store_sector.ensures (read_store w.stack w.state c.args.device c.args.sector c.args.len c.in-Some.number snapshot c.requires.chunk c.requires.valid (sym c.find.ensures.number ∙ c.in-Some.is) c.in-Some.ensures.room)
 
-pub returns-in-None-clause-source : goal.returns-in-None-clause-source
-returns-in-None-clause-source g c =
+pub returns-in-None : goal.returns-in-None
+returns-in-None g c =
     let w = c.args.walker.now in let snapshot = c.args.snapshot.now in
-    read_origin w.stack w.state c.args.device c.args.sector c.args.len snapshot c.requires.chunk (sym c.is_valid.ensures.valid ∙ c.if-not-is_valid.false) (sym c.find.ensures.number ∙ c.in-None.is)
+    read_origin w.stack w.state c.args.device c.args.sector c.args.len snapshot c.requires.chunk c.requires.valid (sym c.find.ensures.number ∙ c.in-None.is)

@@ -1,0 +1,12 @@
+use Rattle.dm_table.specs.declared.requests.request.Op.TheVariants.{Write}
+use Rattle.dm_stack.specs.declared.lines.found_line.FoundTarget.TheVariants.{Snapshot}
+use Rattle.dm_map.specs.walk.Bound.{target_mapping}
+use Rattle.dm_map.proofs.walk.WalkedOn.{IsMappedTo}
+use Rattle.dm_map.proofs.walk.range.write_snapshot.Given as goal
+
+abbrev pub invariant-chunks : goal.invariant-chunks
+invariant-chunks g l =
+    IsMappedTo g.S.Sink.past l.fn.sink l.sink l.fn.walker l.walker (target_mapping Write 0 l.device 0 (Snapshot l.snapshot)) l.sector l.len l.from l.left
+
+abbrev pub decreases-chunks : goal.decreases-chunks
+decreases-chunks g l = l.left
