@@ -1,9 +1,10 @@
 use Rattle.std.proofs.Common.{◌≡◌, ◌∙◌, ap, get_or, sym, arith}
 use Rattle.std.proofs.lemmas.List.{get_or_read}
 use Rattle.dm_map.specs.declared.state.trie_taken.link.Node.TheVariants.{Number}
-use Rattle.dm_map.specs.state.Trie.{chunk_at}
+use Rattle.dm_map.specs.state.Snapshots.{number_in}
+use Rattle.dm_map.specs.state.Trie.{chunk_at, end_of, node_at}
 use Rattle.dm_map.proofs.state.RunLemmas.{number_distinct}
-use Rattle.dm_map.proofs.state.TrieLemmas.{end_within, last_read, not_taken, number_within}
+use Rattle.dm_map.proofs.state.TrieLemmas.{end_within, last_read, not_taken, number_within, own_number}
 use Rattle.dm_map.proofs.state.trie_taken.TrieTaken.find_counted.Goals as goal
 
 pub index-requires : goal.index-requires
@@ -20,6 +21,14 @@ returns-in_default c =
       tested = omega arith;
       few = omega arith;
     }
+
+pub returns-then-at-chunk-clause-found : goal.returns-then-at-chunk-clause-found
+returns-then-at-chunk-clause-found c =
+    let taken = c.args.self.now in
+    let last = last_read taken c.args.chunk _ _ _ c.end_of-at.ensures.at c.index.ensures c.node.ensures ∙ c.in-Number.is in
+    let at : end_of taken.links.items taken.mask c.args.chunk ≡ c.args.chunk = omega (arith, c.end_of-at.ensures.at, c.if-at-chunk.true) in
+    let own = own_number taken c.args.chunk c.in-Number.number c.if-self.true (omega (arith, at, end_within taken c.args.chunk)) (ap (node_at taken.links.items) (sym at) ∙ last) in
+    sym (ap (λ chunk. number_in chunk taken.chunks.items) (sym own) ∙ number_distinct taken.chunks.items c.in-Number.number 0 taken.once (number_within taken c.args.chunk c.in-Number.number last))
 
 pub index-requires-2 : goal.index-requires-2
 index-requires-2 c =

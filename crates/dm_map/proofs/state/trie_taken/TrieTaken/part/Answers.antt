@@ -2,6 +2,7 @@ use Rattle.std.proofs.Common.{◌≡◌, ◌∙◌, ◌+◌, ◌^◌, ◌<◌, �
 use Rattle.std.specs.Int.{bit_at, trailing_zeros}
 use Rattle.std.specs.Int.Bits.{bit_xor}
 use Rattle.std.proofs.Math.Logic.{∥∥₁_map}
+use Rattle.std.proofs.lemmas.Grind.{merely}
 use Rattle.std.proofs.lemmas.List.{get_or_read, length_push}
 use Rattle.dm_map.specs.declared.state.trie_taken.link.Node.{Node}
 use Rattle.dm_map.specs.declared.state.trie_taken.link.Node.TheVariants.{Fork, Number}
@@ -71,4 +72,5 @@ invariant_of-self c =
       fits = omega (arith, c.requires.room, more);
       once = rw items (distinct_more c.args.chunk chunks taken.once c.requires.fresh);
       leads = rw (items, after) made;
+      apart = merely (λ on. absurd cc);
     }
