@@ -144,7 +144,7 @@ impl<'s> HeldPiece<'s> {
                 writer,
                 &self.prefix,
                 &self.ends,
-                Some(&self.text),
+                &self.text,
                 self.stack,
                 range,
             ) {
@@ -178,7 +178,7 @@ impl<'s> HeldPiece<'s> {
                 writer,
                 &self.prefix,
                 &self.ends,
-                Some(&self.text),
+                &self.text,
                 self.stack,
                 range,
             );
@@ -217,7 +217,8 @@ impl<'s> HeldPiece<'s> {
             (pieces_text self.now.stack self.now.number (fewest (units_of (piece_of range.now)))) }
     {
         // The next range isn't likely to be the same, so none is noted.
-        put_range(writer, &self.prefix, &self.ends, None, self.stack, range)
+        let none = RangeText::new();
+        put_range(writer, &self.prefix, &self.ends, &none, self.stack, range)
     }
 }
 

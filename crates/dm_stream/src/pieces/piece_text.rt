@@ -4,7 +4,7 @@
 //! through a function of their own. A new kind of piece is an arm of `put_other` or `put_rare` here and of
 //! `unit_text` in `specs/pieces/PieceText`.
 
-ghost use Rattle.std.specs.Prelude.{◌≡◌, ◌++◌, ◌+◌, ◌<◌, ◌≤◌, ◌∷◌, [], IfSome, length, decimal};
+ghost use Rattle.std.specs.Prelude.{◌≡◌, ◌++◌, ◌+◌, ◌<◌, ◌≤◌, ◌∷◌, [], length, decimal};
 ghost use Rattle.dm_table.specs.io.Block.{IsPut};
 ghost use Rattle.dm_stack.specs.Description.{disk_name_at};
 ghost use Rattle.dm_stack.specs.names.DiskText.{disk_text};
@@ -19,7 +19,7 @@ use crate::pieces::disk_range::DiskRange;
 use crate::pieces::line_ends::LineEnds;
 use crate::pieces::number_prefix::NumberPrefix;
 use crate::pieces::plain_word::PlainWord;
-use crate::pieces::range_text::{RangeText, put_next_range};
+use crate::pieces::range_text::RangeText;
 use dm_map::Piece;
 use dm_stack::{DiskId, Stack};
 use dm_table::{OutFault, Output, Text, put_bytes, put_digits};
@@ -30,13 +30,13 @@ use std::marker::Model;
 struct RangeLine<'a> {
     prefix: &'a NumberPrefix,
     ends: &'a LineEnds,
-    text: Option<&'a RangeText>,
+    text: &'a RangeText,
     stack: &'a Stack,
     range: &'a DiskRange,
 }
 
 impl<'a> Model for RangeLine<'a> {
-    ghost use Rattle.std.specs.Prelude.{ℕ, List, ◌<◌, IfSome, length};
+    ghost use Rattle.std.specs.Prelude.{ℕ, List, ◌<◌, length};
     ghost use Rattle.dm_stack.specs.names.DiskText.{letter_for};
     ghost use Rattle.dm_stream.specs.pieces.RangeText.{IsKept};
     ghost use Rattle.dm_stream.specs.pieces.PieceText.{range_line};
@@ -48,7 +48,7 @@ impl<'a> Model for RangeLine<'a> {
         line.range.now.len };
 
     ghost invariant = { λ line. (line.range.now.disk < length line.stack.now.disks)
-        × IfSome line.text (λ text. IsKept text.now line.range.now.start line.range.now.len) };
+        × IsKept line.text.now line.range.now.start line.range.now.len };
 }
 
 impl<'a> Text for RangeLine<'a> {
@@ -60,10 +60,8 @@ impl<'a> Text for RangeLine<'a> {
         let at = self.prefix.put_into(block, at);
         let name = self.stack.disk_text(range.disk);
         let at = name.put_head(block, at, range.letter.is_write());
-        match self.text {
-            Some(text) => text.put_into(self.ends, block, at, range.start, range.len),
-            None => put_next_range(self.ends, block, at, range.start, range.len),
-        }
+        self.text
+            .put_into(self.ends, block, at, range.start, range.len)
     }
 }
 
@@ -134,12 +132,12 @@ pub(crate) fn put_range<W: Output>(
     writer: &mut W,
     prefix: &NumberPrefix,
     ends: &LineEnds,
-    text: Option<&RangeText>,
+    text: &RangeText,
     stack: &Stack,
     range: &DiskRange,
 ) -> Result<(), OutFault>
     requires lies { IsOnDisks stack.now (piece_of range.now) }
-    requires kept { IfSome text (λ text. IsKept text.now range.now.start range.now.len) }
+    requires kept { IsKept text.now range.now.start range.now.len }
     ensures { Wrote (W.past writer.old) (W.past writer.new) result
         (piece_text stack.now prefix.now (piece_view (piece_of range.now))) }
 {

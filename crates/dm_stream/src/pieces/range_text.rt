@@ -4,7 +4,7 @@
 //! a second time, and then copied whole; a range after one that came again is kept at once. Any other
 //! has its digits written where they belong, and its end copied where its length is short.
 
-ghost use Rattle.std.specs.Prelude.{◌≡◌, ◌+◌, ◌≤◌, length};
+ghost use Rattle.std.specs.Prelude.{◌≡◌, ◌+◌, ◌≤◌, ℕ, length};
 ghost use Rattle.dm_table.specs.io.Block.{IsPut};
 ghost use Rattle.dm_stream.specs.pieces.RangeText.{range_text, IsKept};
 
@@ -42,7 +42,9 @@ impl Model for RangeText {
 impl RangeText {
     /// None came yet.
     #[inline(always)]
-    pub(crate) fn new() -> RangeText {
+    pub(crate) fn new() -> RangeText
+        ensures kept { (start len : ℕ) → IsKept result start len }
+    {
         RangeText {
             start: 0,
             len: 0,
@@ -103,20 +105,14 @@ impl RangeText {
         if self.end > 0 {
             return put_room(block, at, &self.text, self.end);
         }
-        put_other_range(ends, block, at, start, len)
+        put_next_range(ends, block, at, start, len)
     }
 }
 
 /// Puts a start, a length and a newline at an offset in a block, after at least four bytes, and returns
 /// where they end.
-#[inline(always)]
-pub(crate) fn put_next_range(
-    ends: &LineEnds,
-    block: &mut [u8],
-    at: usize,
-    start: u64,
-    len: u64,
-) -> usize
+#[inline(never)]
+fn put_next_range(ends: &LineEnds, block: &mut [u8], at: usize, start: u64, len: u64) -> usize
     requires after { 4 ≤ at }
     requires within { at + ROOM ≤ length block.old }
     ensures put { IsPut (range_text start len) at block.old block.new result }
@@ -125,17 +121,6 @@ pub(crate) fn put_next_range(
     let at = put_next_digits(block, at, start, ends.threes());
     let at = put_bytes(block, at, b" ");
     ends.put_into(block, at, len)
-}
-
-/// The same as a call: where many lines are written in a row, it is put in several places.
-#[inline(never)]
-fn put_other_range(ends: &LineEnds, block: &mut [u8], at: usize, start: u64, len: u64) -> usize
-    requires after { 4 ≤ at }
-    requires within { at + ROOM ≤ length block.old }
-    ensures put { IsPut (range_text start len) at block.old block.new result }
-    ensures few { result ≤ at + 43 }
-{
-    put_next_range(ends, block, at, start, len)
 }
 
 /// The same wherever it is put.
