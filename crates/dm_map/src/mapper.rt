@@ -114,9 +114,10 @@ impl<'s, T: Taken> Mapper<'s, T> {
     ///
     /// The id belongs to the mapper's stack, which is also the sink's, and the sink has room for the
     /// request. Each piece is a stretch of sectors whose path down stays in one line, and one chunk,
-    /// of each device, or in chunks of a snapshot that are read in a row. Cost of a read: at most as many line searches as the stack is deep for each run
-    /// of sectors with one path (`specs/walk/Path`), however long, and at most 17 comparisons each;
-    /// they are counted (`searches`, `probes`). No memory is taken. Whatever comes of the request, no
+    /// of each device, or in chunks of a snapshot that are read in a row. Cost of a read: at most as
+    /// many line searches as the stack is deep for each run of sectors with one path
+    /// (`specs/walk/Path`), however long, and at most 17 comparisons each; they are counted
+    /// (`searches`, `probes`). No memory is taken. Whatever comes of the request, no
     /// snapshot has taken more chunks than its store has places.
     ///
     /// # Errors
