@@ -21,6 +21,7 @@ def check(tally, program):
     check_wrong_numbers(tally, program)
     check_last_bytes(tally, program)
     check_gathered(tally, program)
+    check_gathered_names(tally, program)
 
 
 def front(length, last=""):
@@ -129,11 +130,15 @@ def check_gathered(tally, program):
         given = "".join("R a %d 7\n" % start for start in starts)
         got = program.map("a: 0 2000000 linear sda 0\n", "sda 2000000\n", given)
         tally.same("%d longer lines" % longer, got, 0, answers("R sda %d 7" % start for start in starts))
+
+
+def check_gathered_names(tally, program):
+    """The same with names of disks that fill the room of a line's head, or nearly, and longer ones."""
     for length in (1, 27, 28, 29, 30, 31, 32, 127, MOST_DISK_NAME):
         name = "s" * length
         for longer in range(0, 24, 4):
             starts = [10] * longer + [9] * (24 - longer) + [1234567, 9] * 2000
-            lines = [("RW"[at % 3 % 2], start) for at, start in enumerate(starts)]
+            lines = [("RWR"[at % 3], start) for at, start in enumerate(starts)]
             given = "".join("%s a %d 7\n" % line for line in lines)
             wanted = answers("%s %s %d 7" % (letter, name, start) for letter, start in lines)
             got = program.map("a: 0 2000000 linear %s 0\n" % name, "%s 2000000\n" % name, given)
