@@ -4,7 +4,7 @@
 //! Disks are few and lines come by the hundreds of millions, so these texts are made once, at load.
 //! A name is mostly short, and then a room of a fixed size is copied, past the end of its text.
 
-ghost use Rattle.std.specs.Prelude.{◌≡◌, ◌==◌, ◌∷◌, ◌+◌, ◌<◌, ◌≤◌, IfOk, length, map, take};
+ghost use Rattle.std.specs.Prelude.{◌≡◌, ◌∷◌, ◌+◌, ◌≤◌, IfOk, length, map, take};
 ghost use Rattle.dm_table.specs.io.Block.{IsPut};
 ghost use Rattle.dm_table.specs.words.Bytes.{code};
 ghost use Rattle.dm_stack.specs.names.DiskText.{disk_text, line_head};
@@ -72,13 +72,12 @@ impl DiskText {
         put_room(block, at, room, self.len)
     }
 
-    /// Puts what lines of reads (0) or of writes (1) have of it, a letter and a space before the name, at an
+    /// Puts what lines of reads or of writes have of it, a letter and a space before the name, at an
     /// offset of a block, and returns where they end. The block has 258 bytes from there on.
     #[inline(always)]
-    pub fn put_head(&self, block: &mut [u8], at: usize, is_write: u64) -> usize
-        requires one { is_write < 2 }
-        requires room { at + ROOM + 2 ≤ length block.old }
-        ensures put { IsPut (line_head (is_write == 1) self.now) at block.old block.new result }
+    pub fn put_head(&self, block: &mut [u8], at: usize, is_write: bool) -> usize
+        requires { at + ROOM + 2 ≤ length block.old }
+        ensures put { IsPut (line_head is_write self.now) at block.old block.new result }
         ensures few { result ≤ at + ROOM + 2 }
     {
         if self.len > SHORT - 2 {
@@ -115,13 +114,12 @@ fn put_long(block: &mut [u8], at: usize, text: &[u8], len: usize) -> usize
 /// The same after a letter and a space.
 #[cold]
 #[inline(never)]
-fn put_long_head(block: &mut [u8], at: usize, is_write: u64, text: &[u8], len: usize) -> usize
-    requires one { is_write < 2 }
+fn put_long_head(block: &mut [u8], at: usize, is_write: bool, text: &[u8], len: usize) -> usize
     requires within { len ≤ length text.now }
     requires room { at + 2 + len ≤ length block.old }
-    ensures { IsPut (line_head (is_write == 1) (take len text.now)) at block.old block.new result }
+    ensures { IsPut (line_head is_write (take len text.now)) at block.old block.new result }
 {
-    let letter = if is_write == 1 { b'W' } else { b'R' };
+    let letter = if is_write { b'W' } else { b'R' };
     let at = put_bytes(block, at, &[letter, b' ']);
     put_bytes(block, at, &text[..len])
 }

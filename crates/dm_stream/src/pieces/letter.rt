@@ -1,6 +1,6 @@
 //! The letters of reads and writes.
 
-ghost use Rattle.std.specs.Prelude.{◌≡◌, ◌==◌, ◌<◌, if◌then◌else◌, not};
+ghost use Rattle.std.specs.Prelude.{◌≡◌, if◌then◌else◌, not};
 
 use std::marker::Model;
 
@@ -35,13 +35,12 @@ impl Letter {
         }
     }
 
-    /// 1 for that of a write, or else 0.
+    /// Whether it is that of a write.
     #[inline(always)]
-    pub(crate) fn is_write(self) -> u64
-        ensures one { result < 2 }
-        ensures write { (result == 1) ≡ self }
+    pub(crate) fn is_write(self) -> bool
+        ensures { result ≡ self }
     {
-        self.word
+        self.word == 1
     }
 
     /// Whether another one is the same.
