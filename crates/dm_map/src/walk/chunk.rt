@@ -1,6 +1,6 @@
 //! Chunks of a snapshot: how a range is cut at them, and where their sectors are read.
 
-ghost use Rattle.std.specs.Prelude.{◌≡◌, ◌+◌, ◌-◌, ◌*◌, ◌%◌, ◌<◌, ◌≤◌};
+ghost use Rattle.std.specs.Prelude.{◌≡◌, ◌↔◌, ◌+◌, ◌-◌, ◌*◌, ◌%◌, ◌<◌, ◌≤◌};
 ghost use Rattle.std.specs.Prelude.{false, true, length, min, IfNone, IfSome};
 ghost use Rattle.dm_stack.specs.lines.StoreLayout.{place};
 ghost use Rattle.dm_stack.specs.declared.checks.limits.TheConstants.{MOST_LENGTH, MOST_SNAPSHOT_CHUNK};
@@ -104,7 +104,8 @@ pub(crate) fn source_of<T: Taken>(
 #[inline(always)]
 pub(crate) fn goes_on(source: &ReadAt, len: u64, next: &ReadAt) -> bool
     requires { source.now.sector + len ≤ MOST_LENGTH }
-    ensures { result ≡ true → next.now ≡ record { to = source.now.to; sector = source.now.sector + len } }
+    ensures { (result ≡ true)
+        ↔ (next.now ≡ record { to = source.now.to; sector = source.now.sector + len }) }
 {
     next.to == source.to && next.sector == source.sector + len
 }
