@@ -16,7 +16,7 @@ use Rattle.std.proofs.lemmas.Nat.Bits.{bit_at-lt, bit_at-trailing_zeros, bit_at-
 use Rattle.dm_map.specs.declared.state.trie_taken.link.Node.{Node}
 use Rattle.dm_map.specs.declared.state.trie_taken.link.Node.TheVariants.{Empty, Number, Fork}
 use Rattle.dm_map.specs.declared.state.trie_taken.TrieTaken.{TrieTaken}
-use Rattle.dm_map.specs.state.Trie.{Agree, AreApart, Fits, HasMarks, IsFork, IsNumber, IsSide, IsTrie, Marks, chunk_at, end_of, is_fork, next_at, node_at, way}
+use Rattle.dm_map.specs.state.Trie.{Agree, AreInOwnSlots, Fits, HasMarks, IsFork, IsNumber, IsSide, IsTrie, Marks, chunk_at, end_of, is_fork, next_at, node_at, way}
 
 -- Steps
 
@@ -202,12 +202,12 @@ chunk_last : (chunks : List ℕ) (chunk : ℕ) → chunk_at (chunks ++ chunk ∷
 chunk_last chunks chunk = get_or_push chunks chunk 0 (length chunks) refl
 
 -- numbers at the indices that are their chunks
-pub none_apart : (slots : ℕ) → AreApart [] (replicate slots Empty)
-none_apart slots at number within is =
+pub none_own : (slots : ℕ) → AreInOwnSlots [] (replicate slots Empty)
+none_own slots at number within is =
     let nothing : Empty ≡ Number number = sym (get_or-replicate slots at Empty Empty (omega (arith, within, length-replicate slots Empty))) ∙ is in absurd cc
 
-pub put_apart : (chunks : List ℕ) (nodes : List Node) (at chunk : ℕ) → at ≡ chunk → at < length nodes → AreApart chunks nodes → AreApart (chunks ++ chunk ∷ []) (set nodes at (Number (length chunks)))
-put_apart chunks nodes at chunk same inside apart slot number within is =
+pub put_own : (chunks : List ℕ) (nodes : List Node) (at chunk : ℕ) → at ≡ chunk → at < length nodes → AreInOwnSlots chunks nodes → AreInOwnSlots (chunks ++ chunk ∷ []) (set nodes at (Number (length chunks)))
+put_own chunks nodes at chunk same inside own slot number within is =
     let node = Number (length chunks) in
     elim (cases_eq slot at) [
       | inl here ↦
@@ -215,7 +215,7 @@ put_apart chunks nodes at chunk same inside apart slot number within is =
           let e : length chunks ≡ number = cc in
           (omega (arith, length_push chunks chunk, e), ap (chunk_at (chunks ++ chunk ∷ [])) (sym e) ∙ chunk_last chunks chunk ∙ sym same ∙ sym here)
       | inr other ↦
-          let old = apart slot number (omega (arith, within, length-set nodes at node)) (sym (get_or-set_other nodes at slot node Empty other) ∙ is) in
+          let old = own slot number (omega (arith, within, length-set nodes at node)) (sym (get_or-set_other nodes at slot node Empty other) ∙ is) in
           (omega (arith, old.0, length_push chunks chunk), chunk_before chunks chunk number old.0 ∙ old.1)
     ]
 
@@ -537,8 +537,8 @@ pub number_within : (taken : TrieTaken) (chunk number : ℕ) → last_node taken
 number_within taken chunk number is = ∥∥₁_elim taken.leads (hlevel props) (λ trie. (number_on taken.chunks.items taken.links.items taken.mask trie.marked taken.slots chunk number is).within)
 
 -- a number at an index that is a chunk is that chunk's
-pub own_number : (taken : TrieTaken) (chunk number : ℕ) → taken.is_apart ≡ true → chunk < length taken.links.items → node_at taken.links.items chunk ≡ Number number → chunk_at taken.chunks.items number ≡ chunk
-own_number taken chunk number on within is = ∥∥₁_elim taken.apart (hlevel props) (λ apart. (apart on chunk number within is).1)
+pub own_number : (taken : TrieTaken) (chunk number : ℕ) → taken.own_slots ≡ true → chunk < length taken.links.items → node_at taken.links.items chunk ≡ Number number → chunk_at taken.chunks.items number ≡ chunk
+own_number taken chunk number on within is = ∥∥₁_elim taken.own (hlevel props) (λ own. (own on chunk number within is).1)
 
 -- a chunk that isn't where its way ends was not taken
 pub not_taken : (taken : TrieTaken) (chunk : ℕ) → ((number : ℕ) → chunk_at taken.chunks.items number ≡ chunk → last_node taken chunk ≡ Number number → ⊥) → number_in chunk taken.chunks.items ≡ None

@@ -77,6 +77,6 @@ pub record IsTrie (chunks : List ℕ) (nodes : List Node) (mask : ℕ) : Type 0 
   pub marked : HasMarks chunks nodes mask
   pub ends : (number : ℕ) → number < length chunks → node_at nodes (end_of nodes mask (chunk_at chunks number)) ≡ Number number
 
--- each number is at the index that is its chunk
-abbrev pub AreApart : (chunks : List ℕ) (nodes : List Node) → Type 0
-AreApart chunks nodes = (at number : ℕ) → at < length nodes → node_at nodes at ≡ Number number → (number < length chunks) × (chunk_at chunks number ≡ at)
+-- each number is in the slot of its own chunk: at the index that is its chunk
+abbrev pub AreInOwnSlots : (chunks : List ℕ) (nodes : List Node) → Type 0
+AreInOwnSlots chunks nodes = (at number : ℕ) → at < length nodes → node_at nodes at ≡ Number number → (number < length chunks) × (chunk_at chunks number ≡ at)

@@ -10,7 +10,7 @@ ghost use Rattle.std.specs.Int.{bit_at};
 ghost use Rattle.std.proofs.lemmas.Map.Keys.{IsDistinct-prop};
 ghost use Rattle.dm_map.specs.declared.state.trie_taken.link.Node.TheVariants.{Empty, Number};
 ghost use Rattle.dm_map.specs.state.Snapshots.{number_in};
-ghost use Rattle.dm_map.specs.state.Trie.{AreApart, IsTrie, end_of, node_at};
+ghost use Rattle.dm_map.specs.state.Trie.{AreInOwnSlots, IsTrie, end_of, node_at};
 
 mod link;
 #[cfg(test)]
@@ -42,8 +42,9 @@ pub struct TrieTaken {
     mask: u64,
     places: usize,
     valid: bool,
-    /// Whether each taken chunk has the slot of its own number, so that none has to be compared there.
-    is_apart: bool,
+    /// Whether each taken chunk is in the slot of its own number. Then none is compared there, and the list
+    /// of chunks isn't read.
+    own_slots: bool,
     ghost reserved: { places ≤ chunks.room },
     ghost room: { mask + 1 + 2 * places ≤ links.room },
     ghost small: { mask + 1 + 2 * places < 2 ^ 25 },
@@ -52,7 +53,7 @@ pub struct TrieTaken {
     ghost fits: { length chunks.items ≤ places },
     ghost once: { IsDistinct nat_eq chunks.items } by { IsDistinct-prop nat_eq chunks.items },
     ghost leads: { ∥ IsTrie chunks.items links.items mask ∥₁ },
-    ghost apart: { ∥ (is_apart ≡ true → AreApart chunks.items links.items) ∥₁ },
+    ghost own: { ∥ (own_slots ≡ true → AreInOwnSlots chunks.items links.items) ∥₁ },
 }
 
 impl TrieTaken {
@@ -72,7 +73,7 @@ impl TrieTaken {
         let Node::Number(number) = self.links[at].node() else {
             return None;
         };
-        if self.is_apart && at as u64 == chunk {
+        if self.own_slots && at as u64 == chunk {
             return Some(number as usize);
         }
         *comparisons = comparisons.saturating_add(1);
@@ -107,7 +108,7 @@ impl TrieTaken {
         ensures places { self.new.places ≡ self.old.places }
         ensures valid { self.new.valid ≡ self.old.valid }
     {
-        self.is_apart = self.is_apart & (at as u64 == chunk);
+        self.own_slots &= at as u64 == chunk;
         self.links[at] = Link::number(self.chunks.len() as u32);
         self.chunks.push(chunk);
     }
@@ -123,7 +124,7 @@ impl TrieTaken {
         ensures places { self.new.places ≡ self.old.places }
         ensures valid { self.new.valid ≡ self.old.valid }
     {
-        self.is_apart = false;
+        self.own_slots = false;
         let there = self.chunks[other as usize];
         let bit = (there ^ chunk).trailing_zeros();
         let pair = self.links.len();
@@ -159,7 +160,7 @@ impl Taken for TrieTaken {
             mask: slots as u64 - 1,
             places: count,
             valid: true,
-            is_apart: true,
+            own_slots: true,
         })
     }
 
@@ -173,7 +174,7 @@ impl Taken for TrieTaken {
     fn prefetch(&self, chunk: u64) -> u64 {
         match self.links[(chunk & self.mask) as usize].node() {
             Node::Empty => 0,
-            Node::Number(number) if self.is_apart => number as u64,
+            Node::Number(number) if self.own_slots => number as u64,
             Node::Number(number) => self
                 .chunks
                 .as_slice()

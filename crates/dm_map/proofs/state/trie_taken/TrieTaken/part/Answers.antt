@@ -72,5 +72,5 @@ invariant_of-self c =
       fits = omega (arith, c.requires.room, more);
       once = rw items (distinct_more c.args.chunk chunks taken.once c.requires.fresh);
       leads = rw (items, after) made;
-      apart = merely (λ on. absurd cc);
+      own = merely (λ on. absurd cc);
     }

@@ -4,9 +4,9 @@ use Rattle.std.proofs.Math.Logic.{∥∥₁_map}
 use Rattle.std.proofs.lemmas.Bool.{and_parts, eqb-true}
 use Rattle.std.proofs.lemmas.List.{length-set, length_push}
 use Rattle.dm_map.specs.declared.state.trie_taken.link.Node.TheVariants.{Number}
-use Rattle.dm_map.specs.state.Trie.{AreApart, IsTrie, end_of}
+use Rattle.dm_map.specs.state.Trie.{AreInOwnSlots, IsTrie, end_of}
 use Rattle.dm_map.proofs.state.Numbers.{distinct_more}
-use Rattle.dm_map.proofs.state.TrieLemmas.{end_within, put_apart, put_trie}
+use Rattle.dm_map.proofs.state.TrieLemmas.{end_within, put_own, put_trie}
 use Rattle.dm_map.proofs.state.trie_taken.TrieTaken.put.Goals as goal
 
 pub index_mut-requires : goal.index_mut-requires
@@ -24,10 +24,10 @@ invariant_of-self c =
     ∥∥₁_map taken.leads (λ trie. put_trie chunks nodes taken.mask c.args.chunk trie taken.slots empty) in
     let number : c.number.result ≡ Number (length chunks) = c.number.ensures ∙ ap Number c.len.ensures in
     let same = length-set nodes c.args.at c.number.result in
-    let own : ∥ ((taken.is_apart && (c.args.at == c.args.chunk)) ≡ true → AreApart (chunks ++ c.args.chunk ∷ []) (set nodes c.args.at (Number (length chunks)))) ∥₁ =
-    ∥∥₁_map taken.apart (λ apart on.
-    let parts = and_parts taken.is_apart (c.args.at == c.args.chunk) on in
-    put_apart chunks nodes c.args.at c.args.chunk (eqb-true c.args.at c.args.chunk parts.1) (omega (arith, end_within taken c.args.chunk, c.requires.at)) (apart parts.0)) in
+    let in_slots : ∥ ((taken.own_slots && (c.args.at == c.args.chunk)) ≡ true → AreInOwnSlots (chunks ++ c.args.chunk ∷ []) (set nodes c.args.at (Number (length chunks)))) ∥₁ =
+    ∥∥₁_map taken.own (λ own on.
+    let parts = and_parts taken.own_slots (c.args.at == c.args.chunk) on in
+    put_own chunks nodes c.args.at c.args.chunk (eqb-true c.args.at c.args.chunk parts.1) (omega (arith, end_within taken c.args.chunk, c.requires.at)) (own parts.0)) in
     record {
       reserved = omega (arith, taken.reserved, c.push.ensures.room);
       room = taken.room;
@@ -37,5 +37,5 @@ invariant_of-self c =
       fits = omega (arith, c.requires.room, more);
       once = rw items (distinct_more c.args.chunk chunks taken.once c.requires.fresh);
       leads = rw (items, c.requires.at, number) made;
-      apart = rw (items, number) own;
+      own = rw (items, number) in_slots;
     }

@@ -4,7 +4,7 @@ use Rattle.std.proofs.lemmas.Grind.{merely}
 use Rattle.std.proofs.lemmas.List.{length-replicate}
 use Rattle.std.proofs.lemmas.Nat.{pow_pos}
 use Rattle.dm_map.specs.declared.state.trie_taken.link.Node.TheVariants.{Empty}
-use Rattle.dm_map.proofs.state.TrieLemmas.{no_trie, none_apart}
+use Rattle.dm_map.proofs.state.TrieLemmas.{no_trie, none_own}
 use Rattle.dm_map.proofs.state.trie_taken.TrieTakenTaken.with_places.Goals as goal
 
 pub invariant_of-result : goal.invariant_of-result
@@ -24,5 +24,5 @@ invariant_of-result c =
       fits = rw none (omega arith);
       once = rw none tt;
       leads = rw (none, empty) (merely (no_trie slots (slots - 1)));
-      apart = rw (none, empty) (merely (λ on. none_apart slots));
+      own = rw (none, empty) (merely (λ on. none_own slots));
     }
