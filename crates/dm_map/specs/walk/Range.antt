@@ -21,6 +21,7 @@ use Rattle.dm_map.specs.walk.Reads.{by_below, read_unit}
 use Rattle.dm_map.specs.walk.Serving.{served_step}
 use Rattle.dm_map.specs.state.Snapshots.{read_over}
 use Rattle.dm_map.specs.state.State.{State, taken_at}
+use Rattle.dm_map.specs.walk.SnapshotWrites.{write_snapshot}
 use Rattle.dm_map.specs.walk.Steps.{Step, keep, steps}
 use Rattle.dm_map.specs.state.Walker.{WalkerView}
 use Rattle.dm_map.specs.pieces.Units.{BlockUnit, ReadOf, WriteOf, Zeros, Drops, Fails}
@@ -121,3 +122,8 @@ pub record IsWalked {S R F : Type 0} (past : SinkPast S) (result : Result R F) (
   pub faults : (past.view new).faults ≡ (past.view old).faults + fault_of result
   pub stack : after.stack ≡ before.stack
   pub looked : AreAdded before.looked after.looked
+
+-- it took those of len writes to a snapshot
+abbrev pub IsSnapshotWritten : {S R F : Type 0} → SinkPast S → Result R F → (old new : S) → (before after : WalkerView) → FoundSnapshot → (device sector len : ℕ) → Type 0
+IsSnapshotWritten past result old new before after snapshot device sector len =
+    IsWalked past result old new before after (steps (write_snapshot before.stack snapshot device) before.state sector len) len

@@ -1,12 +1,12 @@
 //! The walk down a stack: hands the units of consecutive sectors to a sink.
 //!
-//! A range goes down as one step: it is cut where a line ends, or a chunk of stripes or of a snapshot,
-//! unless the next one is read in a row with it, or, of a write to an origin, where one of its snapshots
-//! still needs something, and nowhere else, and each line that it passes is looked up once. Where the
-//! sectors of a line lie is for its legs to say (`dm_stack`'s `leg`), so a new target that has no state
-//! needs nothing here; one with a state is an arm of `map_leg`, with a loop of its own. Each function
-//! says which units it hands over, which state it leaves, and, of a read, how often it searches: at most
-//! once a level for each stretch of sectors with one path (`specs/walk/Path`).
+//! A range goes down in one step, and each line that it passes is looked up once. It is cut only where a
+//! line ends and at chunks: of stripes, of a snapshot, unless the next chunk is read in a row with it, and
+//! of a written origin, where one of its snapshots still needs something. Where the sectors of a line lie
+//! is for its legs to say (`dm_stack`'s `leg`), so a new target that has no state needs nothing here; one
+//! with a state is an arm of `map_leg`, with a loop of its own. Each function says which units it hands
+//! over, which state it leaves, and, of a read, how often it searches: at most once a level for each
+//! stretch of sectors with one path (`specs/walk/Path`).
 
 ghost use Rattle.std.specs.Prelude.{◌≡◌, ◌+◌, ◌<◌, ◌≤◌, true, length};
 ghost use Rattle.dm_table.specs.declared.requests.request.Op.TheVariants.{Read, Write};
@@ -23,9 +23,7 @@ ghost use Rattle.dm_map.specs.walk.Home.{or_home};
 ghost use Rattle.dm_map.specs.walk.Range.{disk_unit, zero_unit, refuses};
 ghost use Rattle.dm_map.specs.walk.Range.{AreAsked, AreAskedOfOrigin, AreAskedOfSnapshot};
 ghost use Rattle.dm_map.specs.pieces.Sink.{IsHanded};
-ghost use Rattle.dm_map.specs.walk.Range.{HasRoomFor, IsAtLine, IsLegOf, IsWalked};
-ghost use Rattle.dm_map.specs.walk.SnapshotWrites.{write_snapshot};
-ghost use Rattle.dm_map.specs.walk.Steps.{steps};
+ghost use Rattle.dm_map.specs.walk.Range.{HasRoomFor, IsAtLine, IsLegOf};
 
 use crate::pieces::piece::Piece;
 use crate::pieces::sink::Sink;
@@ -35,7 +33,7 @@ use crate::walk::chunk::{goes_on, part_of_chunk, source_of};
 use crate::walk::home::{Home, handed, home_in};
 use crate::walk::serving::{serve, settled_part};
 use crate::walk::step::part_in;
-use crate::walk::write_chunk::write_chunk;
+use crate::walk::write_chunk::write_snapshot;
 use dm_stack::{
     Beneath, DeviceId, DiskId, FoundLine, FoundOrigin, FoundSnapshot, FoundTarget, Leg, Lower,
     MOST_DEPTH,
@@ -46,9 +44,8 @@ use dm_table::Op;
 /// devices.
 ///
 /// Each piece is a stretch of sectors whose path down is in one line, and one chunk, of each device, or in
-/// chunks of a snapshot that are read in a row.
-/// A sink that fails ends the walk. It is inlined, so that a part that lies on a disk, as most parts
-/// of stripes do, costs no call.
+/// chunks of a snapshot that are read in a row. A sink that fails ends the walk. It is inlined, so that a
+/// part that lies on a disk, as most parts of stripes do, costs no call.
 #[cycle(walk)]
 #[inline(always)]
 pub(crate) fn map_range<S: Sink, T: Taken>(
@@ -292,8 +289,8 @@ fn map_snapshot<S: Sink, T: Taken>(
     }
 }
 
-/// Hands over the units of reads of sectors of a snapshot: as many chunks at once as are read in a row. All of
-/// them are errors if the snapshot is lost.
+/// Hands over the units of reads of sectors of a snapshot: as many chunks at once as are read in a row.
+/// All of them fail if the snapshot is lost.
 ///
 /// It is never inlined: the walk through lines and stripes is the faster for it.
 #[cycle(walk)]
@@ -351,33 +348,6 @@ fn read_snapshot<S: Sink, T: Taken>(
         left,
         sink,
     )
-}
-
-/// Hands over the units of writes to sectors of a snapshot, chunk by chunk. It is never inlined, as
-/// `read_snapshot` is not.
-#[inline(never)]
-fn write_snapshot<S: Sink, T: Taken>(
-    walker: &mut Walker<'_, T>,
-    device: DeviceId,
-    snapshot: &FoundSnapshot,
-    sector: u64,
-    len: u64,
-    sink: &mut S,
-) -> Result<(), S::Fault>
-    requires asked { AreAskedOfSnapshot S.past sink.old walker.old.stack device snapshot.now sector len }
-    ensures { IsWalked S.past result sink.old sink.new walker.old walker.new
-        (steps (write_snapshot walker.old.stack snapshot.now device) walker.old.state sector len) len }
-{
-    let chunk_size = snapshot.chunk as u64;
-    let mut from = sector;
-    let mut left = len;
-    'chunks: while left > 0 {
-        let part = part_of_chunk(chunk_size, from, left);
-        write_chunk(walker, device, snapshot, from, part, sink)?;
-        from += part;
-        left -= part;
-    }
-    Ok(())
 }
 
 /// Hands over the units of sectors of an origin's device, through at most this many levels of devices

@@ -1,4 +1,5 @@
-//! Writing a chunk of a snapshot: it is found, or taken, once, and what was found is handed on.
+//! Writing sectors of a snapshot, chunk by chunk: a chunk is found, or taken, once, and what was found is
+//! handed on.
 //!
 //! The number under which a chunk was taken says where its sectors are in the store. Where a new chunk lies
 //! on a disk is known from its copies, so that it is not looked up again for the write.
@@ -9,23 +10,52 @@ ghost use Rattle.dm_stack.specs.checks.Store.{IsStore};
 ghost use Rattle.dm_map.specs.state.Snapshots.{has_place, number_in};
 ghost use Rattle.dm_map.specs.state.State.{taken_at};
 ghost use Rattle.dm_map.specs.state.Tables.{snapshot_at};
-ghost use Rattle.dm_map.specs.walk.Range.{AreAskedOfChunk, HasRoomFor, IsWalked};
-ghost use Rattle.dm_map.specs.walk.SnapshotWrites.{is_keeping, store_writes, write_snapshot};
-ghost use Rattle.dm_map.specs.walk.Steps.{keep, steps};
+ghost use Rattle.dm_map.specs.walk.Range.{AreAskedOfChunk, AreAskedOfSnapshot};
+ghost use Rattle.dm_map.specs.walk.Range.{HasRoomFor, IsSnapshotWritten, IsWalked};
+ghost use Rattle.dm_map.specs.walk.SnapshotWrites.{is_keeping, store_writes};
+ghost use Rattle.dm_map.specs.walk.Steps.{keep};
 
 use crate::pieces::piece::Piece;
 use crate::pieces::sink::Sink;
 use crate::state::taken::Taken;
 use crate::state::walker::Walker;
-use crate::walk::chunk::store_sector;
+use crate::walk::chunk::{part_of_chunk, store_sector};
 use crate::walk::homes::first_homes;
 use crate::walk::take_chunk::take_new_chunk;
 use dm_stack::{DeviceId, FoundSnapshot, Lower};
 use dm_table::StoreKind;
 
+/// Hands over the units of writes to sectors of a snapshot, chunk by chunk.
+///
+/// It is never inlined: the walk through lines and stripes is the faster for it.
+#[inline(never)]
+pub(crate) fn write_snapshot<S: Sink, T: Taken>(
+    walker: &mut Walker<'_, T>,
+    device: DeviceId,
+    snapshot: &FoundSnapshot,
+    sector: u64,
+    len: u64,
+    sink: &mut S,
+) -> Result<(), S::Fault>
+    requires asked { AreAskedOfSnapshot S.past sink.old walker.old.stack device snapshot.now sector len }
+    ensures { IsSnapshotWritten S.past result sink.old sink.new walker.old walker.new
+        snapshot.now device sector len }
+{
+    let chunk_size = snapshot.chunk as u64;
+    let mut from = sector;
+    let mut left = len;
+    'chunks: while left > 0 {
+        let part = part_of_chunk(chunk_size, from, left);
+        write_chunk(walker, device, snapshot, from, part, sink)?;
+        from += part;
+        left -= part;
+    }
+    Ok(())
+}
+
 /// Hands over the units of writes to sectors of one chunk of a snapshot: the chunk is taken, if it was
 /// not, and then they are written where they are read from then on. All of them fail if the snapshot is lost.
-pub(crate) fn write_chunk<S: Sink, T: Taken>(
+fn write_chunk<S: Sink, T: Taken>(
     walker: &mut Walker<'_, T>,
     device: DeviceId,
     snapshot: &FoundSnapshot,
@@ -34,8 +64,8 @@ pub(crate) fn write_chunk<S: Sink, T: Taken>(
     sink: &mut S,
 ) -> Result<(), S::Fault>
     requires { AreAskedOfChunk S.past sink.old walker.old.stack device snapshot.now sector len }
-    ensures { IsWalked S.past result sink.old sink.new walker.old walker.new
-        (steps (write_snapshot walker.old.stack snapshot.now device) walker.old.state sector len) len }
+    ensures { IsSnapshotWritten S.past result sink.old sink.new walker.old walker.new
+        snapshot.now device sector len }
 {
     if !walker.is_valid(device) {
         return sink.piece(Piece::Error { len });
@@ -63,8 +93,8 @@ fn write_new_chunk<S: Sink, T: Taken>(
     requires asked { AreAskedOfChunk S.past sink.old walker.old.stack device snapshot.now sector len }
     requires valid { (taken_at walker.old.state device).valid ≡ true }
     requires fresh { number_in (sector / snapshot.now.chunk) (taken_at walker.old.state device).chunks ≡ None }
-    ensures { IsWalked S.past result sink.old sink.new walker.old walker.new
-        (steps (write_snapshot walker.old.stack snapshot.now device) walker.old.state sector len) len }
+    ensures { IsSnapshotWritten S.past result sink.old sink.new walker.old walker.new
+        snapshot.now device sector len }
 {
     walker.recall_soundness();
     walker.recall_tables();

@@ -6,20 +6,18 @@ use Rattle.dm_stack.specs.declared.lines.found_line.FoundSnapshot.{FoundSnapshot
 use Rattle.dm_map.specs.pieces.Sink.{SinkPast}
 use Rattle.dm_map.specs.state.Walker.{WalkerView}
 use Rattle.dm_map.specs.walk.Bound.{IsMapped, target_mapping}
-use Rattle.dm_map.specs.walk.Range.{IsWalked}
-use Rattle.dm_map.specs.walk.SnapshotWrites.{write_snapshot}
-use Rattle.dm_map.specs.walk.Steps.{steps}
+use Rattle.dm_map.specs.walk.Range.{IsSnapshotWritten}
 use Rattle.dm_map.proofs.walk.Chunks.{in_one_chunk, write_line_step}
 use Rattle.dm_map.proofs.walk.Rows.{walked_as}
 use Rattle.dm_map.proofs.walk.WalkedOn.{mapped_cut, mapped_on, mapped_whole}
-use Rattle.dm_map.proofs.walk.range.write_snapshot.Goals as goal
+use Rattle.dm_map.proofs.walk.write_chunk.write_snapshot.Goals as goal
 
 written : {S R F : Type 0} {past : SinkPast S} {result : Result R F} {old new : S} {before after : WalkerView} (device sector n : ℕ) (snapshot : FoundSnapshot)
-    → IsWalked past result old new before after (steps (write_snapshot before.stack snapshot device) before.state sector n) n → IsMapped past result old new before after (target_mapping Write 0 device 0 (Snapshot snapshot)) sector n
+    → IsSnapshotWritten past result old new before after snapshot device sector n → IsMapped past result old new before after (target_mapping Write 0 device 0 (Snapshot snapshot)) sector n
 written {before} device sector n snapshot walked = record { walked = walked_as (write_line_step before.stack 0 device sector n snapshot before.state) walked; bounded = λ is sound. absurd cc }
 
 all_written : {S R F : Type 0} {past : SinkPast S} {result : Result R F} {old new : S} {before after : WalkerView} (device sector n : ℕ) (snapshot : FoundSnapshot)
-    → IsMapped past result old new before after (target_mapping Write 0 device 0 (Snapshot snapshot)) sector n → IsWalked past result old new before after (steps (write_snapshot before.stack snapshot device) before.state sector n) n
+    → IsMapped past result old new before after (target_mapping Write 0 device 0 (Snapshot snapshot)) sector n → IsSnapshotWritten past result old new before after snapshot device sector n
 all_written {before} device sector n snapshot mapped = walked_as (sym (write_line_step before.stack 0 device sector n snapshot before.state)) mapped.walked
 
 pub write_chunk-requires : goal.write_chunk-requires

@@ -2,7 +2,7 @@ use Rattle.dm_table.specs.declared.requests.request.Op.TheVariants.{Write}
 use Rattle.dm_stack.specs.declared.lines.found_line.FoundTarget.TheVariants.{Snapshot}
 use Rattle.dm_map.specs.walk.Bound.{target_mapping}
 use Rattle.dm_map.proofs.walk.WalkedOn.{IsMappedTo}
-use Rattle.dm_map.proofs.walk.range.write_snapshot.Given as goal
+use Rattle.dm_map.proofs.walk.write_chunk.write_snapshot.Given as goal
 
 abbrev pub invariant-chunks : goal.invariant-chunks
 invariant-chunks g l =
