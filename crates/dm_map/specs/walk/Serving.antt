@@ -27,7 +27,7 @@ pub record IsOver (stack : Description) (len : ℕ) (one : FoundOver) : Type 0 w
   pub is : snapshot_at stack one.device ≡ Some one.snapshot
   pub long : len ≤ device_len stack one.device
 
--- of at most this many the longest part, from the first one on, that has the fact throughout; the first one has it
+-- the longest part, of at most limit from 0 on, for all of which the fact holds; it holds for 0
 pub record IsLongest (P : ℕ → Type 0) (limit part : ℕ) : Type 0 where
   pub some : 1 ≤ part
   pub most : part ≤ limit
