@@ -310,7 +310,7 @@ read_snapshot-chunks-preserved-then-goes_on g t c =
       some = omega (arith, it.some);
       most = omega (arith, count, it.most);
       apart = λ more. rw e at (other_chunk a.snapshot.now.chunk (l.from + l.part) n c.requires.asked.inside.sound.chunk_some (omega (arith, count, more)));
-      source = read_on w.stack w.state a.device l.from l.part n a.snapshot.now l.source c.source_of-next.result it.source next (c.goes_on.ensures c.if-goes_on.true);
+      source = read_on w.stack w.state a.device l.from l.part n a.snapshot.now l.source c.source_of-next.result it.source next (c.goes_on.ensures.0 c.if-goes_on.true);
     }
 
 pub read_snapshot-returns-in_err-map_range : goal.read_snapshot-returns-in_err-map_range
