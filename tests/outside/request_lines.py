@@ -96,9 +96,20 @@ def check(tally, program):
             tally.same("the request %r" % bad[:40], got, 3, ANSWER, "dmremap: request 2: %s\n" % word)
     for requests, output in GOOD:
         tally.same("the requests %r" % requests, program.map(TABLE, DISKS, requests), 0, output)
+    check_letters(tally, program)
     check_digits(tally, program)
     check_beginnings(tally, program)
     check_rows(tally, program)
+
+
+def check_letters(tally, program):
+    """Each byte in the place of a request's letter, before few and many bytes, and where requests are read in a row."""
+    for letter in sorted(set(range(256)) - set(b"RW")):
+        bad = bytes([letter]) + b" a 0 1\n"
+        for table, answer in ((TABLE, ANSWER), (MANY, "1 R sda 0 1\n")):
+            for more in (b"", FIRST.encode() * 16):
+                got = program.map(table, DISKS, FIRST.encode() + bad + more)
+                tally.same("a request with the letter %r" % bad[:1], got, 3, answer, "dmremap: request 2: form\n")
 
 
 def check_digits(tally, program):
