@@ -25,5 +25,6 @@ pub use lines::prefetched::Prefetched;
 pub use lines::store_layout::{allocated, metadata, place, place_count, places_are_apart};
 pub use looker::Looker;
 pub use names::disk_text::DiskText;
+pub use names::letter::Letter;
 pub use report::check_report;
 pub use stack::Stack;

@@ -3,5 +3,6 @@
 pub mod disk_text;
 pub mod front_names;
 pub mod indexed;
+pub mod letter;
 pub mod name_index;
 pub mod name_key;

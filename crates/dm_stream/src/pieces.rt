@@ -3,7 +3,6 @@
 pub mod disk_range;
 pub mod held_piece;
 pub mod join;
-pub mod letter;
 pub mod line_ends;
 pub mod number_prefix;
 pub mod piece_text;

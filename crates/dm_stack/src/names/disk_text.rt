@@ -9,6 +9,7 @@ ghost use Rattle.dm_table.specs.io.Block.{IsPut};
 ghost use Rattle.dm_table.specs.words.Bytes.{code};
 ghost use Rattle.dm_stack.specs.names.DiskText.{disk_text, line_head};
 
+use crate::names::letter::Letter;
 use dm_table::{Disk, DiskName, put_bytes, put_room};
 use std::alloc::{AllocError, Global};
 use std::marker::Model;
@@ -18,6 +19,9 @@ const ROOM: usize = 256;
 
 /// The bytes that are copied of a short text.
 const SHORT: usize = 32;
+
+/// The letters of reads and of writes.
+const LETTERS: [u8; 2] = [b'R', b'W'];
 
 /// The name of a disk and a space. A clause sees these bytes.
 #[derive(Drop)]
@@ -49,8 +53,8 @@ impl DiskText {
         let end = put_bytes(&mut text, 0, name.as_str().as_bytes());
         let len = put_bytes(&mut text, end, b" ");
         let heads = [
-            short_head(b'R', &text[..len]),
-            short_head(b'W', &text[..len]),
+            short_head(LETTERS[0], &text[..len]),
+            short_head(LETTERS[1], &text[..len]),
         ];
         DiskText { len, heads, text }
     }
@@ -75,15 +79,15 @@ impl DiskText {
     /// Puts what lines of reads or of writes have of it, a letter and a space before the name, at an
     /// offset of a block, and returns where they end. The block has 258 bytes from there on.
     #[inline(always)]
-    pub fn put_head(&self, block: &mut [u8], at: usize, is_write: bool) -> usize
+    pub fn put_head(&self, block: &mut [u8], at: usize, letter: Letter) -> usize
         requires { at + ROOM + 2 ≤ length block.old }
-        ensures put { IsPut (line_head is_write self.now) at block.old block.new result }
+        ensures put { IsPut (line_head letter self.now) at block.old block.new result }
         ensures few { result ≤ at + ROOM + 2 }
     {
         if self.len > SHORT - 2 {
-            return put_long_head(block, at, is_write, &self.text, self.len);
+            return put_long_head(block, at, letter, &self.text, self.len);
         }
-        put_room(block, at, &self.heads[is_write as usize], self.len + 2)
+        put_room(block, at, &self.heads[letter.index()], self.len + 2)
     }
 }
 
@@ -114,13 +118,12 @@ fn put_long(block: &mut [u8], at: usize, text: &[u8], len: usize) -> usize
 /// The same after a letter and a space.
 #[cold]
 #[inline(never)]
-fn put_long_head(block: &mut [u8], at: usize, is_write: bool, text: &[u8], len: usize) -> usize
+fn put_long_head(block: &mut [u8], at: usize, letter: Letter, text: &[u8], len: usize) -> usize
     requires within { len ≤ length text.now }
     requires room { at + 2 + len ≤ length block.old }
-    ensures { IsPut (line_head is_write (take len text.now)) at block.old block.new result }
+    ensures { IsPut (line_head letter (take len text.now)) at block.old block.new result }
 {
-    let letter = if is_write { b'W' } else { b'R' };
-    let at = put_bytes(block, at, &[letter, b' ']);
+    let at = put_bytes(block, at, &[LETTERS[letter.index()], b' ']);
     put_bytes(block, at, &text[..len])
 }
 

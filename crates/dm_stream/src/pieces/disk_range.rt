@@ -9,9 +9,8 @@ ghost use Rattle.dm_map.specs.walk.Range.{disk_unit};
 ghost use Rattle.dm_stream.specs.pieces.Pending.{Fits, IsHeld, IsNoRange, piece_of};
 ghost use Rattle.dm_stream.specs.pieces.Pieces.{is_after};
 
-use crate::pieces::letter::Letter;
 use dm_map::{Home, Piece};
-use dm_stack::{DiskId, Stack};
+use dm_stack::{DiskId, Letter, Stack};
 use dm_table::Op;
 
 /// Consecutive sectors of a disk, and the letter of what is done at them.

@@ -59,7 +59,7 @@ impl<'a> Text for RangeLine<'a> {
         let range = self.range;
         let at = self.prefix.put_into(block, at);
         let name = self.stack.disk_text(range.disk);
-        let at = name.put_head(block, at, range.letter.is_write());
+        let at = name.put_head(block, at, range.letter);
         self.text
             .put_into(self.ends, block, at, range.start, range.len)
     }

@@ -8,7 +8,7 @@ use std::marker::Model;
 ///
 /// It is kept as a whole word, 1 or 0: around a byte, bytes would be cleared each time that one is kept.
 #[derive(Clone, Copy, Drop)]
-pub(crate) struct Letter {
+pub struct Letter {
     word: u64,
 }
 
@@ -27,7 +27,7 @@ impl Model for Letter {
 impl Letter {
     /// The letter of a write, or of a read.
     #[inline(always)]
-    pub(crate) fn new(is_write: bool) -> Letter
+    pub fn new(is_write: bool) -> Letter
         ensures { result ≡ is_write }
     {
         Letter {
@@ -35,17 +35,17 @@ impl Letter {
         }
     }
 
-    /// Whether it is that of a write.
+    /// 1 for that of a write, or else 0.
     #[inline(always)]
-    pub(crate) fn is_write(self) -> bool
-        ensures { result ≡ self }
+    pub(crate) fn index(self) -> usize
+        ensures { result ≡ (if self then 1 else 0) }
     {
-        self.word == 1
+        self.word as usize
     }
 
     /// Whether another one is the same.
     #[inline(always)]
-    pub(crate) fn is(self, other: Letter) -> bool
+    pub fn is(self, other: Letter) -> bool
         ensures { result ≡ (if self then other else not other) }
     {
         self.word == other.word
