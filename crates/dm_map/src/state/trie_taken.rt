@@ -170,11 +170,16 @@ impl Taken for TrieTaken {
         self.find_counted(chunk, &mut comparisons, &mut bits)
     }
 
-    /// The link at which the way of a chunk begins, and the taken chunk or the links that this leads to.
+    /// The link at which the way of a chunk begins, and the taken chunk or the links that this leads to. Where
+    /// the slots are the chunks' own, nothing is asked of the link, as a jump that waits for one lets the links
+    /// of other requests wait.
     fn prefetch(&self, chunk: u64) -> u64 {
-        match self.links[(chunk & self.mask) as usize].node() {
+        let link = &self.links[(chunk & self.mask) as usize];
+        if self.own_slots {
+            return link.code();
+        }
+        match link.node() {
             Node::Empty => 0,
-            Node::Number(number) if self.own_slots => number as u64,
             Node::Number(number) => self
                 .chunks
                 .as_slice()
