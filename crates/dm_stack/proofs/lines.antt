@@ -2,6 +2,7 @@
 -- of an origin.
 pub mod BucketLemmas
 pub mod ByDevice
+pub mod ChunkSizes
 pub mod Inverses
 pub mod LegLemmas
 pub mod LineSearchLemmas

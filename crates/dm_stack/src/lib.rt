@@ -16,6 +16,7 @@ mod stack;
 pub use checks::graph::MOST_DEPTH;
 pub use claims::clash::Clash;
 pub use id::{DeviceId, DiskId, Lower};
+pub use lines::chunk_size::ChunkSize;
 pub use lines::divisor::Divisor;
 pub use lines::found_columns::{FoundColumn, FoundColumns};
 pub use lines::found_line::{Found, FoundLine, FoundOrigin, FoundOver, FoundSnapshot, FoundTarget};

@@ -1,5 +1,6 @@
 //! Lines by ids: how the line of a sector is found, what lies below it, and how a store is laid out.
 
+pub mod chunk_size;
 pub mod divisor;
 pub mod found_columns;
 pub mod found_line;

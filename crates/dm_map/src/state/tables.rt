@@ -66,7 +66,7 @@ fn places_of(looker: &mut Looker<'_>, device: DeviceId) -> usize
     match &looker.look(device, 0).target {
         FoundTarget::Snapshot(snapshot) => {
             let len = lower_len(looker, snapshot.store);
-            place_count(snapshot.kind, snapshot.chunk as u64, len) as usize
+            place_count(snapshot.kind, snapshot.chunk, len) as usize
         }
         _ => 0,
     }

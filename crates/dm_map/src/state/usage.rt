@@ -3,7 +3,6 @@
 ghost use Rattle.std.specs.Prelude.{◌≡◌, ◌+◌, ◌<◌, ◌≤◌, ◌^◌, IfSome};
 ghost use Rattle.dm_stack.specs.checks.Snapshots.{IsSnapshot};
 ghost use Rattle.dm_stack.specs.lines.StoreLayout.{allocated, metadata};
-ghost use Rattle.dm_stack.specs.declared.checks.limits.TheConstants.{MOST_SNAPSHOT_CHUNK};
 ghost use Rattle.dm_map.specs.state.Counts.{AreAdded};
 ghost use Rattle.dm_map.specs.state.State.{taken_at};
 ghost use Rattle.dm_map.specs.state.Tables.{snapshot_at};
@@ -12,7 +11,7 @@ ghost use Rattle.dm_map.specs.state.Walker.{stack_state};
 
 use crate::state::taken::Taken;
 use crate::state::walker::Walker;
-use dm_stack::{DeviceId, FoundTarget, allocated, metadata};
+use dm_stack::{ChunkSize, DeviceId, FoundTarget, allocated, metadata};
 use dm_table::StoreKind;
 
 #[cfg(test)]
@@ -49,10 +48,9 @@ pub(crate) fn usage_of<T: Taken>(walker: &mut Walker<'_, T>, device: DeviceId) -
     };
     let total = walker.lower_len(snapshot.store);
     let valid = walker.is_valid(device);
-    let chunk_size = snapshot.chunk as u64;
     usage_with(
         snapshot.kind,
-        chunk_size,
+        snapshot.chunk,
         walker.count(device),
         total,
         valid,
@@ -60,10 +58,14 @@ pub(crate) fn usage_of<T: Taken>(walker: &mut Walker<'_, T>, device: DeviceId) -
 }
 
 /// The usage of a store of a kind and a length that has this many taken chunks, of this size.
-fn usage_with(kind: StoreKind, chunk_size: u64, taken: usize, total: u64, valid: bool) -> Usage
-    requires some { 0 < chunk_size }
-    requires small { chunk_size ≤ MOST_SNAPSHOT_CHUNK }
-    requires fits { allocated kind chunk_size taken < 2 ^ 63 }
+fn usage_with(
+    kind: StoreKind,
+    chunk_size: ChunkSize,
+    taken: usize,
+    total: u64,
+    valid: bool,
+) -> Usage
+    requires { allocated kind chunk_size taken < 2 ^ 63 }
     ensures { result ≡ record {
       allocated = allocated kind chunk_size taken;
       total = total;

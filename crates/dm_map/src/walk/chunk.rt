@@ -3,14 +3,14 @@
 ghost use Rattle.std.specs.Prelude.{◌≡◌, ◌↔◌, ◌+◌, ◌-◌, ◌*◌, ◌%◌, ◌<◌, ◌≤◌};
 ghost use Rattle.std.specs.Prelude.{false, true, length, min, IfNone, IfSome};
 ghost use Rattle.dm_stack.specs.lines.StoreLayout.{place};
-ghost use Rattle.dm_stack.specs.declared.checks.limits.TheConstants.{MOST_LENGTH, MOST_SNAPSHOT_CHUNK};
+ghost use Rattle.dm_stack.specs.declared.checks.limits.TheConstants.{MOST_LENGTH};
 ghost use Rattle.dm_map.specs.state.Snapshots.{store_sector};
 ghost use Rattle.dm_map.specs.state.State.{taken_at};
 ghost use Rattle.dm_map.specs.walk.Chunk.{AreInChunk, AreReadAt};
 
 use crate::state::taken::Taken;
 use crate::state::walker::Walker;
-use dm_stack::{DeviceId, FoundSnapshot, Lower, place};
+use dm_stack::{ChunkSize, DeviceId, FoundSnapshot, Lower, place};
 
 /// Where sectors are read: from a sector of a device or a disk on.
 #[derive(Clone, Copy, Drop)]
@@ -20,35 +20,30 @@ pub(crate) struct ReadAt {
 }
 
 /// How many of at most `most` sectors, from a sector of a snapshot on, are in one chunk of this size.
-pub(crate) fn part_of_chunk(chunk_size: u64, sector: u64, most: u64) -> u64
-    requires { 0 < chunk_size }
+pub(crate) fn part_of_chunk(chunk_size: ChunkSize, sector: u64, most: u64) -> u64
     ensures { result ≡ min most (chunk_size - sector % chunk_size) }
 {
-    most.min(chunk_size - sector % chunk_size)
+    most.min(chunk_size.sectors() - chunk_size.distance_in(sector))
 }
 
 /// The sector of a store where a taken chunk begins, which was the `number`th to be taken, from 0.
 pub(crate) fn store_start(snapshot: &FoundSnapshot, number: usize) -> u64
-    requires chunk { 0 < snapshot.now.chunk }
-    requires chunk_small { snapshot.now.chunk ≤ MOST_SNAPSHOT_CHUNK }
-    requires small { (place snapshot.now.kind snapshot.now.chunk number + 1) * snapshot.now.chunk
+    requires { (place snapshot.now.kind snapshot.now.chunk number + 1) * snapshot.now.chunk
         ≤ MOST_LENGTH }
     ensures { result ≡ place snapshot.now.kind snapshot.now.chunk number * snapshot.now.chunk }
 {
-    let chunk_size = snapshot.chunk as u64;
-    place(snapshot.kind, chunk_size, number as u64) * chunk_size
+    let sectors = snapshot.chunk.sectors();
+    place(snapshot.kind, snapshot.chunk, number as u64) * sectors
 }
 
 /// The sector of a store that has a sector of a taken chunk, which was the `number`th to be taken,
 /// from 0.
 pub(crate) fn store_sector(snapshot: &FoundSnapshot, number: usize, sector: u64) -> u64
-    requires chunk { 0 < snapshot.now.chunk }
-    requires chunk_small { snapshot.now.chunk ≤ MOST_SNAPSHOT_CHUNK }
-    requires small { (place snapshot.now.kind snapshot.now.chunk number + 1) * snapshot.now.chunk
+    requires { (place snapshot.now.kind snapshot.now.chunk number + 1) * snapshot.now.chunk
         ≤ MOST_LENGTH }
     ensures { result ≡ store_sector snapshot.now number sector }
 {
-    store_start(snapshot, number) + sector % snapshot.chunk as u64
+    store_start(snapshot, number) + snapshot.chunk.distance_in(sector)
 }
 
 /// Where the sectors of a chunk of a snapshot are read, from one of them on: in the store if the chunk
@@ -88,7 +83,7 @@ pub(crate) fn source_of<T: Taken>(
     ensures { AreReadAt walker.now.stack walker.now.state device snapshot.now sector len result }
 {
     walker.recall_soundness();
-    match walker.find(device, sector / snapshot.chunk as u64) {
+    match walker.find(device, snapshot.chunk.chunk_of(sector)) {
         Some(number) => ReadAt {
             to: snapshot.store,
             sector: store_sector(snapshot, number, sector),

@@ -312,7 +312,7 @@ fn read_snapshot<S: Sink, T: Taken>(
         return fail(len, sink);
     }
     walker.recall_soundness();
-    let chunk_size = snapshot.chunk as u64;
+    let chunk_size = snapshot.chunk;
     let mut from = sector;
     let mut left = len;
     let mut part = part_of_chunk(chunk_size, from, left);

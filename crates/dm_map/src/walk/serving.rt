@@ -35,7 +35,7 @@ pub(crate) fn serve<S: Sink, T: Taken>(
     walker.recall_soundness();
     walker.recall_tables();
     for one in over {
-        let chunk = sector / one.snapshot.chunk as u64;
+        let chunk = one.snapshot.chunk.chunk_of(sector);
         take_chunk(walker, one.device, &one.snapshot, chunk, sink)?;
     }
     Ok(())
@@ -80,9 +80,9 @@ fn settled_in<T: Taken>(walker: &Walker<'_, T>, one: &FoundOver, sector: u64, mo
     if !walker.is_valid(one.device) {
         return most;
     }
-    let chunk_size = one.snapshot.chunk as u64;
+    let chunk_size = one.snapshot.chunk;
     let mut part = part_of_chunk(chunk_size, sector, most);
-    while part < most && is_settled(walker, one.device, (sector + part) / chunk_size) {
+    while part < most && is_settled(walker, one.device, chunk_size.chunk_of(sector + part)) {
         part += part_of_chunk(chunk_size, sector + part, most - part);
     }
     part

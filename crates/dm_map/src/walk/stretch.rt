@@ -125,7 +125,7 @@ fn line_stretch<T: Taken>(
         },
         Beneath::Origin(origin) => first_stretch(walker, levels, origin.to, distance, most),
         Beneath::Snapshot(snapshot) => {
-            let part = part_of_chunk(snapshot.chunk as u64, distance, most);
+            let part = part_of_chunk(snapshot.chunk, distance, most);
             match read_at(walker, device, snapshot, distance, part) {
                 Some(source) => first_stretch(walker, levels, source.to, source.sector, part),
                 None => Stretch {

@@ -12,7 +12,6 @@ ghost use Rattle.std.specs.Prelude.{Some, IfNone, IfOk, IfSome, is_some, length,
 ghost use Rattle.dm_stack.specs.Description.{Description, lower_len};
 ghost use Rattle.dm_stack.specs.checks.Store.{IsStore};
 ghost use Rattle.dm_stack.specs.declared.checks.graph.TheConstants.{MOST_DEPTH};
-ghost use Rattle.dm_stack.specs.declared.checks.limits.TheConstants.{MOST_SNAPSHOT_CHUNK};
 ghost use Rattle.dm_map.specs.state.Counts.{AreAdded};
 ghost use Rattle.dm_map.specs.walk.Homes.{IsFirstHomes};
 ghost use Rattle.dm_map.specs.walk.Chunk.{AreInSnapshot, IsTakenAs};
@@ -84,7 +83,7 @@ pub(crate) fn take_new_chunk<S: Sink, T: Taken>(
 {
     walker.recall_tables();
     let end = walker.len(device);
-    let chunk_size = snapshot.chunk as u64;
+    let chunk_size = snapshot.chunk.sectors();
     let first = chunk * chunk_size;
     let count = chunk_size.min(end - first);
     let Some(source) = first_source(walker, device, snapshot, first, count) else {
@@ -158,8 +157,6 @@ fn copy_chunk<S: Sink, T: Taken>(
     requires some { 1 ≤ len }
     requires origin { sector + len ≤ lower_len walker.old.stack snapshot.now.origin }
     requires store { IsStore walker.old.stack snapshot.now.store }
-    requires chunk { 0 < snapshot.now.chunk }
-    requires chunk_small { snapshot.now.chunk ≤ MOST_SNAPSHOT_CHUNK }
     requires place { has_place walker.old.stack snapshot.now number ≡ true }
     requires begins { sector % snapshot.now.chunk ≡ 0 }
     requires part { sector % snapshot.now.chunk + len ≤ snapshot.now.chunk }

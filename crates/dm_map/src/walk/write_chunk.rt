@@ -41,7 +41,7 @@ pub(crate) fn write_snapshot<S: Sink, T: Taken>(
     ensures { IsSnapshotWritten S.past result sink.old sink.new walker.old walker.new
         snapshot.now device sector len }
 {
-    let chunk_size = snapshot.chunk as u64;
+    let chunk_size = snapshot.chunk;
     let mut from = sector;
     let mut left = len;
     'chunks: while left > 0 {
@@ -71,7 +71,7 @@ fn write_chunk<S: Sink, T: Taken>(
         return sink.piece(Piece::Error { len });
     }
     walker.recall_soundness();
-    match walker.find(device, sector / snapshot.chunk as u64) {
+    match walker.find(device, snapshot.chunk.chunk_of(sector)) {
         Some(number) => {
             let at = store_sector(snapshot, number, sector);
             write_store(walker, &snapshot.store, at, len, sink)
@@ -101,13 +101,12 @@ fn write_new_chunk<S: Sink, T: Taken>(
     if is_refused(walker, device, snapshot) {
         return sink.piece(Piece::Error { len });
     }
-    let chunk_size = snapshot.chunk as u64;
+    let chunk = snapshot.chunk.chunk_of(sector);
     let number = walker.count(device);
-    let Some(home) = take_new_chunk(walker, device, snapshot, sector / chunk_size, number, sink)?
-    else {
+    let Some(home) = take_new_chunk(walker, device, snapshot, chunk, number, sink)? else {
         return sink.piece(Piece::Error { len });
     };
-    let distance = sector % chunk_size;
+    let distance = snapshot.chunk.distance_in(sector);
     if distance + len <= home.len {
         return sink.piece(Piece::Write {
             disk: home.disk,

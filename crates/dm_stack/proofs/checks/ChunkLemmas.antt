@@ -24,7 +24,7 @@ chunk_within chunk good =
 good_chunk : (stack : Description) (lines len : ℕ) (target : Target) → is_bad_snapshot stack lines len target ≡ false → HasGoodChunk target
 good_chunk stack lines len (targets.Snapshot origin store kind chunk) good =
     let a = or_parts (not (lines == 1)) (is_bad_chunk chunk || not (len == lower_len stack (lower_of stack origin))) good in
-    chunk_within chunk (or_parts (is_bad_chunk chunk) (not (len == lower_len stack (lower_of stack origin))) a.1).0
+    (or_parts (is_bad_chunk chunk) (not (len == lower_len stack (lower_of stack origin))) a.1).0
 good_chunk stack lines len _ good = tt
 
 good_lines : (stack : Description) (count : ℕ) (lines : List Line) → AllByRecursion (λ line. is_bad_snapshot stack count line.len line.target ≡ false) lines → AllByRecursion (λ line. HasGoodChunk line.target) lines

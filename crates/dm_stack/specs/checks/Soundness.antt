@@ -186,12 +186,12 @@ bad_snapshots_in stack lines = faults_by Snapshot (λ line. line.at) (λ line. i
 abbrev pub snapshot : Description → List LoadFault
 snapshot stack = flat_map (λ device. bad_snapshots_in stack device.lines) stack.devices
 
--- a chunk within its limits
+-- a chunk that is a power of two within its limit
 abbrev pub HasGoodChunk : Target → Type 0
-HasGoodChunk (targets.Snapshot origin store kind chunk) = (0 < chunk) × (chunk ≤ MOST_SNAPSHOT_CHUNK)
+HasGoodChunk (targets.Snapshot origin store kind chunk) = is_bad_chunk chunk ≡ false
 HasGoodChunk _ = Unit {0}
 
--- each line's chunk is within its limits
+-- each line's chunk is such a one
 abbrev pub HaveGoodChunks : List Line → Type 0
 HaveGoodChunks lines = All (λ line. HasGoodChunk line.target) lines
 

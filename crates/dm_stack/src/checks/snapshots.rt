@@ -2,7 +2,7 @@
 //! snapshots.
 //!
 //! Each is a whole device: its line stands alone in its table and is as long as the origin that it
-//! names. Mapping relies on it, and divides by the chunk, so that no rule here may be let go.
+//! names. Mapping relies on it, and shifts where it would divide by a chunk, so that no rule here may be let go.
 
 ghost use Rattle.std.specs.Prelude.{◌≡◌, ◌∷◌, ◌++◌, [], IfOk, None, OnOk, if◌then◌else◌};
 ghost use Rattle.std.specs.Result.{result_err};

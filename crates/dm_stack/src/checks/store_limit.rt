@@ -7,6 +7,7 @@ ghost use Rattle.dm_table.specs.load.LoadFault.{first_or};
 ghost use Rattle.dm_stack.specs.checks.Soundness.{HasGoodChunk, HaveGoodChunks, crowded, target_places};
 
 use crate::checks::limits::MOST_PLACES;
+use crate::lines::chunk_size::ChunkSize;
 use crate::lines::store_layout::place_count;
 use crate::names::indexed::Indexed;
 use dm_table::{LoadFault, LoadKind, Target};
@@ -45,7 +46,7 @@ fn target_places(stack: &Indexed, target: &Target) -> u64
             kind,
             chunk,
             ..
-        } => place_count(*kind, *chunk, stack.len_of(store)),
+        } => place_count(*kind, ChunkSize::new(*chunk), stack.len_of(store)),
         _ => 0,
     }
 }

@@ -4,6 +4,7 @@
 //! arms in `specs/lines/Below.antt`, and one in `resolve`, which makes these lines.
 
 use crate::id::{DeviceId, Lower};
+use crate::lines::chunk_size::ChunkSize;
 use crate::lines::divisor::Divisor;
 use crate::lines::found_columns::FoundColumns;
 use dm_table::{Listed, StoreKind};
@@ -52,8 +53,7 @@ pub struct FoundSnapshot {
     pub origin: Lower,
     pub store: Lower,
     pub kind: StoreKind,
-    /// In sectors, from 1 to 1,024. A `u64` would make lines longer.
-    pub chunk: u32,
+    pub chunk: ChunkSize,
 }
 
 const _: () = prove!(std::mem::size_of::<FoundSnapshot>() == 40);

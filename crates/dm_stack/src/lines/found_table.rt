@@ -133,10 +133,7 @@ fn starts_from(lines: &[FoundLine], first: usize) -> u64 {
 /// The chunk of a sector, where this is the line of a snapshot.
 fn chunk_in(line: &FoundLine, sector: u64) -> Prefetched {
     match &line.target {
-        FoundTarget::Snapshot(snapshot) => match sector.checked_div(snapshot.chunk as u64) {
-            Some(chunk) => Prefetched::Chunk(chunk),
-            None => Prefetched::Nothing,
-        },
+        FoundTarget::Snapshot(snapshot) => Prefetched::Chunk(snapshot.chunk.chunk_of(sector)),
         _ => Prefetched::Nothing,
     }
 }

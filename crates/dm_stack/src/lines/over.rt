@@ -3,14 +3,14 @@
 //! All snapshots of a stack are collected once a load, and each line of an origin has a copy of its
 //! own, so that a write to one neither goes over the devices nor searches their lines.
 
-ghost use Rattle.std.specs.Prelude.{◌≡◌, ◌≤◌, ◌++◌, IfOk, OnOk, filter};
+ghost use Rattle.std.specs.Prelude.{◌≡◌, ◌++◌, false, IfOk, OnOk, filter};
 ghost use Rattle.std.specs.List.{All, flat_map};
 ghost use Rattle.dm_stack.specs.Description.{is_same_lower};
 ghost use Rattle.dm_stack.specs.lines.Over.{all_over, found_snapshot, over_of};
-ghost use Rattle.dm_stack.specs.checks.Soundness.{HasGoodChunk, HaveGoodChunks};
-ghost use Rattle.dm_stack.specs.declared.checks.limits.TheConstants.{MOST_SNAPSHOT_CHUNK};
+ghost use Rattle.dm_stack.specs.checks.Soundness.{is_bad_chunk, HasGoodChunk, HaveGoodChunks};
 
 use crate::id::{DeviceId, Lower};
+use crate::lines::chunk_size::ChunkSize;
 use crate::lines::found_line::{FoundOver, FoundSnapshot};
 use crate::names::indexed::Indexed;
 use dm_table::{DevRef, Line, Listed, StoreKind, Target};
@@ -78,14 +78,14 @@ pub(crate) fn found_snapshot(
     kind: StoreKind,
     chunk: u64,
 ) -> FoundSnapshot
-    requires { chunk ≤ MOST_SNAPSHOT_CHUNK }
+    requires { is_bad_chunk chunk ≡ false }
     ensures { result ≡ found_snapshot stack.now origin.now store.now kind chunk }
 {
     FoundSnapshot {
         origin: stack.lower_of(origin),
         store: stack.lower_of(store),
         kind,
-        chunk: chunk as u32,
+        chunk: ChunkSize::new(chunk),
     }
 }
 

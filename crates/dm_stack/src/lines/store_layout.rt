@@ -9,72 +9,61 @@
 ghost use Rattle.std.specs.Prelude.{◌≡◌, ◌↔◌, ℕ, ◌+◌, ◌*◌, ◌<◌, ◌≤◌, ◌^◌, false};
 ghost use Rattle.dm_table.specs.declared.tables.table.StoreKind.{StoreKind};
 ghost use Rattle.dm_stack.specs.lines.StoreLayout.{allocated, is_metadata, metadata, place, place_count};
-ghost use Rattle.dm_stack.specs.declared.checks.limits.TheConstants.{MOST_SNAPSHOT_CHUNK};
 
+use crate::lines::chunk_size::ChunkSize;
 use dm_table::StoreKind;
 
 /// How many chunks of `chunk` sectors a store of a length in sectors has places for, beside the
 /// header and the areas of chunk numbers that its kind has. A taken chunk has its place exactly if its
 /// number, from 0, is below this.
 ///
-/// The chunk is from 1 to 1,024 sectors. It takes the same time whatever the length.
+/// It takes the same time whatever the length.
 #[tactic(auto, using(crate::proofs::lines::StoreLayoutLemmas::has_place))]
-pub fn place_count(kind: StoreKind, chunk: u64, store_len: u64) -> u64
-    requires some { 0 < chunk }
-    requires small { chunk ≤ MOST_SNAPSHOT_CHUNK }
+pub fn place_count(kind: StoreKind, chunk: ChunkSize, store_len: u64) -> u64
     ensures count { result ≡ place_count kind chunk store_len }
     ensures law { (number : ℕ) → (number < result) ↔ ((place kind chunk number + 1) * chunk ≤ store_len) }
 {
-    let chunks = store_len / chunk;
+    let sectors = chunk.sectors();
+    let chunks = chunk.chunk_of(store_len);
     match kind {
         StoreKind::Transient => chunks,
         StoreKind::Persistent | StoreKind::Keeping => {
             let rest = chunks.saturating_sub(2);
-            rest - rest / (32 * chunk + 1)
+            rest - rest / (32 * sectors + 1)
         }
     }
 }
 
 /// The chunk of a store, from 0, that has the taken chunk of this number, from 0.
-///
-/// The chunk is from 1 to 1,024 sectors.
-pub fn place(kind: StoreKind, chunk: u64, number: u64) -> u64
-    requires some { 0 < chunk }
-    requires small { chunk ≤ MOST_SNAPSHOT_CHUNK }
-    requires fits { place kind chunk number < 2 ^ 63 }
+pub fn place(kind: StoreKind, chunk: ChunkSize, number: u64) -> u64
+    requires { place kind chunk number < 2 ^ 63 }
     ensures { result ≡ place kind chunk number }
 {
     match kind {
         StoreKind::Transient => number,
-        StoreKind::Persistent | StoreKind::Keeping => 2 + number + number / (32 * chunk),
+        StoreKind::Persistent | StoreKind::Keeping => 2 + number + chunk.full_areas(number),
     }
 }
 
 /// How many sectors of a store are used where this many chunks are taken: those up to the place of the
 /// next one. Where an area of chunk numbers comes before that place, this can pass the store's length.
-///
-/// The chunk is from 1 to 1,024 sectors.
 #[tactic(auto, using(crate::proofs::lines::StoreLayoutLemmas::place_within))]
-pub fn allocated(kind: StoreKind, chunk: u64, taken: u64) -> u64
-    requires some { 0 < chunk }
-    requires small { chunk ≤ MOST_SNAPSHOT_CHUNK }
-    requires fits { allocated kind chunk taken < 2 ^ 63 }
+pub fn allocated(kind: StoreKind, chunk: ChunkSize, taken: u64) -> u64
+    requires { allocated kind chunk taken < 2 ^ 63 }
     ensures { result ≡ allocated kind chunk taken }
 {
-    place(kind, chunk, taken) * chunk
+    let sectors = chunk.sectors();
+    place(kind, chunk, taken) * sectors
 }
 
 /// How many of the used sectors are the header and the areas of chunk numbers.
-///
-/// The chunk is from 1 to 1,024 sectors.
 #[tactic(auto, using(crate::proofs::lines::StoreLayoutLemmas::used_parts))]
-pub fn metadata(kind: StoreKind, chunk: u64, taken: u64) -> u64
-    requires some { 0 < chunk }
-    requires small { chunk ≤ MOST_SNAPSHOT_CHUNK }
-    requires fits { allocated kind chunk taken < 2 ^ 63 }
+pub fn metadata(kind: StoreKind, chunk: ChunkSize, taken: u64) -> u64
+    requires { allocated kind chunk taken < 2 ^ 63 }
     ensures { result ≡ metadata kind chunk taken }
 {
-    (place(kind, chunk, taken) - taken) * chunk
+    let sectors = chunk.sectors();
+    (place(kind, chunk, taken) - taken) * sectors
 }
 
 /// Taken chunks of different numbers have different places in their store, in rising order, and

@@ -20,8 +20,8 @@ lower_len-total-requires g c =
     subst (λ (v : StackState). 0 < lower_len v.stack snapshot.store) (sym c.look-line.ensures.same)
     (store_some w.stack c.args.device 0 c.look-line.result.now snapshot c.recall_soundness.ensures (found_of w.stack c.args.device 0 c.look-line.result.now c.look-line.ensures.line) c.in-Snapshot.is)
 
-pub usage_with-requires-clause-fits : goal.usage_with-requires-clause-fits
-usage_with-requires-clause-fits g c =
+pub usage_with-requires : goal.usage_with-requires
+usage_with-requires g c =
     let w = c.args.walker.now in let line = c.look-line.result.now in let snapshot = c.in-Snapshot.snapshot in
     let sound : IsSnapshotSound w.stack c.args.device line.start line.len snapshot = rw c.in-Snapshot.is at c.look-line.ensures.line.is.target in
     let is : snapshot_at w.stack c.args.device ≡ Some snapshot = rw (found_of w.stack c.args.device 0 line c.look-line.ensures.line, c.in-Snapshot.is) refl in

@@ -4,7 +4,7 @@ use Rattle.std.proofs.lemmas.List.Elements.{recursion_from_All}
 use Rattle.dm_stack.specs.declared.lines.found_line.FoundOver.{FoundOver}
 use Rattle.dm_map.specs.walk.Serving.{AreSettled, IsOver, serve}
 use Rattle.dm_map.specs.state.State.{State}
-use Rattle.dm_map.proofs.walk.Served.{chunk_there, over_at, over_sound, over_there, serve_settled, served_cut, served_on}
+use Rattle.dm_map.proofs.walk.Served.{chunk_there, over_at, over_there, serve_settled, served_cut, served_on}
 use Rattle.dm_map.proofs.walk.WalkedOn.{walked_none}
 use Rattle.dm_map.proofs.walk.serving.serve.Goals as goal
 
@@ -12,27 +12,22 @@ pub loop-one-init : goal.loop-one-init
 unfolding serve
 loop-one-init g c = walked_none g.met.S.Sink.lawful
 
-pub nonzero_div-chunk : goal.nonzero_div-chunk
-nonzero_div-chunk g c =
-    let a = c.args in let w = a.walker.now in let l = c.loop-one in
-    (over_sound w.stack (a.sector + 1) c.one-item.result c.recall_soundness.ensures (over_at w.stack (a.sector + 1) a.over.now l.one-index c.one-item.result c.requires.over c.loop-one-test.true c.one-item.is)).chunk_some
-
 pub take_chunk-requires-clause-inside : goal.take_chunk-requires-clause-inside
 take_chunk-requires-clause-inside g c =
     let a = c.args in let w = a.walker.now in let l = c.loop-one in let one = c.one-item.result in
     let it = over_at w.stack (a.sector + 1) a.over.now l.one-index one c.requires.over c.loop-one-test.true c.one-item.is in
-    chunk_there w.stack l.walker.stack a.sector one c.recall_soundness.ensures l.invariant.stack it
+    rw c.chunk_of-chunk.ensures (chunk_there w.stack l.walker.stack a.sector one c.recall_soundness.ensures l.invariant.stack it)
 
 pub returns-in_err-take_chunk-clause-walked : goal.returns-in_err-take_chunk-clause-walked
 returns-in_err-take_chunk-clause-walked g c =
     let a = c.args in let w = a.walker.now in let l = c.loop-one in let one = c.one-item.result in
     served_cut g.S.Sink.past _ c.from_residual.result a.sink.now c.take_chunk.new.sink w c.take_chunk.new.walker a.over.now (l.one-index + 1) a.sector c.from_residual.ensures.0
-    (served_on g.met.S.Sink.lawful _ a.sink.now l.sink c.take_chunk.new.sink w l.walker c.take_chunk.new.walker a.over.now l.one-index a.sector one c.loop-one-test.true c.one-item.is l.invariant c.in_err-take_chunk.ensures)
+    (served_on g.met.S.Sink.lawful _ a.sink.now l.sink c.take_chunk.new.sink w l.walker c.take_chunk.new.walker a.over.now l.one-index a.sector one c.loop-one-test.true c.one-item.is l.invariant (rw c.chunk_of-chunk.ensures at c.in_err-take_chunk.ensures))
 
 pub loop-one-preserved : goal.loop-one-preserved
 loop-one-preserved g c =
     let a = c.args in let w = a.walker.now in let l = c.loop-one in let one = c.one-item.result in
-    let on = served_on g.met.S.Sink.lawful _ a.sink.now l.sink c.take_chunk.new.sink w l.walker c.take_chunk.new.walker a.over.now l.one-index a.sector one c.loop-one-test.true c.one-item.is l.invariant c.in_ok-take_chunk.ensures in
+    let on = served_on g.met.S.Sink.lawful _ a.sink.now l.sink c.take_chunk.new.sink w l.walker c.take_chunk.new.walker a.over.now l.one-index a.sector one c.loop-one-test.true c.one-item.is l.invariant (rw c.chunk_of-chunk.ensures at c.in_ok-take_chunk.ensures) in
     record { took = on.took; state = on.state; kept = on.kept; room = on.room; left = tt; faults = on.faults; stack = on.stack; looked = on.looked }
 
 pub returns-clause-settled : goal.returns-clause-settled

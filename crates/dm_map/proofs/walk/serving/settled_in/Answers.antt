@@ -5,10 +5,6 @@ use Rattle.dm_map.proofs.walk.Served.{chunk_more, chunk_settled, over_sound}
 use Rattle.dm_stack.proofs.InStack.{device_there}
 use Rattle.dm_map.proofs.walk.serving.settled_in.Goals as goal
 
-pub part_of_chunk-part-requires : goal.part_of_chunk-part-requires
-part_of_chunk-part-requires g c =
-    (over_sound c.args.walker.now.stack (c.args.sector + c.args.most) c.args.one.now c.recall_soundness.ensures c.requires.over).chunk_some
-
 pub loop-part-init : goal.loop-part-init
 loop-part-init g c =
     let a = c.args in let one = a.one.now in
@@ -20,16 +16,8 @@ loop-part-init g c =
       settled = λ i within. chunk_settled (taken_at a.walker.now.state one.device) one.snapshot a.sector c.part_of_chunk-part.result i some (omega (arith, part_is)) within c.requires.here;
     }
 
-pub nonzero_div-sector : goal.nonzero_div-sector
-nonzero_div-sector g c =
-    (over_sound c.args.walker.now.stack (c.args.sector + c.args.most) c.args.one.now c.recall_soundness.ensures c.requires.over).chunk_some
-
 pub is_settled-requires : goal.is_settled-requires
 is_settled-requires g c = device_there c.args.walker.now.stack c.args.one.now.device 0 (let long = c.requires.over.long in omega (arith, long, c.requires.some))
-
-pub part_of_chunk-part-requires-in-loop-part : goal.part_of_chunk-part-requires-in-loop-part
-part_of_chunk-part-requires-in-loop-part g c =
-    (over_sound c.args.walker.now.stack (c.args.sector + c.args.most) c.args.one.now c.recall_soundness.ensures c.requires.over).chunk_some
 
 pub loop-part-smaller : goal.loop-part-smaller
 loop-part-smaller g c =
@@ -45,7 +33,7 @@ loop-part-preserved g c =
     record {
       some = omega (arith, l.invariant.some);
       most = omega (arith, n_is, c.loop-part-test.true);
-      settled = chunk_more (taken_at a.walker.now.state one.device) one.snapshot a.sector l.part n some (omega (arith, n_is)) (sym c.is_settled.ensures ∙ c.if-is_settled.true) l.invariant.settled;
+      settled = chunk_more (taken_at a.walker.now.state one.device) one.snapshot a.sector l.part n some (omega (arith, n_is)) (rw c.chunk_of.ensures at (sym c.is_settled.ensures ∙ c.if-is_settled.true)) l.invariant.settled;
     }
 
 -- nothing is left to do for a lost snapshot
@@ -60,7 +48,7 @@ returns-then-not-is_valid g c =
 pub returns-else-is_settled : goal.returns-else-is_settled
 returns-else-is_settled g c =
     let so_far = c.loop-part.invariant in
-    record { some = so_far.some; most = so_far.most; holds = so_far.settled; whole = λ less settled. both_ways _ (sym c.is_settled.ensures ∙ c.if-is_settled.false) settled }
+    record { some = so_far.some; most = so_far.most; holds = so_far.settled; whole = λ less settled. both_ways _ (rw c.chunk_of.ensures at (sym c.is_settled.ensures ∙ c.if-is_settled.false)) settled }
 
 pub returns-after-loop-part : goal.returns-after-loop-part
 returns-after-loop-part g c =

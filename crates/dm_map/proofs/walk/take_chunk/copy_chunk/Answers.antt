@@ -17,8 +17,8 @@ use Rattle.dm_stack.proofs.InStack.{lower_small}
 use Rattle.dm_map.proofs.walk.UnitRows.{left_row, took_row}
 use Rattle.dm_map.proofs.walk.take_chunk.copy_chunk.Goals as goal
 
-pub store_start-to-requires-clause-small : goal.store_start-to-requires-clause-small
-store_start-to-requires-clause-small g c =
+pub store_start-to-requires : goal.store_start-to-requires
+store_start-to-requires g c =
     let a = c.args in
     let small = lower_small a.walker.now.stack a.snapshot.now.store c.recall_soundness.ensures in let fits = leb-true _ _ c.requires.place in
     omega (arith, small, fits)
@@ -64,7 +64,7 @@ pub returns-in_err-piece-clause-walked : goal.returns-in_err-piece-clause-walked
 returns-in_err-piece-clause-walked g c =
     let a = c.args in let w = a.walker.now in let l = c.copies in let n = c.min-part.result in let done = a.len - l.left in
     let few_read : n ≤ l.source.len = omega (arith, c.min-part.ensures) in let few_home : n ≤ l.target.len = omega (arith, c.min-part.ensures) in
-    let next = copy_next w a.snapshot.now a.number a.sector a.len l.left l.from l.to n l.source l.target c.requires.chunk c.requires.part l.invariant.within l.invariant.from l.invariant.to l.invariant.source l.invariant.target few_read few_home in
+    let next = copy_next w a.snapshot.now a.number a.sector a.len l.left l.from l.to n l.source l.target (omega (arith, c.requires.some, c.requires.part)) c.requires.part l.invariant.within l.invariant.from l.invariant.to l.invariant.source l.invariant.target few_read few_home in
     walked_cut g.S.Sink.past c.from_residual.result a.sink.now c.piece.new.self w l.walker (keep (copies w.stack w.state a.snapshot.now a.number a.sector a.len) w.state) 0 c.from_residual.ensures.0
     (left_row g.met.S.Sink.lawful a.sink.now l.sink c.piece.new.self (copy_of w a.snapshot.now a.number) a.sector done n a.len (units_of c.copy_piece.result)
     (omega (arith, few_home, l.invariant.target.most, l.invariant.within)) (next ∙ sym c.copy_piece.ensures.units) l.invariant.taken c.in_err-piece.ensures.left)
@@ -74,7 +74,7 @@ pub returns-then-left-eq0-clause-walked : goal.returns-then-left-eq0-clause-walk
 returns-then-left-eq0-clause-walked g c =
     let a = c.args in let w = a.walker.now in let l = c.copies in let n = c.min-part.result in let done = a.len - l.left in
     let few_read : n ≤ l.source.len = omega (arith, c.min-part.ensures) in let few_home : n ≤ l.target.len = omega (arith, c.min-part.ensures) in
-    let next = copy_next w a.snapshot.now a.number a.sector a.len l.left l.from l.to n l.source l.target c.requires.chunk c.requires.part l.invariant.within l.invariant.from l.invariant.to l.invariant.source l.invariant.target few_read few_home in
+    let next = copy_next w a.snapshot.now a.number a.sector a.len l.left l.from l.to n l.source l.target (omega (arith, c.requires.some, c.requires.part)) c.requires.part l.invariant.within l.invariant.from l.invariant.to l.invariant.source l.invariant.target few_read few_home in
     let all : done + n ≡ a.len = omega (arith, few_home, l.invariant.target.most, l.invariant.within, c.if-left-eq0.true) in
     let taken = took_row g.met.S.Sink.lawful a.sink.now l.sink c.piece.new.self (copy_of w a.snapshot.now a.number) a.sector done n (units_of c.copy_piece.result) (next ∙ sym c.copy_piece.ensures.units) l.invariant.taken c.in_ok-piece.ensures.took in
     let same = l.invariant.going_on.same in
@@ -110,7 +110,7 @@ pub copies-preserved : goal.copies-preserved
 copies-preserved g c =
     let a = c.args in let w = a.walker.now in let l = c.copies in let n = c.min-part.result in let done = a.len - l.left in
     let few_read : n ≤ l.source.len = omega (arith, c.min-part.ensures) in let few_home : n ≤ l.target.len = omega (arith, c.min-part.ensures) in
-    let next = copy_next w a.snapshot.now a.number a.sector a.len l.left l.from l.to n l.source l.target c.requires.chunk c.requires.part l.invariant.within l.invariant.from l.invariant.to l.invariant.source l.invariant.target few_read few_home in
+    let next = copy_next w a.snapshot.now a.number a.sector a.len l.left l.from l.to n l.source l.target (omega (arith, c.requires.some, c.requires.part)) c.requires.part l.invariant.within l.invariant.from l.invariant.to l.invariant.source l.invariant.target few_read few_home in
     let s = c.first_stretch-source in let h = c.first_homes-target in
     let on : done + n ≡ a.len - (l.left - n) = omega (arith, few_home, l.invariant.target.most, l.invariant.within) in
     let taken = took_row g.met.S.Sink.lawful a.sink.now l.sink c.piece.new.self (copy_of w a.snapshot.now a.number) a.sector done n (units_of c.copy_piece.result) (next ∙ sym c.copy_piece.ensures.units) l.invariant.taken c.in_ok-piece.ensures.took in

@@ -22,8 +22,8 @@ returns-then-not-is_valid g c =
     walked_piece (ap (λ (us : List BlockUnit). keep us w.state) (sym (row_lost w.stack a.snapshot.now a.device a.sector a.len w.state lost)) ∙ settled_written w.stack a.snapshot.now a.device a.sector a.len w.state c.requires.chunk settled)
     (omega arith) p.ensures
 
-pub store_sector-at-requires-clause-small : goal.store_sector-at-requires-clause-small
-store_sector-at-requires-clause-small g c =
+pub store_sector-at-requires : goal.store_sector-at-requires
+store_sector-at-requires g c =
     let w = c.args.walker.now in let snapshot = c.args.snapshot.now in
     let fits = room_place w.stack c.args.device c.in-Some.number snapshot c.requires.chunk.whole.is c.in-Some.ensures.room in
     let small = lower_small w.stack snapshot.store c.recall_soundness.ensures in
@@ -44,7 +44,7 @@ pub returns-in-Some : goal.returns-in-Some
 returns-in-Some g c =
     let a = c.args in let w = a.walker.now in let snapshot = a.snapshot.now in
     let valid = sym c.is_valid.ensures.valid ∙ c.if-not-is_valid.false in
-    let number = sym c.find.ensures.number ∙ c.in-Some.is in
+    let number = rw c.chunk_of.ensures at (sym c.find.ensures.number ∙ c.in-Some.is) in
     let settled : is_settled (taken_at w.state a.device) (a.sector / snapshot.chunk) ≡ true = or_right (not (taken_at w.state a.device).valid) _ (ap is_some number) in
     walked_as (ap (λ (us : List BlockUnit). keep us w.state) (ap (λ at. store_writes w.stack snapshot.store at a.len) c.store_sector-at.ensures ∙ sym (row_numbered w.stack snapshot a.device a.sector a.len c.in-Some.number w.state c.requires.chunk valid number))
     ∙ settled_written w.stack snapshot a.device a.sector a.len w.state c.requires.chunk settled)

@@ -49,16 +49,16 @@ count-number-requires g c = snapshot_device c.requires.asked.chunk.whole c.requi
 pub take_new_chunk-requires : goal.take_new_chunk-requires
 take_new_chunk-requires g c =
     let a = c.args in let w = a.walker.now in let asked = c.requires.asked in
-    record {
+    rw c.chunk_of-chunk.ensures (record {
       inside = first_there w.stack a.device a.sector a.len a.snapshot.now asked.chunk.whole asked.some;
       fresh = not_settled (taken_at w.state a.device) (a.sector / a.snapshot.now.chunk) c.requires.valid c.requires.fresh;
       number = c.count-number.ensures.count;
       sink = record { stack = asked.sink.stack; room = omega arith };
-    }
+    })
 
 pub returns-in_err-home : goal.returns-in_err-home
 returns-in_err-home g c =
-    let a = c.args in let w = a.walker.now in let walk = c.in_err-home.ensures.walked in let passes = passing w.stack a.snapshot.now (taken_at w.state a.device) (a.sector / a.snapshot.now.chunk) c.is_refused.result c.requires.valid c.requires.fresh c.is_refused.ensures ∙ c.if-is_refused.false in
+    let a = c.args in let w = a.walker.now in let walk = rw c.chunk_of-chunk.ensures at c.in_err-home.ensures.walked in let passes = passing w.stack a.snapshot.now (taken_at w.state a.device) (a.sector / a.snapshot.now.chunk) c.is_refused.result c.requires.valid c.requires.fresh c.is_refused.ensures ∙ c.if-is_refused.false in
     walked_cut g.S.Sink.past c.from_residual.result a.sink.now c.take_new_chunk.new.sink w c.take_new_chunk.new.walker (steps (write_snapshot w.stack a.snapshot.now a.device) w.state a.sector a.len) a.len c.from_residual.ensures.0
     (left_taking g.S.Sink.past.left a.sink.now c.take_new_chunk.new.sink w.stack a.snapshot.now a.device a.sector a.len w.state c.requires.asked.some passes walk.left) walk.faults walk.stack walk.looked
 
@@ -70,7 +70,7 @@ pub returns-in_default : goal.returns-in_default
 returns-in_default g c =
     let a = c.args in let w = a.walker.now in let after = c.take_new_chunk.new.walker in let p = c.piece-in_default.ensures in let passes = passing w.stack a.snapshot.now (taken_at w.state a.device) (a.sector / a.snapshot.now.chunk) c.is_refused.result c.requires.valid c.requires.fresh c.is_refused.ensures ∙ c.if-is_refused.false in
     let units = row_lost w.stack a.snapshot.now a.device a.sector a.len after.state (none_then c.in_ok-home.field-0 _ c.in_default.not-Some c.in_ok-home.ensures.lost) in
-    taken_then g.met.S.Sink.lawful a.snapshot.now a.device a.sector a.len a.len _ c.requires.asked.chunk c.requires.asked.some c.recall_tables.ensures passes c.in_ok-home.ensures.walked units (omega arith)
+    taken_then g.met.S.Sink.lawful a.snapshot.now a.device a.sector a.len a.len _ c.requires.asked.chunk c.requires.asked.some c.recall_tables.ensures passes (rw c.chunk_of-chunk.ensures at c.in_ok-home.ensures.walked) units (omega arith)
     (walked_piece refl (omega arith) p)
 
 pub overflow_add-home : goal.overflow_add-home
@@ -81,14 +81,14 @@ overflow_add-home g c =
 
 pub returns-then-distance-len : goal.returns-then-distance-len
 returns-then-distance-len g c =
-    let a = c.args in let w = a.walker.now in let after = c.take_new_chunk.new.walker in let p = c.piece-then-distance-len.ensures in let passes = passing w.stack a.snapshot.now (taken_at w.state a.device) (a.sector / a.snapshot.now.chunk) c.is_refused.result c.requires.valid c.requires.fresh c.is_refused.ensures ∙ c.if-is_refused.false in
-    let taken = rw c.in-Some.is at c.in_ok-home.ensures.taken in
-    let units = row_taken w.stack a.snapshot.now a.device a.sector a.len c.count-number.result after.state c.in-Some.home c.requires.asked.chunk taken c.if-distance-len.true in
-    taken_then g.met.S.Sink.lawful a.snapshot.now a.device a.sector a.len 0 _ c.requires.asked.chunk c.requires.asked.some c.recall_tables.ensures passes c.in_ok-home.ensures.walked units (omega arith)
+    let a = c.args in let w = a.walker.now in let after = c.take_new_chunk.new.walker in let p = rw c.distance_in-distance.ensures.is at c.piece-then-distance-len.ensures in let passes = passing w.stack a.snapshot.now (taken_at w.state a.device) (a.sector / a.snapshot.now.chunk) c.is_refused.result c.requires.valid c.requires.fresh c.is_refused.ensures ∙ c.if-is_refused.false in
+    let taken = rw (c.in-Some.is, c.chunk_of-chunk.ensures) at c.in_ok-home.ensures.taken in
+    let units = row_taken w.stack a.snapshot.now a.device a.sector a.len c.count-number.result after.state c.in-Some.home c.requires.asked.chunk taken (rw c.distance_in-distance.ensures.is at c.if-distance-len.true) in
+    taken_then g.met.S.Sink.lawful a.snapshot.now a.device a.sector a.len 0 _ c.requires.asked.chunk c.requires.asked.some c.recall_tables.ensures passes (rw c.chunk_of-chunk.ensures at c.in_ok-home.ensures.walked) units (omega arith)
     (walked_piece refl (omega arith) p)
 
-pub store_sector-at-requires-clause-small : goal.store_sector-at-requires-clause-small
-store_sector-at-requires-clause-small g c =
+pub store_sector-at-requires : goal.store_sector-at-requires
+store_sector-at-requires g c =
     let taken = rw c.in-Some.is at c.in_ok-home.ensures.taken in
     let small = lower_small c.args.walker.now.stack c.args.snapshot.now.store c.recall_soundness.ensures in let fits = leb-true _ _ taken.place in
     omega (arith, small, fits)
@@ -96,8 +96,8 @@ store_sector-at-requires-clause-small g c =
 pub returns : goal.returns
 returns g c =
     let a = c.args in let w = a.walker.now in let snapshot = a.snapshot.now in let after = c.take_new_chunk.new.walker in let passes = passing w.stack a.snapshot.now (taken_at w.state a.device) (a.sector / a.snapshot.now.chunk) c.is_refused.result c.requires.valid c.requires.fresh c.is_refused.ensures ∙ c.if-is_refused.false in
-    let taken = rw c.in-Some.is at c.in_ok-home.ensures.taken in
+    let taken = rw (c.in-Some.is, c.chunk_of-chunk.ensures) at c.in_ok-home.ensures.taken in
     let units : row (unit_in_store w.stack snapshot a.device after.state) a.sector a.len ≡ store_writes after.stack snapshot.store c.store_sector-at.result a.len =
     row_numbered w.stack snapshot a.device a.sector a.len c.count-number.result after.state c.requires.asked.chunk taken.valid taken.is
     ∙ ap (λ (at : ℕ). store_writes w.stack snapshot.store at a.len) (sym c.store_sector-at.ensures) ∙ ap (λ (s : Description). store_writes s snapshot.store c.store_sector-at.result a.len) (sym c.in_ok-home.ensures.walked.stack) in
-    taken_then g.met.S.Sink.lawful snapshot a.device a.sector a.len 0 _ c.requires.asked.chunk c.requires.asked.some c.recall_tables.ensures passes c.in_ok-home.ensures.walked units (omega arith) c.write_store.ensures
+    taken_then g.met.S.Sink.lawful snapshot a.device a.sector a.len 0 _ c.requires.asked.chunk c.requires.asked.some c.recall_tables.ensures passes (rw c.chunk_of-chunk.ensures at c.in_ok-home.ensures.walked) units (omega arith) c.write_store.ensures

@@ -1,0 +1,82 @@
+//! Sizes of a snapshot's chunks: powers of two, so that mapping shifts and masks, and never divides by one.
+//!
+//! A small request to a snapshot would take six divisions, which were a tenth of its time.
+
+ghost use Rattle.std.specs.Prelude.{◌≡◌, ◌*◌, ◌/◌, ◌%◌, ◌<◌, ◌≤◌, false};
+ghost use Rattle.dm_stack.specs.checks.Soundness.{is_bad_chunk};
+ghost use Rattle.dm_stack.specs.declared.checks.limits.TheConstants.{MOST_SNAPSHOT_CHUNK};
+
+use std::marker::Model;
+
+/// The number of sectors of a snapshot's chunks: a power of two from 1 to 1,024. Clauses see it as the number.
+#[derive(Clone, Copy, Debug, Drop)]
+pub struct ChunkSize {
+    /// Two to this power is the number.
+    shift: u32,
+}
+
+impl Model for ChunkSize {
+    ghost use Rattle.std.specs.Prelude.{◌≤◌, ◌-◌, ◌^◌, ℕ, count_ones};
+    ghost use Rattle.std.specs.Int.Count.{ones-ones};
+
+    ghost Value = { ℕ };
+
+    ghost view = { λ size. 2 ^ size.shift };
+
+    ghost invariant = { λ size. size.shift ≤ 10 };
+
+    ghost inverse = { λ sectors. record { shift = count_ones (sectors - 1) } };
+
+    ghost inverse_ok = { λ size small i. record { shift = ones-ones size.shift i } };
+}
+
+impl ChunkSize {
+    /// The size of chunks of this many sectors.
+    #[tactic(auto, using(crate::proofs::checks::ChunkLemmas::chunk_within, crate::proofs::lines::ChunkSizes::exponent_of))]
+    pub(crate) fn new(sectors: u64) -> ChunkSize
+        requires { is_bad_chunk sectors ≡ false }
+        ensures { result ≡ sectors }
+    {
+        ChunkSize {
+            shift: sectors.ilog2(),
+        }
+    }
+
+    /// The number of sectors.
+    #[tactic(auto, using(crate::proofs::lines::ChunkSizes::size_within))]
+    #[inline(always)]
+    pub fn sectors(self) -> u64
+        ensures is { result ≡ self }
+        ensures some { 0 < result }
+        ensures small { result ≤ MOST_SNAPSHOT_CHUNK }
+    {
+        1u64 << self.shift
+    }
+
+    /// The chunk of a sector, from 0.
+    #[inline(always)]
+    pub fn chunk_of(self, sector: u64) -> u64
+        ensures { result ≡ sector / self }
+    {
+        sector >> self.shift
+    }
+
+    /// How many sectors of its chunk come before a sector.
+    #[tactic(auto, using(crate::proofs::lines::ChunkSizes::masked))]
+    #[inline(always)]
+    pub fn distance_in(self, sector: u64) -> u64
+        ensures is { result ≡ sector % self }
+        ensures within { result < self }
+    {
+        sector & ((1u64 << self.shift) - 1)
+    }
+
+    /// How many areas of chunk numbers this many numbers fill: an area is a chunk, with 32 of them a sector.
+    #[tactic(auto, using(crate::proofs::lines::ChunkSizes::areas))]
+    #[inline(always)]
+    pub(crate) fn full_areas(self, numbers: u64) -> u64
+        ensures { result ≡ numbers / (32 * self) }
+    {
+        numbers >> (self.shift + 5)
+    }
+}
