@@ -10,7 +10,7 @@
 ghost use Rattle.std.specs.Prelude.{◌≡◌, ◌+◌, ◌^◌, ◌<◌, ◌≤◌, IfOk, length};
 ghost use Rattle.dm_stack.specs.lines.LineSearch.{AreFirsts, StartsAfter, StartsBy};
 
-use crate::checks::limits::MOST_LINES;
+use crate::checks::limits::{MOST_LENGTH, MOST_LINES};
 use crate::lines::found_line::{FoundLine, FoundTarget};
 use crate::lines::prefetched::Prefetched;
 use dm_table::{Listed, Reserved};
@@ -57,7 +57,7 @@ impl FoundTable {
         let (firsts, shift) = firsts_of(alloc, &lines)?;
         Ok(FoundTable {
             lines: Listed::from_vec(lines),
-            firsts: Reserved::from_vec(firsts),
+            firsts,
             shift,
         })
     }
@@ -140,28 +140,26 @@ fn chunk_in(line: &FoundLine, sector: u64) -> Prefetched {
 
 /// The index of the line of each bucket's first sector, and the shift of a sector to its bucket. There are
 /// no buckets for up to three lines, which are compared one by one, nor for lines that no load lets through.
-fn firsts_of(alloc: Global, lines: &[FoundLine]) -> Result<(Vec<u16>, u32), AllocError>
+fn firsts_of(alloc: Global, lines: &[FoundLine]) -> Result<(Reserved<u16>, u32), AllocError>
     ensures { IfOk result (λ found. AreFirsts lines.now found.0.items found.1) }
 {
     let count = lines.len();
     if count < 4 || MOST_LINES < count || lines[0].start != 0 {
-        return Ok((Vec::new(alloc), 0));
+        return Ok((Reserved::from_vec(Vec::new(alloc)), 0));
     }
     let last = count - 1;
-    let end = lines[last].start;
+    let end = lines[last].start.min(MOST_LENGTH);
     let shift = (end / (count / 2) as u64).checked_ilog2().unwrap_or(0);
-    let width = 1u64 << shift;
-    let buckets = (end >> shift) as usize;
-    let mut firsts = Vec::with_capacity(alloc, buckets.saturating_add(2))?;
+    // After the bucket in which the last line starts comes one in which it goes on.
+    let buckets = (end >> shift) as usize + 2;
+    let mut firsts = Reserved::from_vec(Vec::with_capacity(alloc, buckets)?);
     let mut index = 0;
-    while index < last {
-        let Some(from) = (firsts.len() as u64).checked_mul(width) else {
-            break;
-        };
+    while firsts.len() < buckets {
+        let from = (firsts.len() as u64) << shift;
         while index < last && lines[index + 1].start <= from {
             index += 1;
         }
-        firsts.push(index as u16)?;
+        firsts.push(index as u16);
     }
     Ok((firsts, shift))
 }
