@@ -24,6 +24,7 @@ use dm_map::{Mapper, TrieTaken};
 use dm_stream::{Exchange, play_earlier, run};
 use dm_table::{Input, LoadFault, Output, Part};
 use std::alloc::Global;
+use std::mem::forget;
 
 /// Maps requests as `map_whole` does, but from the state that earlier requests left: they are played to their
 /// end after the load, and before a request is read. Nothing is written or flushed for them.
@@ -89,7 +90,11 @@ pub fn map_after<S: Input, D: Input, B: Input, Q: Exchange<W>, W: Output, M: Out
     };
     match play_earlier(&stack, &mut mapper, earlier) {
         Ok(()) => {
-            Exit::Ended(run(&stack, &mut mapper, requests, output, messages, status)).status()
+            let ending = run(&stack, &mut mapper, requests, output, messages, status);
+            // The program ends with this call, and the system takes memory back at once, all together.
+            forget(mapper);
+            forget(stack);
+            Exit::Ended(ending).status()
         }
         Err(fault) => Exit::Refused(Refusal::Earlier(fault)).tell(messages),
     }

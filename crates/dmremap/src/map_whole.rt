@@ -31,6 +31,7 @@ use dm_map::{Mapper, TrieTaken};
 use dm_stream::{Exchange, run};
 use dm_table::{Input, LoadFault, Output, Part};
 use std::alloc::Global;
+use std::mem::forget;
 
 /// Maps requests through the devices of a source: reads the source and the disk list whole, checks
 /// them, and writes for each request the pieces that it touches. With `status`, a line for each
@@ -100,7 +101,11 @@ pub fn map_whole<S: Input, D: Input, Q: Exchange<W>, W: Output, M: Output>(
     };
     match Mapper::<TrieTaken>::new(alloc, stack.looker()) {
         Ok(mut mapper) => {
-            Exit::Ended(run(&stack, &mut mapper, requests, output, messages, status)).status()
+            let ending = run(&stack, &mut mapper, requests, output, messages, status);
+            // The program ends with this call, and the system takes memory back at once, all together.
+            forget(mapper);
+            forget(stack);
+            Exit::Ended(ending).status()
         }
         Err(_) => Exit::unloaded(LoadFault::memory(Part::Source)).tell(messages),
     }

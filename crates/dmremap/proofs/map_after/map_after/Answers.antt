@@ -47,24 +47,24 @@ returns-in-Ok-play_earlier-clause-whole g c = λ five six.
     let starts : c.in-Ok-new.mapper.state ≡ start_state c.in-Ok.stack = c.in-Ok-new.ensures.state ∙ ap start_state c.looker.ensures.stack in
     let done = c.in-Ok-play_earlier.ensures.played.done in
     record {
-      message = ending_message c.run.result;
-      gives = ran_whole _ _ _ _ _ _ _ _ c.in-Ok.stack c.play_earlier.new.mapper.state _ c.run.result _ c.in-Ok.ensures.gives.sound
-          (played_ending c.in-Ok.stack _ before endings.Done starts done.0) (played_state c.in-Ok.stack _ _ before starts done.1) c.run.ensures.ran c.status.ensures five;
-      told = c.run.ensures.told.told;
+      message = ending_message c.run-ending.result;
+      gives = ran_whole _ _ _ _ _ _ _ _ c.in-Ok.stack c.play_earlier.new.mapper.state _ c.run-ending.result _ c.in-Ok.ensures.gives.sound
+          (played_ending c.in-Ok.stack _ before endings.Done starts done.0) (played_state c.in-Ok.stack _ _ before starts done.1) c.run-ending.ensures.ran c.status.ensures five;
+      told = c.run-ending.ensures.told.told;
     }
 
 pub returns-in-Ok-play_earlier-clause-beginning : goal.returns-in-Ok-play_earlier-clause-beginning
 returns-in-Ok-play_earlier-clause-beginning g c = λ five.
     let before = delivery (g.B.Input.past c.args.earlier.now) (g.B.Input.past c.play_earlier.new.requests) in
-    let requests = delivery (g.Q.Exchange.past c.args.requests.now) (g.Q.Exchange.past c.run.new.requests) in
+    let requests = delivery (g.Q.Exchange.past c.args.requests.now) (g.Q.Exchange.past c.run-ending.new.requests) in
     let starts : c.in-Ok-new.mapper.state ≡ start_state c.in-Ok.stack = c.in-Ok-new.ensures.state ∙ ap start_state c.looker.ensures.stack in
     let done = c.in-Ok-play_earlier.ensures.played.done in
     record {
       description = c.in-Ok.stack;
       loaded = c.in-Ok.ensures.gives.sound;
       played = played_ending c.in-Ok.stack _ before endings.Done starts done.0;
-      output = ran_failed _ _ c.args.status (Some before) requests c.in-Ok.stack c.play_earlier.new.mapper.state _ c.run.result _
-          (played_state c.in-Ok.stack _ _ before starts done.1) c.run.ensures.ran c.status.ensures five;
+      output = ran_failed _ _ c.args.status (Some before) requests c.in-Ok.stack c.play_earlier.new.mapper.state _ c.run-ending.result _
+          (played_state c.in-Ok.stack _ _ before starts done.1) c.run-ending.ensures.ran c.status.ensures five;
     }
 
 pub returns-in-Ok-play_earlier-clause-earlier : goal.returns-in-Ok-play_earlier-clause-earlier
@@ -82,18 +82,18 @@ returns-in-Ok-play_earlier-clause-earlier g c =
     )
 
 pub returns-in-Ok-play_earlier-clause-memory : goal.returns-in-Ok-play_earlier-clause-memory
-returns-in-Ok-play_earlier-clause-memory g c = λ six. absurd (never_memory c.run.result (sym c.status.ensures ∙ six))
+returns-in-Ok-play_earlier-clause-memory g c = λ six. absurd (never_memory c.run-ending.result (sym c.status.ensures ∙ six))
 
 pub returns-in-Ok-play_earlier-clause-requests : goal.returns-in-Ok-play_earlier-clause-requests
-returns-in-Ok-play_earlier-clause-requests g c = ran_requests c.run.result _ _ _ c.status.ensures c.run.ensures.left.reads c.run.ensures.left.met
+returns-in-Ok-play_earlier-clause-requests g c = ran_requests c.run-ending.result _ _ _ c.status.ensures c.run-ending.ensures.left.reads c.run-ending.ensures.left.met
 
 pub returns-in-Ok-play_earlier-clause-output : goal.returns-in-Ok-play_earlier-clause-output
-returns-in-Ok-play_earlier-clause-output g c = ran_output c.run.result _ _ _ _ _ c.status.ensures c.run.ensures.ran
+returns-in-Ok-play_earlier-clause-output g c = ran_output c.run-ending.result _ _ _ _ _ c.status.ensures c.run-ending.ensures.ran
 
 -- ---- the earlier requests were refused
 
-pub returns-clause-whole : goal.returns-clause-whole
-returns-clause-whole g c = λ five six.
+pub returns-in-Err-play_earlier-clause-whole : goal.returns-in-Err-play_earlier-clause-whole
+returns-in-Err-play_earlier-clause-whole g c = λ five six.
     let before = delivery (g.B.Input.past c.args.earlier.now) (g.B.Input.past c.play_earlier.new.requests) in
     let starts : c.in-Ok-new.mapper.state ≡ start_state c.in-Ok.stack = c.in-Ok-new.ensures.state ∙ ap start_state c.looker.ensures.stack in
     let fault = c.in-Err-play_earlier.fault in
@@ -105,8 +105,8 @@ returns-clause-whole g c = λ five six.
       told = c.tell-in-Err-play_earlier.ensures.told.told;
     }
 
-pub returns-clause-earlier : goal.returns-clause-earlier
-returns-clause-earlier g c =
+pub returns-in-Err-play_earlier-clause-earlier : goal.returns-in-Err-play_earlier-clause-earlier
+returns-in-Err-play_earlier-clause-earlier g c =
     let before = delivery (g.B.Input.past c.args.earlier.now) (g.B.Input.past c.play_earlier.new.requests) in
     let starts : c.in-Ok-new.mapper.state ≡ start_state c.in-Ok.stack = c.in-Ok-new.ensures.state ∙ ap start_state c.looker.ensures.stack in
     let fault = c.in-Err-play_earlier.fault in
@@ -120,11 +120,11 @@ returns-clause-earlier g c =
       },
     )
 
-pub returns-clause-requests : goal.returns-clause-requests
-returns-clause-requests g c = unasked_requests (refusals.Earlier c.in-Err-play_earlier.fault) _ _ _ c.tell-in-Err-play_earlier.ensures.is (read_on_none _) refl
+pub returns-in-Err-play_earlier-clause-requests : goal.returns-in-Err-play_earlier-clause-requests
+returns-in-Err-play_earlier-clause-requests g c = unasked_requests (refusals.Earlier c.in-Err-play_earlier.fault) _ _ _ c.tell-in-Err-play_earlier.ensures.is (read_on_none _) refl
 
-pub returns-clause-output : goal.returns-clause-output
-returns-clause-output g c = refused_output _ (refusals.Earlier c.in-Err-play_earlier.fault) _ c.tell-in-Err-play_earlier.ensures.is
+pub returns-in-Err-play_earlier-clause-output : goal.returns-in-Err-play_earlier-clause-output
+returns-in-Err-play_earlier-clause-output g c = refused_output _ (refusals.Earlier c.in-Err-play_earlier.fault) _ c.tell-in-Err-play_earlier.ensures.is
 
 -- ---- a law of the definitions
 
@@ -137,5 +137,5 @@ returns-in-Err-new-clause-one g c = one_after
 pub returns-in-Ok-play_earlier-clause-one : goal.returns-in-Ok-play_earlier-clause-one
 returns-in-Ok-play_earlier-clause-one g c = one_after
 
-pub returns-clause-one : goal.returns-clause-one
-returns-clause-one g c = one_after
+pub returns-in-Err-play_earlier-clause-one : goal.returns-in-Err-play_earlier-clause-one
+returns-in-Err-play_earlier-clause-one g c = one_after

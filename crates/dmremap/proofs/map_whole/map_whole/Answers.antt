@@ -28,43 +28,43 @@ pub returns-in-Ok-new-clause-whole : goal.returns-in-Ok-new-clause-whole
 returns-in-Ok-new-clause-whole g c = λ five six.
     let starts : c.in-Ok-new.mapper.state ≡ start_state c.in-Ok.stack = c.in-Ok-new.ensures.state ∙ ap start_state c.looker.ensures.stack in
     record {
-      message = ending_message c.run.result;
-      gives = ran_whole _ _ _ _ _ _ None _ c.in-Ok.stack c.in-Ok-new.mapper.state _ c.run.result _ c.in-Ok.ensures.gives.sound refl starts c.run.ensures.ran c.status.ensures five;
-      told = c.run.ensures.told.told;
+      message = ending_message c.run-ending.result;
+      gives = ran_whole _ _ _ _ _ _ None _ c.in-Ok.stack c.in-Ok-new.mapper.state _ c.run-ending.result _ c.in-Ok.ensures.gives.sound refl starts c.run-ending.ensures.ran c.status.ensures five;
+      told = c.run-ending.ensures.told.told;
     }
 
 pub returns-in-Ok-new-clause-beginning : goal.returns-in-Ok-new-clause-beginning
 returns-in-Ok-new-clause-beginning g c = λ five.
-    let requests = delivery (g.Q.Exchange.past c.args.requests.now) (g.Q.Exchange.past c.run.new.requests) in
+    let requests = delivery (g.Q.Exchange.past c.args.requests.now) (g.Q.Exchange.past c.run-ending.new.requests) in
     let starts : c.in-Ok-new.mapper.state ≡ start_state c.in-Ok.stack = c.in-Ok-new.ensures.state ∙ ap start_state c.looker.ensures.stack in
     record {
       description = c.in-Ok.stack;
       loaded = c.in-Ok.ensures.gives.sound;
       played = refl;
-      output = ran_failed _ _ c.args.status None requests c.in-Ok.stack c.in-Ok-new.mapper.state _ c.run.result _ starts c.run.ensures.ran c.status.ensures five;
+      output = ran_failed _ _ c.args.status None requests c.in-Ok.stack c.in-Ok-new.mapper.state _ c.run-ending.result _ starts c.run-ending.ensures.ran c.status.ensures five;
     }
 
 pub returns-in-Ok-new-clause-requests : goal.returns-in-Ok-new-clause-requests
-returns-in-Ok-new-clause-requests g c = ran_requests c.run.result _ _ _ c.status.ensures c.run.ensures.left.reads c.run.ensures.left.met
+returns-in-Ok-new-clause-requests g c = ran_requests c.run-ending.result _ _ _ c.status.ensures c.run-ending.ensures.left.reads c.run-ending.ensures.left.met
 
 pub returns-in-Ok-new-clause-output : goal.returns-in-Ok-new-clause-output
-returns-in-Ok-new-clause-output g c = ran_output c.run.result _ _ _ _ _ c.status.ensures c.run.ensures.ran
+returns-in-Ok-new-clause-output g c = ran_output c.run-ending.result _ _ _ _ _ c.status.ensures c.run-ending.ensures.ran
 
 pub returns-in-Ok-new-clause-messages : goal.returns-in-Ok-new-clause-messages
-returns-in-Ok-new-clause-messages g c = exits_told {exit = exits.Ended c.run.result} (record { is = c.status.ensures; told = c.run.ensures.told })
+returns-in-Ok-new-clause-messages g c = exits_told {exit = exits.Ended c.run-ending.result} (record { is = c.status.ensures; told = c.run-ending.ensures.told })
 
 pub returns-in-Ok-new-clause-memory : goal.returns-in-Ok-new-clause-memory
-returns-in-Ok-new-clause-memory g c = λ six. absurd (never_memory c.run.result (sym c.status.ensures ∙ six))
+returns-in-Ok-new-clause-memory g c = λ six. absurd (never_memory c.run-ending.result (sym c.status.ensures ∙ six))
 
 -- ---- there was no memory for them
 
-pub returns-clause-requests : goal.returns-clause-requests
-returns-clause-requests g c =
+pub returns-in-Err-new-clause-requests : goal.returns-in-Err-new-clause-requests
+returns-in-Err-new-clause-requests g c =
     unasked_requests (refusals.Load c.memory.result) _ _ _ (c.tell-in-Err-new.ensures.is ∙ ap exit_status c.unloaded-in-Err-new.ensures)
     (read_on_none _) refl
 
-pub returns-clause-output : goal.returns-clause-output
-returns-clause-output g c =
+pub returns-in-Err-new-clause-output : goal.returns-in-Err-new-clause-output
+returns-in-Err-new-clause-output g c =
     refused_output _ (refusals.Load c.memory.result) _ (c.tell-in-Err-new.ensures.is ∙ ap exit_status c.unloaded-in-Err-new.ensures)
 
 -- ---- the clauses that speak of no run are laws of the definitions
@@ -75,14 +75,14 @@ returns-in-Err-clause-one g c = λ f flag s d q a b. one_after f flag s d None q
 pub returns-in-Ok-new-clause-one : goal.returns-in-Ok-new-clause-one
 returns-in-Ok-new-clause-one g c = λ f flag s d q a b. one_after f flag s d None q a b
 
-pub returns-clause-one : goal.returns-clause-one
-returns-clause-one g c = λ f flag s d q a b. one_after f flag s d None q a b
+pub returns-in-Err-new-clause-one : goal.returns-in-Err-new-clause-one
+returns-in-Err-new-clause-one g c = λ f flag s d q a b. one_after f flag s d None q a b
 
 pub returns-in-Err-clause-fewest : goal.returns-in-Err-clause-fewest
 returns-in-Err-clause-fewest g c = fewest_is
 
-pub returns-clause-fewest : goal.returns-clause-fewest
-returns-clause-fewest g c = fewest_is
+pub returns-in-Err-new-clause-fewest : goal.returns-in-Err-new-clause-fewest
+returns-in-Err-new-clause-fewest g c = fewest_is
 
 pub returns-in-Err-clause-levels : goal.returns-in-Err-clause-levels
 returns-in-Err-clause-levels g c = λ description sound. (reads_free description sound, writes_free description sound, homes_free description sound)
@@ -90,5 +90,5 @@ returns-in-Err-clause-levels g c = λ description sound. (reads_free description
 pub returns-in-Ok-new-clause-levels : goal.returns-in-Ok-new-clause-levels
 returns-in-Ok-new-clause-levels g c = λ description sound. (reads_free description sound, writes_free description sound, homes_free description sound)
 
-pub returns-clause-levels : goal.returns-clause-levels
-returns-clause-levels g c = λ description sound. (reads_free description sound, writes_free description sound, homes_free description sound)
+pub returns-in-Err-new-clause-levels : goal.returns-in-Err-new-clause-levels
+returns-in-Err-new-clause-levels g c = λ description sound. (reads_free description sound, writes_free description sound, homes_free description sound)
