@@ -15,6 +15,10 @@ StartsBy lines index sector = MatchOption (slice_get lines index) ⊥ (λ line. 
 abbrev pub StartsAfter : List FoundLine → (index sector : ℕ) → Type 0
 StartsAfter lines index sector = MatchOption (slice_get lines index) ⊤ (λ line. sector < line.start)
 
+-- the line at an index starts at this sector; where there is none, that is the greatest number
+abbrev pub IsStartOf : List FoundLine → (index start : ℕ) → Type 0
+IsStartOf lines index start = MatchOption (slice_get lines index) (start + 1 ≡ 2 ^ 64) (λ line. start ≡ line.start)
+
 -- a line is that of a sector: it starts there or before, and the next one after it
 pub record IsLineOf (lines : List FoundLine) (index sector : ℕ) : Type 0 where
   pub within : index < length lines

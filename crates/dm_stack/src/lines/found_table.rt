@@ -8,7 +8,7 @@
 //! the one of the next bucket's first sector; these are mostly close to each other.
 
 ghost use Rattle.std.specs.Prelude.{◌≡◌, ◌+◌, ◌^◌, ◌<◌, ◌≤◌, IfOk, length};
-ghost use Rattle.dm_stack.specs.lines.LineSearch.{AreFirsts, StartsAfter, StartsBy};
+ghost use Rattle.dm_stack.specs.lines.LineSearch.{AreFirsts, IsStartOf, StartsAfter, StartsBy};
 
 use crate::checks::limits::{MOST_LENGTH, MOST_LINES};
 use crate::lines::found_line::{FoundLine, FoundTarget};
@@ -147,19 +147,31 @@ fn firsts_of(alloc: Global, lines: &[FoundLine]) -> Result<(Reserved<u16>, u32),
     if count < 4 || MOST_LINES < count || lines[0].start != 0 {
         return Ok((Reserved::from_vec(Vec::new(alloc)), 0));
     }
-    let last = count - 1;
-    let end = lines[last].start.min(MOST_LENGTH);
+    let end = lines[count - 1].start.min(MOST_LENGTH);
     let shift = (end / (count / 2) as u64).checked_ilog2().unwrap_or(0);
     // After the bucket in which the last line starts comes one in which it goes on.
     let buckets = (end >> shift) as usize + 2;
     let mut firsts = Reserved::from_vec(Vec::with_capacity(alloc, buckets)?);
     let mut index = 0;
+    let mut next = start_of(lines, 1);
     while firsts.len() < buckets {
         let from = (firsts.len() as u64) << shift;
-        while index < last && lines[index + 1].start <= from {
+        while next <= from {
             index += 1;
+            next = start_of(lines, index + 1);
         }
         firsts.push(index as u16);
     }
     Ok((firsts, shift))
+}
+
+/// Where the line of an index starts; beyond every sector where there is none.
+#[inline(always)]
+fn start_of(lines: &[FoundLine], index: usize) -> u64
+    ensures { IsStartOf lines.now index result }
+{
+    match lines.get(index) {
+        Some(line) => line.start,
+        None => u64::MAX,
+    }
 }
