@@ -1,9 +1,11 @@
 -- Names by their places: how a set of names tests them, and which stand twice.
-use Rattle.std.proofs.Common.{◌≡◌, ◌≢◌, ℕ, ◌+◌, ◌<◌, ◌≤◌, Bool, true, false, not, List, [], ◌∷◌, ◌++◌, Option, Some, None, Err, String, arith, refl, sym, ap, ◌∙◌, cond, drop, get_or, length, map, take}
-use Rattle.std.specs.Prelude.{find, is_none, is_some, nat_lt, position, string_bytes, unwrap_or}
-use Rattle.std.specs.List.{list_any, position_from, position_or_len}
+use Rattle.std.proofs.Common.{◌≡◌, ◌≢◌, ℕ, zero, suc, ◌+◌, ◌<◌, ◌≤◌, Bool, true, false, not, List, [], ◌∷◌, ◌++◌, Option, Some, None, Err, String, arith, refl, sym, ap, ◌∙◌, cond, drop, get_or, length, map, take}
+use Rattle.std.specs.Prelude.{find, is_none, is_some, nat_lt, position, slice_get, string_bytes, unwrap_or}
+use Rattle.std.specs.List.{IsDistinct, list_any, position_from, position_or_len}
 use Rattle.std.proofs.lemmas.List.{length-map, map-append, take_more}
-use Rattle.std.proofs.lemmas.Bool.{ltb-false}
+use Rattle.std.proofs.lemmas.Bool.{lt-ltb, ltb-false}
+use Rattle.std.proofs.lemmas.Map.Keys.{IsDistinct-head, IsDistinct-tail}
+use Rattle.std.proofs.lemmas.Option.{slice_get_within}
 use Rattle.std.proofs.lemmas.Iterator.Adapters.{position_from-zero}
 use Rattle.std.proofs.lemmas.List.Sums.{prefix_len-le-length}
 use Rattle.std.proofs.lemmas.Slice.Eq.{bytes_eq-Decides}
@@ -14,6 +16,7 @@ use Rattle.dm_table.specs.declared.load.load_fault.LoadKind.TheVariants.{Memory,
 use Rattle.dm_table.specs.load.LoadFault.{fault, faults_by, IsMemoryFault, first_or, unless}
 use Rattle.dm_stack.specs.Description.{is_same}
 use Rattle.dm_stack.specs.checks.Soundness.{is_repeated, with_before}
+use Rattle.dm_stack.proofs.lines.StripeLemmas.{at_index}
 use Rattle.dm_stack.proofs.checks.WithBefore.{drop-with_before, none-with_before}
 
 same_by : (a b : List ℕ) (p q : Bool) → is_same a b ≡ p → is_same b a ≡ q → p ≡ q
@@ -51,6 +54,22 @@ position_names name keys = position_mapped string_bytes (λ other. is_same other
 pub any_names : {A : Type 0} (name : List ℕ) (keys : List (String A)) → list_any (λ key. is_same name (string_bytes key)) keys ≡ list_any (λ other. is_same other name) (map string_bytes keys)
 any_names name [] = refl
 any_names name (key ∷ keys) = rw (is_same-sym name (string_bytes key), any_names name keys)
+
+-- where a name stands among names of which no two are one
+place_distinct : {A : Type 0} (name : List ℕ) (keys : List (String A)) (number : ℕ) (key : String A) → IsDistinct (λ one other. is_same (string_bytes one) (string_bytes other)) keys → slice_get keys number ≡ Some key → string_bytes key ≡ name
+    → position_or_len (λ other. is_same other name) (map string_bytes keys) ≡ number
+place_distinct name [] number key apart at is = absurd cc
+place_distinct name (first ∷ keys) zero key apart at is =
+    let same : is_same (string_bytes first) name ≡ true = (bytes_eq-Decides (string_bytes first) name).1 cc in rw same refl
+place_distinct name (first ∷ keys) (suc number) key apart at is =
+    let other : is_same (string_bytes first) name ≡ false = rw (← is) (at_index (λ one. is_same (string_bytes first) (string_bytes one) ≡ false) keys number key (IsDistinct-head _ first keys apart) at) in
+    rw (other, place_distinct name keys number key (IsDistinct-tail _ first keys apart) at is) (omega arith)
+
+pub found_distinct : {A : Type 0} (name : List ℕ) (keys : List (String A)) (number : ℕ) (key : String A) → IsDistinct (λ one other. is_same (string_bytes one) (string_bytes other)) keys → slice_get keys number ≡ Some key → string_bytes key ≡ name
+    → Some number ≡ position (λ other. is_same other name) (map string_bytes keys)
+found_distinct name keys number key apart at is =
+    let below : number < length (map string_bytes keys) = rw (length-map keys string_bytes) (slice_get_within keys number key at) in
+    rw (place_distinct name keys number key apart at is, lt-ltb number (length (map string_bytes keys)) below) refl
 
 -- Names that stand twice
 

@@ -73,7 +73,9 @@ fn index_of<T: Named + Placed>(alloc: Global, list: &[T]) -> Result<NameIndex, L
     ensures { Answers Source (λ index. index) result
         (unless (first_or (twice_in T.name_of T.place_of list.now) None) (map T.name_of list.now)) }
 {
-    let mut names = NameIndex::new(alloc);
+    let Ok(mut names) = NameIndex::new(alloc) else {
+        return Err(out_of_memory());
+    };
     for item in list {
         match names.add(alloc, item.name()) {
             Ok(true) => {}
