@@ -17,8 +17,8 @@ use Rattle.dm_table.specs.load.RowFaults.{first_failed, fault_in}
 use Rattle.dm_table.specs.tables.LineBody.{is_body_row, Body, body_in, has_target_names}
 use Rattle.dm_table.specs.tables.LineReading.{line_at, line_in, reading_of, body_reading}
 use Rattle.dm_table.specs.tables.TableText.{NamedLine, name_in, is_row}
-use Rattle.dm_table.specs.tables.TableReading.{named_in, has_line_names, table_row_fault, row_reading}
-use Rattle.dm_table.proofs.tables.TargetRows.{made_fault, and_false}
+use Rattle.dm_table.specs.tables.TableReading.{named_in, named_reading, has_line_names, table_row_fault, row_reading}
+use Rattle.dm_table.proofs.tables.TargetRows.{made_fault, and_false, read_parts}
 use Rattle.std.proofs.lemmas.Bool.{cases_Bool}
 use denote.Ref.{Bor}
 
@@ -112,13 +112,49 @@ row_taken n row h =
     let a = taken_by (is_row row) (named_in n row) (row_found n row ∙ h) in
     record { named = a.0; said = a.1; read = a.2; names = a.3 }
 
--- a body with a fault, in a row
-pub row_body_fault : (n : ℕ) (row : List (Bor (List ℕ))) (d : Bor (List ℕ)) (fault : RowFault) → 1 ≤ length row → is_label (slice_index_or row 0 d).now ≡ true → is_body_row (texts (take (length row - 1) (drop 1 row))) ≡ true
-    → body_reading (record { part = Source; number = n }) (texts (take (length row - 1) (drop 1 row))) ≡ Err fault → row_reading n (texts row) ≡ Err fault
-row_body_fault n [] d fault h l b r = absurd (omega arith)
-row_body_fault n (f ∷ fs) d fault h l b r =
+-- what is read of a body under a label is what is read of their row
+pub row_made : (n : ℕ) (row : List (Bor (List ℕ))) (d : Bor (List ℕ)) → 1 ≤ length row → is_label (slice_index_or row 0 d).now ≡ true → is_body_row (texts (take (length row - 1) (drop 1 row))) ≡ true
+    → named_reading (name_in (slice_index_or row 0 d).now) (place n) (texts (take (length row - 1) (drop 1 row))) ≡ row_reading n (texts row)
+row_made n [] d h l b = absurd (omega arith)
+row_made n (f ∷ fs) d h l b =
     let is_row : is_body_row (texts fs) ≡ true = rw (take_rest (f ∷ fs) 1) at b in
-    rw (l, is_row) (
-    made_fault (λ (line : Line). has_target_names line.len line.target) has_line_names (with_label f.now) (λ line unnamed. rw unnamed (and_false (is_device_name (name_in f.now)))) (line_in (place n) (texts fs)) fault
-    (rw (take_rest (f ∷ fs) 1) at r)
-    )
+    rw (l, is_row, take_rest (f ∷ fs) 1) refl
+
+-- A body under a name
+
+-- a fault of the body is that of the line
+pub named_fault : (name : List ℕ) (at : Place) (body : List (List ℕ)) (fault : RowFault) → body_reading at body ≡ Err fault → named_reading name at body ≡ Err fault
+named_fault name at body fault h =
+    made_fault (λ (line : Line). has_target_names line.len line.target) has_line_names (λ line. record { name = name; line = line }) (λ line unnamed. rw unnamed (and_false (is_device_name name))) (line_in at body) fault h
+
+-- a line is read where its body is and its name is valid
+pub named_line : (name : List ℕ) (at : Place) (body : List (List ℕ)) (line : Line) → is_device_name name ≡ true → body_reading at body ≡ Ok line → named_reading name at body ≡ Ok (record { name = name; line = line })
+named_line name at body line valid h =
+    let a = read_parts (λ (line : Line). has_target_names line.len line.target) (line_in at body) line h in
+    rw (a.0, valid, a.1)
+
+pub named_unnamed : (name : List ℕ) (at : Place) (body : List (List ℕ)) (line : Line) → is_device_name name ≡ false → body_reading at body ≡ Ok line → named_reading name at body ≡ Err Name
+named_unnamed name at body line other h =
+    let a = read_parts (λ (line : Line). has_target_names line.len line.target) (line_in at body) line h in
+    rw (a.0, other)
+
+-- a line that was read has the name under which it stands, and its place
+placed : (at : Place) (o : Option Body) (line : Line) → reading_of (λ (line : Line). has_target_names line.len line.target) (option_map (line_at at) o) ≡ Ok line → line.at ≡ at
+placed at None line h = absurd cc
+placed at (Some body) line h =
+    let a = read_parts (λ (line : Line). has_target_names line.len line.target) (Some (line_at at body)) line h in
+    let is : line_at at body ≡ line = cc in
+    rw (← is)
+
+pub line_place : (at : Place) (body : List (List ℕ)) (line : Line) → body_reading at body ≡ Ok line → line.at ≡ at
+line_place at body line h = placed at (body_in body) line h
+
+named_by : (name : List ℕ) (o : Option Line) (named : NamedLine) → reading_of has_line_names (option_map (λ line. record { name = name; line = line }) o) ≡ Ok named → named.name ≡ name
+named_by name None named h = absurd cc
+named_by name (Some line) named h =
+    let a = read_parts has_line_names (Some (record { name = name; line = line })) named h in
+    let is : record { name = name; line = line } ≡ named = cc in
+    rw (← is)
+
+pub line_name : (name : List ℕ) (at : Place) (body : List (List ℕ)) (named : NamedLine) → named_reading name at body ≡ Ok named → named.name ≡ name
+line_name name at body named h = named_by name (line_in at body) named h

@@ -3,22 +3,34 @@ use Rattle.std.proofs.Common.{◌≡◌, OnOk, inl, inr, ℕ, zero, suc, ◌+◌
 use Rattle.std.specs.Cmp.Lexicographic.{pointwise}
 use Rattle.std.specs.Prelude.{slice_index_or, slice_set}
 use Rattle.std.specs.List.{cons_option}
-use Rattle.std.proofs.lemmas.Bool.{and_parts, cases_Bool}
+use Rattle.std.proofs.lemmas.Bool.{cases_Bool}
 use Rattle.std.proofs.lemmas.List.{append-nil}
 use Rattle.dm_table.specs.declared.tables.table.Line.{Line}
 use Rattle.dm_table.specs.declared.tables.table.DeviceSpec.{DeviceSpec}
-use Rattle.std.specs.declared.alloc.AllocError.{AllocError}
+use Rattle.dm_table.specs.declared.load.place.Place.{Place}
 use Rattle.dm_table.specs.words.Name.{is_device_name}
 use Rattle.dm_table.specs.declared.load.row_faults.RowFault.{RowFault}
+use Rattle.dm_table.specs.declared.load.row_faults.RowFault.TheVariants.{Name}
+use Rattle.dm_table.specs.load.RowFaults.{Reads}
 use Rattle.dm_table.specs.words.Fields.{lines_of}
 use Rattle.dm_table.specs.load.LoadFault.{first_fault, unless}
 use Rattle.dm_table.specs.load.Reading.{with_rows}
-use Rattle.dm_table.specs.tables.LineBody.{has_target_names}
+use Rattle.dm_table.specs.tables.LineReading.{body_reading, made_of, with_line}
 use Rattle.dm_table.specs.tables.TableText.{NamedLine, table_checks}
-use Rattle.dm_table.specs.tables.TableReading.{named_in, named_from, alone, join_line, joined, add_line, add_said, table_row_fault, row_reading, rows_of, read_table}
+use Rattle.dm_table.specs.tables.TableReading.{named_in, named_from, named_reading, alone, join_line, joined, add_line, add_said, table_row_fault, row_reading, rows_of, read_table}
 use Rattle.dm_table.proofs.tables.TableGroups.{same_name, is_same_name, other_name, is_other_name}
-use Rattle.dm_table.proofs.tables.TableFields.{row_fault_is, row_taken}
+use Rattle.dm_table.proofs.tables.TableFields.{row_fault_is, row_taken, line_name, line_place, named_fault, named_line, named_unnamed}
 use Rattle.dm_table.proofs.tables.TargetRows.{read_ok}
+
+-- What is made of a reading is made of what was read, or is its fault
+
+made_parts : {X Y : Type 0} (make : X → Y) (reading : Result X RowFault) (y : Y) → made_of make reading ≡ Ok y → (x : X) × (reading ≡ Ok x) × (make x ≡ y)
+made_parts make (Ok x) y h = (x, refl, read_ok (make x) y h)
+made_parts make (Err fault) y h = absurd cc
+
+pub made_refused : {X Y : Type 0} (make : X → Y) (reading : Result X RowFault) (fault : RowFault) → made_of make reading ≡ Err fault → reading ≡ Err fault
+made_refused make (Ok x) fault h = absurd cc
+made_refused make (Err other) fault h = let is : other ≡ fault = cc in ap Err is
 
 -- A line after devices
 
@@ -31,23 +43,59 @@ set_last (e ∷ []) (suc n) d named len last same = absurd (omega arith)
 set_last (e ∷ f ∷ ds) zero d named len last same = absurd (omega arith)
 set_last (e ∷ f ∷ ds) (suc n) d named len last same = rw (set_last (f ∷ ds) n d named (omega arith) last same)
 
-pub add_same : (r : Result (Unit {0}) AllocError) (ds : List DeviceSpec) (n : ℕ) (d : DeviceSpec) (lines : List Line) (named : NamedLine) → n + 1 ≡ length ds → d ≡ slice_index_or ds n d → pointwise nat_eq named.name d.name ≡ true
-    → OnOk r (lines ≡ d.lines ++ named.line ∷ []) → OnOk r (slice_set ds n (record d { lines = lines }) ≡ add_line ds named)
-add_same (Ok x) ds n d lines named len last same added = rw added (set_last ds n d named len (sym last) same)
-add_same (Err e) ds n d lines named len last same added = tt
+-- a body that is read into a line of the last device
+pub add_same : (r : Result (Unit {0}) RowFault) (ds : List DeviceSpec) (n : ℕ) (d : DeviceSpec) (lines : List Line) (name : List ℕ) (at : Place) (body : List (List ℕ)) → n + 1 ≡ length ds → d ≡ slice_index_or ds n d
+    → is_device_name d.name ≡ true → pointwise nat_eq name d.name ≡ true → Reads (λ done. lines) r (with_line d.lines (body_reading at body))
+    → Reads (λ done. slice_set ds n (record d { lines = lines })) r (made_of (add_line ds) (named_reading name at body))
+add_same (Ok x) ds n d lines name at body len last valid same read =
+    let a = made_parts (λ line. d.lines ++ line ∷ []) (body_reading at body) lines read in
+    let is : name ≡ d.name = same_name name d.name same in
+    ap (made_of (add_line ds)) (named_line name at body a.0 (rw is valid) a.1)
+    ∙ ap Ok (sym (set_last ds n d (record { name = name; line = a.0 }) len (sym last) same) ∙ ap (λ lines. slice_set ds n (record d { lines = lines })) a.2)
+add_same (Err e) ds n d lines name at body len last valid same read = λ other.
+    rw (named_fault name at body e (made_refused _ (body_reading at body) e (read other)))
 
--- and one that comes after it
-pub add_other : (ds : List DeviceSpec) (n : ℕ) (d : DeviceSpec) (named : NamedLine) → n + 1 ≡ length ds → d ≡ slice_index_or ds n d → pointwise nat_eq named.name d.name ≡ false
+-- and a line that comes after it
+add_after : (ds : List DeviceSpec) (n : ℕ) (d : DeviceSpec) (named : NamedLine) → n + 1 ≡ length ds → d ≡ slice_index_or ds n d → pointwise nat_eq named.name d.name ≡ false
     → slice_set ds n (record d { lines = d.lines }) ++ alone named ∷ [] ≡ add_line ds named
-add_other [] n d named len last other = absurd (omega arith)
-add_other (e ∷ []) zero d named len last other = rw (sym last, other)
-add_other (e ∷ []) (suc n) d named len last other = absurd (omega arith)
-add_other (e ∷ f ∷ ds) zero d named len last other = absurd (omega arith)
-add_other (e ∷ f ∷ ds) (suc n) d named len last other = rw (add_other (f ∷ ds) n d named (omega arith) last other)
+add_after [] n d named len last other = absurd (omega arith)
+add_after (e ∷ []) zero d named len last other = rw (sym last, other)
+add_after (e ∷ []) (suc n) d named len last other = absurd (omega arith)
+add_after (e ∷ f ∷ ds) zero d named len last other = absurd (omega arith)
+add_after (e ∷ f ∷ ds) (suc n) d named len last other = rw (add_after (f ∷ ds) n d named (omega arith) last other)
 
-pub add_first : (ds : List DeviceSpec) (named : NamedLine) → length ds ≡ 0 → ds ++ alone named ∷ [] ≡ add_line ds named
-add_first [] named none = refl
-add_first (d ∷ ds) named none = absurd (omega arith)
+-- the device of a body with no device's name before it
+pub device_fault : (name : List ℕ) (at : Place) (body : List (List ℕ)) (lines : List Line) (fault : RowFault) → with_line lines (body_reading at body) ≡ Err fault → made_of alone (named_reading name at body) ≡ Err fault
+device_fault name at body lines fault h = rw (named_fault name at body fault (made_refused _ (body_reading at body) fault h))
+
+pub device_unnamed : (name : List ℕ) (at : Place) (body : List (List ℕ)) (lines made : List Line) → with_line lines (body_reading at body) ≡ Ok made → is_device_name name ≡ false → made_of alone (named_reading name at body) ≡ Err Name
+device_unnamed name at body lines made h other =
+    let a = made_parts (λ line. lines ++ line ∷ []) (body_reading at body) made h in
+    rw (named_unnamed name at body a.0 other a.1)
+
+alone_is : (name : List ℕ) (at : Place) (line : Line) (made : List Line) → line ∷ [] ≡ made → line.at ≡ at → alone (record { name = name; line = line }) ≡ record { name = name; ro = false; lines = made; at = at }
+alone_is name at line made one place = rw (← one, ← place)
+
+pub device_read : (name : List ℕ) (at : Place) (body : List (List ℕ)) (lines made : List Line) → with_line lines (body_reading at body) ≡ Ok made → lines ≡ [] → is_device_name name ≡ true
+    → made_of alone (named_reading name at body) ≡ Ok (record { name = name; ro = false; lines = made; at = at })
+device_read name at body lines made h none valid =
+    let a = made_parts (λ line. lines ++ line ∷ []) (body_reading at body) made h in
+    ap (made_of alone) (named_line name at body a.0 valid a.1) ∙ ap Ok (alone_is name at a.0 made (sym (ap (λ lines. lines ++ a.0 ∷ []) none) ∙ a.2) (line_place at body a.0 a.1))
+
+-- that device after the others
+pub add_other : (ds : List DeviceSpec) (n : ℕ) (d device : DeviceSpec) (name : List ℕ) (at : Place) (body : List (List ℕ)) → n + 1 ≡ length ds → d ≡ slice_index_or ds n d → pointwise nat_eq name d.name ≡ false
+    → made_of alone (named_reading name at body) ≡ Ok device → made_of (add_line ds) (named_reading name at body) ≡ Ok (slice_set ds n (record d { lines = d.lines }) ++ device ∷ [])
+add_other ds n d device name at body len last other h =
+    let a = made_parts alone (named_reading name at body) device h in
+    let is : a.0.name ≡ name = line_name name at body a.0 a.1 in
+    ap (made_of (add_line ds)) a.1 ∙ ap Ok (sym (add_after ds n d a.0 len last (rw (← is) at other)) ∙ ap (λ device. slice_set ds n (record d { lines = d.lines }) ++ device ∷ []) a.2)
+
+pub add_first : (ds : List DeviceSpec) (device : DeviceSpec) (name : List ℕ) (at : Place) (body : List (List ℕ)) → length ds ≡ 0 → made_of alone (named_reading name at body) ≡ Ok device
+    → made_of (add_line ds) (named_reading name at body) ≡ Ok (ds ++ device ∷ [])
+add_first [] device name at body none h =
+    let a = made_parts alone (named_reading name at body) device h in
+    ap (made_of (add_line [])) a.1 ∙ ap (λ device. Ok (device ∷ [])) a.2
+add_first (d ∷ ds) device name at body none h = absurd (omega arith)
 
 -- a line before and a line after
 add_join : (one : NamedLine) (ds : List DeviceSpec) (named : NamedLine) → add_line (join_line one ds) named ≡ join_line one (add_line ds named)
@@ -98,13 +146,6 @@ pub read_table-rows : (text : List ℕ) → unless (first_fault (table_checks te
 unfolding read_table
 read_table-rows text = ap (unless (first_fault (table_checks text))) (rows_joined [] 1 (rows_of (lines_of text)))
 
--- the name of a row that is read is one of a device
-pub read_named : (n : ℕ) (row : List (List ℕ)) (named : NamedLine) → row_reading n row ≡ Ok named → is_device_name named.name ≡ true
-read_named n row named h =
-    let taken = row_taken n row (row_fault_is n row (Ok named) h) in
-    let same : taken.named ≡ named = read_ok taken.named named (sym taken.read ∙ h) in
-    rw (← same) (and_parts (is_device_name taken.named.name) (has_target_names taken.named.line.len taken.named.line.target) taken.names).0
-
 -- a row that was read has no fault and says what was read; one that was refused has that fault
 pub named_read : (n : ℕ) (row : List (List ℕ)) (named : NamedLine) → row_reading n row ≡ Ok named → (unless (table_row_fault row) (tt {0}) ≡ Ok (tt {0})) × (named_in n row ≡ Some named)
 named_read n row named h =
@@ -115,3 +156,16 @@ named_read n row named h =
 
 pub named_refused : (n : ℕ) (row : List (List ℕ)) (fault : RowFault) → row_reading n row ≡ Err fault → unless (table_row_fault row) (tt {0}) ≡ Err fault
 named_refused n row fault h = let found : table_row_fault row ≡ Some fault = row_fault_is n row (Err fault) h in rw found
+
+-- the devices after a row, or its fault
+pub row_values : (r : Result (Unit {0}) RowFault) (n : ℕ) (row : List (List ℕ)) (ds made : List DeviceSpec) → Reads (λ done. made) r (made_of (add_line ds) (row_reading n row)) → OnOk r (made ≡ add_said ds (named_in n row))
+row_values (Ok x) n row ds made read =
+    let a = made_parts (add_line ds) (row_reading n row) made read in
+    sym a.2 ∙ ap (add_said ds) (sym (named_read n row a.0 a.1).1)
+row_values (Err e) n row ds made read = tt
+
+pub row_fault : (r : Result (Unit {0}) RowFault) (n : ℕ) (row : List (List ℕ)) (ds made : List DeviceSpec) → Reads (λ done. made) r (made_of (add_line ds) (row_reading n row)) → Reads (λ done. done) r (unless (table_row_fault row) (tt {0}))
+row_fault (Ok tt) n row ds made read =
+    let a = made_parts (add_line ds) (row_reading n row) made read in
+    (named_read n row a.0 a.1).0
+row_fault (Err e) n row ds made read = λ other. named_refused n row e (made_refused (add_line ds) (row_reading n row) e (read other))

@@ -12,6 +12,7 @@ use Rattle.dm_table.specs.declared.tables.table.StoreKind.{StoreKind}
 use Rattle.dm_table.specs.declared.tables.table.Target.{Target}
 use Rattle.dm_table.specs.declared.tables.table.Target.TheVariants.{Striped, Snapshot, Origin}
 use Rattle.dm_table.specs.declared.tables.table.Line.{Line}
+use Rattle.dm_table.specs.declared.tables.line_body.BodyHead.{BodyHead}
 use Rattle.dm_table.specs.declared.load.place.Place.{Place}
 use Rattle.dm_table.specs.declared.load.row_faults.RowFault.{RowFault}
 use Rattle.dm_table.specs.declared.load.row_faults.RowFault.TheVariants.{Field, Name, Memory}
@@ -19,7 +20,7 @@ use Rattle.dm_table.specs.words.Number.{number_of}
 use Rattle.dm_table.specs.words.Fields.{texts}
 use Rattle.dm_table.specs.tables.LineBody.{is_dev_ref, dev_in, if_both, pair_in, columns_in, is_half, striped_in, kind_in, snapshot_in, origin_in, bare_in, target_in, Body, has_target_names}
 use Rattle.dm_table.proofs.tables.BodyRows.{column_names}
-use Rattle.dm_table.specs.tables.LineReading.{line_at, has_column_names, dev_reading, reading_of, columns_reading, fault_before, target_reading, body_reading}
+use Rattle.dm_table.specs.tables.LineReading.{line_at, has_column_names, dev_reading, reading_of, columns_reading, fault_before, target_reading, body_reading, line_of, with_line, with_target}
 
 -- What is read of a value
 
@@ -303,33 +304,29 @@ read_parts {X} has_names (Some other) x h = elim (cases_Bool (has_names other)) 
   | inr e ↦ absurd (let no : ◌≡◌ {A = Result X RowFault} (Err Name) (Ok x) = rw e at h in cc)
 ]
 
--- the line of a start, a length and a target
-abbrev line_with : Place → (start len : ℕ) → Target → Line
-line_with at start len target = record { start = start; len = len; target = target; at = at }
+with_head : (head : BodyHead) (o : Option Target)
+    → option_map (line_at head.at) (option_map (λ target. let body : Body = record { start = head.start; len = head.len; target = target } in body) o) ≡ option_map (line_of head) o
+with_head head None = refl
+with_head head (Some target) = refl
 
-with_target : (at : Place) (start len : ℕ) (o : Option Target)
-    → option_map (line_at at) (option_map (λ target. let body : Body = record { start = start; len = len; target = target } in body) o) ≡ option_map (line_with at start len) o
-with_target at start len None = refl
-with_target at start len (Some target) = refl
+-- the line of a target that was read, or its fault
+line_made : (lines : List Line) (head : BodyHead) (o : Option Target)
+    → with_line lines (reading_of (λ line. has_target_names line.len line.target) (option_map (line_of head) o)) ≡ with_target lines head (reading_of (has_target_names head.len) o)
+line_made lines head None = refl
+line_made lines head (Some target) = elim (cases_Bool (has_target_names head.len target)) [
+  | inl e ↦ rw e
+  | inr e ↦ rw e
+]
 
-pub body_fault : (at : Place) (fs : List (Bor (List ℕ))) (d e : Bor (List ℕ)) (start len : ℕ) (fault : RowFault) → 2 ≤ length fs → number_of (slice_index_or fs 0 d).now ≡ Some start
-    → number_of (slice_index_or fs 1 e).now ≡ Some len → target_reading len (texts (take (length fs - 2) (drop 2 fs))) ≡ Err fault → body_reading at (texts fs) ≡ Err fault
-body_fault at [] d e start len fault h n m r = absurd (omega arith)
-body_fault at (f ∷ []) d e start len fault h n m r = absurd (omega arith)
-body_fault at (f ∷ g ∷ fs) d e start len fault h n m r =
-    rw (n, m) (
-    ap (reading_of (λ (line : Line). has_target_names line.len line.target)) (with_target at start len (target_in (texts fs)))
-    ∙ made_fault (has_target_names len) (λ line. has_target_names line.len line.target) (line_with at start len) (λ target unnamed. unnamed) (target_in (texts fs)) fault (rw (take_rest (f ∷ g ∷ fs) 2) at r)
+pub body_made : (lines : List Line) (at : Place) (fs : List (Bor (List ℕ))) (d e : Bor (List ℕ)) (start len : ℕ) → 2 ≤ length fs → number_of (slice_index_or fs 0 d).now ≡ Some start
+    → number_of (slice_index_or fs 1 e).now ≡ Some len → with_line lines (body_reading at (texts fs)) ≡ with_target lines (record { start = start; len = len; at = at }) (target_reading len (texts (take (length fs - 2) (drop 2 fs))))
+body_made lines at [] d e start len h n m = absurd (omega arith)
+body_made lines at (f ∷ []) d e start len h n m = absurd (omega arith)
+body_made lines at (f ∷ g ∷ fs) d e start len h n m =
+    rw (n, m, take_rest) (
+    ap (λ said. with_line lines (reading_of (λ (line : Line). has_target_names line.len line.target) said)) (with_head (record { start = start; len = len; at = at }) (target_in (texts fs)))
+    ∙ line_made lines (record { start = start; len = len; at = at }) (target_in (texts fs))
     )
-
-pub body_read : (at : Place) (fs : List (Bor (List ℕ))) (d e : Bor (List ℕ)) (start len : ℕ) (target : Target) → 2 ≤ length fs → number_of (slice_index_or fs 0 d).now ≡ Some start
-    → number_of (slice_index_or fs 1 e).now ≡ Some len → target_reading len (texts (take (length fs - 2) (drop 2 fs))) ≡ Ok target
-    → body_reading at (texts fs) ≡ Ok (record { start = start; len = len; target = target; at = at })
-body_read at [] d e start len target h n m r = absurd (omega arith)
-body_read at (f ∷ []) d e start len target h n m r = absurd (omega arith)
-body_read at (f ∷ g ∷ fs) d e start len target h n m r =
-    let a = read_parts (has_target_names len) (target_in (texts fs)) target (rw take_rest at r) in
-    rw (n, m, a.0, a.1)
 
 pub body_none : (at : Place) (fs : List (Bor (List ℕ))) → length fs < 2 → body_reading at (texts fs) ≡ Err Field
 body_none at [] h = refl

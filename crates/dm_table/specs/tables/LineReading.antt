@@ -1,11 +1,12 @@
 -- What is read of the fields of a body, a value or a fault, for the functions that read them once.
-use Rattle.std.specs.Prelude.{ℕ, Bool, List, Option, Some, None, is_some, Result, Ok, Err, if◌then◌else◌}
+use Rattle.std.specs.Prelude.{ℕ, Bool, List, [], ◌∷◌, ◌++◌, Option, Some, None, is_some, Result, Ok, Err, if◌then◌else◌}
 use Rattle.std.specs.Option.{option_map}
 use Rattle.std.specs.List.{list_all}
 use Rattle.dm_table.specs.declared.tables.table.DevRef.{DevRef}
 use Rattle.dm_table.specs.declared.tables.table.Column.{Column}
 use Rattle.dm_table.specs.declared.tables.table.Target.{Target}
 use Rattle.dm_table.specs.declared.tables.table.Line.{Line}
+use Rattle.dm_table.specs.declared.tables.line_body.BodyHead.{BodyHead}
 use Rattle.dm_table.specs.declared.load.place.Place.{Place}
 use Rattle.dm_table.specs.declared.load.row_faults.RowFault.{RowFault}
 use Rattle.dm_table.specs.declared.load.row_faults.RowFault.TheVariants.{Syntax, Field, Name, Memory}
@@ -52,3 +53,20 @@ target_reading len fields = reading_of (has_target_names len) (target_in fields)
 -- the line at this place that fields say, or what is wrong with them: Field before Name
 abbrev pub body_reading : Place → List (List ℕ) → Result Line RowFault
 body_reading at fields = reading_of (λ line. has_target_names line.len line.target) (line_in at fields)
+
+-- what is made of what is read, if it is read
+abbrev pub made_of : {X Y : Type 0} → (X → Y) → Result X RowFault → Result Y RowFault
+made_of make (Ok x) = Ok (make x)
+made_of make (Err fault) = Err fault
+
+-- these lines and the one that is read
+abbrev pub with_line : List Line → Result Line RowFault → Result (List Line) RowFault
+with_line lines = made_of (λ line. lines ++ line ∷ [])
+
+-- the line of a target
+abbrev pub line_of : BodyHead → Target → Line
+line_of head target = record { start = head.start; len = head.len; target = target; at = head.at }
+
+-- these lines and that of the target that is read
+abbrev pub with_target : List Line → BodyHead → Result Target RowFault → Result (List Line) RowFault
+with_target lines head = made_of (λ target. lines ++ line_of head target ∷ [])

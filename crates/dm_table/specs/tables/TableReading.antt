@@ -4,26 +4,22 @@ use Rattle.std.specs.Option.{option_map}
 use Rattle.std.specs.List.{cons_option}
 use Rattle.std.specs.Cmp.Lexicographic.{pointwise}
 use Rattle.dm_table.specs.declared.tables.table.DeviceSpec.{DeviceSpec}
+use Rattle.dm_table.specs.declared.load.place.Place.{Place}
 use Rattle.dm_table.specs.declared.load.place.Part.TheVariants.{Source}
 use Rattle.dm_table.specs.declared.load.load_fault.LoadFault.{LoadFault}
 use Rattle.dm_table.specs.declared.load.row_faults.RowFault.{RowFault}
 use Rattle.dm_table.specs.declared.load.row_faults.RowFault.TheVariants.{Syntax}
-use Rattle.dm_table.specs.declared.tables.table_row.Row.{Row}
 use Rattle.dm_table.specs.words.Fields.{lines_of, row_fields}
 use Rattle.dm_table.specs.load.LoadFault.{first_fault, unless}
 use Rattle.dm_table.specs.words.Name.{is_device_name}
 use Rattle.dm_table.specs.load.RowFaults.{row_fault}
 use Rattle.dm_table.specs.tables.LineBody.{has_target_names}
-use Rattle.dm_table.specs.tables.LineReading.{line_in, reading_of}
+use Rattle.dm_table.specs.tables.LineReading.{line_in, reading_of, made_of}
 use Rattle.dm_table.specs.tables.TableText.{NamedLine, name_in, is_row, has_values, has_names, table_checks}
 
 -- the rows of lines
 abbrev pub rows_of : List (List ℕ) → List (List (List ℕ))
 rows_of = map row_fields
-
--- what the code has of a row
-abbrev pub named_of : Row → NamedLine
-named_of row = record { name = row.name.now; line = row.line }
 
 -- the line that a row says, with its name, as line number n
 abbrev pub named_in : ℕ → List (List ℕ) → Option NamedLine
@@ -73,6 +69,10 @@ table_row_fault row = row_fault is_row has_values has_names row
 -- the name of a line, and each in its target, is valid
 abbrev pub has_line_names : NamedLine → Bool
 has_line_names named = is_device_name named.name && has_target_names named.line.len named.line.target
+
+-- what is read of a body under this name
+abbrev pub named_reading : List ℕ → Place → List (List ℕ) → Result NamedLine RowFault
+named_reading name at body = reading_of has_line_names (option_map (λ line. record { name = name; line = line }) (line_in at body))
 
 -- what is read of a row, as line n
 abbrev pub row_reading : ℕ → List (List ℕ) → Result NamedLine RowFault

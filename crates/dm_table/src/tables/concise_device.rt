@@ -15,7 +15,7 @@ ghost use Rattle.dm_table.specs.tables.ConciseReading.{earlier_of, fault_of_body
 use crate::load::place::{Part, Place};
 use crate::load::row_faults::RowFault;
 use crate::tables::line_body::{is_body_row, read_body};
-use crate::tables::table::{DeviceSpec, Line, Table};
+use crate::tables::table::{DeviceSpec, Table};
 use crate::words::device_name::{Name, are_device_bytes, is_device_name};
 use crate::words::fields::{cut_into, cut_row};
 use crate::words::number::number;
@@ -63,7 +63,7 @@ fn read_entries<'a>(
     Ok(DeviceSpec {
         name: Name::of_bytes(alloc, *name)?,
         ro: is_ro(*flags),
-        lines: Table::from_vec(lines),
+        lines,
         at,
     })
 }
@@ -157,10 +157,10 @@ fn read_bodies<'a>(
     label: Option<RowFault>,
     bodies: &[&'a [u8]],
     at: Place,
-) -> Result<Vec<Line>, RowFault>
-    ensures { Reads (λ v. v.items) result (bodies_reading at label (texts bodies.now)) }
+) -> Result<Table, RowFault>
+    ensures { Reads (λ lines. lines) result (bodies_reading at label (texts bodies.now)) }
 {
-    let mut lines = Vec::with_capacity(alloc, min(bodies.len(), MOST_RESERVED))?;
+    let mut lines = Table::from_vec(Vec::with_capacity(alloc, min(bodies.len(), MOST_RESERVED))?);
     let mut fault = label;
     for body in bodies {
         let found = add_line(alloc, &mut lines, &mut *fields, *body, at)?;
@@ -175,25 +175,22 @@ fn read_bodies<'a>(
 /// Adds the line of a body to the lines, or says what is wrong with the body.
 fn add_line<'a>(
     alloc: Global,
-    lines: &mut Vec<Line>,
+    lines: &mut Table,
     fields: &mut Vec<&'a [u8]>,
     body: &'a [u8],
     at: Place,
 ) -> Result<Option<RowFault>, AllocError>
     ensures fault { IfOk result (λ fault. fault ≡ fault_of_body body.now) }
     ensures line { OnOk result (fault_of_body body.now ≡ None
-        → lines.new.items ≡ lines.old.items ++ option_to_list (line_in at (body_fields body.now))) }
+        → lines.new ≡ lines.old ++ option_to_list (line_in at (body_fields body.now))) }
 {
     cut_row(&mut *fields, body)?;
     let row = without_first_space(&*fields);
     if !is_body_row(row) {
         return Ok(Some(RowFault::Syntax));
     }
-    match read_body(alloc, row, at) {
-        Ok(line) => {
-            lines.push(line)?;
-            Ok(None)
-        }
+    match read_body(alloc, lines, row, at) {
+        Ok(()) => Ok(None),
         Err(RowFault::Memory) => Err(AllocError),
         Err(fault) => Ok(Some(fault)),
     }

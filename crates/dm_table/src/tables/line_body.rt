@@ -6,18 +6,18 @@
 //! two (or an arm in `bare_in`, without arguments), and arms in `target_text` and `IsTarget`. What it
 //! names is an arm of `target_spans`, in `specs/tables/Span.antt`.
 
-ghost use Rattle.std.specs.Prelude.{◌≡◌, ℕ, true, false, length, drop, is_some, nat_lt, MatchOption};
+ghost use Rattle.std.specs.Prelude.{◌≡◌, ◌++◌, ◌∷◌, [], Ok, true, false, length, drop, is_some, nat_lt, MatchOption};
 ghost use Rattle.std.specs.List.{list_all};
 ghost use Rattle.dm_table.specs.words.Fields.{texts};
 ghost use Rattle.dm_table.specs.words.Name.{names_device, mapper};
 ghost use Rattle.dm_table.specs.declared.tables.table.Target.TheVariants.{Linear};
 ghost use Rattle.dm_table.specs.tables.LineBody.{is_body_row, columns_in, is_half, pair_in, striped_in, snapshot_in, origin_in, has_target_names, kind_in};
-ghost use Rattle.dm_table.specs.tables.LineReading.{dev_reading, reading_of, columns_reading, fault_before, target_reading, body_reading};
+ghost use Rattle.dm_table.specs.tables.LineReading.{dev_reading, reading_of, columns_reading, fault_before, target_reading, body_reading, line_of, with_line, with_target};
 ghost use Rattle.dm_table.specs.load.RowFaults.{Reads};
 
 use crate::load::place::Place;
 use crate::load::row_faults::RowFault;
-use crate::tables::table::{Column, Columns, DevRef, Line, StoreKind, Target};
+use crate::tables::table::{Column, Columns, DevRef, Line, StoreKind, Table, Target};
 use crate::words::device_name::{Name, is_device_name};
 use crate::words::disk_name::{DiskName, is_disk_name};
 use crate::words::number::number;
@@ -43,9 +43,41 @@ fn are_filled(fields: &[&[u8]]) -> bool
     true
 }
 
-/// The line of a body, at its place. Of its faults, `Field` takes precedence over `Name`.
-pub(crate) fn read_body(alloc: Global, fields: &[&[u8]], at: Place) -> Result<Line, RowFault>
-    ensures { Reads (λ line. line) result (body_reading at (texts fields.now)) }
+/// What stands before the target of a line, and the place of the line.
+#[derive(Clone, Copy)]
+pub(crate) struct BodyHead {
+    pub start: u64,
+    pub len: u64,
+    pub at: Place,
+}
+
+impl BodyHead {
+    /// Adds the line of a target to the lines. It is made where it stays.
+    #[inline(always)]
+    fn push(&self, alloc: Global, lines: &mut Table, target: Target) -> Result<(), RowFault>
+        ensures { Reads (λ done. lines.new) result (Ok (lines.old ++ line_of self.now target ∷ [])) }
+    {
+        lines.push(
+            alloc,
+            Line {
+                start: self.start,
+                len: self.len,
+                target,
+                at: self.at,
+            },
+        )?;
+        Ok(())
+    }
+}
+
+/// Adds the line of a body, at its place, to the lines. Of its faults, `Field` takes precedence over `Name`.
+pub(crate) fn read_body(
+    alloc: Global,
+    lines: &mut Table,
+    fields: &[&[u8]],
+    at: Place,
+) -> Result<(), RowFault>
+    ensures { Reads (λ done. lines.new) result (with_line lines.old (body_reading at (texts fields.now))) }
 {
     let [start, len, target @ ..] = fields else {
         return Err(RowFault::Field);
@@ -56,45 +88,51 @@ pub(crate) fn read_body(alloc: Global, fields: &[&[u8]], at: Place) -> Result<Li
     let Some(len) = number(*len) else {
         return Err(RowFault::Field);
     };
-    let target = read_target(alloc, target)?;
-    Ok(Line {
-        start,
-        len,
-        target,
-        at,
-    })
+    read_target(alloc, lines, &BodyHead { start, len, at }, target)
 }
 
-/// The target of a type and its arguments.
-fn read_target(alloc: Global, target: &[&[u8]]) -> Result<Target, RowFault>
-    ensures { (len : ℕ) → Reads (λ target. target) result (target_reading len (texts target.now)) }
+/// Adds the line of a type and its arguments.
+fn read_target(
+    alloc: Global,
+    lines: &mut Table,
+    head: &BodyHead,
+    target: &[&[u8]],
+) -> Result<(), RowFault>
+    ensures { Reads (λ done. lines.new) result
+        (with_target lines.old head.now (target_reading head.now.len (texts target.now))) }
 {
     let [kind, arguments @ ..] = target else {
         return Err(RowFault::Field);
     };
     if *kind == b"linear".as_slice() {
-        read_linear(alloc, arguments)
+        read_linear(alloc, lines, head, arguments)
     } else if *kind == b"striped".as_slice() {
-        read_striped(alloc, arguments)
+        read_striped(alloc, lines, head, arguments)
     } else if *kind == b"snapshot".as_slice() {
-        read_snapshot(alloc, arguments)
+        read_snapshot(alloc, lines, head, arguments)
     } else if *kind == b"snapshot-origin".as_slice() {
-        read_origin(alloc, arguments)
+        read_origin(alloc, lines, head, arguments)
     } else if !arguments.is_empty() {
         Err(RowFault::Field)
     } else if *kind == b"zero".as_slice() {
-        Ok(Target::Zero)
+        head.push(alloc, lines, Target::Zero)
     } else if *kind == b"error".as_slice() {
-        Ok(Target::Error)
+        head.push(alloc, lines, Target::Error)
     } else {
         Err(RowFault::Field)
     }
 }
 
-/// The target that the arguments of a linear line say.
-fn read_linear(alloc: Global, arguments: &[&[u8]]) -> Result<Target, RowFault>
-    ensures { (len : ℕ) → Reads (λ target. target) result
-        (reading_of (has_target_names len) (pair_in Linear (texts arguments.now))) }
+/// Adds the line whose target the arguments of a linear line say.
+fn read_linear(
+    alloc: Global,
+    lines: &mut Table,
+    head: &BodyHead,
+    arguments: &[&[u8]],
+) -> Result<(), RowFault>
+    ensures { Reads (λ done. lines.new) result
+        (with_target lines.old head.now
+        (reading_of (has_target_names head.now.len) (pair_in Linear (texts arguments.now)))) }
 {
     let [to, offset] = arguments else {
         return Err(RowFault::Field);
@@ -103,13 +141,19 @@ fn read_linear(alloc: Global, arguments: &[&[u8]]) -> Result<Target, RowFault>
         return Err(RowFault::Field);
     };
     let to = read_dev(alloc, *to)?;
-    Ok(Target::Linear { to, offset })
+    head.push(alloc, lines, Target::Linear { to, offset })
 }
 
-/// The target that the arguments of a striped line say.
-fn read_striped(alloc: Global, arguments: &[&[u8]]) -> Result<Target, RowFault>
-    ensures { (len : ℕ) → Reads (λ target. target) result
-        (reading_of (has_target_names len) (striped_in (texts arguments.now))) }
+/// Adds the line whose target the arguments of a striped line say.
+fn read_striped(
+    alloc: Global,
+    lines: &mut Table,
+    head: &BodyHead,
+    arguments: &[&[u8]],
+) -> Result<(), RowFault>
+    ensures { Reads (λ done. lines.new) result
+        (with_target lines.old head.now
+        (reading_of (has_target_names head.now.len) (striped_in (texts arguments.now)))) }
 {
     let [count, chunk, columns @ ..] = arguments else {
         return Err(RowFault::Field);
@@ -121,13 +165,19 @@ fn read_striped(alloc: Global, arguments: &[&[u8]]) -> Result<Target, RowFault>
         return Err(RowFault::Field);
     };
     let columns = read_columns(alloc, columns)?;
-    Ok(Target::Striped { chunk, columns })
+    head.push(alloc, lines, Target::Striped { chunk, columns })
 }
 
-/// A snapshot's origin and store, the kind of the store, and the sectors of a chunk.
-fn read_snapshot(alloc: Global, arguments: &[&[u8]]) -> Result<Target, RowFault>
-    ensures { (len : ℕ) → Reads (λ target. target) result
-        (reading_of (has_target_names len) (snapshot_in (texts arguments.now))) }
+/// Adds the line of a snapshot: its origin and store, the kind of the store, and the sectors of a chunk.
+fn read_snapshot(
+    alloc: Global,
+    lines: &mut Table,
+    head: &BodyHead,
+    arguments: &[&[u8]],
+) -> Result<(), RowFault>
+    ensures { Reads (λ done. lines.new) result
+        (with_target lines.old head.now
+        (reading_of (has_target_names head.now.len) (snapshot_in (texts arguments.now)))) }
 {
     let [origin, store, flag, chunk] = arguments else {
         return Err(RowFault::Field);
@@ -140,12 +190,13 @@ fn read_snapshot(alloc: Global, arguments: &[&[u8]]) -> Result<Target, RowFault>
     };
     let origin = read_dev(alloc, *origin)?;
     let store = read_dev(alloc, *store)?;
-    Ok(Target::Snapshot {
+    let target = Target::Snapshot {
         origin,
         store,
         kind,
         chunk,
-    })
+    };
+    head.push(alloc, lines, target)
 }
 
 /// The kind of store that a flag stands for.
@@ -163,16 +214,22 @@ fn kind_of(flag: &[u8]) -> Option<StoreKind>
     }
 }
 
-/// The target that the argument of a line of an origin says.
-fn read_origin(alloc: Global, arguments: &[&[u8]]) -> Result<Target, RowFault>
-    ensures { (len : ℕ) → Reads (λ target. target) result
-        (reading_of (has_target_names len) (origin_in (texts arguments.now))) }
+/// Adds the line whose target the argument of a line of an origin says.
+fn read_origin(
+    alloc: Global,
+    lines: &mut Table,
+    head: &BodyHead,
+    arguments: &[&[u8]],
+) -> Result<(), RowFault>
+    ensures { Reads (λ done. lines.new) result
+        (with_target lines.old head.now
+        (reading_of (has_target_names head.now.len) (origin_in (texts arguments.now)))) }
 {
     let [origin] = arguments else {
         return Err(RowFault::Field);
     };
     let origin = read_dev(alloc, *origin)?;
-    Ok(Target::Origin { origin })
+    head.push(alloc, lines, Target::Origin { origin })
 }
 
 /// Whether the field is a number, and half of the other one: nothing is doubled, so nothing wraps.

@@ -4,21 +4,22 @@
 //! them is kept until the end, where the checks take precedence in the order of the definitions. A
 //! new target type belongs in `line_body`.
 
-ghost use Rattle.std.specs.Prelude.{◌≡◌, IfOk, OnOk, IsTrue};
 ghost use Rattle.dm_table.specs.declared.load.place.Part.TheVariants.{Source};
-ghost use Rattle.dm_table.specs.words.Name.{is_device_name};
 ghost use Rattle.dm_table.specs.load.Parsed.{IsParsed};
+ghost use Rattle.dm_table.specs.load.RowFaults.{Reads};
+ghost use Rattle.dm_table.specs.tables.LineReading.{made_of};
 ghost use Rattle.dm_table.specs.tables.TableText.{DescribesTable, is_row, has_values, has_names, table_checks};
-ghost use Rattle.dm_table.specs.words.Fields.{row_fields};
-ghost use Rattle.dm_table.specs.tables.TableReading.{named_in, named_of, alone, add_line, add_said};
+ghost use Rattle.dm_table.specs.words.Fields.{row_fields, texts};
+ghost use Rattle.dm_table.specs.tables.TableReading.{named_in, named_reading, alone, add_line, add_said};
 
 use crate::load::load_fault::LoadFault;
-use crate::load::place::Part;
+use crate::load::place::{Part, Place};
 use crate::load::reading::{FromRows, read_lines};
 use crate::load::row_faults::RowFault;
+use crate::tables::line_body::{is_body_row, read_body};
 use crate::tables::table::{DeviceSpec, Table};
-use crate::tables::table_row::{Row, read_named};
-use crate::words::device_name::Name;
+use crate::tables::table_row::{is_label, name_in};
+use crate::words::device_name::{Name, is_device_name};
 use crate::words::fields::cut_row;
 use std::alloc::{AllocError, Global};
 
@@ -61,43 +62,58 @@ impl FromRows for DeviceSpec {
         row: &[&[u8]],
         number: u64,
     ) -> Result<(), RowFault> {
-        match read_named(alloc, row, number) {
-            Ok(named) => {
-                add_line(alloc, devices, named)?;
-                Ok(())
-            }
-            Err(fault) => Err(fault),
+        let [label, body @ ..] = row else {
+            return Err(RowFault::Syntax);
+        };
+        if !is_label(*label) || !is_body_row(body) {
+            return Err(RowFault::Syntax);
         }
+        let at = Place {
+            part: Part::Source,
+            number,
+        };
+        read_line(alloc, devices, name_in(*label), body, at)
     }
 }
 
-/// Adds a line to the last device, where that has its name, or else as the first line of a new one.
-fn add_line(alloc: Global, devices: &mut Vec<DeviceSpec>, row: Row<'_>) -> Result<(), AllocError>
-    requires { IsTrue (is_device_name row.name.now) }
-    ensures { OnOk result (devices.new.items ≡ add_line devices.old.items (named_of row.entry)) }
+/// Reads a body into a line of the last device, where that has this name, or else of a new one.
+fn read_line(
+    alloc: Global,
+    devices: &mut Vec<DeviceSpec>,
+    name: &[u8],
+    body: &[&[u8]],
+    at: Place,
+) -> Result<(), RowFault>
+    ensures { Reads (λ done. devices.new.items) result
+        (made_of (add_line devices.old.items) (named_reading name.now at (texts body.now))) }
 {
     if let Some(last) = devices.last_mut() {
-        if row.name == last.name.as_str().as_bytes() {
-            return last.lines.push(alloc, row.line);
+        if name == last.name.as_str().as_bytes() {
+            return read_body(alloc, &mut last.lines, body, at);
         }
     }
-    devices.push(device_of(alloc, row)?)?;
+    devices.push(read_device(alloc, name, body, at)?)?;
     Ok(())
 }
 
-/// A device of one line.
-fn device_of(alloc: Global, row: Row<'_>) -> Result<DeviceSpec, AllocError>
-    requires { IsTrue (is_device_name row.name.now) }
-    ensures { IfOk result (λ device. device ≡ alone (named_of row.entry)) }
+/// Reads a body into the one line of a device.
+fn read_device(
+    alloc: Global,
+    name: &[u8],
+    body: &[&[u8]],
+    at: Place,
+) -> Result<DeviceSpec, RowFault>
+    ensures { Reads (λ device. device) result (made_of alone (named_reading name.now at (texts body.now))) }
 {
-    let Row { name, line } = row;
-    let at = line.at;
-    let mut lines = Vec::new(alloc);
-    lines.push(line)?;
+    let mut lines = Table::from_vec(Vec::new(alloc));
+    read_body(alloc, &mut lines, body, at)?;
+    if !is_device_name(name) {
+        return Err(RowFault::Name);
+    }
     Ok(DeviceSpec {
         name: Name::of_bytes(alloc, name)?,
         ro: false,
-        lines: Table::from_vec(lines),
+        lines,
         at,
     })
 }

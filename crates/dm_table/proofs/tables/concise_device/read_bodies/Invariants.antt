@@ -8,5 +8,5 @@ abbrev pub invariant-loop-body : goal.invariant-loop-body
 invariant-loop-body l =
     record {
       known : earlier_of l.fault (fault_of_bodies (texts (drop l.body-index l.bodies))) ≡ earlier_of l.fn.label (fault_of_bodies (texts l.bodies));
-      made : l.fault ≡ None → l.lines.items ++ lines_in l.at (texts (drop l.body-index l.bodies)) ≡ lines_in l.at (texts l.bodies);
+      made : l.fault ≡ None → l.lines ++ lines_in l.at (texts (drop l.body-index l.bodies)) ≡ lines_in l.at (texts l.bodies);
     }

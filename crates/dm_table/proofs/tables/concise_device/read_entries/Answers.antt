@@ -14,8 +14,8 @@ returns-in_err-lines c =
 
 pub returns : goal.returns
 returns c =
-    rw (c.in_ok-of_bytes.ensures, c.is_ro.ensures, c.from_vec.ensures) (entries_read c.args.number c.args.on_a_line c.args.entries.now _ _ c.in_ok-lines.lines.items c.label_fault-fault.result c.in-len4-up.len_at_least c.label_fault-fault.ensures c.in_ok-lines.ensures)
+    rw (c.in_ok-of_bytes.ensures, c.is_ro.ensures) (entries_read c.args.number c.args.on_a_line c.args.entries.now _ _ c.in_ok-lines.lines c.label_fault-fault.result c.in-len4-up.len_at_least c.label_fault-fault.ensures c.in_ok-lines.ensures)
 
 pub of_bytes-requires : goal.of_bytes-requires
 of_bytes-requires c =
-    entries_named c.args.number c.args.on_a_line c.args.entries.now _ (texts (take (length c.args.entries.now - 4) (drop 4 c.args.entries.now))) c.in_ok-lines.lines.items c.label_fault-fault.result c.in-len4-up.len_at_least c.label_fault-fault.ensures c.in_ok-lines.ensures
+    entries_named c.args.number c.args.on_a_line c.args.entries.now _ (texts (take (length c.args.entries.now - 4) (drop 4 c.args.entries.now))) c.in_ok-lines.lines c.label_fault-fault.result c.in-len4-up.len_at_least c.label_fault-fault.ensures c.in_ok-lines.ensures

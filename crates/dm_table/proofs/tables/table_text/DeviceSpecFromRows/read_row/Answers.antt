@@ -1,18 +1,18 @@
-use Rattle.std.proofs.Common.{sym, ap, ◌∙◌}
+use Rattle.std.proofs.Common.{◌≡◌, ap, sym, ◌∙◌}
 use Rattle.dm_table.specs.words.Fields.{texts}
-use Rattle.dm_table.specs.tables.TableReading.{add_said, named_of}
-use Rattle.dm_table.proofs.tables.TableLines.{read_named, named_read, named_refused}
+use Rattle.dm_table.specs.load.RowFaults.{Reads}
+use Rattle.dm_table.specs.tables.TableReading.{add_line}
+use Rattle.dm_table.specs.tables.LineReading.{made_of}
+use Rattle.dm_table.proofs.tables.TableFields.{row_made}
+use Rattle.dm_table.proofs.tables.TableLines.{row_values, row_fault}
 use Rattle.dm_table.proofs.tables.table_text.DeviceSpecFromRows.read_row.Goals as goal
 
-pub returns-in-Err-clause-fault : goal.returns-in-Err-clause-fault
-returns-in-Err-clause-fault c = λ other. named_refused c.args.number (texts c.args.row.now) c.in-Err.fault (c.in-Err.ensures other)
+pub returns-clause-values : goal.returns-clause-values
+returns-clause-values c =
+    let row = row_made c.args.number c.args.row.now _ c.in-len1-up.len_at_least (sym c.is_label.ensures ∙ c.if-not-is_label.false) (sym c.is_body_row.ensures ∙ c.if-not-is_body_row.false) in
+    row_values c.read_line.result c.args.number (texts c.args.row.now) c.args.devices.now.items c.read_line.new.devices.items (rw (c.name_in.ensures, row) at c.read_line.ensures)
 
-pub add_line-requires : goal.add_line-requires
-add_line-requires c = read_named c.args.number (texts c.args.row.now) (named_of c.in-Ok.named) c.in-Ok.ensures
-
-pub returns-in_ok-add_line-in-Ok-clause-values : goal.returns-in_ok-add_line-in-Ok-clause-values
-returns-in_ok-add_line-in-Ok-clause-values c =
-    c.in_ok-add_line-in-Ok.ensures ∙ ap (add_said c.args.devices.now.items) (sym (named_read c.args.number (texts c.args.row.now) (named_of c.in-Ok.named) c.in-Ok.ensures).1)
-
-pub returns-in_ok-add_line-in-Ok-clause-fault : goal.returns-in_ok-add_line-in-Ok-clause-fault
-returns-in_ok-add_line-in-Ok-clause-fault c = (named_read c.args.number (texts c.args.row.now) (named_of c.in-Ok.named) c.in-Ok.ensures).0
+pub returns-clause-fault : goal.returns-clause-fault
+returns-clause-fault c =
+    let row = row_made c.args.number c.args.row.now _ c.in-len1-up.len_at_least (sym c.is_label.ensures ∙ c.if-not-is_label.false) (sym c.is_body_row.ensures ∙ c.if-not-is_body_row.false) in
+    row_fault c.read_line.result c.args.number (texts c.args.row.now) c.args.devices.now.items c.read_line.new.devices.items (rw (c.name_in.ensures, row) at c.read_line.ensures)
