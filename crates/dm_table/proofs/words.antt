@@ -2,5 +2,6 @@
 pub mod ByteLemmas
 pub mod FieldLemmas
 pub mod LaneDigits
+pub mod MarkLemmas
 pub mod NumberLemmas
 pub mod WordLemmas

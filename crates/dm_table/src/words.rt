@@ -4,6 +4,7 @@ pub mod device_name;
 pub mod disk_name;
 pub mod fields;
 pub mod front_digits;
+pub(crate) mod marks;
 pub mod name;
 pub mod number;
 pub mod number_text;

@@ -1,5 +1,5 @@
 -- Digits as lanes, and the numbers that they are of.
-use Rattle.std.proofs.Common.{◌≡◌, ℕ, suc, ◌+◌, ◌*◌, ◌%◌, ◌^◌, ◌<◌, ◌≤◌, inl, inr, true, false, not, List, [], ◌∷◌, ◌++◌, get_or, length, map, take, refl, ap, arith, add-mul, mul_assoc}
+use Rattle.std.proofs.Common.{◌≡◌, ℕ, suc, ◌+◌, ◌*◌, ◌%◌, ◌^◌, ◌<◌, ◌≤◌, inl, inr, true, false, not, List, [], ◌∷◌, ◌++◌, get_or, length, map, take, refl, arith, add-mul, mul_assoc}
 use Rattle.std.specs.Prelude.{nat_lt}
 use Rattle.std.specs.Char.{digit_value, is_ascii_digit}
 use Rattle.std.specs.Int.Digits.{number_from_digits, number_from_digits_after, AllBelowBase}
@@ -9,7 +9,7 @@ use Rattle.std.proofs.lemmas.Bool.Decides.{nat_tests}
 use Rattle.std.proofs.lemmas.Str.{digit_value_digit}
 use Rattle.std.proofs.Math.Nat.{pow-succ'}
 use Rattle.dm_table.proofs.words.NumberLemmas.{digit_range}
-use lib.Lanes.{Each1, mask_l}
+use lib.Lanes.{Each1}
 
 -- Lists of digits
 
@@ -67,13 +67,4 @@ front_each (x ∷ xs) = elim (cases_lt 9 x) [
       let more = prefix_len (λ y. not (nat_lt 9 y)) xs in
       let next : 1 + more ≡ suc more = omega arith in
       rw (small, next) (omega arith, front_each xs)
-]
-
-pub some_other : (xs : List ℕ) → 0 < mask_l (map (λ x. nat_lt 9 x) xs) → prefix_len (λ x. not (nat_lt 9 x)) xs < length xs
-some_other [] some = absurd (omega arith)
-some_other (x ∷ xs) some = elim (cases_lt 9 x) [
-  | inl above ↦ rw (large x above) (omega arith)
-  | inr within ↦
-      let rest : 0 < mask_l (map (λ y. nat_lt 9 y) xs) = omega (arith, rw (small x within) at some) in
-      rw (small x within) (omega (arith, some_other xs rest))
 ]

@@ -14,7 +14,7 @@ use Rattle.dm_table.specs.load.LoadFault.{first_fault, unless}
 use Rattle.dm_table.specs.words.Name.{is_device_name}
 use Rattle.dm_table.specs.load.RowFaults.{row_fault}
 use Rattle.dm_table.specs.tables.LineBody.{has_target_names}
-use Rattle.dm_table.specs.tables.LineReading.{line_in, reading_of, made_of}
+use Rattle.dm_table.specs.tables.LineReading.{line_in, reading_of}
 use Rattle.dm_table.specs.tables.TableText.{NamedLine, name_in, is_row, has_values, has_names, table_checks}
 
 -- the rows of lines

@@ -3,9 +3,11 @@
 //! A text is cut once, and all checks look at its parts; the parts borrow the text. A form that
 //! cuts at another byte calls `cut` too.
 
-ghost use Rattle.std.specs.Prelude.{◌≡◌, IfOk, OnOk};
+ghost use Rattle.std.specs.Prelude.{◌≡◌, ◌++◌, ◌≤◌, IfOk, OnOk, length};
 ghost use Rattle.dm_table.specs.words.Fields.{ends_empty, parts_at, row_fields, texts};
+ghost use Rattle.dm_table.specs.words.Marks.{marks_of};
 
+use crate::words::marks::marks;
 use memchr::memchr;
 use std::alloc::{AllocError, Global};
 
@@ -27,6 +29,41 @@ pub(crate) fn cut_into<'a>(
     ensures { OnOk result (texts parts.new.items ≡ parts_at at text.now) }
 {
     parts.clear();
+    // Of a short text a search for each part would cost more than the part.
+    match marks(at, text) {
+        Some(marks) => cut_marked(parts, at, text, marks),
+        None => cut_searched(parts, at, text),
+    }
+}
+
+/// Adds the parts of a text between the bytes that are `at`, which have marks.
+fn cut_marked<'a>(
+    parts: &mut Vec<&'a [u8]>,
+    _at: u8,
+    text: &'a [u8],
+    marks: u64,
+) -> Result<(), AllocError>
+    requires marks { marks ≡ marks_of _at text.now }
+    requires short { length text.now ≤ 64 }
+    ensures { OnOk result (texts parts.new.items ≡ texts parts.old.items ++ parts_at _at text.now) }
+{
+    let mut left = marks;
+    let mut rest = text;
+    while left != 0 {
+        let end = left.trailing_zeros() as usize;
+        let (part, after) = rest.split_at(end);
+        parts.push(part)?;
+        rest = &after[1..];
+        left = (left >> end) >> 1;
+    }
+    parts.push(rest)?;
+    Ok(())
+}
+
+/// Adds the parts of a text between the bytes that are `at`, each found by a search.
+fn cut_searched<'a>(parts: &mut Vec<&'a [u8]>, at: u8, text: &'a [u8]) -> Result<(), AllocError>
+    ensures { OnOk result (texts parts.new.items ≡ texts parts.old.items ++ parts_at at text.now) }
+{
     let mut rest = text;
     while let Some(end) = memchr(at, rest) {
         let (part, after) = rest.split_at(end);

@@ -5,7 +5,8 @@ use Rattle.std.proofs.lemmas.List.{length-map}
 use Rattle.std.proofs.lemmas.Simd.{mask_l-mod, tops_compared, trailing_mask_l, zip2_splat_left}
 use lib.Count.{count_trailing_zeros}
 use lib.Lanes.{mask_l, top, zip2}
-use Rattle.dm_table.proofs.words.LaneDigits.{front_each, some_other}
+use Rattle.dm_table.proofs.words.LaneDigits.{front_each}
+use Rattle.dm_table.proofs.words.MarkLemmas.{mark_within}
 use Rattle.dm_table.proofs.words.front_digits.digits_ahead.Goals as goal
 
 others_are : (digits : List ℕ) → length digits ≡ 16 → mask_l (map (top 7) (zip2 (λ a b. cond (nat_lt a b) 255 0) (replicate 16 9) digits)) % 2 ^ 64 ≡ mask_l (map (λ x. nat_lt 9 x) digits)
@@ -18,7 +19,7 @@ ahead_are digits long others =
     let is = others_are digits long in
     let some : 0 < mask_l (map (λ x. nat_lt 9 x) digits) = pos_of_ne-zero (λ none. others (is ∙ none)) in (
       ap (count_trailing_zeros 64) is ∙ trailing_mask_l (λ x. nat_lt 9 x) 64 digits (omega (arith, long)) some,
-      omega (arith, some_other digits some, long),
+      omega (arith, mark_within (λ x. nat_lt 9 x) digits some, long),
     )
 
 pub returns-clause-within : goal.returns-clause-within

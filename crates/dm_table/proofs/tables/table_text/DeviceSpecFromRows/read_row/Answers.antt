@@ -1,8 +1,5 @@
-use Rattle.std.proofs.Common.{◌≡◌, ap, sym, ◌∙◌}
+use Rattle.std.proofs.Common.{sym, ◌∙◌}
 use Rattle.dm_table.specs.words.Fields.{texts}
-use Rattle.dm_table.specs.load.RowFaults.{Reads}
-use Rattle.dm_table.specs.tables.TableReading.{add_line}
-use Rattle.dm_table.specs.tables.LineReading.{made_of}
 use Rattle.dm_table.proofs.tables.TableFields.{row_made}
 use Rattle.dm_table.proofs.tables.TableLines.{row_values, row_fault}
 use Rattle.dm_table.proofs.tables.table_text.DeviceSpecFromRows.read_row.Goals as goal

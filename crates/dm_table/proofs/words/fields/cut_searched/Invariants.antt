@@ -1,10 +1,10 @@
 -- the parts so far, and those of the rest, are the parts of the text
 use Rattle.std.proofs.Common.{◌≡◌, ◌++◌, length}
 use Rattle.dm_table.specs.words.Fields.{texts, parts_at}
-use Rattle.dm_table.proofs.words.fields.cut_into.Given as goal
+use Rattle.dm_table.proofs.words.fields.cut_searched.Given as goal
 
 abbrev pub invariant-loop-end : goal.invariant-loop-end
-invariant-loop-end l = texts l.parts.items ++ parts_at l.at l.rest ≡ parts_at l.at l.text
+invariant-loop-end l = texts l.parts.items ++ parts_at l.at l.rest ≡ texts l.fn.parts.items ++ parts_at l.at l.text
 
 abbrev pub decreases-loop-end : goal.decreases-loop-end
 decreases-loop-end l = length l.rest

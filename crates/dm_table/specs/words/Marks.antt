@@ -1,0 +1,6 @@
+-- The places of a byte in a text, as the bits of a number: the lowest bit stands for the first byte.
+use Rattle.std.specs.Prelude.{ℕ, ◌==◌, List, map}
+use lib.Lanes.{mask_l}
+
+abbrev pub marks_of : ℕ → List ℕ → ℕ
+marks_of of text = mask_l (map (λ byte. byte == of) text)

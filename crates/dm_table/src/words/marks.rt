@@ -1,0 +1,76 @@
+//! The places of a byte in a short text, found together: a bit for each, the lowest for the first byte.
+//!
+//! A text is read as its first bytes and its last ones, which may overlap, so that nothing after it is read.
+
+ghost use Rattle.std.specs.Prelude.{◌≡◌, ◌-◌, ◌*◌, ◌<◌, ◌≤◌, Bool, List, IfSome, drop, length, take};
+ghost use Rattle.dm_table.specs.words.Marks.{marks_of};
+ghost use lib.Lanes.{mask_l};
+
+use crate::words::room::as_room;
+use std::simd::prelude::*;
+
+/// The places of a byte in a text of 8 to 64 bytes.
+#[inline(always)]
+pub(crate) fn marks(of: u8, text: &[u8]) -> Option<u64>
+    ensures marks { IfSome result (λ marks. marks ≡ marks_of of text.now) }
+    ensures short { IfSome result (λ marks. length text.now ≤ 64) }
+{
+    let len = text.len();
+    if len < 8 || 64 < len {
+        None
+    } else if len < 16 {
+        let first = marks_of_8(of, &text[..8]);
+        Some(joined::<8>(first, marks_of_8(of, &text[len - 8..]), len))
+    } else if len < 32 {
+        let first = marks_of_16(of, &text[..16]);
+        Some(joined::<16>(first, marks_of_16(of, &text[len - 16..]), len))
+    } else {
+        let first = marks_of_32(of, &text[..32]);
+        Some(joined::<32>(first, marks_of_32(of, &text[len - 32..]), len))
+    }
+}
+
+/// The marks of a text of `len` bytes, from those of its first bytes and of its last ones.
+#[inline(always)]
+fn joined<const HALF: usize>(first: u64, last: u64, len: usize) -> u64
+    requires half { HALF ≤ 32 }
+    requires enough { HALF ≤ len }
+    requires all { len ≤ 2 * HALF }
+    ensures { (marks : List Bool) → length marks ≡ len → first ≡ mask_l (take HALF marks)
+        → last ≡ mask_l (drop (len - HALF) marks) → result ≡ mask_l marks }
+{
+    ((last >> (2 * HALF - len)) << HALF) | first
+}
+
+/// The places of a byte in a text of 8 bytes.
+#[inline(always)]
+fn marks_of_8(of: u8, text: &[u8]) -> u64
+    requires { length text.now ≡ 8 }
+    ensures { result ≡ marks_of of text.now }
+{
+    u8x8::from_array(*as_room::<8>(text))
+        .simd_eq(u8x8::splat(of))
+        .to_bitmask()
+}
+
+/// The places of a byte in a text of 16 bytes.
+#[inline(always)]
+fn marks_of_16(of: u8, text: &[u8]) -> u64
+    requires { length text.now ≡ 16 }
+    ensures { result ≡ marks_of of text.now }
+{
+    u8x16::from_array(*as_room::<16>(text))
+        .simd_eq(u8x16::splat(of))
+        .to_bitmask()
+}
+
+/// The places of a byte in a text of 32 bytes.
+#[inline(always)]
+fn marks_of_32(of: u8, text: &[u8]) -> u64
+    requires { length text.now ≡ 32 }
+    ensures { result ≡ marks_of of text.now }
+{
+    u8x32::from_array(*as_room::<32>(text))
+        .simd_eq(u8x32::splat(of))
+        .to_bitmask()
+}
