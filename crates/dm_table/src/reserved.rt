@@ -75,6 +75,7 @@ impl<T> Reserved<T> {
 
 impl<T: Drop> Reserved<T> {
     /// Puts a value at the end, and takes memory where there is no room. Only who has an allocator may.
+    #[inline(always)]
     pub(crate) fn grow(&mut self, _alloc: Global, value: T) -> Result<(), AllocError>
         ensures { OnOk result (self.new.items ≡ self.old.items ++ value ∷ []) }
     {

@@ -50,6 +50,7 @@ impl<T> Listed<T> {
 
 impl<T: Drop> Listed<T> {
     /// Adds a value at the end. Only who has an allocator may.
+    #[inline(always)]
     pub(crate) fn push(&mut self, alloc: Global, value: T) -> Result<(), AllocError>
         ensures { OnOk result (self.new ≡ self.old ++ value ∷ []) }
     {
