@@ -1,6 +1,6 @@
 //! Volumes, as their sections say them.
 
-ghost use Rattle.std.specs.Prelude.{◌≡◌, ◌++◌, ◌+◌, ◌||◌, codes, decimal, map, IfOk};
+ghost use Rattle.std.specs.Prelude.{◌≡◌, ◌++◌, ◌+◌, ◌||◌, codes, decimal, map, IfOk, OnOk};
 ghost use Rattle.std.specs.Result.{result_err};
 ghost use Rattle.std.specs.List.{flat_map, list_any, range_with_len};
 ghost use Rattle.std.specs.String.{string_bytes};
@@ -114,8 +114,9 @@ fn segment_sections<'s, 'a>(
         ≡ flat_map (λ i. section_at (codes "segment" ++ decimal i) volume.now) (range_with_len 1 count)) }
 {
     let mut sections = Vec::new(alloc);
+    let mut key = String::new(alloc);
     for i in 0..count {
-        let Ok(key) = segment_key(alloc, i + 1) else {
+        let Ok(()) = put_segment_key(&mut key, i + 1) else {
             return Err(memory_fault());
         };
         let section = section_at(volume, key.as_str())?;
@@ -126,11 +127,12 @@ fn segment_sections<'s, 'a>(
     Ok(sections)
 }
 
-/// The key of segment number `i` of a volume.
-fn segment_key(alloc: Global, i: u64) -> Result<String, AllocError>
-    ensures { IfOk result (λ key. string_bytes key ≡ codes "segment" ++ decimal i) }
+/// Puts the key of segment number `i` of a volume in place of another, so that one text serves all of them.
+fn put_segment_key(key: &mut String, i: u64) -> Result<(), AllocError>
+    ensures { OnOk result (string_bytes key.new ≡ codes "segment" ++ decimal i) }
 {
-    format!(in alloc; "segment{i}")
+    key.clear();
+    write!(key, "segment{i}")
 }
 
 /// Whether a volume of this status may be written. lvm2 writes a locked right among the flags, as of every
