@@ -219,8 +219,39 @@ TAKEN = [
     (chain(32), "sda 8\n", "R d32 0 8\n", "1 R sda 0 8\n"),
 ]
 
+# Lengths of lines. One of 8 to 64 bytes is cut in another way than others: its first bytes and its last ones at once.
+LENGTHS = [6, 7, 8, 9, 10, 11, 14, 15, 16, 17, 18, 30, 31, 32, 33, 34, 48, 62, 63, 64, 65, 66, 130]
+
+
+def check_lengths(tally, program):
+    """Lines of these lengths, as they should be, and with one more space at each place."""
+    def table(name, line):
+        return program.map(line + "\n", "", "R %s 0 8\n" % name)
+
+    def disks(name, line):
+        return program.map("a: 0 8 linear %s 0\n" % name, line + "\n", "R a 0 8\n")
+
+    def concise(name, line):
+        words = ["map", "concise", program.file("concise", "a,,,,%s" % line), program.file("disks", "%s 8\n" % name)]
+        return program.run(words, given="R a 0 8\n")
+
+    # The line of a name, what of it may be written otherwise, its fault, the answer to a request, and how it is loaded.
+    for form, others, fault, answer, load in [
+        ("%s: 0 8 zero", ["%s: 0 8 zero "], "source: syntax at 1", "1 zero 8\n", table),
+        ("%s 8", [], "disks: syntax at 1", "1 R %s 0 8\n", disks),
+        ("0 8 linear %s 0", [" 0 8 linear %s 0", "0 8 linear %s 0 "], "source: syntax at 1", "1 R %s 0 8\n", concise),
+    ]:
+        for name in ["n" * (length - len(form % "")) for length in LENGTHS if length > len(form % "")]:
+            line = form % name
+            taken = [line] + [other % name for other in others]
+            places = [0] + [at for at, byte in enumerate(line) if byte == " "] + [len(line)]
+            for text in taken + [line[:at] + " " + line[at:] for at in places]:
+                wanted = (0, answer.replace("%s", name)) if text in taken else (1, "", "dmremap: %s\n" % fault)
+                tally.same("the line %r" % text, load(name, text), *wanted)
+
 
 def check(tally, program):
+    check_lengths(tally, program)
     tables = [(table, DISK, message) for table, message in TABLES]
     disk_lists = [(VOLUME, disks, message) for disks, message in DISK_LISTS]
     for table, disks, message in REFUSED + tables + disk_lists + SEVERAL_FAULTS:
