@@ -109,6 +109,28 @@ ROWS = [
      "W s 1 1\n", "1 copy base 0 8 cow 16\n1 W cow 17 1\n"),
 ]
 
+
+def over_an_end(size):
+    """Such a row: a write over the end of a chunk of this size, and a read of the same."""
+    last, end = 3 * size - 1, 3 * size
+    return ("a write over the end of a chunk of %d" % size, "s: 0 %d snapshot base cow P %d\n" % (4 * size, size),
+            "base %d\ncow %d\n" % (4 * size, 4 * size), "W s %d 2\nR s %d 2\n" % (last, last),
+            "1 copy base %d %d cow %d\n1 W cow %d 1\n1 copy base %d %d cow %d\n1 W cow %d 1\n2 R cow %d 2\n"
+            % (2 * size, size, 2 * size, last, end, size, end, end, last))
+
+
+def past_an_area(size):
+    """Such a row: a write of so many chunks of this size that the last one is kept after the second area."""
+    places = [*range(2, 2 + 32 * size), 3 + 32 * size]
+    length = size * len(places)
+    return ("a write past an area of chunks of %d" % size, "s: 0 %d snapshot base cow P %d\n" % (length, size),
+            "base %d\ncow %d\n" % (length, length + 3 * size), "W s 0 %d\n" % length,
+            "".join("1 copy base %d %d cow %d\n1 W cow %d %d\n" % (number * size, size, at * size, at * size, size)
+                    for number, at in enumerate(places)))
+
+
+ROWS += [over_an_end(1 << it) for it in range(11)] + [past_an_area(1 << it) for it in range(5)]
+
 # With `--status`: a name, FILE, DISKS, the requests, the output, why the run ended early, if it did, and the status.
 STATUS = [
     ("a snapshot that is written", "s: 0 32 snapshot base cow P 8\n", "base 32\ncow 32\n", "W s 1 1\n",
