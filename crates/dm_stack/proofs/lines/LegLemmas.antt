@@ -1,19 +1,23 @@
 -- Legs: what a target without a state has below its sectors goes on in a row as far as a leg does, and lies inside what it names.
-use Rattle.std.proofs.Common.{◌≡◌, ℕ, ◌+◌, ◌-◌, ◌^◌, ◌<◌, ◌≤◌, false, List, Option, Some, None, length, get_or, refl, sym, ap, ◌∙◌, arith}
+use Rattle.std.proofs.Common.{◌≡◌, ℕ, zero, suc, ◌+◌, ◌-◌, ◌^◌, ◌<◌, ◌≤◌, true, false, List, [], ◌∷◌, Option, Some, None, length, get_or, inl, inr, refl, sym, ap, subst, ◌∙◌, arith}
 use Rattle.std.specs.Prelude.{min, slice_get}
+use Rattle.std.proofs.lemmas.Bool.{and_parts}
+use Rattle.std.proofs.lemmas.Option.{slice_get_cases}
 use Rattle.dm_stack.specs.declared.lines.found_columns.FoundColumn.{FoundColumn}
 use Rattle.dm_stack.specs.declared.lines.found_line.FoundTarget.{FoundTarget}
 use Rattle.dm_stack.specs.declared.lines.found_line.FoundTarget.TheVariants as found
 use Rattle.dm_stack.specs.declared.id.Lower.{Lower}
+use Rattle.dm_stack.specs.declared.id.Lower.TheVariants.{Device, Disk}
 use Rattle.dm_stack.specs.declared.lines.leg.Beneath.{Beneath}
 use Rattle.dm_stack.specs.declared.lines.leg.Beneath.TheVariants as beneath
 use Rattle.dm_stack.specs.declared.lines.leg.Leg.{Leg}
 use Rattle.dm_stack.specs.declared.lines.stripe_position.StripePosition.{StripePosition}
-use Rattle.dm_stack.specs.lines.Below.{Below, Lies, below_column, below_plain, chunk_at, column_of, in_column, has_state, AreStripes, IsTargetSound}
-use Rattle.dm_stack.specs.Description.{Description, lower_len}
-use Rattle.dm_stack.specs.lines.Leg.{AreInside, AreLeft, GoesOn, HasSectors, IsBeneath, IsLeg}
+use Rattle.dm_stack.specs.lines.Below.{Below, Lies, IsZero, IsError, below_column, below_plain, chunk_at, column_of, in_column, has_state, AreStripes, IsTargetSound}
+use Rattle.dm_stack.specs.Description.{Description, disk_len, lower_len}
+use Rattle.dm_stack.specs.lines.FoundColumns.{are_on_disks, is_disk}
+use Rattle.dm_stack.specs.lines.Leg.{after_leg, has_disk_columns, AreInside, AreLeft, AreOnDisks, GoesOn, HasSectors, IsBeneath, IsLeg, LegsView, LiesOnDisk}
 use Rattle.dm_stack.specs.lines.StripePosition.{IsStripePosition}
-use Rattle.dm_stack.proofs.InStack.{lower_small}
+use Rattle.dm_stack.proofs.InStack.{disk_there, lower_small}
 use Rattle.dm_stack.proofs.lines.StripeLemmas.{below_chunk, column_got, column_inside, in_chunk, other_chunk}
 
 -- Sectors that a line has
@@ -112,3 +116,79 @@ leg_inside stack device start len distance most n target below some few is sound
 
 pub leg_lies_inside : (stack : Description) (device start len distance most : ℕ) (target : FoundTarget) (leg : Leg) → IsLeg target distance most leg → IsTargetSound stack device start len target → distance + most ≤ len → AreInside stack leg.len leg.below
 leg_lies_inside stack device start len distance most target leg is sound inside = leg_inside stack device start len distance most leg.len target leg.below is.some is.within is.is sound inside
+
+-- Legs on disks
+
+column_disk : (columns : List FoundColumn) (i : ℕ) (column : FoundColumn) → are_on_disks columns ≡ true → slice_get columns i ≡ Some column → is_disk column.to ≡ true
+column_disk [] i column each e = absurd cc
+column_disk (c ∷ cs) zero column each e =
+    let here = (and_parts (is_disk c.to) (are_on_disks cs) each).0 in let same : c ≡ column = cc in rw same at here
+column_disk (c ∷ cs) (suc i) column each e = column_disk cs i column (and_parts (is_disk c.to) (are_on_disks cs) each).1 e
+
+-- a sector that lies on a disk
+pub record IsOnADisk (below : Below) : Type 0 where
+  pub disk : ℕ
+  pub sector : ℕ
+  pub is : below ≡ Lies (Disk disk) sector
+
+on_a_disk : (to : Lower) (sector : ℕ) → is_disk to ≡ true → IsOnADisk (Lies to sector)
+on_a_disk (Device device) sector is = absurd cc
+on_a_disk (Disk disk) sector is = record { disk = disk; sector = sector; is = refl }
+
+pub sector_on_disk : (stack : Description) (device start len distance : ℕ) (target : FoundTarget) → IsTargetSound stack device start len target → has_disk_columns target ≡ true → IsOnADisk (below_plain target distance)
+sector_on_disk stack device start len distance (found.Striped chunk_size columns) sound each =
+    let i = column_of chunk_size (length columns) distance in
+    let some = sound.some in
+    let within : i < length columns = omega (arith, some) in
+    elim (slice_get_cases columns i).1 [
+      | inl got ↦ let on = on_a_disk got.0.to (got.0.offset + in_column chunk_size (length columns) distance) (column_disk columns i got.0 each got.2) in rw got.2 on
+      | inr past ↦ absurd (omega (arith, within, past.0))
+    ]
+sector_on_disk stack device start len distance target sound each = absurd cc
+
+-- what is beneath sectors of a line on disks is a row of sectors of one
+record IsDiskRow (target : FoundTarget) (distance n : ℕ) (below : Beneath) : Type 0 where
+  disk : ℕ
+  sector : ℕ
+  is : below ≡ beneath.Lies (Disk disk) sector
+  on : GoesOn target distance n (λ i. Lies (Disk disk) (sector + i))
+
+disk_row : (target : FoundTarget) (distance n : ℕ) (below : Beneath) → 1 ≤ n → IsBeneath target distance n below → has_disk_columns target ≡ true → IsOnADisk (below_plain target distance) → IsDiskRow target distance n below
+disk_row target distance n (beneath.Lies to sector) some is each first =
+    let e : distance + 0 ≡ distance = omega arith in
+    let here : Lies to (sector + 0) ≡ Lies (Disk first.disk) first.sector = sym (is.below 0 (omega (arith, some))) ∙ ap (below_plain target) e ∙ first.is in
+    let lower : to ≡ Disk first.disk = cc in
+    record { disk = first.disk; sector = sector; is = ap (λ (l : Lower). beneath.Lies l sector) lower; on = subst (λ (l : Lower). GoesOn target distance n (λ i. Lies l (sector + i))) lower is }
+disk_row target distance n beneath.Zeros some is each first =
+    let e : distance + 0 ≡ distance = omega arith in
+    let here : IsZero ≡ Lies (Disk first.disk) first.sector = sym (is.below 0 (omega (arith, some))) ∙ ap (below_plain target) e ∙ first.is in absurd cc
+disk_row target distance n beneath.Errors some is each first =
+    let e : distance + 0 ≡ distance = omega arith in
+    let here : IsError ≡ Lies (Disk first.disk) first.sector = sym (is.below 0 (omega (arith, some))) ∙ ap (below_plain target) e ∙ first.is in absurd cc
+disk_row target distance n (beneath.Snapshot snapshot) some is each first = let no = ap has_disk_columns is in absurd cc
+disk_row target distance n (beneath.Origin origin) some is each first = let no = ap has_disk_columns is in absurd cc
+
+-- the next leg of a row on disks lies on one, which has its sectors
+pub record IsDiskLeg (stack : Description) (legs : LegsView) (leg : Leg) : Type 0 where
+  pub disk : ℕ
+  pub sector : ℕ
+  pub is : leg.below ≡ beneath.Lies (Disk disk) sector
+  pub on : GoesOn legs.target legs.distance leg.len (λ i. Lies (Disk disk) (sector + i))
+  pub there : disk < length stack.disks
+  pub inside : sector + leg.len ≤ disk_len stack disk
+
+pub leg_on_disk : (stack : Description) (legs : LegsView) (leg : Leg) → AreOnDisks stack legs → IsLeg legs.target legs.distance legs.left leg → IsDiskLeg stack legs leg
+leg_on_disk stack legs leg row is =
+    let first = sector_on_disk stack row.device row.start row.len legs.distance legs.target row.sound row.columns in
+    let here = disk_row legs.target legs.distance leg.len leg.below is.some is.is row.columns first in
+    let lies : AreInside stack leg.len leg.below = leg_lies_inside stack row.device row.start row.len legs.distance legs.left legs.target leg is row.sound row.inside in
+    let inside : here.sector + leg.len ≤ disk_len stack here.disk = subst (λ (b : Beneath). AreInside stack leg.len b) here.is lies in
+    record { disk = here.disk; sector = here.sector; is = here.is; on = here.on; there = disk_there stack here.disk here.sector (let some = is.some in omega (arith, some, inside)); inside = inside }
+
+-- and the row after it is one on disks
+pub legs_after : (stack : Description) (legs : LegsView) (n : ℕ) → n ≤ legs.left → AreOnDisks stack legs → AreOnDisks stack (after_leg legs n)
+legs_after stack legs n few row = record { device = row.device; start = row.start; len = row.len; sound = row.sound; inside = let inside = row.inside in omega (arith, few, inside); columns = row.columns }
+
+-- a leg that is known to lie on a disk
+pub lies_on_disk : (below : Beneath) (disk sector : ℕ) → below ≡ beneath.Lies (Disk disk) sector → LiesOnDisk below
+lies_on_disk below disk sector is = rw is tt

@@ -1,6 +1,7 @@
 -- Legs: where the first sectors of a line lie, and how many go on like that.
-use Rattle.std.specs.Prelude.{ℕ, ◌≡◌, ◌+◌, ◌-◌, ◌≤◌, ◌<◌, false, true, List, length}
+use Rattle.std.specs.Prelude.{ℕ, ◌≡◌, ◌+◌, ◌-◌, ◌≤◌, ◌<◌, Bool, false, true, List, length}
 use Rattle.dm_stack.specs.declared.lines.found_columns.FoundColumn.{FoundColumn}
+use Rattle.dm_stack.specs.declared.id.Lower.TheVariants.{Device, Disk}
 use Rattle.dm_stack.specs.declared.lines.found_line.FoundTarget.{FoundTarget}
 use Rattle.dm_stack.specs.declared.lines.found_line.FoundTarget.TheVariants as found
 use Rattle.dm_stack.specs.declared.lines.leg.Beneath.{Beneath}
@@ -10,6 +11,7 @@ use Rattle.dm_stack.specs.declared.checks.limits.TheConstants.{MOST_LENGTH}
 use Rattle.dm_stack.specs.declared.lines.stripe_position.StripePosition.{StripePosition}
 use Rattle.dm_stack.specs.lines.Below.{Below, Lies, IsZero, IsError, below_plain, chunk_at, has_state, is_same_chunk, is_striped, IsTargetSound}
 use Rattle.dm_stack.specs.Description.{Description, lower_len}
+use Rattle.dm_stack.specs.lines.FoundColumns.{are_on_disks}
 use Rattle.dm_stack.specs.checks.Soundness.{IsSound}
 use Rattle.dm_stack.specs.lines.StripePosition.{IsStripePosition}
 
@@ -65,3 +67,22 @@ after_leg legs len = record { target = legs.target; distance = legs.distance + l
 pub record AreLeft (chunk_size : ℕ) (columns : List FoundColumn) (position : StripePosition) (distance left : ℕ) : Type 0 where
   pub there : HasSectors (found.Striped chunk_size columns) distance left
   pub at : 0 < left → IsStripePosition chunk_size (length columns) distance position
+
+-- a target is striped, with all its columns on disks
+abbrev pub has_disk_columns : FoundTarget → Bool
+has_disk_columns (found.Striped chunk columns) = are_on_disks columns
+has_disk_columns _ = false
+
+-- the sectors of a leg lie in a row on a disk
+abbrev pub LiesOnDisk : Beneath → Type 0
+LiesOnDisk (beneath.Lies (Disk disk) sector) = Unit {0}
+LiesOnDisk _ = ⊥
+
+-- a row of legs lies on disks of a stack: its target could stand there in a line that has the sectors that are left, and has columns on disks
+pub record AreOnDisks (stack : Description) (legs : LegsView) : Type 0 where
+  pub device : ℕ
+  pub start : ℕ
+  pub len : ℕ
+  pub sound : IsTargetSound stack device start len legs.target
+  pub inside : legs.distance + legs.left ≤ len
+  pub columns : has_disk_columns legs.target ≡ true

@@ -1,8 +1,9 @@
-//! The columns of a striped line, with their number to divide by.
+//! The columns of a striped line, with their number to divide by, and whether they are all on disks.
 //!
 //! They are boxed, so that a line without columns takes no room for them.
 
 ghost use Rattle.std.specs.Prelude.{◌≡◌, IfOk, length};
+ghost use Rattle.dm_stack.specs.lines.FoundColumns.{are_on_disks};
 
 use crate::id::Lower;
 use crate::lines::divisor::Divisor;
@@ -23,22 +24,25 @@ pub struct FoundColumns {
     counted: ReservedBox<CountedColumns>,
 }
 
-/// Columns, and how many these are.
+/// Columns, how many these are, and whether each of them is on a disk.
 #[derive(Debug, Drop)]
 struct CountedColumns {
     columns: Listed<FoundColumn>,
     count: Divisor,
+    on_disks: bool,
 }
 
 impl Model for FoundColumns {
     ghost use Rattle.std.specs.Prelude.{◌≡◌, List, length};
     ghost use Rattle.dm_stack.specs.declared.lines.found_columns.FoundColumn.{FoundColumn};
+    ghost use Rattle.dm_stack.specs.lines.FoundColumns.{are_on_disks};
 
     ghost Value = { List FoundColumn };
 
     ghost view = { λ found. found.counted.columns };
 
-    ghost invariant = { λ found. found.counted.count ≡ length found.counted.columns };
+    ghost invariant = { λ found. (found.counted.count ≡ length found.counted.columns)
+        × (found.counted.on_disks ≡ are_on_disks found.counted.columns) };
 }
 
 impl FoundColumns {
@@ -50,8 +54,16 @@ impl FoundColumns {
         ensures { IfOk result (λ found. found ≡ columns.items) }
     {
         let count = Divisor::new(columns.len() as u64);
+        let on_disks = are_on_disks(columns.as_slice());
         let columns = Listed::from_vec(columns);
-        let counted = ReservedBox::new(alloc, CountedColumns { columns, count })?;
+        let counted = ReservedBox::new(
+            alloc,
+            CountedColumns {
+                columns,
+                count,
+                on_disks,
+            },
+        )?;
         Ok(FoundColumns { counted })
     }
 
@@ -70,4 +82,24 @@ impl FoundColumns {
     {
         &self.counted.as_ref().count
     }
+
+    /// Whether each column is on a disk.
+    #[inline(always)]
+    pub fn are_on_disks(&self) -> bool
+        ensures { result ≡ are_on_disks self.now }
+    {
+        self.counted.as_ref().on_disks
+    }
+}
+
+/// Whether each of these columns is on a disk.
+fn are_on_disks(columns: &[FoundColumn]) -> bool
+    ensures { result ≡ are_on_disks columns.now }
+{
+    for column in columns {
+        if !matches!(column.to, Lower::Disk(_)) {
+            return false;
+        }
+    }
+    true
 }

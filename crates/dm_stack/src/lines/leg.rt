@@ -4,12 +4,12 @@
 //! more than one leg, in `legs`: a walk goes down leg by leg, and goes by what lies beneath a leg, not by
 //! the target. A new target is an arm of `leg`.
 
-ghost use Rattle.std.specs.Prelude.{ℕ, ◌+◌, ◌≤◌};
+ghost use Rattle.std.specs.Prelude.{ℕ, ◌≡◌, ◌+◌, ◌≤◌};
 ghost use Rattle.dm_stack.specs.lines.Below.{IsTargetSound};
 ghost use Rattle.dm_stack.specs.Description.{Description};
-ghost use Rattle.dm_stack.specs.lines.Leg.{AreInside, HasSectors, IsLeg};
+ghost use Rattle.dm_stack.specs.lines.Leg.{AreInside, HasSectors, IsLeg, LiesOnDisk};
 
-use crate::id::Lower;
+use crate::id::{DiskId, Lower};
 use crate::lines::found_line::{FoundOrigin, FoundSnapshot, FoundTarget};
 
 /// What lies beneath the sectors of a leg.
@@ -32,6 +32,24 @@ pub enum Beneath<'l> {
 pub struct Leg<'l> {
     pub below: Beneath<'l>,
     pub len: u64,
+}
+
+impl<'l> Leg<'l> {
+    /// The disk that it lies on, and its first sector there.
+    #[inline(always)]
+    pub fn on_disk(&self) -> (DiskId, u64)
+        requires { LiesOnDisk self.now.below }
+        ensures { self.now.below ≡ Beneath.Lies (Lower.Disk result.0) result.1 }
+    {
+        let Beneath::Lies {
+            to: Lower::Disk(disk),
+            sector,
+        } = self.below
+        else {
+            unreachable!()
+        };
+        (disk, sector)
+    }
 }
 
 impl FoundTarget {

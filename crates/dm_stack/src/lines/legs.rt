@@ -6,7 +6,7 @@
 
 ghost use Rattle.std.specs.Prelude.{◌≡◌, true, IfNone, IfSome};
 ghost use Rattle.dm_stack.specs.lines.Below.{is_striped};
-ghost use Rattle.dm_stack.specs.lines.Leg.{after_leg, HasSectors, IsLeg};
+ghost use Rattle.dm_stack.specs.lines.Leg.{after_leg, has_disk_columns, HasSectors, IsLeg};
 
 use crate::lines::found_columns::FoundColumn;
 use crate::lines::found_line::FoundTarget;
@@ -59,6 +59,17 @@ impl FoundTarget {
             position: position_at(chunk, columns.count(), distance),
             distance,
             left: len,
+        }
+    }
+
+    /// Whether it is striped, with all its columns on disks.
+    #[inline(always)]
+    pub fn has_disk_columns(&self) -> bool
+        ensures { result ≡ has_disk_columns self.now }
+    {
+        match self {
+            FoundTarget::Striped { columns, .. } => columns.are_on_disks(),
+            _ => false,
         }
     }
 }
