@@ -2,5 +2,6 @@ pub mod WorkedRows
 pub mod WorkedSnapshots
 -- what crates above cite: they see no folder of a module that is private
 pub use Rattle.dm_map.proofs.own.ChunkOutcomes
+pub use Rattle.dm_map.proofs.pieces.LegUnits
 pub use Rattle.dm_map.proofs.walk.LevelLemmas
 pub use Rattle.dm_map.proofs.walk.Rows

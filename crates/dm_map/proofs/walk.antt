@@ -5,6 +5,7 @@ pub mod ChunkCopies
 pub mod ChunkTaking
 pub mod Chunks
 pub mod Depths
+pub mod DiskColumns
 pub mod HomeLemmas
 pub mod LevelLemmas
 pub mod LineRanges

@@ -20,13 +20,14 @@ ghost use Rattle.dm_map.specs.state.Usage.{usage_of};
 ghost use Rattle.dm_map.specs.walk.Home.{or_home};
 ghost use Rattle.dm_map.specs.walk.Range.{HasRoomFor, IsWalked};
 
+use crate::pieces::piece::disk_piece;
 use crate::pieces::sink::Sink;
 use crate::state::tables::empty_tables;
 use crate::state::taken::Taken;
 use crate::state::usage::{Usage, usage_of};
 use crate::state::walker::Walker;
 use crate::walk::home::{Home, handed};
-use crate::walk::range::{disk_piece, fail, map_top};
+use crate::walk::range::{fail, map_top};
 use dm_stack::{DeviceId, Looker};
 use dm_table::{Op, Request};
 use std::alloc::{AllocError, Global};

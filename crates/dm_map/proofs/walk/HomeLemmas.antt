@@ -12,13 +12,13 @@ use Rattle.dm_stack.specs.lines.Below.{IsLineOf}
 use Rattle.dm_stack.proofs.InStack.{disk_there}
 use Rattle.dm_map.specs.declared.walk.home.Home.{Home}
 use Rattle.dm_map.specs.pieces.Sink.{IsHanded, SinkPast}
-use Rattle.dm_map.specs.pieces.Units.{BlockUnit, units_in}
+use Rattle.dm_map.specs.pieces.Units.{BlockUnit, disk_unit, units_in}
 use Rattle.dm_map.specs.state.Snapshots.{read_over}
 use Rattle.dm_map.specs.state.State.{taken_at}
 use Rattle.dm_map.specs.state.Walker.{WalkerView}
 use Rattle.dm_map.specs.walk.Bound.{IsMapped, Mapping, found_mapping, range_mapping}
 use Rattle.dm_map.specs.walk.Home.{IsHome, handed, or_home}
-use Rattle.dm_map.specs.walk.Range.{disk_unit, range_step, refuses, IsLegOf, IsWalked}
+use Rattle.dm_map.specs.walk.Range.{range_step, refuses, IsLegOf, IsWalked}
 use Rattle.dm_map.specs.walk.Steps.{Step, keep}
 use Rattle.dm_map.proofs.walk.Bounds.{mapped_below, mapped_line}
 use Rattle.dm_map.proofs.walk.Ranges.{leg_lies, range_disk}

@@ -14,10 +14,10 @@ use Rattle.dm_stack.specs.lines.Below.{Below, Lies, IsZero, IsError, below_plain
 use Rattle.dm_stack.specs.lines.Leg.{GoesOn, IsBeneath}
 use Rattle.dm_map.specs.state.State.{State}
 use Rattle.dm_map.specs.walk.Steps.{keep}
-use Rattle.dm_map.specs.pieces.Units.{Zeros, Fails, next_unit, units_in}
+use Rattle.dm_map.specs.pieces.Units.{Zeros, Fails, disk_unit, next_unit, units_in}
 use Rattle.dm_map.specs.walk.Reads.{by_below, read_unit}
 use Rattle.dm_map.specs.walk.Mapping.{sector_step, write_step}
-use Rattle.dm_map.specs.walk.Range.{disk_unit, zero_unit, below_step, refuses, range_step, target_step, line_step, origin_step, served_sector}
+use Rattle.dm_map.specs.walk.Range.{zero_unit, below_step, refuses, range_step, target_step, line_step, origin_step, served_sector}
 use Rattle.dm_map.proofs.walk.Rows.{steps_same, steps_still}
 
 still_zeros : (op : Op) → next_unit (zero_unit op) ≡ zero_unit op
@@ -77,7 +77,7 @@ read_step stack levels IsZero state = refl
 read_step stack levels IsError state = refl
 
 -- one sector of a target without a state
-plain_step : (stack : Description) (op : Op) (levels device : ℕ) (target : FoundTarget) (distance : ℕ) (state : State) → has_state target ≡ false → target_step stack op levels device target state distance ≡ below_step stack op levels (below_plain target distance) state
+pub plain_step : (stack : Description) (op : Op) (levels device : ℕ) (target : FoundTarget) (distance : ℕ) (state : State) → has_state target ≡ false → target_step stack op levels device target state distance ≡ below_step stack op levels (below_plain target distance) state
 plain_step stack op levels device (found.Snapshot snapshot) distance state plain = absurd cc
 plain_step stack op levels device (found.Origin origin) distance state plain = absurd cc
 plain_step stack ops.Read levels device target distance state plain = read_step stack levels (below_plain target distance) state

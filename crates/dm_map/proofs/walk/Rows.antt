@@ -34,11 +34,11 @@ on_err_then (Ok x) P Q f p = tt
 on_err_then (Err e) P Q f p = f p
 
 -- what holds, holds where there is none, and so does what follows from it
-on_ok : {T E : Type 0} (r : Result T E) (P : Type 0) → P → OnOk r P
+pub on_ok : {T E : Type 0} (r : Result T E) (P : Type 0) → P → OnOk r P
 on_ok (Ok x) P p = p
 on_ok (Err e) P p = tt
 
-on_ok_then : {T E : Type 0} (r : Result T E) (P Q : Type 0) → (P → Q) → OnOk r P → OnOk r Q
+pub on_ok_then : {T E : Type 0} (r : Result T E) (P Q : Type 0) → (P → Q) → OnOk r P → OnOk r Q
 on_ok_then (Ok x) P Q f p = f p
 on_ok_then (Err e) P Q f p = tt
 

@@ -36,3 +36,11 @@ pub record OfBeginning {S : Type 0} (R : S → List BlockUnit → S → Type 0) 
   pub rest : List BlockUnit
   pub whole : front ++ rest ≡ units
   pub holds : R old front new
+
+-- a sink took these units, of pieces that are all on disks, and its room is no lower; or it failed at a beginning of them
+pub record AreHanded {S R F : Type 0} (past : SinkPast S) (result : Result R F) (old new : S) (units : List BlockUnit) : Type 0 where
+  pub took : OnOk result (past.took old units new)
+  pub left : OnErr result (OfBeginning past.left old units new)
+  pub faults : (past.view new).faults ≡ (past.view old).faults + fault_of result
+  pub stack : OnOk result ((past.view new).stack ≡ (past.view old).stack)
+  pub room : OnOk result ((past.view old).room ≤ (past.view new).room)

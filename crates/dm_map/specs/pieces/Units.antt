@@ -1,6 +1,12 @@
 -- What becomes of one sector of a request, the units of a piece, and where a piece lies.
 use Rattle.std.specs.Prelude.{ℕ, zero, suc, ◌+◌, ◌<◌, ◌≤◌, List, [], ◌∷◌, length}
+use Rattle.dm_table.specs.declared.requests.request.Op.{Op}
+use Rattle.dm_table.specs.declared.requests.request.Op.TheVariants as ops
+use Rattle.dm_stack.specs.declared.id.Lower.TheVariants.{Device, Disk}
+use Rattle.dm_stack.specs.declared.lines.found_line.FoundTarget.{FoundTarget}
 use Rattle.dm_stack.specs.Description.{Description, disk_len}
+use Rattle.dm_stack.specs.lines.Below.{Below, Lies, below_plain}
+use Rattle.dm_stack.specs.lines.Leg.{LegsView}
 use Rattle.dm_map.specs.declared.pieces.piece.Piece.{Piece}
 use Rattle.dm_map.specs.declared.pieces.piece.Piece.TheVariants as pieces
 
@@ -28,6 +34,25 @@ next_unit (FillOf disk sector) = FillOf disk (suc sector)
 abbrev pub units_in : BlockUnit → ℕ → List BlockUnit
 units_in unit zero = []
 units_in unit (suc len) = unit ∷ units_in (next_unit unit) len
+
+-- what is done at a sector of a disk
+abbrev pub disk_unit : Op → (disk sector : ℕ) → BlockUnit
+disk_unit ops.Read disk sector = ReadOf disk sector
+disk_unit ops.Write disk sector = WriteOf disk sector
+
+-- what is done at a sector by what lies below it, where that is on a disk
+abbrev pub below_unit : Op → Below → BlockUnit
+below_unit op (Lies (Disk disk) sector) = disk_unit op disk sector
+below_unit op _ = Fails
+
+-- the units of len sectors of a line, from a distance from its start on, where they lie on disks
+abbrev pub line_units : Op → FoundTarget → (distance len : ℕ) → List BlockUnit
+line_units op target distance zero = []
+line_units op target distance (suc len) = below_unit op (below_plain target distance) ∷ line_units op target (suc distance) len
+
+-- those of the sectors that are left of a row of legs on disks
+abbrev pub legs_units : Op → LegsView → List BlockUnit
+legs_units op legs = line_units op legs.target legs.distance legs.left
 
 -- the unit of a piece's first sector
 abbrev pub first_unit : Piece → BlockUnit

@@ -4,8 +4,7 @@ use Rattle.dm_table.specs.declared.requests.request.Op.{Op}
 use Rattle.dm_stack.specs.Description.{Description}
 use Rattle.dm_map.specs.declared.walk.home.Home.{Home}
 use Rattle.dm_map.specs.pieces.Sink.{SinkPast}
-use Rattle.dm_map.specs.pieces.Units.{BlockUnit, IsOnDisk, units_in}
-use Rattle.dm_map.specs.walk.Range.{disk_unit}
+use Rattle.dm_map.specs.pieces.Units.{BlockUnit, IsOnDisk, disk_unit, units_in}
 
 -- these are the units of len sectors of a disk from here on, and the disk has them
 pub record IsHome (stack : Description) (op : Op) (len : ℕ) (home : Home) (of : List BlockUnit) : Type 0 where

@@ -24,13 +24,8 @@ use Rattle.dm_map.specs.state.State.{State, taken_at}
 use Rattle.dm_map.specs.walk.SnapshotWrites.{write_snapshot}
 use Rattle.dm_map.specs.walk.Steps.{Step, keep, steps}
 use Rattle.dm_map.specs.state.Walker.{WalkerView}
-use Rattle.dm_map.specs.pieces.Units.{BlockUnit, ReadOf, WriteOf, Zeros, Drops, Fails}
+use Rattle.dm_map.specs.pieces.Units.{BlockUnit, Zeros, Drops, Fails}
 use Rattle.dm_map.specs.walk.Mapping.{write_step, write_target, sector_step}
-
--- the unit of a sector of a disk, and that of one in zeros
-abbrev pub disk_unit : Op → (disk sector : ℕ) → BlockUnit
-disk_unit ops.Read disk sector = ReadOf disk sector
-disk_unit ops.Write disk sector = WriteOf disk sector
 
 -- what becomes of a sector of a zero target
 abbrev pub zero_unit : Op → BlockUnit

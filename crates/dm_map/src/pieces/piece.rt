@@ -5,9 +5,12 @@
 //! `specs/pieces/Units.antt`.
 
 ghost use Rattle.std.specs.Prelude.{◌≡◌};
-ghost use Rattle.dm_map.specs.pieces.Units.{first_unit, piece_len};
+ghost use Rattle.dm_stack.specs.Description.{Description};
+ghost use Rattle.dm_map.specs.pieces.Units.{disk_unit, diskless_len, first_unit, piece_len, units_in, units_of};
+ghost use Rattle.dm_map.specs.pieces.Units.{IsOnDisk, IsOnDisks};
 
 use dm_stack::DiskId;
+use dm_table::Op;
 
 /// What becomes of `len` consecutive sectors of a request. Starts and lengths are in sectors of 512
 /// bytes.
@@ -98,5 +101,20 @@ impl Piece {
             },
             Piece::Fill { disk, start, .. } => Piece::Fill { len, disk, start },
         }
+    }
+}
+
+/// What is done at sectors of a disk. The sink's code is put in line after this, and where the two kinds
+/// come from an `if`, it has no jump by a table of all kinds.
+pub(crate) fn disk_piece(op: Op, disk: DiskId, start: u64, len: u64) -> Piece
+    ensures units { units_of result ≡ units_in (disk_unit op disk start) len }
+    ensures len { piece_len result ≡ len }
+    ensures diskless { diskless_len result ≡ 0 }
+    ensures lies { (stack : Description) → IsOnDisk stack disk start len → IsOnDisks stack result }
+{
+    if matches!(op, Op::Write) {
+        Piece::Write { disk, start, len }
+    } else {
+        Piece::Read { disk, start, len }
     }
 }

@@ -4,10 +4,13 @@
 //! join pieces as it likes: its relations speak of units, which are the same however they are cut.
 
 ghost use Rattle.std.specs.Prelude.{◌≤◌};
-ghost use Rattle.dm_map.specs.pieces.Sink.{IsHanded, IsLawful, SinkPast};
-ghost use Rattle.dm_map.specs.pieces.Units.{units_of, piece_len, diskless_len, IsOnDisks};
+ghost use Rattle.dm_stack.specs.lines.Leg.{AreOnDisks};
+ghost use Rattle.dm_map.specs.pieces.Sink.{AreHanded, IsHanded, IsLawful, SinkPast};
+ghost use Rattle.dm_map.specs.pieces.Units.{legs_units, units_of, piece_len, diskless_len, IsOnDisks};
 
-use crate::pieces::piece::Piece;
+use crate::pieces::piece::{Piece, disk_piece};
+use dm_stack::Legs;
+use dm_table::Op;
 
 /// What takes the pieces of requests.
 pub trait Sink {
@@ -26,6 +29,19 @@ pub trait Sink {
         requires lies { IsOnDisks (past.view self.old).stack piece }
         requires room { diskless_len piece ≤ (past.view self.old).room }
         ensures { IsHanded past result self.old self.new (units_of piece) (diskless_len piece) };
+
+    /// Takes the legs that are left of a striped line, which lie on disks of the sink's stack. It is the
+    /// same as to take a piece for each of them, in their order; a sink may do that in one go.
+    fn disk_legs(&mut self, op: Op, mut legs: Legs<'_>) -> Result<(), Self::Fault>
+        requires { AreOnDisks (past.view self.old).stack legs }
+        ensures { AreHanded past result self.old self.new (legs_units op legs.entry) }
+    {
+        'legs: while let Some(leg) = legs.next_leg() {
+            let (disk, start) = leg.on_disk();
+            self.piece(disk_piece(op, disk, start, leg.len))?;
+        }
+        Ok(())
+    }
 
     /// What it took or failed at in turn, it took or failed at in all.
     ghost lawful: { IsLawful past };

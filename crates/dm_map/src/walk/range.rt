@@ -18,14 +18,14 @@ ghost use Rattle.dm_stack.specs.declared.checks.graph.TheConstants.{MOST_DEPTH};
 ghost use Rattle.dm_map.specs.walk.Bound.{found_mapping, origin_mapping, range_mapping, target_mapping};
 ghost use Rattle.dm_map.specs.walk.Bound.{IsMapped};
 ghost use Rattle.dm_map.specs.pieces.Units.{diskless_len, piece_len, units_in, units_of};
-ghost use Rattle.dm_map.specs.pieces.Units.{Fails, IsOnDisk, IsOnDisks};
+ghost use Rattle.dm_map.specs.pieces.Units.{Fails, IsOnDisks};
 ghost use Rattle.dm_map.specs.walk.Home.{or_home};
-ghost use Rattle.dm_map.specs.walk.Range.{disk_unit, zero_unit, refuses};
+ghost use Rattle.dm_map.specs.walk.Range.{zero_unit, refuses};
 ghost use Rattle.dm_map.specs.walk.Range.{AreAsked, AreAskedOfOrigin, AreAskedOfSnapshot};
 ghost use Rattle.dm_map.specs.pieces.Sink.{IsHanded};
 ghost use Rattle.dm_map.specs.walk.Range.{HasRoomFor, IsAtLine, IsLegOf};
 
-use crate::pieces::piece::Piece;
+use crate::pieces::piece::{Piece, disk_piece};
 use crate::pieces::sink::Sink;
 use crate::state::taken::Taken;
 use crate::state::walker::Walker;
@@ -35,8 +35,7 @@ use crate::walk::serving::{serve, settled_part};
 use crate::walk::step::part_in;
 use crate::walk::write_chunk::write_snapshot;
 use dm_stack::{
-    Beneath, DeviceId, DiskId, FoundLine, FoundOrigin, FoundSnapshot, FoundTarget, Leg, Lower,
-    MOST_DEPTH,
+    Beneath, DeviceId, FoundLine, FoundOrigin, FoundSnapshot, FoundTarget, Leg, Lower, MOST_DEPTH,
 };
 use dm_table::Op;
 
@@ -227,6 +226,9 @@ fn map_legs<S: Sink, T: Taken>(
 {
     walker.recall_soundness();
     let mut legs = line.target.legs(distance, len);
+    if line.target.has_disk_columns() {
+        return sink.disk_legs(op, legs);
+    }
     let mut at = distance;
     'legs: while let Some(leg) = legs.next_leg() {
         map_leg(walker, op, levels, device, &leg, at, sink)?;
@@ -436,21 +438,6 @@ fn refuses<T: Taken>(walker: &Walker<'_, T>, op: Op, device: DeviceId) -> bool
     ensures { result ≡ refuses walker.now.stack op device }
 {
     walker.is_ro(device) && matches!(op, Op::Write)
-}
-
-/// What is done at sectors of a disk. The sink's code is put in line after this, and where the two kinds
-/// come from an `if`, it has no jump by a table of all kinds.
-pub(crate) fn disk_piece(op: Op, disk: DiskId, start: u64, len: u64) -> Piece
-    ensures units { units_of result ≡ units_in (disk_unit op disk start) len }
-    ensures len { piece_len result ≡ len }
-    ensures diskless { diskless_len result ≡ 0 }
-    ensures lies { (stack : Description) → IsOnDisk stack disk start len → IsOnDisks stack result }
-{
-    if matches!(op, Op::Write) {
-        Piece::Write { disk, start, len }
-    } else {
-        Piece::Read { disk, start, len }
-    }
 }
 
 /// What is done at sectors in zeros.

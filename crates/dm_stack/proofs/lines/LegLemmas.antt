@@ -146,49 +146,36 @@ sector_on_disk stack device start len distance (found.Striped chunk_size columns
     ]
 sector_on_disk stack device start len distance target sound each = absurd cc
 
--- what is beneath sectors of a line on disks is a row of sectors of one
-record IsDiskRow (target : FoundTarget) (distance n : ℕ) (below : Beneath) : Type 0 where
-  disk : ℕ
-  sector : ℕ
-  is : below ≡ beneath.Lies (Disk disk) sector
-  on : GoesOn target distance n (λ i. Lies (Disk disk) (sector + i))
+-- the first sector of a row
+row_first : (target : FoundTarget) (distance n : ℕ) (row : ℕ → Below) → 1 ≤ n → GoesOn target distance n row → below_plain target distance ≡ row 0
+row_first target distance n row some on = let e : distance ≡ distance + 0 = omega arith in ap (below_plain target) e ∙ on.below 0 (omega (arith, some))
 
-disk_row : (target : FoundTarget) (distance n : ℕ) (below : Beneath) → 1 ≤ n → IsBeneath target distance n below → has_disk_columns target ≡ true → IsOnADisk (below_plain target distance) → IsDiskRow target distance n below
-disk_row target distance n (beneath.Lies to sector) some is each first =
-    let e : distance + 0 ≡ distance = omega arith in
-    let here : Lies to (sector + 0) ≡ Lies (Disk first.disk) first.sector = sym (is.below 0 (omega (arith, some))) ∙ ap (below_plain target) e ∙ first.is in
-    let lower : to ≡ Disk first.disk = cc in
-    record { disk = first.disk; sector = sector; is = ap (λ (l : Lower). beneath.Lies l sector) lower; on = subst (λ (l : Lower). GoesOn target distance n (λ i. Lies l (sector + i))) lower is }
-disk_row target distance n beneath.Zeros some is each first =
-    let e : distance + 0 ≡ distance = omega arith in
-    let here : IsZero ≡ Lies (Disk first.disk) first.sector = sym (is.below 0 (omega (arith, some))) ∙ ap (below_plain target) e ∙ first.is in absurd cc
-disk_row target distance n beneath.Errors some is each first =
-    let e : distance + 0 ≡ distance = omega arith in
-    let here : IsError ≡ Lies (Disk first.disk) first.sector = sym (is.below 0 (omega (arith, some))) ∙ ap (below_plain target) e ∙ first.is in absurd cc
-disk_row target distance n (beneath.Snapshot snapshot) some is each first = let no = ap has_disk_columns is in absurd cc
-disk_row target distance n (beneath.Origin origin) some is each first = let no = ap has_disk_columns is in absurd cc
+-- where the first sector lies on a disk, the row does
+rows_on_disk : (target : FoundTarget) (distance n : ℕ) (below : Beneath) → 1 ≤ n → IsBeneath target distance n below → has_disk_columns target ≡ true → IsOnADisk (below_plain target distance) → LiesOnDisk below
+rows_on_disk target distance n (beneath.Lies (Disk disk) sector) some is each first = tt
+rows_on_disk target distance n (beneath.Lies (Device device) sector) some is each first = let here = row_first target distance n (λ i. Lies (Device device) (sector + i)) some is in absurd cc
+rows_on_disk target distance n beneath.Zeros some is each first = let here = row_first target distance n (λ i. IsZero) some is in absurd cc
+rows_on_disk target distance n beneath.Errors some is each first = let here = row_first target distance n (λ i. IsError) some is in absurd cc
+rows_on_disk target distance n (beneath.Snapshot snapshot) some is each first = let other = ap has_disk_columns is in absurd cc
+rows_on_disk target distance n (beneath.Origin origin) some is each first = let other = ap has_disk_columns is in absurd cc
 
--- the next leg of a row on disks lies on one, which has its sectors
-pub record IsDiskLeg (stack : Description) (legs : LegsView) (leg : Leg) : Type 0 where
-  pub disk : ℕ
-  pub sector : ℕ
-  pub is : leg.below ≡ beneath.Lies (Disk disk) sector
+-- so the next leg of a row on disks lies on one
+pub leg_on_disk : (stack : Description) (legs : LegsView) (leg : Leg) → AreOnDisks stack legs → IsLeg legs.target legs.distance legs.left leg → LiesOnDisk leg.below
+leg_on_disk stack legs leg row is =
+    rows_on_disk legs.target legs.distance leg.len leg.below is.some is.is row.columns (sector_on_disk stack row.device row.start row.len legs.distance legs.target row.sound row.columns)
+
+-- on this one, from this sector on, and the disk has its sectors
+pub record IsDiskLeg (stack : Description) (legs : LegsView) (leg : Leg) (disk sector : ℕ) : Type 0 where
   pub on : GoesOn legs.target legs.distance leg.len (λ i. Lies (Disk disk) (sector + i))
   pub there : disk < length stack.disks
   pub inside : sector + leg.len ≤ disk_len stack disk
 
-pub leg_on_disk : (stack : Description) (legs : LegsView) (leg : Leg) → AreOnDisks stack legs → IsLeg legs.target legs.distance legs.left leg → IsDiskLeg stack legs leg
-leg_on_disk stack legs leg row is =
-    let first = sector_on_disk stack row.device row.start row.len legs.distance legs.target row.sound row.columns in
-    let here = disk_row legs.target legs.distance leg.len leg.below is.some is.is row.columns first in
+pub leg_lies_on : (stack : Description) (legs : LegsView) (leg : Leg) (disk sector : ℕ) → AreOnDisks stack legs → IsLeg legs.target legs.distance legs.left leg → leg.below ≡ beneath.Lies (Disk disk) sector → IsDiskLeg stack legs leg disk sector
+leg_lies_on stack legs leg disk sector row is below =
     let lies : AreInside stack leg.len leg.below = leg_lies_inside stack row.device row.start row.len legs.distance legs.left legs.target leg is row.sound row.inside in
-    let inside : here.sector + leg.len ≤ disk_len stack here.disk = subst (λ (b : Beneath). AreInside stack leg.len b) here.is lies in
-    record { disk = here.disk; sector = here.sector; is = here.is; on = here.on; there = disk_there stack here.disk here.sector (let some = is.some in omega (arith, some, inside)); inside = inside }
+    let inside : sector + leg.len ≤ disk_len stack disk = subst (λ (b : Beneath). AreInside stack leg.len b) below lies in
+    record { on = subst (λ (b : Beneath). IsBeneath legs.target legs.distance leg.len b) below is.is; there = disk_there stack disk sector (let some = is.some in omega (arith, some, inside)); inside = inside }
 
 -- and the row after it is one on disks
 pub legs_after : (stack : Description) (legs : LegsView) (n : ℕ) → n ≤ legs.left → AreOnDisks stack legs → AreOnDisks stack (after_leg legs n)
 legs_after stack legs n few row = record { device = row.device; start = row.start; len = row.len; sound = row.sound; inside = let inside = row.inside in omega (arith, few, inside); columns = row.columns }
-
--- a leg that is known to lie on a disk
-pub lies_on_disk : (below : Beneath) (disk sector : ℕ) → below ≡ beneath.Lies (Disk disk) sector → LiesOnDisk below
-lies_on_disk below disk sector is = rw is tt

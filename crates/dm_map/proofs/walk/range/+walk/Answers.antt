@@ -25,6 +25,7 @@ use Rattle.dm_stack.proofs.StripeLemmas.{other_chunk}
 use Rattle.dm_map.proofs.state.FoundLines.{first_line}
 use Rattle.dm_map.proofs.walk.Bounds.{lines_apart, mapped_below, mapped_line, mapped_target, parts_apart}
 use Rattle.dm_map.proofs.walk.Chunks.{chunk_read, in_snapshot, lost_read, read_on, write_line_step}
+use Rattle.dm_map.proofs.walk.DiskColumns.{legs_on_disks, mapped_on_disks}
 use Rattle.dm_map.proofs.walk.HomeLemmas.{disk_step}
 use Rattle.dm_map.proofs.walk.LineRanges.{leg_at, leg_of, leg_within, line_sectors}
 use Rattle.dm_map.proofs.walk.Ranges.{beneath_as, leg_errors, leg_lies, leg_zeros, line_served, origin_read, range_deepest, range_refused}
@@ -139,6 +140,14 @@ map_line-returns g t c =
 pub map_legs-legs-legs-requires-clause-there : goal.map_legs-legs-legs-requires-clause-there
 map_legs-legs-legs-requires-clause-there g t c =
     let a = c.args in line_sectors a.walker.now.stack a.device a.distance a.len a.line.now c.recall_soundness.ensures c.requires.line c.requires.inside
+
+pub map_legs-disk_legs-requires : goal.map_legs-disk_legs-requires
+map_legs-disk_legs-requires g t c =
+    let a = c.args in legs_on_disks a.walker.now.stack _ a.device a.line.now c.legs-legs.result a.distance a.len c.requires.sink.stack c.requires.line c.requires.inside (sym c.has_disk_columns.ensures ∙ c.if-has_disk_columns.true) c.legs-legs.ensures
+
+pub map_legs-returns-then-has_disk_columns : goal.map_legs-returns-then-has_disk_columns
+map_legs-returns-then-has_disk_columns g t c =
+    let a = c.args in mapped_on_disks a.op a.levels a.device a.distance a.len a.line.now c.requires.line (sym c.has_disk_columns.ensures ∙ c.if-has_disk_columns.true) c.legs-legs.ensures c.disk_legs.ensures
 
 pub map_legs-legs-init : goal.map_legs-legs-init
 map_legs-legs-init g t c =

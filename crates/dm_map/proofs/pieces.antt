@@ -1,0 +1,2 @@
+-- Lemmas of pieces and of who takes them.
+pub mod LegUnits
