@@ -4,3 +4,4 @@ pub mod FitsLemmas
 pub mod JoinLemmas
 pub mod LastDigit
 pub mod PieceLemmas
+pub mod RowLemmas

@@ -1,18 +1,21 @@
 -- What a join took and left at one piece.
-use Rattle.std.proofs.Common.{◌≡◌, ℕ, zero, suc, ◌+◌, ◌≤◌, Bool, true, false, List, ◌∷◌, ◌++◌, Option, Some, None, refl, sym, ap, subst, ◌∙◌, append_assoc, arith}
+use Rattle.std.proofs.Common.{◌≡◌, ℕ, zero, suc, ◌+◌, ◌≤◌, Bool, true, false, List, [], ◌∷◌, ◌++◌, Option, Some, None, refl, sym, ap, subst, ◌∙◌, append_assoc, arith}
+use Rattle.std.specs.Prelude.{Result, Ok, Err, OnErr}
 use Rattle.std.proofs.lemmas.List.{append-nil}
 use Rattle.std.proofs.lemmas.Grind.{flat_map-append}
 use Rattle.dm_table.specs.io.DeviceIo.{since}
 use Rattle.dm_stack.specs.Description.{Description}
 use Rattle.dm_map.specs.declared.pieces.piece.Piece as coded
+use Rattle.dm_map.specs.declared.pieces.piece.Piece.TheVariants as kinds
 use Rattle.dm_map.specs.pieces.Units.{BlockUnit, first_unit, next_unit, piece_len, units_in, units_of}
-use Rattle.dm_stream.specs.pieces.Pending.{Pending, HoldsNoRange, IsHeld, IsNoRange, goes_on, held_of, held_units, piece_view, range_piece}
+use Rattle.dm_stream.specs.pieces.Pending.{Pending, AreApart, HoldsNoRange, IsHeld, IsNoRange, goes_on, held_of, held_units, piece_of, piece_view, range_piece}
 use Rattle.dm_stream.specs.declared.pieces.disk_range.DiskRange.{DiskRange}
-use Rattle.dm_stream.specs.pieces.Join.{HasUnits, HasLeft}
+use Rattle.dm_stream.specs.pieces.Join.{HasUnits, HasLeft, HasTaken}
 use Rattle.dm_stream.specs.laws.Join.{last_of_units, some_before, beginning-before}
 use Rattle.dm_stream.specs.pieces.Pieces.{fewest, is_after}
 use Rattle.dm_table.specs.words.Fields.{all_but_last}
 use Rattle.dm_stream.specs.pieces.PieceText.{piece_text, pieces_text}
+use Rattle.dm_table.specs.laws.Progress.{since-same}
 use Rattle.dm_table.specs.io.WriteAll.{IsBeginning, IsCutShort}
 use Rattle.dm_stream.proofs.pieces.PieceLemmas.{fewest-apart, fewest-run, units_joined}
 
@@ -84,4 +87,47 @@ left_apart old mid new piece w0 w1 some same emptied apart cut = record {
   nothing = cc;
   stack = cc;
   number = cc;
+}
+
+-- Ranges of a row
+
+pub on_err : {T E : Type 0} (r : Result T E) (P : Type 0) → P → OnErr r P
+on_err (Ok x) P p = tt
+on_err (Err e) P p = p
+
+-- whether a range goes on from another one
+pub goes_on-range : (range next : DiskRange) (result : Bool) → result ≡ is_after (first_unit (piece_of range)) range.len (first_unit (piece_of next)) → goes_on (Some (piece_of range)) (piece_of next) ≡ result
+goes_on-range range next result is = rw (piece_len-range range.letter range.disk range.start range.len) (sym is)
+
+-- what is held where no range is
+pub holds_none : (range : Option DiskRange) (other : Option coded.Piece) → range ≡ None → AreApart range other → HoldsNoRange (held_of range other)
+holds_none None None is apart = tt
+holds_none None (Some other) is apart = apart
+holds_none (Some range) other is apart = absurd cc
+
+-- no range goes on from what is none
+pub apart_from : (held : Option coded.Piece) (range : DiskRange) → HoldsNoRange held → goes_on held (piece_of range) ≡ false
+apart_from held range none = other_apart held range.letter range.disk range.start range.len none
+  where
+    other_apart : (held : Option coded.Piece) (is_write : Bool) (disk start len : ℕ) → HoldsNoRange held → goes_on held (range_piece is_write disk start len) ≡ false
+    other_apart None is_write disk start len none = refl
+    other_apart (Some (kinds.Read from first n)) is_write disk start len none = absurd none
+    other_apart (Some (kinds.Write from first n)) is_write disk start len none = absurd none
+    other_apart (Some other) true disk start len none = refl
+    other_apart (Some other) false disk start len none = refl
+
+-- a range and one that goes on from it, held as one
+pub took_joined : (old new : Pending) (piece : coded.Piece) (w : List ℕ) → new.stack ≡ old.stack → new.number ≡ old.number → held_units new.piece ≡ held_units old.piece ++ units_of piece → HasTaken old new (units_of piece) w w
+took_joined old new piece w stack number joined =
+    record { settled = []; told = λ rest. ap (λ (us : List BlockUnit). fewest (us ++ rest)) (sym joined); wrote = since-same w; stack = stack; number = number }
+
+-- one that does not go on from the held piece, which was written
+pub took_apart : (old new : Pending) (piece : coded.Piece) (w0 w1 : List ℕ) → new.stack ≡ old.stack → new.number ≡ old.number → held_units new.piece ≡ units_of piece → IsHeld old.stack old.piece → 1 ≤ piece_len piece → goes_on old.piece piece ≡ false
+    → since w0 w1 ≡ pieces_text old.stack old.number (fewest (held_units old.piece)) → HasTaken old new (units_of piece) w0 w1
+took_apart old new piece w0 w1 stack number held fits some apart wrote = record {
+  settled = fewest (held_units old.piece);
+  told = λ rest. held_apart old.stack old.piece piece fits some apart rest ∙ ap (λ (us : List BlockUnit). fewest (held_units old.piece) ++ fewest (us ++ rest)) (sym held);
+  wrote = wrote;
+  stack = stack;
+  number = number;
 }

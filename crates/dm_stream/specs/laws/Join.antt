@@ -2,12 +2,13 @@
 use Rattle.std.proofs.Common.{◌≡◌, ℕ, suc, Bool, true, false, cond, List, [], ◌∷◌, ◌++◌, refl, sym, ap, subst, ◌∙◌, append_assoc}
 use Rattle.std.proofs.lemmas.List.{append-nil}
 use Rattle.std.proofs.lemmas.Grind.{flat_map-append}
-use Rattle.dm_table.specs.io.DeviceIo.{since}
-use Rattle.dm_table.specs.laws.Progress.{since_more}
+use Rattle.dm_table.specs.io.DeviceIo.{OutputPast, since}
+use Rattle.dm_table.specs.laws.Progress.{since_more, written_to_more, written_to_none}
 use Rattle.dm_stack.specs.Description.{Description}
+use Rattle.dm_map.specs.pieces.Sink.{IsLawful}
 use Rattle.dm_map.specs.pieces.Units.{BlockUnit}
 use Rattle.dm_stream.specs.pieces.Pending.{Pending, held_units}
-use Rattle.dm_stream.specs.pieces.Join.{HasUnits, HasTaken, HasLeft}
+use Rattle.dm_stream.specs.pieces.Join.{HasUnits, HasTaken, HasLeft, join_past}
 use Rattle.dm_stream.specs.pieces.Pieces.{UnitRun, fewest, joins, onto}
 use Rattle.dm_table.specs.words.Fields.{all_but_last}
 use Rattle.dm_stream.specs.pieces.PieceText.{piece_text, pieces_text}
@@ -60,7 +61,7 @@ beginning-before text more front begins = (begins.0 ++ more, ap (λ (xs : List �
 parts : (hs us vs rest : List BlockUnit) → hs ++ (us ++ vs) ++ rest ≡ hs ++ us ++ (vs ++ rest)
 parts hs us vs rest = ap (λ (xs : List BlockUnit). xs ++ rest) (sym (append_assoc hs us vs)) ∙ append_assoc (hs ++ us) vs rest
 
-pub took_none : (held : Pending) (w : List ℕ) → HasTaken held held [] w w
+took_none : (held : Pending) (w : List ℕ) → HasTaken held held [] w w
 took_none held w = record {
   settled = [];
   told = λ rest. ap (λ (us : List BlockUnit). fewest (us ++ rest)) (append-nil (held_units held.piece));
@@ -80,7 +81,7 @@ told_both hs bs cs us vs ps qs rest first second =
 same_text : (a b : Pending) (ps : List UnitRun) → b.stack ≡ a.stack → b.number ≡ a.number → pieces_text b.stack b.number ps ≡ pieces_text a.stack a.number ps
 same_text a b ps e f = ap (λ (stack : Description). pieces_text stack b.number ps) e ∙ ap (λ (number : ℕ). pieces_text a.stack number ps) f
 
-pub took_more : (a b c : Pending) (us vs : List BlockUnit) (w0 w1 w2 : List ℕ) → w1 ≡ w0 ++ since w0 w1 → w2 ≡ w1 ++ since w1 w2
+took_more : (a b c : Pending) (us vs : List BlockUnit) (w0 w1 w2 : List ℕ) → w1 ≡ w0 ++ since w0 w1 → w2 ≡ w1 ++ since w1 w2
     → HasTaken a b us w0 w1 → HasTaken b c vs w1 w2 → HasTaken a c (us ++ vs) w0 w2
 took_more a b c us vs w0 w1 w2 more again first second = record {
   settled = first.settled ++ second.settled;
@@ -102,7 +103,7 @@ left_after stack number settled units all wrote front some e f begins =
     (sym (ap (λ (ps : List UnitRun). pieces_text stack number (all_but_last ps)) e ∙ ap (pieces_text stack number) (last_of_units settled units some) ∙ flat_map-append (piece_text stack number) settled (all_but_last (fewest units))))
     (subst (IsBeginning (pieces_text stack number settled ++ pieces_text stack number (all_but_last (fewest units)))) (sym f) (beginning-after (pieces_text stack number settled) _ front begins))
 
-pub left_more : (a b c : Pending) (us vs : List BlockUnit) (w0 w1 w2 : List ℕ) → w1 ≡ w0 ++ since w0 w1 → w2 ≡ w1 ++ since w1 w2
+left_more : (a b c : Pending) (us vs : List BlockUnit) (w0 w1 w2 : List ℕ) → w1 ≡ w0 ++ since w0 w1 → w2 ≡ w1 ++ since w1 w2
     → HasTaken a b us w0 w1 → HasLeft b c vs w1 w2 → HasLeft a c (us ++ vs) w0 w2
 left_more a b c us vs w0 w1 w2 more again first second = record {
   some = some_after us vs second.some;
@@ -115,4 +116,17 @@ left_more a b c us vs w0 w1 w2 more again first second = record {
   nothing = second.nothing;
   stack = second.stack ∙ first.stack;
   number = second.number ∙ first.number;
+}
+
+pub join_lawful : {W : Type 0} (past : W → OutputPast) → IsLawful (join_past past)
+join_lawful past = record {
+  nothing = λ s. (took_none s.held (past s.writer.now).written, written_to_none past s.writer);
+  took = λ a b c us vs first second. (
+    took_more a.held b.held c.held us vs _ _ _ first.1.moved.appends second.1.moved.appends first.0 second.0,
+    written_to_more past a.writer b.writer c.writer 0 first.1 second.1,
+  );
+  left = λ a b c us vs first second. (
+    left_more a.held b.held c.held us vs _ _ _ first.1.moved.appends second.1.moved.appends first.0 second.0,
+    written_to_more past a.writer b.writer c.writer 1 first.1 second.1,
+  );
 }

@@ -1,8 +1,11 @@
 -- What a join took, and what it left, by what is held and what was written.
-use Rattle.std.specs.Prelude.{◌≡◌, ℕ, List, [], ◌∷◌, ◌++◌, None}
-use Rattle.dm_table.specs.io.DeviceIo.{since}
+use Rattle.std.specs.Prelude.{◌≡◌, ℕ, ◌-◌, ◌^◌, List, [], ◌∷◌, ◌++◌, None}
+use Rattle.dm_table.specs.io.DeviceIo.{OutputPast, since}
+use Rattle.dm_table.specs.io.Progress.{HasWrittenTo}
+use Rattle.dm_map.specs.pieces.Sink.{SinkPast}
 use Rattle.dm_map.specs.pieces.Units.{BlockUnit}
-use Rattle.dm_stream.specs.pieces.Pending.{Pending, held_units}
+use Rattle.dm_stream.specs.declared.pieces.join.Join.{Join}
+use Rattle.dm_stream.specs.pieces.Pending.{Pending, held_diskless, held_units}
 use Rattle.dm_stream.specs.pieces.Pieces.{UnitRun, fewest}
 use Rattle.dm_table.specs.words.Fields.{all_but_last}
 use Rattle.dm_stream.specs.pieces.PieceText.{pieces_text}
@@ -28,3 +31,11 @@ pub record HasLeft (old new : Pending) (units : List BlockUnit) (before after : 
   pub nothing : new.piece ≡ None
   pub stack : new.stack ≡ old.stack
   pub number : new.number ≡ old.number
+
+-- a join as a sink: what is left of 64 bits beside the length of a held piece without a disk is its room, and what it writes its writer takes
+abbrev pub join_past : {W : Type 0} → (W → OutputPast) → SinkPast (Join W)
+join_past past = record {
+  view = λ join. record { stack = join.held.stack; room = 2 ^ 64 - 1 - held_diskless join.held.piece; faults = (past join.writer.now).faults };
+  took = λ old units new. HasTaken old.held new.held units (past old.writer.now).written (past new.writer.now).written × HasWrittenTo past old.writer new.writer 0;
+  left = λ old units new. HasLeft old.held new.held units (past old.writer.now).written (past new.writer.now).written × HasWrittenTo past old.writer new.writer 1;
+}

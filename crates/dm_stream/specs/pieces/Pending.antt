@@ -26,6 +26,10 @@ range_piece false disk start len = coded.Read disk start len
 abbrev pub piece_of : DiskRange → Piece
 piece_of range = range_piece range.letter range.disk range.start range.len
 
+-- the same where a range is held
+abbrev pub holding : Pending → DiskRange → Pending
+holding pending range = record pending { piece = Some (piece_of range) }
+
 -- a piece that is no read and no write
 abbrev pub IsNoRange : Piece → Type 0
 IsNoRange (coded.Read disk start len) = ⊥

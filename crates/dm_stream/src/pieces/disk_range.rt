@@ -4,8 +4,7 @@
 
 ghost use Rattle.std.specs.Prelude.{◌≡◌, ◌+◌, ◌≤◌, ◌==◌, Some, MatchOption};
 ghost use Rattle.dm_stack.specs.Description.{Description};
-ghost use Rattle.dm_map.specs.pieces.Units.{IsOnDisk, first_unit, units_in, units_of};
-ghost use Rattle.dm_map.specs.walk.Range.{disk_unit};
+ghost use Rattle.dm_map.specs.pieces.Units.{IsOnDisk, disk_unit, first_unit, units_in, units_of};
 ghost use Rattle.dm_stream.specs.pieces.Pending.{Fits, IsHeld, IsNoRange, piece_of};
 ghost use Rattle.dm_stream.specs.pieces.Pieces.{is_after};
 

@@ -4,12 +4,14 @@
 //! new kind of piece, say here when one continues another.
 
 ghost use Rattle.std.specs.Bool.{OnTrue, OnFalse};
-ghost use Rattle.std.specs.Prelude.{◌≡◌, ◌+◌, ◌-◌, ◌≤◌, ◌++◌, ◌^◌, List, OnErr, OnOk, Some, None};
+ghost use Rattle.std.specs.Prelude.{◌≡◌, ◌+◌, ◌-◌, ◌≤◌, ◌++◌, ◌^◌, IfOk, List, OnErr, OnOk, Some, None};
+ghost use Rattle.dm_table.specs.io.DeviceIo.{fault_of};
 ghost use Rattle.dm_map.specs.pieces.Units.{BlockUnit, IsOnDisks, diskless_len, first_unit, piece_len, units_of};
-ghost use Rattle.dm_stream.specs.pieces.Pending.{Fits, HoldsNoRange, IsHeld, IsNoRange, goes_on, held_diskless, held_units, piece_of};
+ghost use Rattle.dm_stream.specs.pieces.Join.{HasLeft, HasTaken};
+ghost use Rattle.dm_stream.specs.pieces.Pending.{Fits, HoldsNoRange, IsHeld, IsNoRange, goes_on, held_diskless, held_units, holding, piece_of};
 ghost use Rattle.dm_stream.specs.pieces.PieceText.{pieces_text};
 ghost use Rattle.dm_stream.specs.pieces.Pieces.{fewest, is_after};
-ghost use Rattle.dm_table.specs.io.Progress.{Wrote};
+ghost use Rattle.dm_table.specs.io.Progress.{HasWritten, Wrote};
 
 use crate::pieces::disk_range::{DiskRange, follows};
 use crate::pieces::line_ends::LineEnds;
@@ -162,6 +164,82 @@ impl<'s> HeldPiece<'s> {
             }
         }
         Ok(())
+    }
+
+    /// Gives out the range to hold after the held piece and a range, and holds none. The held piece is
+    /// written, unless the range continues it; if that fails, neither is held.
+    #[inline(always)]
+    pub(crate) fn first_of_row<W: Output>(
+        &mut self,
+        next: DiskRange,
+        writer: &mut W,
+    ) -> Result<DiskRange, OutFault>
+        requires { IsHeld self.old.stack (Some (piece_of next)) }
+        ensures nothing { self.new
+            ≡ record { stack = self.old.stack; number = self.old.number; piece = None } }
+        ensures moved { HasWritten (W.past writer.old) (W.past writer.new) (fault_of result) }
+        ensures took { IfOk result (λ range. HasTaken self.old (holding self.old range)
+            (units_of (piece_of next)) (W.past writer.old).written (W.past writer.new).written) }
+        ensures fits { IfOk result (λ range. IsHeld self.old.stack (Some (piece_of range))) }
+        ensures left { OnErr result (HasLeft self.old self.new (units_of (piece_of next))
+            (W.past writer.old).written (W.past writer.new).written) }
+    {
+        match self.range {
+            Some(range) => {
+                self.range = None;
+                self.next_of_row(&range, next, writer)
+            }
+            None => {
+                self.write_other(writer)?;
+                Ok(next)
+            }
+        }
+    }
+
+    /// Gives out the range to hold after a range that was given out and another one: both as one, or the
+    /// other one, after the first was written. If that fails, neither is held.
+    #[inline(always)]
+    pub(crate) fn next_of_row<W: Output>(
+        &mut self,
+        range: &DiskRange,
+        next: DiskRange,
+        writer: &mut W,
+    ) -> Result<DiskRange, OutFault>
+        requires nothing { self.old.piece ≡ None }
+        requires held { IsHeld self.old.stack (Some (piece_of range.now)) }
+        requires next { IsHeld self.old.stack (Some (piece_of next)) }
+        ensures same { self.new ≡ self.old }
+        ensures moved { HasWritten (W.past writer.old) (W.past writer.new) (fault_of result) }
+        ensures took { IfOk result (λ after. HasTaken (holding self.old range.now)
+            (holding self.old after) (units_of (piece_of next)) (W.past writer.old).written
+            (W.past writer.new).written) }
+        ensures fits { IfOk result (λ after. IsHeld self.old.stack (Some (piece_of after))) }
+        ensures left { OnErr result (HasLeft (holding self.old range.now) self.new
+            (units_of (piece_of next)) (W.past writer.old).written (W.past writer.new).written) }
+    {
+        if range.goes_on(&next) {
+            return Ok(range.longer(self.stack, next.len));
+        }
+        self.text.note(range.start, range.len);
+        put_range(
+            writer,
+            &self.prefix,
+            &self.ends,
+            &self.text,
+            self.stack,
+            range,
+        )?;
+        Ok(next)
+    }
+
+    /// Holds a range that was given out.
+    #[inline(always)]
+    pub(crate) fn hold(&mut self, range: DiskRange)
+        requires nothing { self.old.piece ≡ None }
+        requires held { IsHeld self.old.stack (Some (piece_of range)) }
+        ensures { self.new ≡ holding self.old range }
+    {
+        self.range = Some(range);
     }
 
     /// Writes the line of the held piece, which is then held no longer. Writes nothing if none is held.

@@ -3,22 +3,25 @@
 //! One piece is held while others continue it, so a request takes no memory however long it is. What
 //! a join took is stated in whole pieces, whatever units follow; keep that when you change it.
 
-ghost use Rattle.std.specs.Prelude.{◌≡◌, ◌-◌, ◌^◌, List, None, Some};
-ghost use Rattle.dm_map.specs.pieces.Units.{BlockUnit, units_of};
+ghost use Rattle.std.specs.Prelude.{◌≡◌, ◌-◌, ◌^◌, ◌≤◌, ℕ, List, None, Some};
+ghost use Rattle.dm_stack.specs.declared.id.Lower.TheVariants.{Disk};
+ghost use Rattle.dm_stack.specs.declared.lines.leg.Beneath.TheVariants.{Lies};
+ghost use Rattle.dm_stack.specs.Description.{Description};
+ghost use Rattle.dm_stack.specs.lines.Leg.{LiesOnDisk};
+ghost use Rattle.dm_map.specs.pieces.Units.{BlockUnit, IsOnDisk, disk_unit, units_in, units_of};
 ghost use Rattle.dm_stream.specs.pieces.Pending.{IsHeld, held_diskless, held_units, piece_of};
-ghost use Rattle.dm_stream.specs.pieces.Join.{HasTaken, HasLeft};
+ghost use Rattle.dm_stream.specs.pieces.Join.{join_past};
 ghost use Rattle.dm_stream.specs.pieces.Pieces.{AreFewest, fewest};
 ghost use Rattle.dm_stream.specs.pieces.PieceText.{pieces_text};
-ghost use Rattle.dm_stream.specs.laws.Join.{took_none, took_more, left_more};
+ghost use Rattle.dm_stream.specs.laws.Join.{join_lawful};
 ghost use Rattle.dm_table.specs.io.Progress.{HasWrittenTo, IsSameReference, Wrote};
-ghost use Rattle.dm_table.specs.laws.Progress.{written_to_none, written_to_more};
 
 use crate::pieces::disk_range::DiskRange;
 use crate::pieces::held_piece::HeldPiece;
 use crate::requests::exchange::Exchange;
-use dm_map::{Piece, Sink};
-use dm_stack::Stack;
-use dm_table::{OutFault, Output};
+use dm_map::{Home, Piece, Sink};
+use dm_stack::{Leg, Legs, Stack};
+use dm_table::{Op, OutFault, Output};
 
 /// A sink that joins the pieces of a request to the fewest, and writes each as a line.
 ///
@@ -117,34 +120,9 @@ impl<'s, W: Output> Join<'s, W> {
 impl<W: Output> Sink for Join<'_, W> {
     type Fault = OutFault;
 
-    ghost past = { record {
-      view = λ join. record {
-        stack = join.held.stack;
-        room = 2 ^ 64 - 1 - held_diskless join.held.piece;
-        faults = (W.past join.writer.now).faults;
-      };
-      took = λ old units new. HasTaken old.held new.held units (W.past old.writer.now).written
-          (W.past new.writer.now).written
-          × HasWrittenTo W.past old.writer new.writer 0;
-      left = λ old units new. HasLeft old.held new.held units (W.past old.writer.now).written
-          (W.past new.writer.now).written
-          × HasWrittenTo W.past old.writer new.writer 1;
-    } };
+    ghost past = { join_past W.past };
 
-    ghost lawful = { record {
-      nothing = λ s.
-          (took_none s.held (W.past s.writer.now).written, written_to_none W.past s.writer);
-      took = λ a b c us vs first second. (
-        took_more a.held b.held c.held us vs _ _ _ first.1.moved.appends second.1.moved.appends first.0
-            second.0,
-        written_to_more W.past a.writer b.writer c.writer 0 first.1 second.1,
-      );
-      left = λ a b c us vs first second. (
-        left_more a.held b.held c.held us vs _ _ _ first.1.moved.appends second.1.moved.appends first.0
-            second.0,
-        written_to_more W.past a.writer b.writer c.writer 1 first.1 second.1,
-      );
-    } };
+    ghost lawful = { join_lawful W.past };
 
     #[inline(always)]
     fn piece(&mut self, piece: Piece) -> Result<(), OutFault> {
@@ -154,4 +132,36 @@ impl<W: Output> Sink for Join<'_, W> {
         self.held.replace(piece, &mut *self.writer)?;
         Ok(())
     }
+
+    /// The range that is held between two legs is at hand.
+    #[inline(always)]
+    fn disk_legs(&mut self, op: Op, mut legs: Legs<'_>) -> Result<(), OutFault> {
+        let Some(leg) = legs.next_leg() else {
+            return Ok(());
+        };
+        let mut range = self
+            .held
+            .first_of_row(range_of(op, &leg), &mut *self.writer)?;
+        'legs: while let Some(leg) = legs.next_leg() {
+            range = self
+                .held
+                .next_of_row(&range, range_of(op, &leg), &mut *self.writer)?;
+        }
+        self.held.hold(range);
+        Ok(())
+    }
+}
+
+/// The range of a leg on a disk.
+#[inline(always)]
+fn range_of(op: Op, leg: &Leg<'_>) -> DiskRange
+    requires { LiesOnDisk leg.now.below }
+    ensures units { (disk sector : ℕ) → leg.now.below ≡ Lies (Disk disk) sector
+        → units_of (piece_of result) ≡ units_in (disk_unit op disk sector) leg.now.len }
+    ensures held { (stack : Description) (disk sector : ℕ)
+        → leg.now.below ≡ Lies (Disk disk) sector → 1 ≤ leg.now.len
+        → IsOnDisk stack disk sector leg.now.len → IsHeld stack (Some (piece_of result)) }
+{
+    let (disk, start) = leg.on_disk();
+    DiskRange::at(op, Home { disk, start }, leg.len)
 }
