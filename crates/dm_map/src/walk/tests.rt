@@ -20,10 +20,11 @@ use dm_table::{Op, Reserved, parse_request};
 use std::alloc::Global;
 use std::process::Abort;
 
-/// Lines of all targets: stripes over a device and a disk, a device over the stripes, a snapshot of a
-/// snapshot, and the device of its origin.
+/// Lines of all targets: stripes over a device and a disk, a device over the stripes, stripes over disks,
+/// a snapshot of a snapshot, and the device of its origin.
 const TABLE: &str = "a: 0 4 linear sda 10\na: 4 2 zero\na: 6 2 error\n\
     b: 0 8 striped 2 2 /dev/mapper/a 2 sdb 0\nc: 0 3 linear /dev/mapper/b 1\n\
+    d: 0 8 striped 2 2 sda 0 sdb 0\n\
     s: 0 16 snapshot sda sdc P 4\nt: 0 16 snapshot /dev/mapper/s sdd P 8\n\
     o: 0 16 snapshot-origin /dev/mapper/s\n";
 
@@ -71,6 +72,8 @@ fn a_stretch_begins_the_first_piece_of_a_read(rt: HostRuntime) {
         ("R b 6 2", 2, 2),
         ("R c 0 3", 1, 1),
         ("R c 1 2", 2, 2),
+        ("R d 0 8", 2, 2),
+        ("R d 3 5", 1, 1),
         ("R s 0 16", 4, 16),
         ("R s 5 2", 2, 2),
         ("R s 7 9", 1, 9),
