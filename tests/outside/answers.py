@@ -35,6 +35,10 @@ ROWS = [
      "1 R /dev/mapperx 0 8\n", ""),
     ("every letter of a device's name", "#+-.:=@_Az09: 0 8 error\n", "sda 150\n", "R #+-.:=@_Az09 0 8\n",
      "1 error 8\n", ""),
+    ("disks whose names begin and end alike",
+     "a: 0 8 linear same-headA-same-tail 0\na: 8 8 linear same-headB-same-tail 0\n",
+     "same-headA-same-tail 8\nsame-headB-same-tail 8\n", "R a 4 8\n",
+     "1 R same-headA-same-tail 4 4\n1 R same-headB-same-tail 0 4\n", ""),
     # Great numbers.
     ("the greatest request", "a: 0 1048576 linear sda 0\n", "sda 1048576\n", "R a 0 1048576\n",
      "1 R sda 0 1048576\n", ""),

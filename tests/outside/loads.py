@@ -43,6 +43,7 @@ REFUSED = [
     ("a: 0 8 error\n", "sda 0\n", "disks: empty at 1"),
     ("a: 0 8 linear sdz 0\n", "sda 8\n", "source: unknown at 1"),
     ("a: 0 8 linear /dev/mapper/b 0\n", "sda 8\n", "source: unknown at 1"),
+    ("a: 0 8 linear same-headB-same-tail 0\n", "same-headA-same-tail 8\n", "source: unknown at 1"),
     (chain(33), "sda 8\n", "source: deep at 33"),
     ("a: 0 60 striped 2 8 sda 0 sdb 0\n", "sda 64\nsdb 64\n", "source: stripe at 1"),
     ("a: 0 100 linear sda 50\n", "sda 149\n", "source: range at 1"),
