@@ -27,6 +27,7 @@ use crate::replay_run::replay_stack;
 use dm_stream::Exchange;
 use dm_table::{Input, Output};
 use std::alloc::Global;
+use std::mem::forget;
 
 /// Does what a job asks for, of any command but `map`: prints the devices of a source in a form, once they
 /// are checked as for `map`; or the report of a check; or the name of a volume, or the parts of one; or
@@ -123,7 +124,12 @@ fn answer<S: Input, D: Input, Q: Exchange<W>, W: Output>(
             }
         }
         Job::Check(from) => match load_if(alloc, from.format(), source, disks) {
-            Ok(stack) => print_report(alloc, &stack, output),
+            Ok(stack) => {
+                let exit = print_report(alloc, &stack, output);
+                // The program ends soon, and the system takes memory back at once, all together.
+                forget(stack);
+                exit
+            }
             Err(fault) => Exit::unloaded(fault),
         },
         Job::Name { vg, lv, layer } => print_name(alloc, vg, lv, layer, output),
@@ -149,7 +155,12 @@ fn replay<S: Input, D: Input, Q: Exchange<W>, W: Output>(
     ensures disks { IsReadOnIf D.past disks.old disks.new }
 {
     match load_if(alloc, format, source, disks) {
-        Ok(stack) => replay_stack(alloc, &stack, requests, output),
+        Ok(stack) => {
+            let exit = replay_stack(alloc, &stack, requests, output);
+            // As for `check`.
+            forget(stack);
+            exit
+        }
         Err(fault) => Exit::unloaded(fault),
     }
 }

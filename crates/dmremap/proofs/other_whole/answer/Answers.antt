@@ -15,13 +15,13 @@ returns-in-Ok-clause-did g c =
 pub returns-in-Ok-load_if-clause-did : goal.returns-in-Ok-load_if-clause-did
 returns-in-Ok-load_if-clause-did g c =
     record {
-      did = rw c.in-Check.is (check_printed (format_of (source_words c.in-Check.from)) _ _ _ c.in-Ok-load_if.stack _ c.print_report.result c.format-in-Check.ensures c.in-Ok-load_if.ensures.gives.sound c.print_report.ensures.did);
-      writes = c.print_report.ensures.writes;
+      did = rw c.in-Check.is (check_printed (format_of (source_words c.in-Check.from)) _ _ _ c.in-Ok-load_if.stack _ c.print_report-exit.result c.format-in-Check.ensures c.in-Ok-load_if.ensures.gives.sound c.print_report-exit.ensures.did);
+      writes = c.print_report-exit.ensures.writes;
     }
 
 pub returns-in-Ok-load_if-clause-asked : goal.returns-in-Ok-load_if-clause-asked
 returns-in-Ok-load_if-clause-asked g c =
-    asked_none (ReportSays (SoundAs c.in-Ok-load_if.stack)) (written_since (g.W.Output.past c.args.output.now) (g.W.Output.past c.print_report.new.output)) c.print_report.result (g.Q.Exchange.past c.args.requests.now) c.print_report.ensures.did
+    asked_none (ReportSays (SoundAs c.in-Ok-load_if.stack)) (written_since (g.W.Output.past c.args.output.now) (g.W.Output.past c.print_report-exit.new.output)) c.print_report-exit.result (g.Q.Exchange.past c.args.requests.now) c.print_report-exit.ensures.did
 
 pub returns-in-Name-clause-did : goal.returns-in-Name-clause-did
 returns-in-Name-clause-did g c = record { did = rw c.in-Name.is c.print_name.ensures.did; writes = c.print_name.ensures.writes }
