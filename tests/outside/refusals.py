@@ -45,6 +45,7 @@ PLACES = {
     ("dm_stack/checks/faults", "or_out_of_memory", "made, at Err(_)"): "its argument's only error is that of a growth",
     ("dm_stack/checks/faults", "out_of_memory", ""): "the fault itself, for those that answer it",
     ("dm_stack/names/name_index", "add", "self.names.insert(name), at Err(_)"): STD,
+    ("dm_stack/checks/names", "index_of", "NameIndex::new(alloc)"): OURS,
     ("dm_stack/checks/names", "index_of", "names.add(alloc, item.name()), at Err(_)"): OURS,
     ("dm_table/tables/concise_text", "parse_concise", "parts_of(alloc, text), at Err(_)"): OURS,
     ("dm_table/tables/concise_text", "read_parts", "read_devices(alloc, parts), at Err(_)"): OURS,
