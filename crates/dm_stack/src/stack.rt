@@ -110,9 +110,9 @@ impl Stack {
     /// them. `Memory`, with the number 0, means that memory was refused; it says nothing of the lists.
     ///
     /// Cost: near-linear in the lines and their columns, the devices and the disks, with memory for
-    /// a copy of each name and each line, and 128 to 256 bytes more for each device; for each line of an
-    /// origin a walk over the snapshots, with memory for those of the origin; where devices are too
-    /// deep, a search of what one reaches for each of them in turn.
+    /// a copy of each name and each line, 128 to 256 bytes more for each device, and 16 KiB; for each line of
+    /// an origin a walk over the snapshots, with memory for those of the origin; where devices are too deep,
+    /// a search of what one reaches for each of them in turn.
     pub fn load(
         alloc: Global,
         devices: Vec<DeviceSpec>,
