@@ -9,6 +9,7 @@ pub mod LayoutLemmas
 pub mod LoadLemmas
 pub mod OneFault
 pub mod Passes
+pub mod PathFaults
 pub mod PathLemmas
 pub mod PlacedLemmas
 pub mod RoundLemmas

@@ -1,6 +1,7 @@
 -- What the checks of a load pass: `Soundness` has them in their order.
 pub mod Depth
 pub mod Graph
+pub mod Paths
 pub mod Snapshots
 pub mod Soundness
 pub mod Store

@@ -8,6 +8,7 @@ pub mod limits;
 pub mod links;
 pub mod load;
 pub mod names;
+pub mod paths;
 pub mod ranges;
 pub mod snapshots;
 pub mod store_limit;

@@ -14,6 +14,7 @@ mod report;
 mod stack;
 
 pub use checks::graph::MOST_DEPTH;
+pub use checks::paths::check_paths;
 pub use claims::clash::Clash;
 pub use id::{DeviceId, DiskId, Lower};
 pub use lines::chunk_size::ChunkSize;

@@ -165,6 +165,16 @@ impl Stack {
         }
     }
 
+    /// The disk of a name.
+    pub fn disk(&self, name: &str) -> Option<DiskId>
+        ensures { result ≡ position (λ disk. is_same disk.name name.now) self.now.disks }
+    {
+        match self.disk_names.find(name) {
+            Some(index) => Some(DiskId::new(index)),
+            None => None,
+        }
+    }
+
     /// The device whose name stands at the front of a text, up to a space, and how long the name is: the
     /// quick way to the device of a request. `None` says nothing of the text, as near its end, or where
     /// another name is alike.
@@ -252,6 +262,13 @@ impl Stack {
         ensures { result ≡ length self.now.devices }
     {
         self.devices.as_slice().len()
+    }
+
+    /// The disks in their order.
+    pub fn disks(&self) -> &[Disk]
+        ensures { result.now ≡ self.now.disks }
+    {
+        self.disks.as_slice()
     }
 
     /// The number of disks, at most 1,024.
@@ -345,7 +362,8 @@ impl Stack {
     /// The name of a device of the stack.
     pub fn name(&self, device: DeviceId) -> &str
         requires { device < length self.now.devices }
-        ensures { result.now ≡ name_at self.now device }
+        ensures name { result.now ≡ name_at self.now device }
+        ensures form { IsTrue (is_device_name result.now) }
     {
         self.devices.as_slice()[device.index()].name.as_str()
     }

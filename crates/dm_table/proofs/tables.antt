@@ -8,6 +8,8 @@ pub mod ConciseRows
 mod ConciseWorked
 pub mod DiskLemmas
 mod KindsWorked
+pub mod PathLemmas
+pub mod PathPlaces
 pub mod TableDescribed
 pub mod TableFields
 pub mod TableGroups

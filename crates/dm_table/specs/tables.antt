@@ -6,6 +6,7 @@ pub mod DiskList
 pub mod LineBody
 pub mod LineHead
 pub mod LineReading
+pub mod PathList
 pub mod Span
 pub mod TableReading
 pub mod TableText

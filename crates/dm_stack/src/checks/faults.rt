@@ -11,7 +11,7 @@ ghost use Rattle.dm_table.specs.declared.load.place.Place.{Place};
 ghost use Rattle.dm_table.specs.declared.tables.table.Line.{Line};
 ghost use Rattle.dm_stack.specs.checks.Soundness.{all_lines};
 
-use dm_table::{DeviceSpec, Disk, Line, LoadFault, LoadKind, Part, Place};
+use dm_table::{DeviceSpec, Disk, DiskPath, Line, LoadFault, LoadKind, Part, Place};
 use std::alloc::AllocError;
 
 /// The fault of a load that got no memory.
@@ -32,11 +32,11 @@ pub(crate) fn or_out_of_memory<T>(made: Result<T, AllocError>) -> Result<T, Load
     }
 }
 
-/// What a user finds again in the source by its place there: a device, a line of one, or a disk.
+/// What a user finds again by its place in what was read: a device, a line of one, a disk, or a path of one.
 pub(crate) trait Placed {
     ghost place_of: { Self → Place };
 
-    /// Where it stands in the source.
+    /// Where it stands.
     fn place(&self) -> Place
         ensures { result ≡ place_of self.now };
 }
@@ -59,6 +59,14 @@ impl Placed for Line {
 
 impl Placed for Disk {
     ghost place_of = { λ disk. disk.at };
+
+    fn place(&self) -> Place {
+        self.at
+    }
+}
+
+impl Placed for DiskPath {
+    ghost place_of = { λ path. path.at };
 
     fn place(&self) -> Place {
         self.at

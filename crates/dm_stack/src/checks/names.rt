@@ -12,11 +12,11 @@ ghost use Rattle.dm_stack.specs.checks.Soundness.{twice, twice_in};
 
 use crate::checks::faults::{Placed, out_of_memory};
 use crate::names::name_index::NameIndex;
-use dm_table::{DeviceSpec, Disk, LoadFault, LoadKind};
+use dm_table::{DeviceSpec, Disk, DiskPath, LoadFault, LoadKind};
 use std::alloc::Global;
 
-/// What has a name: a device, or a disk.
-trait Named {
+/// What has a name: a device, a disk, or a path of one.
+pub(crate) trait Named {
     ghost name_of: { Self → List ℕ };
 
     /// The name that stands in the source.
@@ -37,6 +37,14 @@ impl Named for Disk {
 
     fn name(&self) -> &str {
         self.name.as_str()
+    }
+}
+
+impl Named for DiskPath {
+    ghost name_of = { λ path. path.disk };
+
+    fn name(&self) -> &str {
+        self.disk.as_str()
     }
 }
 
@@ -69,7 +77,7 @@ pub(crate) fn check_names(
 }
 
 /// The names of a list, indexed. It fails at the first element whose name an earlier one has.
-fn index_of<T: Named + Placed>(alloc: Global, list: &[T]) -> Result<NameIndex, LoadFault>
+pub(crate) fn index_of<T: Named + Placed>(alloc: Global, list: &[T]) -> Result<NameIndex, LoadFault>
     ensures { Answers Source (λ index. index) result
         (unless (first_or (twice_in T.name_of T.place_of list.now) None) (map T.name_of list.now)) }
 {

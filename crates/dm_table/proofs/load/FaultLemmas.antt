@@ -3,7 +3,7 @@ use Rattle.std.proofs.Common.{◌≡◌, ◌≢◌, ◌≤◌, length, arith, in
 use Rattle.std.specs.List.{AllByRecursion}
 use Rattle.std.proofs.lemmas.Bool.{cases_Bool}
 use Rattle.dm_table.specs.declared.load.place.Part.{Part}
-use Rattle.dm_table.specs.declared.load.place.Part.TheVariants.{Source, Disks}
+use Rattle.dm_table.specs.declared.load.place.Part.TheVariants.{Source, Disks, Paths}
 use Rattle.dm_table.specs.declared.load.load_fault.LoadKind.{LoadKind}
 use Rattle.dm_table.specs.declared.load.load_fault.LoadKind.TheVariants.{Memory}
 use Rattle.dm_table.specs.declared.load.load_fault.LoadFault.{LoadFault}
@@ -128,3 +128,4 @@ first_fault-text ((other ∷ faults) ∷ checks) fault h e = let same : other �
 pub part_short : (part : Part) → length (part_word part) ≤ 6
 part_short Source = omega arith
 part_short Disks = omega arith
+part_short Paths = omega arith

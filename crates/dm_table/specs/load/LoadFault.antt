@@ -57,9 +57,13 @@ Answers part view (Err fault) reading = (fault.kind ≡ Memory → IsMemoryFault
 abbrev pub is_printable : List ℕ → Bool
 is_printable text = list_all (λ b. b == code "\n" || (nat_le 32 b && nat_le b 126)) text
 
--- the pieces of a text, such as its lines, that have any other byte
+-- the pieces of a text, such as its lines, that are no text by a test
+abbrev pub untexts : (is_text : List ℕ → Bool) → Part → List (List ℕ) → List LoadFault
+untexts is_text part pieces = faults_from part NotText (λ piece. not (is_text piece)) 1 pieces
+
+-- the same where a text has those bytes alone
 abbrev pub not_text : Part → List (List ℕ) → List LoadFault
-not_text part pieces = faults_from part NotText (λ piece. not (is_printable piece)) 1 pieces
+not_text = untexts is_printable
 
 -- a rest that no newline ends, as line n
 abbrev pub unended : Part → ℕ → List ℕ → List LoadFault

@@ -1,7 +1,7 @@
 -- The message of a refused load.
 use Rattle.std.specs.Prelude.{ℕ, List, ◌++◌, codes, decimal}
 use Rattle.dm_table.specs.declared.load.place.Part.{Part}
-use Rattle.dm_table.specs.declared.load.place.Part.TheVariants.{Source, Disks}
+use Rattle.dm_table.specs.declared.load.place.Part.TheVariants.{Source, Disks, Paths}
 use Rattle.dm_table.specs.declared.load.load_fault.LoadKind.{LoadKind}
 use Rattle.dm_table.specs.declared.load.load_fault.LoadKind.TheVariants as kinds
 use Rattle.dm_table.specs.declared.load.load_fault.LoadFault.{LoadFault}
@@ -10,6 +10,7 @@ use Rattle.dm_table.specs.declared.load.load_fault.LoadFault.{LoadFault}
 abbrev pub part_word : Part → List ℕ
 part_word Source = codes "source"
 part_word Disks = codes "disks"
+part_word Paths = codes "paths"
 
 -- the word of a kind
 abbrev pub kind_word : LoadKind → List ℕ

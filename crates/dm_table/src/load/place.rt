@@ -15,6 +15,8 @@ pub enum Part {
     Source,
     /// The disk list.
     Disks,
+    /// The list of the paths of disks.
+    Paths,
 }
 
 impl Part {
@@ -25,6 +27,7 @@ impl Part {
         match self {
             Part::Source => "source",
             Part::Disks => "disks",
+            Part::Paths => "paths",
         }
     }
 }

@@ -6,7 +6,7 @@
 
 ghost use Rattle.std.specs.Prelude.{◌≡◌, ◌+◌, ℕ, Bool, List, [], None, Ok, IfOk, OnOk, length, map};
 ghost use Rattle.dm_table.specs.words.Fields.{texts, lines_of, rest_of};
-ghost use Rattle.dm_table.specs.load.LoadFault.{Answers, first_fault, unless};
+ghost use Rattle.dm_table.specs.load.LoadFault.{Answers, first_fault, row_checks, unless};
 ghost use Rattle.dm_table.specs.load.Reading.{line_checks, with_rows};
 ghost use Rattle.dm_table.specs.load.RowFaults.{Reads, no_faults, noted_rest, noted_rows, row_fault, first_noted};
 
@@ -96,6 +96,21 @@ pub(crate) fn read_lines<T: FromRows>(
     if let Err(fault) = check_text(alloc, part, b'\n', text) {
         return Err(fault);
     }
+    read_rows(alloc, part, text)
+}
+
+/// The values of the lines of a text of which each byte is text, or the first fault of the first check of rows
+/// that finds any. One pass.
+pub(crate) fn read_rows<T: FromRows>(
+    alloc: Global,
+    part: Part,
+    text: &[u8],
+) -> Result<Vec<T>, LoadFault>
+    ensures { Answers part (λ v. v.items) result
+        (unless (first_fault (row_checks part T.is_row T.has_values T.has_names
+        (map T.row_of (lines_of text.now)) (rest_of text.now)))
+        (with_rows T.with_row [] 1 (map T.row_of (lines_of text.now)))) }
+{
     match read_each::<T>(alloc, part, text) {
         Ok(reading) => reading.finish(),
         Err(_) => Err(LoadFault::memory(part)),

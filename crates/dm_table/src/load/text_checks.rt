@@ -3,15 +3,36 @@
 //! What it finds comes before what is wrong with a row, so a text is checked before its rows are
 //! read.
 
-ghost use Rattle.std.specs.Prelude.{◌≡◌, ◌≢◌, None, IfSome};
+ghost use Rattle.std.specs.Prelude.{◌≡◌, ◌≢◌, ℕ, Bool, List, None, IfSome};
 ghost use Rattle.dm_table.specs.declared.load.load_fault.LoadKind.TheVariants.{Memory};
 ghost use Rattle.dm_table.specs.words.Fields.{texts, parts_at};
-ghost use Rattle.dm_table.specs.load.LoadFault.{Answers, unless, first_or, is_printable, not_text};
+ghost use Rattle.dm_table.specs.load.LoadFault.{Answers, unless, first_or, is_printable, not_text, untexts};
 
 use crate::load::load_fault::{LoadFault, LoadKind};
 use crate::load::place::Part;
 use crate::words::fields::cut;
 use std::alloc::Global;
+
+/// Which pieces are text.
+pub(crate) trait TextRule {
+    /// Whether a piece is.
+    ghost is_text: { List ℕ → Bool };
+
+    /// Whether the bytes are.
+    fn is_text(piece: &[u8]) -> bool
+        ensures { result ≡ is_text piece.now };
+}
+
+/// The text of most parts: printable bytes.
+struct Printable;
+
+impl TextRule for Printable {
+    ghost is_text = { is_printable };
+
+    fn is_text(piece: &[u8]) -> bool {
+        is_printable(piece)
+    }
+}
 
 /// Refuses a text with a byte that is no text. The fault has the number of the piece with that byte; the
 /// text is cut at each byte `at`. One pass, and some more over a text that is refused.
@@ -23,22 +44,36 @@ pub(crate) fn check_text(alloc: Global, part: Part, at: u8, text: &[u8]) -> Resu
     if is_printable(text) {
         return Ok(());
     }
+    check_pieces::<Printable>(alloc, part, at, text)
+}
+
+/// Refuses a text with a piece that is no text. The fault has the number of the piece; the text is cut at
+/// each byte `at`.
+pub(crate) fn check_pieces<R: TextRule>(
+    alloc: Global,
+    part: Part,
+    at: u8,
+    text: &[u8],
+) -> Result<(), LoadFault>
+    ensures { Answers part (λ done. done) result
+        (unless (first_or (untexts R.is_text part (parts_at at text.now)) None) tt) }
+{
     let Ok(pieces) = cut(alloc, at, text) else {
         return Err(LoadFault::memory(part));
     };
-    match first_unprinted(part, &pieces) {
+    match first_untext::<R>(part, &pieces) {
         Some(fault) => Err(fault),
         None => Ok(()),
     }
 }
 
-/// The first piece with a byte that is neither a newline nor one from 0x20 to 0x7E.
-fn first_unprinted(part: Part, pieces: &[&[u8]]) -> Option<LoadFault>
-    ensures value { result ≡ first_or (not_text part (texts pieces.now)) None }
+/// The first piece that is no text.
+fn first_untext<R: TextRule>(part: Part, pieces: &[&[u8]]) -> Option<LoadFault>
+    ensures value { result ≡ first_or (untexts R.is_text part (texts pieces.now)) None }
     ensures kind { IfSome result (λ fault. fault.kind ≢ Memory) }
 {
     for (index, piece) in pieces.iter().enumerate() {
-        if !is_printable(*piece) {
+        if !R::is_text(*piece) {
             return Some(LoadFault::at_index(part, LoadKind::NotText, index));
         }
     }

@@ -15,5 +15,5 @@ returns c =
       found = Some clash;
       clash = rw c.in-Some.is at c.in_ok-clash.ensures.clash;
       is =
-          rw (← c.name.ensures, ← c.name-2.ensures) (clash_line words.0.now words.1.now (lower_text stack clash.lower) (decimal clash.sector) c.name.result.now c.name-2.result.now c.lower_words-lower.ensures) ∙ sym is;
+          rw (← c.name.ensures.name, ← c.name-2.ensures.name) (clash_line words.0.now words.1.now (lower_text stack clash.lower) (decimal clash.sector) c.name.result.now c.name-2.result.now c.lower_words-lower.ensures) ∙ sym is;
     }) c.format.ensures.ok

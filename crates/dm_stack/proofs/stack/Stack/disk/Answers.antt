@@ -1,0 +1,12 @@
+use Rattle.std.proofs.Common.{sym}
+use Rattle.dm_stack.specs.Description.{is_same}
+use Rattle.dm_stack.proofs.SoundLines.{position-map}
+use Rattle.dm_stack.proofs.stack.Stack.disk.Goals as goal
+
+pub returns-in-Some : goal.returns-in-Some
+returns-in-Some c =
+    rw (c.new.ensures, ← c.in-Some.is, c.find.ensures, c.self.invariant.disk_names, ← c.self.view_is) (position-map (λ disk. disk.name) (λ other. is_same other c.args.name.now) c.self.inside.disks)
+
+pub returns-in-None : goal.returns-in-None
+returns-in-None c =
+    rw (← c.self.view_is, ← position-map (λ disk. disk.name) (λ other. is_same other c.args.name.now) c.self.inside.disks, ← c.self.invariant.disk_names, ← c.find.ensures) (sym c.in-None.is)

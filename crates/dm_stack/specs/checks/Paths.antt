@@ -1,0 +1,19 @@
+-- The checks of a list of paths against a stack.
+use Rattle.std.specs.Prelude.{Bool, List, [], ◌∷◌, is_none, position}
+use Rattle.dm_table.specs.declared.tables.disk_path.DiskPath.{DiskPath}
+use Rattle.dm_table.specs.declared.load.load_fault.LoadFault.{LoadFault}
+use Rattle.dm_table.specs.declared.load.load_fault.LoadKind.TheVariants.{Unknown}
+use Rattle.dm_table.specs.load.LoadFault.{faults_by}
+use Rattle.dm_stack.specs.Description.{Description, is_same}
+use Rattle.dm_stack.specs.checks.Soundness.{twice_in}
+
+-- a path of a disk that the stack doesn't have
+abbrev pub is_unknown_path : Description → DiskPath → Bool
+is_unknown_path stack path = is_none (position (λ disk. is_same disk.name path.disk) stack.disks)
+
+-- a disk that an earlier path names, then one that isn't there
+abbrev pub path_faults : Description → List DiskPath → List (List LoadFault)
+path_faults stack paths =
+    twice_in (λ path. path.disk) (λ path. path.at) paths
+    ∷ faults_by Unknown (λ path. path.at) (is_unknown_path stack) paths
+    ∷ []

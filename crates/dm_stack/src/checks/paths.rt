@@ -1,0 +1,47 @@
+//! The names in a list of paths: each is that of a disk of the stack, and stands there once.
+
+ghost use Rattle.std.specs.Prelude.{◌≡◌, ◌≢◌, IfErr, None, OnOk, Some};
+ghost use Rattle.std.specs.Result.{result_err};
+ghost use Rattle.dm_table.specs.load.LoadFault.{IsMemoryFault, faults_by, first_fault, first_or};
+ghost use Rattle.dm_table.specs.declared.load.load_fault.LoadKind.TheVariants.{Memory, Unknown};
+ghost use Rattle.dm_table.specs.declared.load.place.Part.TheVariants.{Source};
+ghost use Rattle.dm_stack.specs.checks.Paths.{is_unknown_path, path_faults};
+
+use crate::checks::faults::check_each;
+use crate::checks::names::index_of;
+use crate::stack::Stack;
+use dm_table::{DiskPath, LoadFault, LoadKind};
+use std::alloc::Global;
+
+/// Fails at the first path of a disk that an earlier one names, and else at the first of a disk that the stack
+/// doesn't have.
+///
+/// Cost: near-linear, with memory for a copy of each name. `Memory` if that was refused.
+pub fn check_paths(alloc: Global, stack: &Stack, paths: &[DiskPath]) -> Result<(), LoadFault>
+    ensures passed { OnOk result (first_fault (path_faults stack.now paths.now) ≡ None) }
+    ensures fault { IfErr result (λ fault. fault.kind ≢ Memory
+        → first_fault (path_faults stack.now paths.now) ≡ Some fault) }
+    ensures memory { IfErr result (λ fault. fault.kind ≡ Memory → IsMemoryFault Source fault) }
+{
+    let _names = index_of(alloc, paths)?;
+    check_known(stack, paths)
+}
+
+/// Fails at the first path of a disk that the stack doesn't have.
+fn check_known(stack: &Stack, paths: &[DiskPath]) -> Result<(), LoadFault>
+    ensures { result_err result
+        ≡ first_or (faults_by Unknown (λ path. path.at) (is_unknown_path stack.now) paths.now) None }
+{
+    check_each(
+        LoadKind::Unknown,
+        paths,
+        |path| is_unknown_path(stack, path),
+    )
+}
+
+/// Whether a path is of a disk that the stack doesn't have.
+fn is_unknown_path(stack: &Stack, path: &DiskPath) -> bool
+    ensures { result ≡ is_unknown_path stack.now path.now }
+{
+    stack.disk(path.disk.as_str()).is_none()
+}

@@ -1,0 +1,96 @@
+-- What comes from a store fits it.
+use Rattle.std.proofs.Common.{◌≡◌, ℕ, zero, suc, ◌/◌, ◌<◌, ◌≤◌, Bool, true, false, cond, List, Option, Some, None, Result, Ok, Err, length, nat_eq, refl, sym, subst, arith, length-append}
+use Rattle.std.specs.List.{IsDistinct}
+use Rattle.std.specs.Prelude.{◌==◌, ◌&&◌, ◌||◌, not, is_some, nat_lt}
+use Rattle.std.proofs.lemmas.Bool.{ltb-true}
+use Rattle.dm_store.specs.declared.fault.SectorFault.{SectorFault}
+use Rattle.dm_store.specs.declared.fault.ListFault.{ListFault}
+use Rattle.dm_store.specs.declared.fault.StoreFault.TheVariants.{Magic, Version, Chunk}
+use Rattle.dm_store.specs.declared.pair.Pair.{Pair}
+use Rattle.dm_store.specs.declared.store.Store.{Store}
+use Rattle.dm_store.specs.Numbers.{four_at}
+use Rattle.dm_store.specs.Pairs.{each, pair, old_chunks}
+use Rattle.dm_table.specs.declared.tables.table.StoreKind.TheVariants.{Persistent}
+use Rattle.dm_stack.specs.lines.StoreLayout.{place}
+use Rattle.dm_store.specs.Layout.{row_sector, pair_count}
+use Rattle.dm_store.specs.Stored.{Stored, Fresh, Lost, Holds, Refused, by_header, list_fault, fault_of, is_any_again, is_near, is_placed, list_count, listed, listed_if, of_list}
+use Rattle.dm_map.proofs.Numbers.{distinct_more}
+use Rattle.dm_store.specs.Fitting.{AlwaysFit}
+use Rattle.dm_map.specs.state.Snapshots.{number_in}
+
+or_false : (a b : Bool) → (a || b) ≡ false → (a ≡ false) × (b ≡ false)
+or_false false false e = (refl, refl)
+or_false false true e = absurd cc
+or_false true b e = absurd cc
+
+pub and_true : (a b : Bool) → (a && b) ≡ true → (a ≡ true) × (b ≡ true)
+and_true true true e = (refl, refl)
+and_true true false e = absurd cc
+and_true false b e = absurd cc
+
+is_none : (o : Option ℕ) → is_some o ≡ false → o ≡ None
+is_none None e = refl
+is_none (Some x) e = absurd cc
+
+distinct_all : (pairs : ℕ → Pair) (count : ℕ) → is_any_again pairs count ≡ false → IsDistinct nat_eq (old_chunks pairs count)
+unfolding is_any_again old_chunks IsDistinct
+distinct_all pairs zero e = tt
+distinct_all pairs (suc n) e =
+    let parts = or_false (is_any_again pairs n) (is_some (number_in (pairs n).old (old_chunks pairs n))) e in
+    distinct_more (pairs n).old (old_chunks pairs n) (distinct_all pairs n parts.0) (is_none (number_in (pairs n).old (old_chunks pairs n)) parts.1)
+
+pub length_old : (pairs : ℕ → Pair) (count : ℕ) → length (old_chunks pairs count) ≡ count
+unfolding old_chunks
+length_old pairs zero = refl
+length_old pairs (suc n) = rw (length-append, length_old pairs n) (omega arith)
+
+placed_all : (store : Store) (pairs : ℕ → Pair) (count : ℕ) → each (λ i. is_placed store i (pairs i)) count ≡ true → count ≤ store.places
+unfolding each
+placed_all store pairs zero e = omega arith
+placed_all store pairs (suc n) e =
+    let last = and_true (each (λ i. is_placed store i (pairs i)) n) (is_placed store n (pairs n)) e in
+    let inside = and_true (nat_lt n store.places) ((pairs n).new == place Persistent store.chunk n) last.1 in
+    let less : n < store.places = ltb-true n store.places inside.0 in
+    omega (arith, less)
+
+no_fault : (placed near again : Bool) → fault_of placed near again ≡ None → (placed ≡ true) × (again ≡ false)
+no_fault true true false e = (refl, refl)
+no_fault true true true e = absurd cc
+no_fault true false again e = absurd cc
+no_fault false near again e = absurd cc
+
+-- a store that holds chunks is used, its list can be read, and has no fault
+words_hold : (fresh magic version chunk invalid : Bool) (used : Stored) (chunks : List ℕ)
+    → cond fresh Fresh (cond (not magic) (Refused Magic) (cond (not version) (Refused Version) (cond (not chunk) (Refused Chunk) (cond invalid Lost used)))) ≡ Holds chunks → used ≡ Holds chunks
+words_hold true m v c i used chunks e = absurd cc
+words_hold false false v c i used chunks e = absurd cc
+words_hold false true false c i used chunks e = absurd cc
+words_hold false true true false i used chunks e = absurd cc
+words_hold false true true true true used chunks e = absurd cc
+words_hold false true true true false used chunks e = e
+
+pub header_holds : (used : Stored) (in_table : ℕ) (header : Result (List ℕ) SectorFault) (chunks : List ℕ) → by_header used in_table header ≡ Holds chunks → used ≡ Holds chunks
+header_holds used in_table (Err fault) chunks e = absurd cc
+header_holds used in_table (Ok h) chunks e = words_hold (four_at h 0 == 0) (four_at h 0 == 0x70416e53) (four_at h 8 == 1) (four_at h 12 == in_table) (four_at h 4 == 0) used chunks e
+
+pub end_holds : (full : Bool) (listed : Stored) (sector : Result (List ℕ) SectorFault) (chunks : List ℕ) → cond full listed (listed_if listed sector) ≡ Holds chunks → listed ≡ Holds chunks
+end_holds true listed sector chunks e = e
+end_holds false listed (Ok bytes) chunks e = e
+end_holds false listed (Err fault) chunks e = absurd cc
+
+pub list_holds : (f : Option ListFault) (xs chunks : List ℕ) → of_list f xs ≡ Holds chunks → (f ≡ None) × (xs ≡ chunks)
+list_holds None xs chunks e = (refl, cc)
+list_holds (Some x) xs chunks e = absurd cc
+
+pub always_fits : (store : Store) → AlwaysFit store
+always_fits store = λ sectors chunks is.
+    let count : ℕ = list_count sectors store in
+    let pairs : ℕ → Pair = pair sectors store.chunk in
+    let used : listed sectors store ≡ Holds chunks = header_holds (listed sectors store) store.chunk (sectors 0) chunks is in
+    let held = end_holds (count == pair_count store.chunk store.len) (of_list (list_fault store pairs count) (old_chunks pairs count)) (sectors (row_sector store.chunk (count / 32))) chunks used in
+    let parts = list_holds (list_fault store pairs count) (old_chunks pairs count) chunks held in
+    let faultless = no_fault (each (λ i. is_placed store i (pairs i)) count) (each (λ i. is_near store (pairs i)) count) (is_any_again pairs count) parts.0 in
+    record {
+      places = subst (λ (xs : List ℕ). length xs ≤ store.places) parts.1 (subst (λ (n : ℕ). n ≤ store.places) (sym (length_old pairs count)) (placed_all store pairs count faultless.0));
+      once = subst (λ (xs : List ℕ). IsDistinct nat_eq xs) parts.1 (distinct_all pairs count faultless.1);
+    }

@@ -1,0 +1,24 @@
+-- The path of a disk, found by its name.
+use Rattle.std.proofs.Common.{◌≡◌, ◌≢◌, ℕ, ◌+◌, ◌<◌, true, false, List, ◌∷◌, length, drop, get_or, Some, refl, sym, ap, ◌∙◌}
+use Rattle.std.specs.Prelude.{find}
+use Rattle.std.proofs.lemmas.Bool.{false_from_ne_true}
+use Rattle.std.proofs.lemmas.List.{drop_more}
+use Rattle.std.proofs.lemmas.Slice.Eq.{bytes_eq-Decides}
+use Rattle.dm_table.specs.declared.tables.disk_path.DiskPath.{DiskPath}
+use Rattle.dm_stack.specs.Description.{is_same}
+
+-- a path of this name is the one that is found
+pub path_here : (paths : List DiskPath) (i : ℕ) (path : DiskPath) (name : List ℕ) → i < length paths → path ≡ get_or paths i path → path.disk ≡ name
+    → find (λ other. is_same other.disk name) (drop i paths) ≡ Some path
+path_here paths i path name below is same =
+    let here : drop i paths ≡ path ∷ drop (i + 1) paths = drop_more paths i path below ∙ ap (λ (first : DiskPath). first ∷ drop (i + 1) paths) (sym is) in
+    let yes : is_same path.disk name ≡ true = ap (λ (n : List ℕ). is_same n name) same ∙ (bytes_eq-Decides name name).1 refl in
+    rw (here, yes) refl
+
+-- and another one is passed over
+pub path_later : (paths : List DiskPath) (i : ℕ) (path : DiskPath) (name : List ℕ) → i < length paths → path ≡ get_or paths i path → path.disk ≢ name
+    → find (λ other. is_same other.disk name) (drop i paths) ≡ find (λ other. is_same other.disk name) (drop (i + 1) paths)
+path_later paths i path name below is other =
+    let here : drop i paths ≡ path ∷ drop (i + 1) paths = drop_more paths i path below ∙ ap (λ (first : DiskPath). first ∷ drop (i + 1) paths) (sym is) in
+    let no : is_same path.disk name ≡ false = false_from_ne_true _ (λ same. other ((bytes_eq-Decides path.disk name).0 same)) in
+    rw (here, no) refl

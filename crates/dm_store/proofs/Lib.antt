@@ -1,0 +1,10 @@
+pub mod FittingLemmas
+mod ImageLemmas
+pub mod ListLemmas
+pub mod LogLemmas
+pub mod RowLemmas
+pub mod SpellingLemmas
+pub mod SpeltLemmas
+pub mod StartLemmas
+pub mod StoreLemmas
+pub mod WalkLemmas

@@ -1,0 +1,157 @@
+-- What is said to be held is spelled.
+use Rattle.std.proofs.Common.{◌≡◌, ◌⊎◌, inl, inr, ℕ, zero, suc, ◌/◌, ◌<◌, ◌≤◌, Bool, true, false, cond, List, [], ◌∷◌, ◌++◌, None, Result, Ok, Err, get_or, length, refl, sym, ap, subst, ◌∙◌, arith}
+use Rattle.std.specs.Prelude.{◌≢◌, ◌==◌, ◌&&◌, not, nat_lt, slice_index}
+use Rattle.std.proofs.lemmas.Bool.{eq-eqb, eqb-true, leb-true, ne_eqb}
+use Rattle.std.proofs.Math.Nat.{le-suc_iff}
+use Rattle.std.proofs.lemmas.List.{get_or_append_left}
+use Rattle.dm_store.specs.declared.fault.SectorFault.{SectorFault}
+use Rattle.dm_store.specs.declared.fault.StoreFault.TheVariants.{Magic, Version, Chunk}
+use Rattle.dm_store.specs.declared.pair.Pair.{Pair}
+use Rattle.dm_store.specs.declared.store.Store.{Store}
+use Rattle.dm_store.specs.Numbers.{four_at}
+use Rattle.dm_store.specs.Pairs.{count_of, each, old_chunks, pair}
+use Rattle.dm_table.specs.declared.tables.table.StoreKind.TheVariants.{Persistent}
+use Rattle.dm_stack.specs.lines.StoreLayout.{place}
+use Rattle.dm_store.specs.Layout.{pair_count, row_sector}
+use Rattle.dm_store.specs.Spelled.{IsFreeAt, IsSpelled, IsUsed}
+use Rattle.dm_store.specs.Stored.{Fresh, Holds, Lost, Refused, Stored, by_header, list_fault, fault_of, is_any_again, is_listed, is_near, is_placed, list_count, listed, listed_if, of_list}
+use Rattle.dm_store.proofs.FittingLemmas.{always_fits, and_true, end_holds, header_holds, length_old, list_holds}
+
+words_parts : (fresh magic version chunk invalid : Bool) (used : Stored) (chunks : List ℕ)
+    → cond fresh Fresh (cond (not magic) (Refused Magic) (cond (not version) (Refused Version) (cond (not chunk) (Refused Chunk) (cond invalid Lost used)))) ≡ Holds chunks
+    → (magic ≡ true) × (version ≡ true) × (chunk ≡ true) × (invalid ≡ false)
+words_parts true m v c i used chunks e = absurd cc
+words_parts false false v c i used chunks e = absurd cc
+words_parts false true false c i used chunks e = absurd cc
+words_parts false true true false i used chunks e = absurd cc
+words_parts false true true true true used chunks e = absurd cc
+words_parts false true true true false used chunks e = (refl, refl, refl, refl)
+
+unequal : (n : ℕ) → (n == 0) ≡ false → n ≢ 0
+unequal n e = λ zero. absurd (let t : (n == 0) ≡ true = eq-eqb n 0 zero in cc)
+
+record Header (in_table : ℕ) (sector : Result (List ℕ) SectorFault) : Type 0 where
+  pub bytes : List ℕ
+  pub is : sector ≡ Ok bytes
+  pub used : IsUsed in_table bytes
+
+header_parts : (used : Stored) (in_table : ℕ) (sector : Result (List ℕ) SectorFault) (chunks : List ℕ) → by_header used in_table sector ≡ Holds chunks → Header in_table sector
+header_parts used in_table (Err fault) chunks e = absurd cc
+header_parts used in_table (Ok h) chunks e =
+    let parts = words_parts (four_at h 0 == 0) (four_at h 0 == 0x70416e53) (four_at h 8 == 1) (four_at h 12 == in_table) (four_at h 4 == 0) used chunks e in
+    record {
+      bytes = h;
+      is = refl;
+      used = record { magic = eqb-true (four_at h 0) 0x70416e53 parts.0; valid = unequal (four_at h 4) parts.3; version = eqb-true (four_at h 8) 1 parts.1; chunk_len = eqb-true (four_at h 12) in_table parts.2 };
+    }
+
+each_at : (p : ℕ → Bool) (n i : ℕ) → each p n ≡ true → i < n → p i ≡ true
+unfolding each
+each_at p zero i all less = absurd (omega (arith, less))
+each_at p (suc n) i all less = let parts = and_true (each p n) (p n) all in elim (le-suc_iff.0 less) as (λ _. p i ≡ true) [
+  | inl before ↦ each_at p n i parts.0 before
+  | inr last ↦ let k : n ≡ i = omega (arith, last) in subst (λ (x : ℕ). p x ≡ true) k parts.1
+]
+
+last_of : (xs : List ℕ) (x : ℕ) → get_or (xs ++ x ∷ []) (length xs) 0 ≡ x
+last_of [] x = refl
+last_of (y ∷ xs) x = last_of xs x
+
+old_at : (pairs : ℕ → Pair) (n i : ℕ) → i < n → get_or (old_chunks pairs n) i 0 ≡ (pairs i).old
+unfolding old_chunks
+old_at pairs zero i less = absurd (omega (arith, less))
+old_at pairs (suc n) i less =
+    let before : List ℕ = old_chunks pairs n in
+    let count : length before ≡ n = length_old pairs n in
+    elim (le-suc_iff.0 less) as (λ _. get_or (before ++ (pairs n).old ∷ []) i 0 ≡ (pairs i).old) [
+      | inl inside ↦ get_or_append_left before ((pairs n).old ∷ []) 0 i (omega (arith, inside, count)) ∙ old_at pairs n i inside
+      | inr last ↦ let k : n ≡ i = omega (arith, last) in let at : i ≡ length before = omega (arith, k, count) in
+          ap (λ (x : ℕ). get_or (before ++ (pairs n).old ∷ []) x 0) at ∙ last_of before (pairs n).old ∙ ap (λ (x : ℕ). (pairs x).old) k
+    ]
+
+-- how many are so, up to the first that isn't: each of them is, and that one isn't
+record Ends (p : ℕ → Bool) (most count : ℕ) : Type 0 where
+  pub each_so : each p count ≡ true
+  pub stops : (count ≡ most) ⊎ ((count < most) × (p count ≡ false))
+
+not_next : (a b : Bool) → a ≡ true → (a && b) ≡ false → b ≡ false
+not_next true b t e = e
+not_next false b t e = absurd cc
+
+-- by whether each of one more is so
+go_ends : (p : ℕ → Bool) (m : ℕ) (b : Bool) → (each p m && p m) ≡ b → each p (suc m) ≡ b → Ends p m (count_of p m) → Ends p (suc m) (cond b (suc m) (count_of p m))
+go_ends p m true both is ends = record { each_so = is; stops = inl refl }
+go_ends p m false both is ends = elim ends.stops as (λ _. Ends p (suc m) (count_of p m)) [
+  | inl full ↦ record {
+    each_so = ends.each_so;
+    stops = inr (
+      omega (arith, full),
+      (let so : each p m ≡ true = subst (λ (n : ℕ). each p n ≡ true) full ends.each_so in
+          subst (λ (n : ℕ). p n ≡ false) (sym full) (not_next (each p m) (p m) so both)),
+    );
+  }
+  | inr stop ↦ record { each_so = ends.each_so; stops = inr (omega (arith, stop.0), stop.1) }
+]
+
+count_ends : (p : ℕ → Bool) (most : ℕ) → Ends p most (count_of p most)
+unfolding each count_of
+count_ends p zero = record { each_so = refl; stops = inl refl }
+count_ends p (suc m) = go_ends p m (each p (suc m)) refl refl (count_ends p m)
+
+no_fault_all : (placed near again : Bool) → fault_of placed near again ≡ None → (placed ≡ true) × (near ≡ true)
+no_fault_all true true again e = (refl, refl)
+no_fault_all true false again e = absurd cc
+no_fault_all false near again e = absurd cc
+
+-- where not all areas are full, the sector of the pair after the list could be read
+end_read : (full : Bool) (listed : Stored) (sector : Result (List ℕ) SectorFault) (chunks : List ℕ) → full ≡ false → cond full listed (listed_if listed sector) ≡ Holds chunks → (row : List ℕ) × (sector ≡ Ok row)
+end_read true listed sector chunks e held = absurd cc
+end_read false listed (Ok bytes) chunks e held = (bytes, refl)
+end_read false listed (Err fault) chunks e held = absurd cc
+
+not_false : (b : Bool) → not b ≡ false → b ≡ true
+not_false true e = refl
+not_false false e = absurd cc
+
+not_listed : (n : ℕ) → not (n == 0) ≡ false → n ≡ 0
+not_listed n e = eqb-true n 0 (not_false (n == 0) e)
+
+pub is_spelled : (store : Store) → IsSpelled store
+is_spelled store = λ sectors chunks is.
+    let count : ℕ = list_count sectors store in
+    let most : ℕ = pair_count store.chunk store.len in
+    let pairs : ℕ → Pair = pair sectors store.chunk in
+    let sector : Result (List ℕ) SectorFault = sectors (row_sector store.chunk (count / 32)) in
+    let list : Stored = of_list (list_fault store pairs count) (old_chunks pairs count) in
+    let header : Header store.chunk (sectors 0) = header_parts (listed sectors store) store.chunk (sectors 0) chunks is in
+    let used : listed sectors store ≡ Holds chunks = header_holds (listed sectors store) store.chunk (sectors 0) chunks is in
+    let held : list ≡ Holds chunks = end_holds (count == most) list sector chunks used in
+    let parts = list_holds (list_fault store pairs count) (old_chunks pairs count) chunks held in
+    let all = no_fault_all (each (λ i. is_placed store i (pairs i)) count) (each (λ i. is_near store (pairs i)) count) (is_any_again pairs count) parts.0 in
+    let len : length chunks ≡ count = ap (λ (xs : List ℕ). length xs) (sym parts.1) ∙ length_old pairs count in
+    let olds : (i : ℕ) → i < count → (pairs i).old ≡ slice_index chunks i = λ i less. sym (old_at pairs count i less) ∙ ap (λ (xs : List ℕ). get_or xs i 0) parts.1 in
+    let ends : Ends (λ i. is_listed (pairs i)) most count = count_ends (λ i. is_listed (pairs i)) most in
+    record {
+      header = header.bytes;
+      begins = header.is;
+      used = header.used;
+      pairs = λ i below.
+          let less : i < count = subst (λ (n : ℕ). i < n) len below in
+          let placed = and_true (nat_lt i store.places) ((pairs i).new == place Persistent store.chunk i) (each_at (λ j. is_placed store j (pairs j)) count i all.0 less) in
+          let new : (pairs i).new ≡ place Persistent store.chunk i = eqb-true (pairs i).new (place Persistent store.chunk i) placed.1 in
+          let a : pairs i ≡ record { old = slice_index chunks i; new = (pairs i).new } = ap (λ (x : ℕ). let y : Pair = record { old = x; new = (pairs i).new } in y) (olds i less) in
+          a ∙ ap (λ (x : ℕ). let y : Pair = record { old = slice_index chunks i; new = x } in y) new;
+      ends = elim ends.stops as (λ _. (length chunks ≡ most) ⊎ IsFreeAt sectors store.chunk store.len (length chunks)) [
+        | inl full ↦ inl (len ∙ full)
+        | inr stop ↦
+            let other : (count == most) ≡ false = ne_eqb count most (λ same. omega (arith, same, stop.0)) in
+            let read = end_read (count == most) list sector chunks other used in
+            let at : IsFreeAt sectors store.chunk store.len count = record { inside = stop.0; row = read.0; read = read.1; free = not_listed (pairs count).new stop.1 } in
+            inr (subst (λ (n : ℕ). IsFreeAt sectors store.chunk store.len n) (sym len) at)
+      ];
+      fit = always_fits store sectors chunks is;
+      near = λ i below.
+          let less : i < count = subst (λ (n : ℕ). i < n) len below in
+          let here : (pairs i).old ≤ store.last = leb-true (pairs i).old store.last (each_at (λ j. is_near store (pairs j)) count i all.1 less) in
+          subst (λ (x : ℕ). x ≤ store.last) (olds i less) here;
+    }

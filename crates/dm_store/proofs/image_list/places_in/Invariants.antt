@@ -1,0 +1,7 @@
+-- the disks so far have their places
+use Rattle.std.proofs.Common.{◌≡◌, map, take}
+use Rattle.dm_store.specs.ImageList.{image_in}
+use Rattle.dm_store.proofs.image_list.places_in.Given as goal
+
+abbrev pub invariant-loop-disk : goal.invariant-loop-disk
+invariant-loop-disk l = l.places.items ≡ map (λ disk. image_in l.paths disk.name) (take l.disk-index l.stack.disks)

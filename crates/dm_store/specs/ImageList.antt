@@ -1,0 +1,16 @@
+-- Which images a list of paths gives the disks of a stack.
+use Rattle.std.specs.Prelude.{ℕ, List, Option, Result, find, map, option_map}
+use Rattle.dm_table.specs.declared.load.load_fault.LoadFault.{LoadFault}
+use Rattle.dm_table.specs.declared.tables.disk_path.DiskPath.{DiskPath}
+use Rattle.dm_table.specs.load.LoadFault.{first_fault, unless}
+use Rattle.dm_stack.specs.Description.{Description, is_same}
+use Rattle.dm_stack.specs.checks.Paths.{path_faults}
+use Rattle.dm_store.specs.Places.{Place}
+
+-- where a disk of this name lies, if a path is of it
+abbrev pub image_in : List DiskPath → (name : List ℕ) → Option Place
+image_in paths name = option_map (λ path. record { path = path.file; start = path.start }) (find (λ path. is_same path.disk name) paths)
+
+-- where the disks of a stack lie, by their ids, or the fault of the paths
+abbrev pub images_of : Description → List DiskPath → Result (List (Option Place)) LoadFault
+images_of stack paths = unless (first_fault (path_faults stack paths)) (map (λ disk. image_in paths disk.name) stack.disks)

@@ -1,0 +1,43 @@
+-- What images hold, and what disks do that lie in them.
+use Rattle.std.specs.Prelude.{ℕ, ◌≡◌, ◌+◌, ◌*◌, ◌<◌, List, Option, Some, None, Result, Ok, Err, length, slice_range}
+use Rattle.std.specs.List.{slice_index_or}
+use Rattle.dm_store.specs.declared.images.ReadFault.{ReadFault}
+use Rattle.dm_store.specs.Places.{Place}
+use Rattle.dm_store.specs.declared.fault.SectorFault.{SectorFault}
+use Rattle.dm_store.specs.declared.fault.SectorFault.TheVariants.{Missing, Read}
+use Rattle.dm_store.specs.Pairs.{Sectors}
+
+-- what each sector of each image holds, or that it can't be read; an image is named by its path
+abbrev pub Contents : Type 0
+Contents = (path : List ℕ) → (sector : ℕ) → Result (List ℕ) ReadFault
+
+-- the bytes of the sector with this index among sectors in a row
+abbrev pub sector_in : (bytes : List ℕ) → (index : ℕ) → List ℕ
+sector_in bytes index = slice_range bytes (512 * index) (512 * index + 512)
+
+-- what a read of some sectors in a row says of them: each holds its part of what was read; where one alone was asked for, it can't be read, and of more a fault says nothing
+abbrev pub AreRead : {F : Type 0} → (sectors : ℕ → Result (List ℕ) F) → (from : ℕ) → Result (Unit {0}) F → (bytes : List ℕ) → Type 0
+AreRead sectors from (Ok done) bytes = (i : ℕ) → 512 * i < length bytes → sectors (from + i) ≡ Ok (sector_in bytes i)
+AreRead sectors from (Err fault) bytes = length bytes ≡ 512 → sectors from ≡ Err fault
+
+-- what each sector of each disk holds, or why it can't be read
+abbrev pub DiskContents : Type 0
+DiskContents = (disk : ℕ) → Sectors
+
+-- a sector of an image as one of a disk
+abbrev pub on_disk : Result (List ℕ) ReadFault → Result (List ℕ) SectorFault
+on_disk (Ok bytes) = Ok bytes
+on_disk (Err fault) = Err Read
+
+-- a disk that lies in an image, or in none
+abbrev pub in_image : Contents → Option Place → Sectors
+in_image held (Some place) sector = on_disk (held place.path (place.start + sector))
+in_image held None sector = Err Missing
+
+-- where a disk lies, by its id
+abbrev pub place_of : List (Option Place) → (disk : ℕ) → Option Place
+place_of places disk = slice_index_or places disk None
+
+-- what disks hold that lie there
+abbrev pub disk_contents : List (Option Place) → Contents → DiskContents
+disk_contents places held disk sector = in_image held (place_of places disk) sector

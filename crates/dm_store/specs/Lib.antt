@@ -1,0 +1,13 @@
+pub mod Numbers
+pub mod Layout
+pub mod Pairs
+pub mod Stored
+pub mod Places
+pub mod Images
+pub mod ImageList
+pub mod Start
+pub mod Fitting
+pub mod Spelled
+pub mod Message
+pub mod ReadLog
+pub mod Reading

@@ -1,0 +1,21 @@
+-- The message of a refused store.
+use Rattle.std.specs.Prelude.{ℕ, List, ◌++◌, codes}
+use Rattle.dm_store.specs.declared.fault.ListFault.TheVariants.{Order, Range, Again}
+use Rattle.dm_store.specs.declared.fault.SectorFault.TheVariants.{Missing, Read}
+use Rattle.dm_store.specs.declared.fault.StoreFault.{StoreFault}
+use Rattle.dm_store.specs.declared.fault.StoreFault.TheVariants.{Unread, Magic, Version, Chunk, Listed}
+
+-- the word of a fault
+abbrev pub fault_word : StoreFault → List ℕ
+fault_word (Unread Missing) = codes "missing"
+fault_word (Unread Read) = codes "read"
+fault_word Magic = codes "magic"
+fault_word Version = codes "version"
+fault_word Chunk = codes "chunk"
+fault_word (Listed Order) = codes "order"
+fault_word (Listed Range) = codes "range"
+fault_word (Listed Again) = codes "again"
+
+-- the line that names the snapshot of the store, and the fault
+abbrev pub store_message : (name : List ℕ) → StoreFault → List ℕ
+store_message name fault = codes "dmremap: store " ++ name ++ codes ": " ++ fault_word fault ++ codes "\n"

@@ -1,0 +1,29 @@
+-- What a log of reads says of images.
+use Rattle.std.specs.Prelude.{ℕ, ◌+◌, List, [], ◌∷◌, drop, take}
+use Rattle.dm_store.specs.declared.asked.Asked.{Asked}
+use Rattle.dm_store.specs.Images.{AreRead, Contents}
+
+-- reads, with the bytes of their paths in a row, and those that they gave
+pub record Logged : Type 0 where
+  pub asked : List Asked
+  pub paths : List ℕ
+  pub given : List ℕ
+
+-- how many bytes these have
+unfoldable pub path_total : List Asked → ℕ
+path_total [] = 0
+path_total (first ∷ later) = first.path_len + path_total later
+
+unfoldable pub given_total : List Asked → ℕ
+given_total [] = 0
+given_total (first ∷ later) = first.len + given_total later
+
+-- contents agree with each read of a log
+unfoldable pub Agrees : Contents → List Asked → (paths given : List ℕ) → Type 0
+Agrees held [] paths given = Unit {0}
+Agrees held (first ∷ later) paths given =
+    AreRead (held (take first.path_len paths)) first.sector first.answer (take first.len given)
+    × Agrees held later (drop first.path_len paths) (drop first.len given)
+
+abbrev pub AgreesWith : Contents → Logged → Type 0
+AgreesWith held logged = Agrees held logged.asked logged.paths logged.given

@@ -1,0 +1,76 @@
+-- What the reader knows on its way.
+use Rattle.std.specs.Prelude.{◌≡◌, ◌+◌, ◌<◌, ◌≤◌, ◌^◌, ℕ, Bool, true, not, List, Option, Some, None, Result, Ok, Err, length, nat_lt, if◌then◌else◌}
+use Rattle.dm_stack.specs.checks.Store.{IsStore}
+use Rattle.dm_stack.specs.Description.{Description, lower_len}
+use Rattle.dm_map.specs.state.Tables.{has_room}
+use Rattle.dm_store.specs.declared.fault.ListFault.{ListFault}
+use Rattle.dm_store.specs.declared.fault.ListFault.TheVariants.{Order, Range, Again}
+use Rattle.dm_store.specs.declared.fault.SectorFault.{SectorFault}
+use Rattle.dm_store.specs.declared.fault.StoreFault.{StoreFault}
+use Rattle.dm_store.specs.declared.fault.StoreFault.TheVariants.{Unread}
+use Rattle.dm_store.specs.declared.header.Header.{Header}
+use Rattle.dm_store.specs.declared.header.Header.TheVariants as headers
+use Rattle.dm_store.specs.declared.row_range.RowRange.{RowRange}
+use Rattle.dm_store.specs.declared.store.Store.{Store}
+use Rattle.dm_store.specs.Images.{sector_in}
+use Rattle.dm_store.specs.Layout.{row_sector}
+use Rattle.dm_store.specs.Pairs.{Sectors, pair, each, old_chunks}
+use Rattle.dm_store.specs.Stored.{Stored, Fresh, Lost, Refused, is_listed, list_fault, of_list}
+
+-- a store of a device of a stack
+pub record IsStoreOf (stack : Description) (device : ℕ) (store : Store) : Type 0 where
+  pub there : device < length stack.devices
+  pub lower : IsStore stack store.lower
+  pub some : 1 ≤ store.len
+  pub len : store.len ≡ lower_len stack store.lower
+  pub short : store.len ≤ 2 ^ 50
+  pub room : (number : ℕ) → nat_lt number store.places ≡ has_room stack device number
+
+-- ---- faults, as they are found
+
+-- the fault after one more pair, by the fault before it
+abbrev pub next_again : (again : Bool) → Option ListFault → Option ListFault
+next_again again (Some fault) = Some fault
+next_again again None = if again then Some Again else None
+
+abbrev pub next_near : (near again : Bool) → Option ListFault → Option ListFault
+next_near near again (Some Order) = Some Order
+next_near near again fault = if not near then Some Range else next_again again fault
+
+abbrev pub next_fault : (placed near again : Bool) → Option ListFault → Option ListFault
+next_fault placed near again fault = if not placed then Some Order else next_near near again fault
+
+-- ---- rows
+
+-- a block has these rows of a list
+abbrev pub HasRows : Sectors → (chunk : ℕ) → RowRange → (block : List ℕ) → Type 0
+HasRows sectors chunk rows block = (i : ℕ) → i < rows.count → sectors (row_sector chunk (rows.first + i)) ≡ Ok (sector_in block i)
+
+-- a row is one of them
+abbrev pub IsRowOf : RowRange → (row : ℕ) → Type 0
+IsRowOf rows row = (rows.first ≤ row) × (row < rows.first + rows.count)
+
+-- ---- what was told
+
+-- of a list, and the chunks that were taken
+abbrev pub told_list : Result (Option ListFault) SectorFault → (chunks : List ℕ) → Stored
+told_list (Ok fault) chunks = of_list fault chunks
+told_list (Err fault) chunks = Refused (Unread fault)
+
+-- of a header: a store in use holds what its list says
+abbrev pub told_header : (used : Stored) → Result Header StoreFault → Stored
+told_header used (Ok headers.Fresh) = Fresh
+told_header used (Ok headers.Lost) = Lost
+told_header used (Ok headers.Used) = used
+told_header used (Err fault) = Refused fault
+
+-- of a store, and of all
+abbrev pub told : {X F : Type 0} → Result (Unit {0}) F → X → Result X F
+told (Ok done) reached = Ok reached
+told (Err fault) reached = Err fault
+
+-- what holds of a list when the first pairs of it were read
+pub record Walked (sectors : Sectors) (store : Store) (number : ℕ) (fault : Option ListFault) (chunks : List ℕ) : Type 0 where
+  pub so_far : each (λ i. is_listed (pair sectors store.chunk i)) number ≡ true
+  pub faulty : fault ≡ list_fault store (pair sectors store.chunk) number
+  pub taken : fault ≡ None → chunks ≡ old_chunks (pair sectors store.chunk) number

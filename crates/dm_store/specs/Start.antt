@@ -1,0 +1,73 @@
+-- The state that the stores of a stack hold, from which a run can start.
+use Rattle.std.specs.Prelude.{ℕ, zero, suc, ◌-◌, ◌/◌, true, [], ◌∷◌, ◌++◌, Option, Some, None, Result, Ok, Err, length}
+use Rattle.dm_table.specs.declared.tables.table.StoreKind.{StoreKind}
+use Rattle.dm_table.specs.declared.tables.table.StoreKind.TheVariants.{Transient}
+use Rattle.dm_stack.specs.declared.lines.found_line.FoundSnapshot.{FoundSnapshot}
+use Rattle.dm_stack.specs.Description.{Description, device_len, lower_len}
+use Rattle.dm_stack.specs.lines.StoreLayout.{place_count}
+use Rattle.dm_map.specs.state.State.{State, Taken, lost, none_taken}
+use Rattle.dm_map.specs.state.Tables.{snapshot_at}
+use Rattle.dm_map.specs.walk.Homes.{home}
+use Rattle.dm_store.specs.declared.fault.StoreFault.{StoreFault}
+use Rattle.dm_store.specs.declared.fault.StoreRefusal.{StoreRefusal}
+use Rattle.dm_store.specs.declared.store.Store.{Store}
+use Rattle.dm_store.specs.Images.{DiskContents}
+use Rattle.dm_store.specs.Pairs.{Sectors}
+use Rattle.dm_store.specs.Stored.{Stored, Fresh, Lost, Holds, Refused, stored}
+
+-- the store of a snapshot of a device
+abbrev pub snapshot_store : Description → (device : ℕ) → FoundSnapshot → Store
+snapshot_store stack device snapshot = record {
+  lower = snapshot.store;
+  chunk = snapshot.chunk;
+  len = lower_len stack snapshot.store;
+  places = place_count snapshot.kind snapshot.chunk (lower_len stack snapshot.store);
+  last = (device_len stack device - 1) / snapshot.chunk;
+}
+
+-- a store that keeps a list, by its kind: a transient one has none, so its snapshot is fresh whatever it has
+abbrev pub if_listing : {X : Type 0} → StoreKind → X → Option X
+if_listing Transient store = None
+if_listing kind store = Some store
+
+-- the store of a device to read, if there is one
+abbrev pub store_if : Description → (device : ℕ) → Option FoundSnapshot → Option Store
+store_if stack device (Some snapshot) = if_listing snapshot.kind (snapshot_store stack device snapshot)
+store_if stack device None = None
+
+abbrev pub store_at : Description → (device : ℕ) → Option Store
+store_at stack device = store_if stack device (snapshot_at stack device)
+
+-- a sector of a store is one of a disk, and that is one of an image
+abbrev pub store_sectors : Description → DiskContents → Store → Sectors
+store_sectors stack disks store sector = disks (home stack store.lower sector).disk (home stack store.lower sector).sector
+
+-- what a snapshot took, by what its store holds
+abbrev pub taken_in : Stored → Result Taken StoreFault
+taken_in Fresh = Ok none_taken
+taken_in Lost = Ok (lost none_taken)
+taken_in (Holds chunks) = Ok (record { chunks = chunks; valid = true })
+taken_in (Refused fault) = Err fault
+
+-- what a device took: nothing, where no store is to be read
+abbrev pub taken_if : Description → DiskContents → Option Store → Result Taken StoreFault
+taken_if stack disks (Some store) = taken_in (stored (store_sectors stack disks store) store)
+taken_if stack disks None = Ok none_taken
+
+abbrev pub start_of : Description → DiskContents → (device : ℕ) → Result Taken StoreFault
+start_of stack disks device = taken_if stack disks (store_at stack device)
+
+-- one device more: the first refusal stands
+abbrev pub with_next : Result State StoreRefusal → (device : ℕ) → Result Taken StoreFault → Result State StoreRefusal
+with_next (Err refusal) device next = Err refusal
+with_next (Ok state) device (Err fault) = Err (record { snapshot = device; fault = fault })
+with_next (Ok state) device (Ok taken) = Ok (state ++ taken ∷ [])
+
+-- the state of the first devices, in the order of the source
+unfoldable pub state_of_first : (ℕ → Result Taken StoreFault) → (count : ℕ) → Result State StoreRefusal
+state_of_first starts zero = Ok []
+state_of_first starts (suc device) = with_next (state_of_first starts device) device (starts device)
+
+-- the state that the stores of a stack hold whose disks hold this, or the first that is refused
+abbrev pub stored_state : Description → DiskContents → Result State StoreRefusal
+stored_state stack disks = state_of_first (start_of stack disks) (length stack.devices)

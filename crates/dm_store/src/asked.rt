@@ -1,0 +1,12 @@
+//! A read of an image, as a log has it.
+
+use crate::images::ReadFault;
+
+/// A read from a sector on: how many bytes its path has, how many it asked for, and what became of it.
+#[derive(Clone, Copy, Debug, Drop)]
+pub struct Asked {
+    pub path_len: usize,
+    pub sector: u64,
+    pub len: usize,
+    pub answer: Result<(), ReadFault>,
+}

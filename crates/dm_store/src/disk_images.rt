@@ -1,0 +1,71 @@
+//! Which image each disk of a stack lies in.
+
+ghost use Rattle.std.specs.Prelude.{◌≡◌, ◌+◌, ◌<◌, ◌≤◌, ◌%◌, ◌^◌, None, Some, IfNone, IfSome, length};
+ghost use Rattle.dm_store.specs.Images.{AreRead, Contents, disk_contents, place_of};
+ghost use Rattle.dm_store.specs.declared.images.TheConstants.{MOST_BYTES, SECTOR};
+
+use crate::fault::SectorFault;
+use crate::image_place::ImagePlace;
+use crate::images::{Images, ReadFault};
+use dm_stack::DiskId;
+use std::marker::Model;
+
+/// For each disk of a stack, by its id, the image that it lies in, if one is named.
+#[derive(Debug, Drop)]
+pub struct DiskImages {
+    places: Vec<Option<ImagePlace>>,
+}
+
+impl Model for DiskImages {
+    ghost use Rattle.std.specs.Prelude.{List, Option};
+    ghost use Rattle.dm_store.specs.Places.{Place};
+
+    ghost Value = { List (Option Place) };
+
+    ghost view = { λ images. images.places.items };
+}
+
+impl DiskImages {
+    /// The images of disks by their ids. No memory is taken.
+    pub fn of_places(places: Vec<Option<ImagePlace>>) -> DiskImages
+        ensures { result ≡ places.items }
+    {
+        DiskImages { places }
+    }
+
+    /// The image that a disk lies in, if one is named.
+    fn place(&self, disk: DiskId) -> Option<&ImagePlace>
+        ensures some { IfSome result (λ place. place_of self.now disk ≡ Some place.now) }
+        ensures none { IfNone result (place_of self.now disk ≡ None) }
+    {
+        match self.places.get(disk.index()) {
+            Some(Some(place)) => Some(place),
+            _ => None,
+        }
+    }
+
+    /// Reads whole sectors of a disk, from a sector of it on. After a fault the slice may hold anything.
+    pub(crate) fn read<I: Images>(
+        &self,
+        images: &mut I,
+        disk: DiskId,
+        sector: u64,
+        into: &mut [u8],
+    ) -> Result<(), SectorFault>
+        requires whole { length into.old % SECTOR ≡ 0 }
+        requires some { SECTOR ≤ length into.old }
+        requires few { length into.old ≤ MOST_BYTES }
+        requires near { sector ≤ 2 ^ 50 }
+        ensures still { (held : Contents) → I.IsSeen images.new held → I.IsSeen images.old held }
+        ensures is { (held : Contents) → I.IsSeen images.new held
+            → AreRead (disk_contents self.now held disk) sector result into.new }
+    {
+        let Some(place) = self.place(disk) else {
+            return Err(SectorFault::Missing);
+        };
+        match images.read(disk, place.path(), place.start() + sector, into) {
+            Ok(()) => Ok(()),
+            Err(ReadFault) => Err(SectorFault::Read),
+        }
+    }
+}

@@ -1,0 +1,50 @@
+//! The header of a store.
+
+ghost use Rattle.std.specs.Prelude.{◌≡◌, Ok, length};
+ghost use Rattle.dm_store.specs.Reading.{told_header};
+ghost use Rattle.dm_store.specs.Stored.{Stored, by_header};
+ghost use Rattle.dm_store.specs.declared.images.TheConstants.{SECTOR};
+
+use crate::fault::StoreFault;
+use crate::numbers::four;
+
+/// `SnAp`.
+const MAGIC: u32 = 0x7041_6e53;
+
+/// The version that is read.
+const VERSION: u32 = 1;
+
+/// What the header of a store says.
+#[derive(Clone, Copy, Debug, PartialEq, Eq, Drop)]
+pub(crate) enum Header {
+    /// Nothing was written to the store yet.
+    Fresh,
+    /// The snapshot is invalid.
+    Lost,
+    /// The store has a list.
+    Used,
+}
+
+/// Reads the header of a store whose chunks have this size by its table.
+pub(crate) fn read_header(sector: &[u8], chunk: u64) -> Result<Header, StoreFault>
+    requires { length sector.now ≡ SECTOR }
+    ensures { (used : Stored) → told_header used result ≡ by_header used chunk (Ok sector.now) }
+{
+    let magic = four(sector, 0);
+    if magic == 0 {
+        return Ok(Header::Fresh);
+    }
+    if magic != MAGIC {
+        return Err(StoreFault::Magic);
+    }
+    if four(sector, 8) != VERSION {
+        return Err(StoreFault::Version);
+    }
+    if u64::from(four(sector, 12)) != chunk {
+        return Err(StoreFault::Chunk);
+    }
+    if four(sector, 4) == 0 {
+        return Ok(Header::Lost);
+    }
+    Ok(Header::Used)
+}

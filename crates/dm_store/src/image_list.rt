@@ -1,0 +1,79 @@
+//! The images of a stack's disks, as a list of paths has them.
+
+ghost use Rattle.std.specs.Prelude.{◌≡◌, ◌≢◌, IfErr, IfOk, Ok, Err, find, map, option_map};
+ghost use Rattle.dm_table.specs.declared.load.load_fault.LoadKind.TheVariants.{Memory};
+ghost use Rattle.dm_table.specs.declared.load.place.Part.TheVariants.{Source};
+ghost use Rattle.dm_table.specs.load.LoadFault.{IsMemoryFault};
+ghost use Rattle.dm_stack.specs.Description.{is_same};
+ghost use Rattle.dm_store.specs.ImageList.{image_in, images_of};
+
+use crate::disk_images::DiskImages;
+use crate::image_place::ImagePlace;
+use dm_stack::{Stack, check_paths};
+use dm_table::{DiskPath, LoadFault, Part, are_same};
+use std::alloc::{AllocError, Global};
+
+/// The images of the disks that paths name; other disks lie in none.
+///
+/// Cost: near-linear in the paths, and a comparison for each path and each disk, with memory for a copy of each
+/// path.
+///
+/// # Errors
+///
+/// `Twice` at the first path of a disk that an earlier one names, and else `Unknown` at the first of a disk that
+/// the stack doesn't have. `Memory`, with number 0, if an allocation was refused.
+pub fn listed_images(
+    alloc: Global,
+    stack: &Stack,
+    paths: &[DiskPath],
+) -> Result<DiskImages, LoadFault>
+    ensures listed { IfOk result (λ images. images_of stack.now paths.now ≡ Ok images) }
+    ensures refused { IfErr result (λ fault. fault.kind ≢ Memory → images_of stack.now paths.now ≡ Err fault) }
+    ensures memory { IfErr result (λ fault. fault.kind ≡ Memory → IsMemoryFault Source fault) }
+{
+    check_paths(alloc, stack, paths)?;
+    match places_in(alloc, stack, paths) {
+        Ok(places) => Ok(DiskImages::of_places(places)),
+        Err(_) => Err(LoadFault::memory(Part::Source)),
+    }
+}
+
+/// Where each disk lies, in the order of the stack.
+fn places_in(
+    alloc: Global,
+    stack: &Stack,
+    paths: &[DiskPath],
+) -> Result<Vec<Option<ImagePlace>>, AllocError>
+    ensures { IfOk result (λ places. places.items ≡ map (λ disk. image_in paths.now disk.name) stack.now.disks) }
+{
+    let mut places = Vec::new(alloc);
+    for disk in stack.disks() {
+        places.push(image_in(alloc, paths, disk.name.as_str())?)?;
+    }
+    Ok(places)
+}
+
+/// Where a disk of this name lies, if a path is of it.
+fn image_in(alloc: Global, paths: &[DiskPath], name: &str) -> Result<Option<ImagePlace>, AllocError>
+    ensures { IfOk result (λ image. image ≡ image_in paths.now name.now) }
+{
+    match path_of(paths, name) {
+        Some(path) => {
+            let text = String::from_str(alloc, path.file.as_str())?;
+            Ok(Some(ImagePlace::new(text, path.start.number())))
+        }
+        None => Ok(None),
+    }
+}
+
+/// The first path of a disk of this name.
+fn path_of<'a>(paths: &'a [DiskPath], name: &str) -> Option<&'a DiskPath>
+    ensures { option_map (λ path. path.now) result ≡ find (λ path. is_same path.disk name.now) paths.entry.now }
+{
+    for path in paths {
+        if are_same(path.disk.as_str().as_bytes(), name.as_bytes()) {
+            return Some(path);
+        }
+    }
+    None
+}

@@ -1,0 +1,50 @@
+//! Where a disk lies.
+
+ghost use Rattle.std.specs.Prelude.{◌≡◌, ◌<◌, ◌^◌};
+ghost use Rattle.std.specs.String.{string_bytes};
+
+use std::marker::Model;
+
+/// An image that has a disk, from a sector of it on. A clause sees the bytes of the path, and the sector.
+#[derive(Debug, Drop)]
+pub struct ImagePlace {
+    path: String,
+    start: u64,
+}
+
+impl Model for ImagePlace {
+    ghost use Rattle.std.specs.Prelude.{◌<◌, ◌^◌};
+    ghost use Rattle.std.specs.String.{string_bytes};
+    ghost use Rattle.dm_store.specs.Places.{Place};
+
+    ghost Value = { Place };
+
+    ghost view = { λ place. record { path = string_bytes place.path; start = place.start } };
+
+    ghost invariant = { λ place. place.start < 2 ^ 51 };
+}
+
+impl ImagePlace {
+    /// The image at a path, from a sector of it on. No memory is taken.
+    pub fn new(path: String, start: u64) -> ImagePlace
+        requires { start < 2 ^ 51 }
+        ensures { result ≡ record { path = string_bytes path; start = start } }
+    {
+        ImagePlace { path, start }
+    }
+
+    /// The path of the image.
+    pub(crate) fn path(&self) -> &str
+        ensures { result.now ≡ self.now.path }
+    {
+        self.path.as_str()
+    }
+
+    /// The sector of the image where the disk begins.
+    pub(crate) fn start(&self) -> u64
+        ensures start { result ≡ self.now.start }
+        ensures near { result < 2 ^ 51 }
+    {
+        self.start
+    }
+}

@@ -1,0 +1,42 @@
+//! Images of disks: files, or parts of files, that are read by sectors of 512 bytes.
+//!
+//! What images hold can't be said beforehand. So a clause says what was seen: which contents agree with all
+//! that was read so far. If an image gives other bytes for a sector than it gave before, none do.
+
+ghost use Rattle.std.specs.Prelude.{◌≡◌, ◌<◌, ◌≤◌, ◌%◌, ◌^◌, length};
+ghost use Rattle.dm_store.specs.Images.{AreRead, Contents};
+
+use dm_stack::DiskId;
+
+/// The bytes of a sector.
+pub const SECTOR: usize = 512;
+
+/// The most bytes of one read.
+pub const MOST_BYTES: usize = 65_536;
+
+/// An image that can't be opened or read, or ends before.
+#[derive(Clone, Copy, Debug, PartialEq, Eq, Drop)]
+pub struct ReadFault;
+
+/// Images, each named by its path.
+pub trait Images {
+    /// Contents of all images that agree with all that was read so far.
+    ghost IsSeen: { Self → Contents → Type 0 };
+
+    /// Reads whole sectors of the image at this path, from a sector of it on. The disk tells images apart, so
+    /// that each can be opened once. After a fault the slice may hold anything.
+    fn read(
+        &mut self,
+        disk: DiskId,
+        path: &str,
+        sector: u64,
+        into: &mut [u8],
+    ) -> Result<(), ReadFault>
+        requires whole { length into.old % SECTOR ≡ 0 }
+        requires some { SECTOR ≤ length into.old }
+        requires few { length into.old ≤ MOST_BYTES }
+        requires near { sector < 2 ^ 53 }
+        ensures still { (held : Contents) → IsSeen self.new held → IsSeen self.old held }
+        ensures is { (held : Contents) → IsSeen self.new held
+            → AreRead (held path.now) sector result into.new };
+}

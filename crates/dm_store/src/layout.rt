@@ -1,0 +1,25 @@
+//! Where a store keeps its list.
+
+ghost use Rattle.std.specs.Prelude.{◌≡◌, ◌+◌, ◌<◌, ◌≤◌, ◌^◌};
+ghost use Rattle.dm_store.specs.Layout.{pair_count, row_sector};
+
+/// How many pairs the areas of a store have.
+pub(crate) fn pair_count(chunk: u64, store_len: u64) -> u64
+    requires some { 1 ≤ chunk }
+    requires small { chunk ≤ 1024 }
+    requires short { store_len ≤ 2 ^ 50 }
+    ensures count { result ≡ pair_count chunk store_len }
+    ensures within { result ≤ store_len + 32768 }
+{
+    (store_len / chunk + 32 * chunk - 1) / (32 * chunk + 1) * (32 * chunk)
+}
+
+/// The sector of a store that has a row of its list.
+pub(crate) fn row_sector(chunk: u64, row: u64) -> u64
+    requires some { 1 ≤ chunk }
+    requires small { chunk ≤ 1024 }
+    requires row { row < 2 ^ 46 }
+    ensures { result ≡ row_sector chunk row }
+{
+    (1 + (32 * chunk + 1) * (row / chunk)) * chunk + row % chunk
+}

@@ -1,0 +1,38 @@
+//! What the exception stores of snapshots hold, read from images of disks.
+//!
+//! `specs/Stored.antt` defines what a store holds by its sectors, and `specs/Start.antt` the state that
+//! the stores of a stack hold. `read_stores` gives it to a mapper.
+#![tactic(auto)]
+
+mod asked;
+mod disk_images;
+mod fault;
+mod header;
+mod image_list;
+mod image_place;
+mod images;
+mod laws;
+mod layout;
+mod list;
+mod memory_images;
+mod message;
+mod numbers;
+mod pair;
+mod read_log;
+mod row_range;
+mod rows;
+mod store;
+mod store_at;
+mod stores;
+
+pub use disk_images::DiskImages;
+pub use fault::{ListFault, SectorFault, StoreFault, StoreRefusal};
+pub use image_list::listed_images;
+pub use image_place::ImagePlace;
+pub use images::{Images, MOST_BYTES, ReadFault, SECTOR};
+pub use laws::{is_spelled, reads_back, stores_fit};
+pub use memory_images::MemoryImages;
+pub use message::StoreMessage;
+pub use read_log::ReadLog;
+pub use store::Store;
+pub use stores::read_stores;

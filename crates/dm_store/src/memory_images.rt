@@ -1,0 +1,92 @@
+//! Images in memory, for tests: they end, and fail after a number of reads.
+
+ghost use Rattle.std.specs.Prelude.{◌≡◌, ◌+◌, ◌*◌, ◌<◌, OnErr, OnOk, length, slice_range};
+ghost use Rattle.dm_store.specs.ReadLog.{AgreesWith};
+ghost use Rattle.dm_store.specs.declared.images.TheConstants.{SECTOR};
+
+use crate::images::{Images, ReadFault, SECTOR};
+use crate::read_log::ReadLog;
+use dm_stack::DiskId;
+
+/// Files in memory by their paths. So many reads are answered, and each later one fails.
+#[derive(Drop)]
+pub struct MemoryImages<'a> {
+    files: &'a [(&'a str, &'a [u8])],
+    left: usize,
+    log: ReadLog,
+}
+
+impl<'a> MemoryImages<'a> {
+    /// Nothing read so far.
+    pub fn new(files: &'a [(&'a str, &'a [u8])], left: usize) -> MemoryImages<'a> {
+        MemoryImages {
+            files,
+            left,
+            log: ReadLog::new(),
+        }
+    }
+}
+
+/// Reads a file, up to its end.
+fn bytes_at(
+    files: &[(&str, &[u8])],
+    path: &str,
+    sector: u64,
+    into: &mut [u8],
+) -> Result<(), ReadFault> {
+    for (name, bytes) in files {
+        if *name == path {
+            return copied(bytes, sector, into);
+        }
+    }
+    Err(ReadFault)
+}
+
+/// The answer of a read, where so many more are answered.
+fn answered(
+    left: usize,
+    files: &[(&str, &[u8])],
+    path: &str,
+    sector: u64,
+    into: &mut [u8],
+) -> Result<(), ReadFault> {
+    if left == 0 {
+        return Err(ReadFault);
+    }
+    bytes_at(files, path, sector, into)
+}
+
+/// Copies the bytes of sectors from this one on.
+fn copied(bytes: &[u8], sector: u64, into: &mut [u8]) -> Result<(), ReadFault>
+    ensures read { OnOk result (into.new
+        ≡ slice_range bytes.now (SECTOR * sector) (SECTOR * sector + length into.old)) }
+    ensures ends { OnErr result (length bytes.now < SECTOR * sector + length into.old) }
+{
+    let before = bytes.len() as u64 / SECTOR as u64;
+    if sector > before {
+        return Err(ReadFault);
+    }
+    let start = sector as usize * SECTOR;
+    if bytes.len() - start < into.len() {
+        return Err(ReadFault);
+    }
+    into.copy_from_slice(&bytes[start..start + into.len()]);
+    Ok(())
+}
+
+impl Images for MemoryImages<'_> {
+    ghost IsSeen = { λ images held. AgreesWith held images.log };
+
+    fn read(
+        &mut self,
+        _disk: DiskId,
+        path: &str,
+        sector: u64,
+        into: &mut [u8],
+    ) -> Result<(), ReadFault> {
+        let result = answered(self.left, self.files, path, sector, into);
+        self.left = self.left.saturating_sub(1);
+        self.log.note(path, sector, result, into);
+        result
+    }
+}

@@ -1,0 +1,50 @@
+//! The message of a refused store: one line.
+//!
+//! The words are fixed by `specs/Message.antt`, since users match on them.
+
+ghost use Rattle.std.specs.Prelude.{◌≡◌, ◌<◌, ◌≤◌, length};
+ghost use Rattle.dm_stack.specs.Description.{name_at};
+ghost use Rattle.dm_store.specs.Message.{fault_word, store_message};
+
+use crate::fault::{ListFault, SectorFault, StoreFault, StoreRefusal};
+use arrayvec::ArrayVec;
+use dm_stack::Stack;
+use dm_table::append;
+
+/// The message of a refused store, which has at most 152 bytes with its newline.
+pub type StoreMessage = ArrayVec<u8, 152>;
+
+impl StoreFault {
+    /// The word that messages have for it.
+    fn word(self) -> &'static str
+        ensures word { result.now ≡ fault_word self }
+        ensures short { length result.now ≤ 7 }
+    {
+        match self {
+            StoreFault::Unread(SectorFault::Missing) => "missing",
+            StoreFault::Unread(SectorFault::Read) => "read",
+            StoreFault::Magic => "magic",
+            StoreFault::Version => "version",
+            StoreFault::Chunk => "chunk",
+            StoreFault::Listed(ListFault::Order) => "order",
+            StoreFault::Listed(ListFault::Range) => "range",
+            StoreFault::Listed(ListFault::Again) => "again",
+        }
+    }
+}
+
+impl StoreRefusal {
+    /// The line that says it: the snapshot's name, and the word. Takes no memory.
+    pub fn message(self, stack: &Stack) -> StoreMessage
+        requires { self.snapshot < length stack.now.devices }
+        ensures { result.items ≡ store_message (name_at stack.now self.snapshot) self.fault }
+    {
+        let mut text = StoreMessage::new();
+        append(&mut text, b"dmremap: store ");
+        append(&mut text, stack.name(self.snapshot).as_bytes());
+        append(&mut text, b": ");
+        append(&mut text, self.fault.word().as_bytes());
+        append(&mut text, b"\n");
+        text
+    }
+}

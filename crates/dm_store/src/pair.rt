@@ -1,0 +1,30 @@
+//! Pairs of a list: an old chunk, and the new chunk that keeps it.
+
+ghost use Rattle.std.specs.Prelude.{◌≡◌, ◌<◌, length};
+ghost use Rattle.dm_store.specs.Pairs.{pair_in};
+ghost use Rattle.dm_store.specs.declared.images.TheConstants.{SECTOR};
+
+use crate::numbers::eight;
+
+/// A chunk of a snapshot, and the chunk of its store that has it.
+#[derive(Clone, Copy, Debug, Drop)]
+pub(crate) struct Pair {
+    pub(crate) old: u64,
+    pub(crate) new: u64,
+}
+
+/// How many pairs a sector has.
+pub(crate) const ROW: u64 = 32;
+
+/// The pair with this index of a sector.
+#[inline(always)]
+pub(crate) fn pair_at(sector: &[u8], index: usize) -> Pair
+    requires len { length sector.now ≡ SECTOR }
+    requires index { index < ROW }
+    ensures { result ≡ pair_in sector.now index }
+{
+    Pair {
+        old: eight(sector, 16 * index),
+        new: eight(sector, 16 * index + 8),
+    }
+}

@@ -1,0 +1,62 @@
+//! A log of reads that only proofs see: it takes no room and no time.
+//!
+//! What a real image holds is known by it alone. Note each read as it is returned.
+
+ghost use Rattle.std.specs.Prelude.{◌≡◌, [], length};
+ghost use Rattle.dm_store.specs.Images.{AreRead, Contents};
+ghost use Rattle.dm_store.specs.ReadLog.{AgreesWith};
+
+use crate::asked::Asked;
+use crate::images::ReadFault;
+use dm_table::GhostList;
+use std::marker::Model;
+
+/// All reads of images so far. A clause sees which they were, and what they gave.
+#[derive(Drop)]
+pub struct ReadLog {
+    asked: GhostList<Asked>,
+    paths: GhostList<u8>,
+    given: GhostList<u8>,
+}
+
+impl Model for ReadLog {
+    ghost use Rattle.std.specs.Prelude.{◌≡◌, length};
+    ghost use Rattle.dm_store.specs.ReadLog.{Logged, given_total, path_total};
+
+    ghost Value = { Logged };
+
+    ghost view = { λ log. record { asked = log.asked.items; paths = log.paths.items; given = log.given.items } };
+
+    ghost invariant = { λ log. (length log.paths.items ≡ path_total log.asked.items)
+        × (length log.given.items ≡ given_total log.asked.items) };
+}
+
+impl ReadLog {
+    /// Nothing read so far.
+    pub fn new() -> ReadLog
+        ensures asked { result.asked ≡ [] }
+        ensures paths { result.paths ≡ [] }
+        ensures given { result.given ≡ [] }
+    {
+        ReadLog {
+            asked: GhostList::new(),
+            paths: GhostList::new(),
+            given: GhostList::new(),
+        }
+    }
+
+    /// Notes a read of the image at this path.
+    pub fn note(&mut self, path: &str, sector: u64, answer: Result<(), ReadFault>, bytes: &[u8])
+        ensures { (held : Contents) → AgreesWith held self.new
+            → AgreesWith held self.old × AreRead (held path.now) sector answer bytes.now }
+    {
+        self.asked.note(&[Asked {
+            path_len: path.len(),
+            sector,
+            len: bytes.len(),
+            answer,
+        }]);
+        self.paths.note(path.as_bytes());
+        self.given.note(bytes);
+    }
+}

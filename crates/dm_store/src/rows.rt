@@ -1,0 +1,173 @@
+//! Rows of a list, read from images in blocks.
+//!
+//! A block is read at once, as far as its sectors lie in a row on a disk. Where that fails, its rows are read one
+//! by one, since one that comes after the end of the list doesn't count.
+
+ghost use Rattle.std.specs.Prelude.{◌≡◌, ◌+◌, ◌*◌, ◌/◌, ◌%◌, ◌<◌, ◌≤◌, ◌^◌, ℕ, Err, Ok, IfErr, IfOk, OnOk, length};
+ghost use Rattle.dm_map.specs.Mapper.{with_looked};
+ghost use Rattle.dm_map.specs.walk.Homes.{GoOn, home};
+ghost use Rattle.dm_stack.specs.checks.Store.{IsStore};
+ghost use Rattle.dm_stack.specs.Description.{Description, lower_len};
+ghost use Rattle.dm_store.specs.Images.{Contents, disk_contents, sector_in};
+ghost use Rattle.dm_store.specs.Layout.{area_count, row_sector};
+ghost use Rattle.dm_store.specs.Reading.{HasRows, IsRowOf};
+ghost use Rattle.dm_store.specs.Start.{store_sectors};
+ghost use Rattle.dm_store.specs.declared.images.TheConstants.{MOST_BYTES};
+
+use crate::disk_images::DiskImages;
+use crate::fault::SectorFault;
+use crate::images::{Images, SECTOR};
+use crate::layout::row_sector;
+use crate::row_range::RowRange;
+use crate::store::Store;
+use dm_map::{HomeStretch, Mapper, Taken};
+use dm_stack::DiskId;
+
+/// The most rows of a block.
+const MOST_ROWS: u64 = 128;
+
+/// Reads sectors that lie in a row on a disk to the front of a block.
+fn read_sectors<I: Images>(
+    images: &mut I,
+    places: &DiskImages,
+    disk: DiskId,
+    start: u64,
+    count: u64,
+    block: &mut [u8],
+) -> Result<(), SectorFault>
+    requires some { 1 ≤ count }
+    requires few { count ≤ 128 }
+    requires near { start ≤ 2 ^ 50 }
+    requires block { length block.old ≡ MOST_BYTES }
+    ensures still { (held : Contents) → I.IsSeen images.new held → I.IsSeen images.old held }
+    ensures sectors { (held : Contents) → I.IsSeen images.new held → OnOk result ((i : ℕ) → i < count
+        → disk_contents places.now held disk (start + i) ≡ Ok (sector_in block.new i)) }
+    ensures fault { (held : Contents) → I.IsSeen images.new held → IfErr result (λ fault. count ≡ 1
+        → disk_contents places.now held disk start ≡ Err fault) }
+{
+    let len = SECTOR * count as usize;
+    places.read(images, disk, start, &mut block[..len])
+}
+
+/// Reads one row, of a block of this many.
+fn read_row<I: Images>(
+    images: &mut I,
+    places: &DiskImages,
+    disk: DiskId,
+    start: u64,
+    row: u64,
+    single: u64,
+    block: &mut [u8],
+) -> Result<RowRange, SectorFault>
+    requires near { start ≤ 2 ^ 50 }
+    requires block { length block.old ≡ MOST_BYTES }
+    ensures still { (held : Contents) → I.IsSeen images.new held → I.IsSeen images.old held }
+    ensures sector { (held : Contents) → I.IsSeen images.new held
+        → OnOk result (disk_contents places.now held disk start ≡ Ok (sector_in block.new 0)) }
+    ensures fault { (held : Contents) → I.IsSeen images.new held → IfErr result (λ fault.
+        disk_contents places.now held disk start ≡ Err fault) }
+    ensures rows { IfOk result (λ rows. (rows.first ≡ row) × (rows.count ≡ 1)) }
+{
+    match read_sectors(images, places, disk, start, 1, block) {
+        Ok(()) => Ok(RowRange {
+            first: row,
+            count: 1,
+            single,
+        }),
+        Err(fault) => Err(fault),
+    }
+}
+
+/// Reads a block from a row on, at most to the end of its area: as many rows as lie in a row on a disk, or this
+/// one alone where that fails. The rows before `single` are read alone.
+fn read_block<I: Images, T: Taken>(
+    images: &mut I,
+    places: &DiskImages,
+    mapper: &mut Mapper<'_, T>,
+    store: &Store,
+    row: u64,
+    single: u64,
+    block: &mut [u8],
+) -> Result<RowRange, SectorFault>
+    requires lower { IsStore mapper.old.stack store.now.lower }
+    requires len { store.now.len ≡ lower_len mapper.old.stack store.now.lower }
+    requires short { store.now.len ≤ 2 ^ 50 }
+    requires row { row < area_count store.now.chunk store.now.len * store.now.chunk }
+    requires near { row < 2 ^ 46 }
+    requires block { length block.old ≡ MOST_BYTES }
+    ensures same { mapper.new ≡ with_looked mapper.old mapper.new.looked }
+    ensures still { (held : Contents) → I.IsSeen images.new held → I.IsSeen images.old held }
+    ensures rows { (held : Contents) → I.IsSeen images.new held → IfOk result (λ rows. HasRows
+        (store_sectors mapper.old.stack (disk_contents places.now held) store.now) store.now.chunk rows block.new) }
+    ensures fault { (held : Contents) → I.IsSeen images.new held → IfErr result (λ fault.
+        store_sectors mapper.old.stack (disk_contents places.now held) store.now
+        (row_sector store.now.chunk row) ≡ Err fault) }
+    ensures has { IfOk result (λ rows. IsRowOf rows row) }
+{
+    let chunk = store.chunk.sectors();
+    let most = rows_from(chunk, row, single);
+    let HomeStretch { disk, start, len } = mapper.first_homes(
+        store.lower,
+        row_sector(chunk, row),
+        most,
+    );
+    if len == 1 {
+        return read_row(images, places, disk, start, row, single, block);
+    }
+    match read_sectors(images, places, disk, start, len, block) {
+        Ok(()) => Ok(RowRange {
+            first: row,
+            count: len,
+            single,
+        }),
+        Err(_) => read_row(images, places, disk, start, row, row + len, block),
+    }
+}
+
+/// How many rows are read at once from a row on: at most to the end of its area.
+fn rows_from(chunk: u64, row: u64, single: u64) -> u64
+    requires { 1 ≤ chunk }
+    ensures some { 1 ≤ result }
+    ensures few { result ≤ 128 }
+    ensures inside { row % chunk + result ≤ chunk }
+{
+    if row < single {
+        1
+    } else {
+        (chunk - row % chunk).min(MOST_ROWS)
+    }
+}
+
+/// Reads on where the block doesn't have a row, and says which it has then.
+pub(crate) fn reach<I: Images, T: Taken>(
+    images: &mut I,
+    places: &DiskImages,
+    mapper: &mut Mapper<'_, T>,
+    store: &Store,
+    row: u64,
+    rows: RowRange,
+    block: &mut [u8],
+) -> Result<RowRange, SectorFault>
+    requires lower { IsStore mapper.old.stack store.now.lower }
+    requires len { store.now.len ≡ lower_len mapper.old.stack store.now.lower }
+    requires short { store.now.len ≤ 2 ^ 50 }
+    requires row { row < area_count store.now.chunk store.now.len * store.now.chunk }
+    requires near { row < 2 ^ 46 }
+    requires block { length block.old ≡ MOST_BYTES }
+    ensures same { mapper.new ≡ with_looked mapper.old mapper.new.looked }
+    ensures still { (held : Contents) → I.IsSeen images.new held → I.IsSeen images.old held }
+    ensures rows { (held : Contents) → I.IsSeen images.new held
+        → HasRows (store_sectors mapper.old.stack (disk_contents places.now held) store.now)
+        store.now.chunk rows block.old
+        → IfOk result (λ rows. HasRows (store_sectors mapper.old.stack (disk_contents places.now held) store.now)
+        store.now.chunk rows block.new) }
+    ensures fault { (held : Contents) → I.IsSeen images.new held → IfErr result (λ fault.
+        store_sectors mapper.old.stack (disk_contents places.now held) store.now
+        (row_sector store.now.chunk row) ≡ Err fault) }
+    ensures has { IfOk result (λ rows. IsRowOf rows row) }
+{
+    if rows.first <= row && row - rows.first < rows.count {
+        return Ok(rows);
+    }
+    read_block(images, places, mapper, store, row, rows.single, block)
+}

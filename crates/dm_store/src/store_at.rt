@@ -1,0 +1,36 @@
+//! The store of a device, where it is to be read.
+
+ghost use Rattle.std.specs.Prelude.{◌≡◌, IfSome};
+ghost use Rattle.dm_stack.specs.checks.Snapshots.{IsSnapshot};
+ghost use Rattle.dm_store.specs.Reading.{IsStoreOf};
+ghost use Rattle.dm_store.specs.Start.{store_at};
+
+use crate::store::Store;
+use dm_map::lower_len;
+use dm_stack::{DeviceId, FoundTarget, Stack, place_count};
+use dm_table::StoreKind;
+
+/// The store of a snapshot, unless it is transient, which no one reads: such a snapshot is always fresh.
+pub(crate) fn store_at(stack: &Stack, device: DeviceId) -> Option<Store>
+    requires { IsSnapshot stack.now device }
+    ensures is { result ≡ store_at stack.now device }
+    ensures of { IfSome result (λ store. IsStoreOf stack.now device store) }
+{
+    // Called because its contract says that the stack is sound.
+    stack.depth();
+    let mut looker = stack.looker();
+    let FoundTarget::Snapshot(snapshot) = &looker.look(device, 0).target else {
+        unreachable!()
+    };
+    if snapshot.kind == StoreKind::Transient {
+        return None;
+    }
+    let len = lower_len(&looker, snapshot.store);
+    Some(Store {
+        lower: snapshot.store,
+        chunk: snapshot.chunk,
+        len,
+        places: place_count(snapshot.kind, snapshot.chunk, len),
+        last: snapshot.chunk.chunk_of(stack.len(device) - 1),
+    })
+}

@@ -1,0 +1,136 @@
+-- How a line of paths is cut, and what its path says.
+use Rattle.std.proofs.Common.{◌≡◌, ℕ, ◌+◌, ◌-◌, ◌/◌, ◌%◌, ◌<◌, ◌≤◌, inl, inr, Bool, true, false, cond, eqb, not, ◌&&◌, List, [], ◌∷◌, ◌++◌, length, nat_le, take, drop, get_or, All, Option, Some, None, Result, Ok, Err, refl, sym, ap, ◌∙◌, append_assoc, arith}
+use Rattle.std.specs.Prelude.{MatchResult, is_ok}
+use Rattle.std.specs.Char.{is_ascii_digit}
+use Rattle.std.specs.List.{join_with_byte, list_all, onto_first}
+use Rattle.std.specs.Str.{IsUtf8, is_utf8}
+use Rattle.std.specs.Str.Parse.{digits_value}
+use Rattle.std.proofs.lemmas.Bool.Decides.{nat_tests}
+use Rattle.std.proofs.lemmas.Bool.{cases_Bool, eq-eqb, ne_eqb, false_from_ne_true, le-leb, and_from}
+use Rattle.std.proofs.lemmas.Grind.{elements, common_steps}
+use Rattle.std.proofs.lemmas.List.{append-nil, drop-drop, drop_all, drop_more, take-append-drop, take_all, take_rest}
+use Rattle.std.proofs.lemmas.List.Folds.{list_all_at}
+use Rattle.std.proofs.lemmas.List.Splits.{slice_split-cons_yes, slice_split-cons_no}
+use Rattle.std.proofs.lemmas.Str.{IsUtf8-from_is_utf8, is_utf8-from_IsUtf8}
+use Rattle.std.proofs.Math.Seq.{drop-append_seam}
+use Rattle.memchr.specs.Find.{Nowhere, Passes, is_byte, IsFirstByte, IsLastByte}
+use Rattle.dm_table.specs.tables.ConciseText.{lacks}
+use Rattle.dm_table.specs.tables.PathList.{after_equals, name_and_path, offset_in, place_in, place_of}
+use Rattle.dm_table.specs.words.Fields.{fields, last_or, parts_at}
+use Rattle.dm_table.specs.words.Number.{IsReadTo}
+use Rattle.dm_table.proofs.words.FieldLemmas.{IsClearOf, join-parts_at, last_or-push, parts_at-clear, parts_at-first, parts_at-found, parts_at-nowhere}
+
+-- ---- UTF-8
+
+-- whether bytes are UTF-8, as a call that asks tells
+pub told_utf8 : {S E : Type 0} (result : Result S E) (bytes : List ℕ) (P : S → Type 0) (Q : E → Type 0)
+    → MatchResult result (λ s. P s × IsUtf8 bytes) (λ e. (IsUtf8 bytes → ⊥) × Q e) → is_ok result ≡ is_utf8 bytes
+told_utf8 (Ok s) bytes P Q h = sym (is_utf8-from_IsUtf8 bytes h.1)
+told_utf8 (Err e) bytes P Q h = sym (false_from_ne_true _ (λ t. h.0 (IsUtf8-from_is_utf8 bytes t)))
+
+-- ---- a name and a path
+
+-- where a space was found
+pub cut_found : (line front after : List ℕ) (n : ℕ) → IsFirstByte (is_byte 32) line (Some n) → front ≡ take n line → after ≡ drop n line
+    → name_and_path line ≡ front ∷ take (length after - 1) (drop 1 after) ∷ []
+cut_found line front after n found is_front is_after =
+    let first : get_or (fields line) 0 [] ≡ take n line = ap (λ (parts : List (List ℕ)). get_or parts 0 []) (parts_at-found 32 line n found) in
+    let below : n < length line = found.0.high in
+    let long : length (take n line) ≡ n = grind (arith, common_steps) in
+    let left : take (length after - 1) (drop 1 after) ≡ drop (n + 1) line = take_rest after 1 ∙ ap (drop 1) is_after ∙ drop-drop 1 n line in
+    rw (first, long, left, is_front) refl
+
+-- and where there is none
+pub cut_nowhere : (line : List ℕ) → IsFirstByte (is_byte 32) line None → name_and_path line ≡ line ∷ [] ∷ []
+cut_nowhere line none =
+    let first : get_or (fields line) 0 [] ≡ line = ap (λ (parts : List (List ℕ)). get_or parts 0 []) (parts_at-nowhere 32 line none) in
+    rw first (rw (drop_all (length line + 1) line (omega arith)) refl)
+
+-- a path that isn't empty stands after a space
+cut_by : (line : List ℕ) (parts : List (List ℕ)) → join_with_byte 32 parts ≡ line → 0 < length (drop (length (get_or parts 0 []) + 1) line)
+    → line ≡ get_or parts 0 [] ++ 32 ∷ drop (length (get_or parts 0 []) + 1) line
+cut_by line [] e some = let none : length line ≡ 0 = ap length (sym e) in absurd (grind (arith, common_steps))
+cut_by line (part ∷ []) e some =
+    let none : drop (length part + 1) line ≡ [] = drop_all (length part + 1) line (omega (arith, ap length e)) in
+    absurd (omega (arith, ap length none, some))
+cut_by line (part ∷ next ∷ more) e some =
+    let rest = join_with_byte 32 (next ∷ more) in
+    let after : drop (length part + 1) line ≡ rest = rw (← e) (sym (drop-drop 1 (length part) (part ++ 32 ∷ rest)) ∙ ap (drop 1) (drop-append_seam part (32 ∷ rest))) in
+    rw after (sym e)
+
+pub line_cut : (line : List ℕ) → 0 < length (drop (length (get_or (fields line) 0 []) + 1) line) → line ≡ get_or (fields line) 0 [] ++ 32 ∷ drop (length (get_or (fields line) 0 []) + 1) line
+line_cut line some = cut_by line (fields line) (join-parts_at 32 line) some
+
+-- a name without a space, and a path, are those of the line that they make
+pub cut_again : (name path : List ℕ) → IsClearOf 32 name → name_and_path (name ++ 32 ∷ path) ≡ name ∷ path ∷ []
+cut_again name path clear =
+    let first : get_or (fields (name ++ 32 ∷ path)) 0 [] ≡ name = ap (λ (parts : List (List ℕ)). get_or parts 0 []) (parts_at-first 32 name path clear) in
+    let after : drop (length name + 1) (name ++ 32 ∷ path) ≡ path = sym (drop-drop 1 (length name) (name ++ 32 ∷ path)) ∙ ap (drop 1) (drop-append_seam name (32 ∷ path)) in
+    rw first (rw after refl)
+
+-- ---- what stands after the last =
+
+-- what stands after the last c is the last part
+parts_end : (c : ℕ) (front more : List ℕ) → IsClearOf c more → (first : List ℕ) × (firsts : List (List ℕ)) × (parts_at c (front ++ c ∷ more) ≡ first ∷ firsts ++ more ∷ [])
+parts_end c [] more clear = ([], [], slice_split-cons_yes (λ b. eqb b c) c more (eq-eqb c c refl) ∙ ap (λ (parts : List (List ℕ)). [] ∷ parts) (parts_at-clear c more clear))
+parts_end c (x ∷ front) more clear =
+    let rest = parts_end c front more clear in
+    elim (cases_Bool (eqb x c)) [
+      | inl e ↦ ([], rest.0 ∷ rest.1, slice_split-cons_yes (λ b. eqb b c) x (front ++ c ∷ more) e ∙ ap (λ (parts : List (List ℕ)). [] ∷ parts) rest.2)
+      | inr e ↦ (x ∷ rest.0, rest.1, slice_split-cons_no (λ b. eqb b c) x (front ++ c ∷ more) e ∙ ap (onto_first x) rest.2)
+    ]
+
+pub last_found : (text : List ℕ) (n : ℕ) → IsLastByte (is_byte 61) text (Some n) → drop (n + 1) text ≡ after_equals text
+last_found text n found =
+    let below : n < length text = found.0.high in
+    let more = drop (n + 1) text in
+    let here : get_or text n 0 ≡ 61 = grind (arith, nat_tests, found.1) in
+    let whole : text ≡ take n text ++ 61 ∷ more = cc (take-append-drop n text, drop_more text n 0 below) in
+    let clear : IsClearOf 61 more = λ k d under.
+    let same : get_or more k d ≡ get_or text (n + 1 + k) 0 = grind (arith, elements) in
+    let within : n + 1 + k < length text = grind (arith, common_steps) in
+    rw same (false_from_ne_true _ (found.0.after (n + 1 + k) (omega arith) within)) in
+    let parts = parts_end 61 (take n text) more clear in
+    sym (ap (λ (t : List ℕ). last_or [] (parts_at 61 t)) whole ∙ ap (last_or []) parts.2 ∙ last_or-push [] (parts.0 ∷ parts.1) more)
+
+pub last_nowhere : (text : List ℕ) → IsLastByte (is_byte 61) text None → text ≡ after_equals text
+last_nowhere text none = sym (ap (last_or []) (parts_at-clear 61 text (λ k d below.
+    let same : get_or text k d ≡ get_or text k 0 = grind (arith, elements) in
+    rw same (false_from_ne_true _ (none k (omega arith) below)))))
+
+-- ---- an offset
+
+-- digits that are all read
+pub offset_read : (digits : List ℕ) (len value : ℕ) → 1 ≤ length digits → length digits ≤ 18 → length digits ≤ len → IsReadTo digits len value → Some value ≡ offset_in digits
+offset_read digits len value some few all read =
+    let whole : take len digits ≡ digits = take_all len digits all in
+    let each : list_all is_ascii_digit digits ≡ true = ap (list_all is_ascii_digit) (sym whole) ∙ read.digits in
+    let is : value ≡ digits_value 10 digits = read.value ∙ ap (digits_value 10) whole in
+    rw (le-leb 1 (length digits) some, le-leb (length digits) 18 few, each) (ap Some is)
+
+-- a byte that is none
+pub offset_other : (digits : List ℕ) (len : ℕ) → len < length digits → is_ascii_digit (get_or digits len 0) ≡ false → None ≡ offset_in digits
+offset_other digits len below other =
+    let none : list_all is_ascii_digit digits ≡ false = list_all_at is_ascii_digit digits len 0 below other in
+    rw none (no_more (nat_le 1 (length digits)) (nat_le (length digits) 18))
+  where
+    no_more : (a b : Bool) → None ≡ cond (a && (b && false)) (Some (digits_value 10 digits)) None
+    no_more true true = refl
+    no_more true false = refl
+    no_more false b = refl
+
+-- ---- a place
+
+-- a place that a path says is one that a disk can have
+pub place_taken : (path file : List ℕ) (byte : ℕ) → (file, byte) ≡ place_of path → IsUtf8 file → byte % 512 ≡ 0 → Some (file, byte / 512) ≡ place_in path
+place_taken path file byte is utf8 whole = rw (← is) (rw (is_utf8-from_IsUtf8 file utf8, eq-eqb _ _ whole) refl)
+
+-- or its path isn't UTF-8
+pub place_untext : (path file : List ℕ) (byte : ℕ) → (file, byte) ≡ place_of path → (IsUtf8 file → ⊥) → None ≡ place_in path
+place_untext path file byte is other =
+    let no : is_utf8 file ≡ false = false_from_ne_true _ (λ t. other (IsUtf8-from_is_utf8 file t)) in
+    rw (← is) (rw no refl)
+
+-- or it is inside a sector
+pub place_inside : (path file : List ℕ) (byte : ℕ) → (file, byte) ≡ place_of path → IsUtf8 file → (byte % 512 ≡ 0 → ⊥) → None ≡ place_in path
+place_inside path file byte is utf8 other = rw (← is) (rw (is_utf8-from_IsUtf8 file utf8, ne_eqb _ _ other) refl)

@@ -1,0 +1,10 @@
+-- what was read of the digits is their value so far
+use Rattle.std.proofs.Common.{◌-◌, length}
+use Rattle.dm_table.specs.words.Number.{IsReadTo}
+use Rattle.dm_table.proofs.tables.path_list.offset_in.Given as goal
+
+abbrev pub invariant-loop-len : goal.invariant-loop-len
+invariant-loop-len l = IsReadTo l.digits l.len l.value
+
+abbrev pub decreases-loop-len : goal.decreases-loop-len
+decreases-loop-len l = length l.digits - l.len
