@@ -1,5 +1,8 @@
--- What disks hold after requests, and the laws that each top device is like a disk of its own.
+-- What disks hold after requests, the laws that each top device is like a disk of its own, and those of errors.
+pub mod Ample
 pub mod Contents
+pub mod Errors
+pub mod Losses
 pub mod Rows
 pub mod Halts
 pub mod Requests

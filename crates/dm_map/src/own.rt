@@ -1,5 +1,7 @@
-//! What disks hold after requests, and the laws that each top device is like a disk of its own.
+//! What disks hold after requests, the laws that each top device is like a disk of its own, and those
+//! of errors.
 
+pub(crate) mod errors;
 pub(crate) mod play;
 pub(crate) mod requests;
 pub(crate) mod tops;

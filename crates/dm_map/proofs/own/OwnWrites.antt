@@ -55,7 +55,7 @@ own_write {V = V} zeros value stack state top sector sound tidy fitting is_top =
 
 -- At the start
 
-none_at : (count device : ℕ) → taken_at (replicate count none_taken) device ≡ none_taken
+pub none_at : (count device : ℕ) → taken_at (replicate count none_taken) device ≡ none_taken
 none_at zero device = refl
 none_at (suc count) zero = refl
 none_at (suc count) (suc device) = none_at count device

@@ -32,7 +32,7 @@ pub record IsLineVia (stack : Description) (device sector : ℕ) (line : FoundLi
   pub via : IsVia stack device index (span_index line.target (sector - line.start)) it lower at Own
   pub lies : at ≡ via.span.offset + span_distance line.target (sector - line.start)
 
-raw_line : (stack : Description) (o : Option Line) (line : FoundLine) → option_map (found_line stack) o ≡ Some line → (it : Line) × (o ≡ Some it) × (found_line stack it ≡ line)
+pub raw_line : (stack : Description) (o : Option Line) (line : FoundLine) → option_map (found_line stack) o ≡ Some line → (it : Line) × (o ≡ Some it) × (found_line stack it ≡ line)
 raw_line stack None line is = absurd cc
 raw_line stack (Some it) line is = (it, refl, cc)
 

@@ -67,11 +67,11 @@ fits stack state device sector number snapshot sound fitting at is =
     (leb-true _ _ (fitting.places device number snapshot at (number_within (sector / snapshot.chunk) (taken_at state device).chunks number is)))
 
 -- a read of the origin is inside of it
-read_inside : (stack : Description) (state : State) (device sector : ℕ) (snapshot : FoundSnapshot) → IsSound stack → snapshot_at stack device ≡ Some snapshot → sector < device_len stack device → sector < lower_len stack snapshot.origin
+pub read_inside : (stack : Description) (state : State) (device sector : ℕ) (snapshot : FoundSnapshot) → IsSound stack → snapshot_at stack device ≡ Some snapshot → sector < device_len stack device → sector < lower_len stack snapshot.origin
 read_inside stack state device sector snapshot sound at inside = let over = (snapshot_sound stack device snapshot sound at).soundly.origin in omega (arith, over, inside)
 
 -- and so is that of what an origin's device names
-serve_inside : (stack : Description) (device sector : ℕ) (origin : FoundOrigin) → IsSound stack → origin_at stack device ≡ Some origin → sector < device_len stack device → sector < lower_len stack origin.to
+pub serve_inside : (stack : Description) (device sector : ℕ) (origin : FoundOrigin) → IsSound stack → origin_at stack device ≡ Some origin → sector < device_len stack device → sector < lower_len stack origin.to
 serve_inside stack device sector origin sound at inside = let same = (origin_sound stack device origin sound at).soundly.same in omega (arith, same, inside)
 
 -- what goes on is inside its device
@@ -171,7 +171,7 @@ pub record IsNoStore (stack : Description) (lower : Lower) : Type 0 where
 
 -- no line leads into a store or an origin, and no store is an origin
 
-step_inside : (stack : Description) (device sector : ℕ) (line : FoundLine) (lower : Lower) (at : ℕ) → IsSound stack → found_at stack device sector ≡ Some line → IsPlainStep line.target (sector - line.start) lower at → at < lower_len stack lower
+pub step_inside : (stack : Description) (device sector : ℕ) (line : FoundLine) (lower : Lower) (at : ℕ) → IsSound stack → found_at stack device sector ≡ Some line → IsPlainStep line.target (sector - line.start) lower at → at < lower_len stack lower
 step_inside stack device sector line lower at sound is step =
     let of = (line_sound stack device sector line sound is).soundly in
     let from = of.from in let before = of.before in

@@ -1,0 +1,75 @@
+-- Chunks that are due, and stacks that can lose nothing, worked by hand: the definitions are checked against them.
+use Rattle.std.proofs.Common.{◌≡◌, ℕ, inl, true, false, [], ◌∷◌, refl, arith}
+use Rattle.dm_table.specs.declared.tables.table.DevRef.TheVariants as refs
+use Rattle.dm_table.specs.declared.tables.table.StoreKind.{StoreKind}
+use Rattle.dm_table.specs.declared.tables.table.StoreKind.TheVariants.{Keeping, Persistent}
+use Rattle.dm_table.specs.declared.tables.table.Target.{Target}
+use Rattle.dm_table.specs.declared.tables.table.Target.TheVariants as targets
+use Rattle.dm_stack.specs.declared.id.Lower.TheVariants.{Device, Disk}
+use Rattle.dm_stack.specs.declared.lines.found_line.FoundSnapshot.{FoundSnapshot}
+use Rattle.dm_stack.specs.Description.{Description}
+use Rattle.dm_stack.specs.lines.Over.{all_over, snapshots_over}
+use Rattle.dm_map.specs.own.Ample.{IsAmple, chunk_count}
+use Rattle.dm_map.specs.own.Losses.{Due, IsLosing, due, due_in}
+use Rattle.dm_map.specs.state.State.{State, none_taken}
+use Rattle.dm_map.specs.walk.Serving.{serve}
+use Rattle.dm_map.proofs.WorkedRows.{device, disk, line}
+
+-- the last chunk of 20 sectors is shorter
+chunks_of_20 : chunk_count 8 20 ≡ 3
+chunks_of_20 = refl
+
+chunks_of_16 : chunk_count 8 16 ≡ 2
+chunks_of_16 = refl
+
+chunks_of_none : chunk_count 8 0 ≡ 0
+chunks_of_none = refl
+
+-- o: the device of an origin; s: a snapshot of it, of 16 sectors in chunks of 8; e: a line of its own
+abbrev sample : StoreKind → (store_len : ℕ) → (own : Target) → Description
+sample kind store_len own = record {
+  devices = device 111 false (line 0 16 (targets.Origin (refs.Disk (48 ∷ []))) ∷ [])
+      ∷ device 115 false (line 0 16 (targets.Snapshot (refs.Disk (48 ∷ [])) (refs.Disk (49 ∷ [])) kind 8) ∷ [])
+      ∷ device 101 false (line 0 4 own ∷ []) ∷ [];
+  disks = disk 48 16 ∷ disk 49 store_len ∷ [];
+}
+
+-- a store of 32 sectors has two places, one of 31 has one
+roomy : IsAmple (sample Persistent 32 targets.Zero)
+roomy = (tt, (omega arith, (tt, tt)))
+
+short : IsAmple (sample Persistent 31 targets.Zero) → ⊥
+short ample = let room = ample.1.0 in omega (arith, room)
+
+with_error : IsAmple (sample Persistent 32 targets.Error) → ⊥
+with_error ample = ample.1.1.0
+
+-- What is due
+
+abbrev over_disk : StoreKind → FoundSnapshot
+over_disk kind = record { origin = Disk 0; store = Disk 1; kind = kind; chunk = 8 }
+
+-- s took its chunk 0, and its store has one place
+abbrev full : State
+full = none_taken ∷ record { chunks = 0 ∷ []; valid = true } ∷ none_taken ∷ []
+
+abbrev chunk_1 : StoreKind → Due
+chunk_1 kind = record { device = 1; snapshot = over_disk kind; chunk = 1 }
+
+own_due : due (sample Persistent 24 targets.Zero) full (Device 1) 8 ≡ chunk_1 Persistent ∷ []
+unfolding due_in
+own_due = refl
+
+-- a store that keeps what it has refuses its own write
+refused : due (sample Keeping 24 targets.Zero) full (Device 1) 8 ≡ []
+unfolding due_in
+refused = refl
+
+-- but not that of its origin
+served_due : due (sample Keeping 24 targets.Zero) full (Device 0) 8 ≡ chunk_1 Keeping ∷ []
+unfolding due_in serve snapshots_over all_over
+served_due = refl
+
+-- which finds no place
+served_lost : IsLosing (sample Keeping 24 targets.Zero) full 1 (chunk_1 Keeping)
+served_lost = record { of = refl; valid = refl; fresh = refl; why = inl refl }

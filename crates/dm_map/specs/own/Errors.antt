@@ -1,0 +1,47 @@
+-- The law of errors: where a read is an error, and when a snapshot is lost.
+use Rattle.std.specs.Prelude.{◌≡◌, ◌↔◌, ℕ, ◌<◌, true, false, Some}
+use Rattle.dm_table.specs.declared.requests.request.Op.{Op}
+use Rattle.dm_stack.specs.declared.id.Lower.{Lower}
+use Rattle.dm_stack.specs.declared.id.Lower.TheVariants.{Device}
+use Rattle.dm_stack.specs.declared.lines.found_line.FoundLine.{FoundLine}
+use Rattle.dm_stack.specs.declared.lines.found_line.FoundSnapshot.{FoundSnapshot}
+use Rattle.dm_stack.specs.declared.lines.found_line.FoundTarget.TheVariants as found
+use Rattle.dm_stack.specs.lines.Below.{found_at}
+use Rattle.dm_stack.specs.Description.{Description, device_len}
+use Rattle.dm_map.specs.own.Halts.{state_past}
+use Rattle.dm_map.specs.own.Losses.{AreLosing, IsLostIn, due}
+use Rattle.dm_map.specs.own.Tops.{write}
+use Rattle.dm_map.specs.own.Ways.{Node, Touches, node}
+use Rattle.dm_map.specs.state.Fitting.{IsFitting}
+use Rattle.dm_map.specs.walk.Mapping.{request_step}
+use Rattle.dm_map.specs.walk.SnapshotWrites.{read}
+use Rattle.dm_map.specs.state.State.{State, taken_at}
+use Rattle.dm_map.specs.state.Tables.{snapshot_at}
+use Rattle.dm_map.specs.pieces.Units.{Fails}
+
+-- a read that comes to this sector of a device ends there, as an error: its line is an `error` line, or the device a snapshot that is lost
+pub data EndsHere (stack : Description) (state : State) (device sector : ℕ) : Type 0 where
+  AtError : (line : FoundLine) → found_at stack device sector ≡ Some line → line.target ≡ found.Error → EndsHere stack state device sector
+  AtLost : (snapshot : FoundSnapshot) → snapshot_at stack device ≡ Some snapshot → (taken_at state device).valid ≡ false → EndsHere stack state device sector
+
+-- the way of a read meets such a sector
+pub record MeetsError (stack : Description) (state : State) (from : Node) : Type 0 where
+  pub device : ℕ
+  pub sector : ℕ
+  pub way : Touches stack state from (node (Device device) sector)
+  pub ends : EndsHere stack state device sector
+
+-- reads are errors, and snapshots are lost, exactly where this says
+pub record HaveCauses (stack : Description) : Type 0 where
+  -- a read within its device is an error exactly where its way meets an `error` line or a snapshot that is lost
+  pub reads : (state : State) (device sector : ℕ) → IsFitting stack state → sector < device_len stack device → (read stack state (Device device) sector ≡ Fails) ↔ MeetsError stack state (node (Device device) sector)
+  -- a write loses a valid snapshot exactly by a chunk that is due for it
+  pub writes : (state : State) (lower : Lower) (sector device : ℕ) → IsFitting stack state → (taken_at state device).valid ≡ true
+      → ((taken_at (write stack state lower sector).state device).valid ≡ false) ↔ AreLosing stack state device (due stack state lower sector)
+  -- so do the first sectors of a request, exactly by one of them
+  pub requests : (state : State) (op : Op) (asked start len sectors device : ℕ) → IsFitting stack state → (taken_at state device).valid ≡ true
+      → ((taken_at (state_past stack op asked start len sectors state) device).valid ≡ false) ↔ IsLostIn stack state device op asked start len sectors
+  -- all its sectors leave the state that the request does
+  pub whole : (state : State) (op : Op) (asked start len : ℕ) → (request_step stack op asked start len state).state ≡ state_past stack op asked start len len state
+  -- and what is lost stays so
+  pub stays : (state : State) (op : Op) (asked start len sectors device : ℕ) → (taken_at state device).valid ≡ false → (taken_at (state_past stack op asked start len sectors state) device).valid ≡ false
