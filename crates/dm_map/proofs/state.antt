@@ -1,13 +1,9 @@
 -- Lemmas of states: numbers, runs and tries of taken chunks, tables, and what a sound stack says of the
 -- devices that have them.
-pub mod BlockLemmas
 pub mod FoundLines
 pub mod GrowLemmas
-pub mod JoinedRuns
 pub mod Numbers
-pub mod RingLemmas
 pub mod RunLemmas
-pub mod SortedLemmas
 pub mod TableLemmas
 pub mod TrieLemmas
 pub mod WithinPlaces

@@ -1,6 +1,5 @@
 -- What requests leave for later ones: the chunks that each snapshot took, how these are kept, and
 -- how much of its store they use.
-pub mod Blocks
 pub mod Counts
 pub mod Fitting
 pub mod Links

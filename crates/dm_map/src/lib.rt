@@ -17,6 +17,7 @@ mod state;
 mod walk;
 
 pub use mapper::{MapFault, Mapper};
+pub use own::errors::{errors_have_causes, nothing_is_lost};
 pub use own::play::play_goes_on;
 pub use own::requests::requests_are_alone;
 pub use own::tops::tops_are_alone;
@@ -30,5 +31,7 @@ pub use state::run_taken::RunTaken;
 pub use state::taken::Taken;
 pub use state::trie_taken::TrieTaken;
 pub use state::usage::Usage;
+pub use state::walker::lower_len;
 pub use walk::home::Home;
+pub use walk::homes::HomeStretch;
 pub use walk::levels::levels_are_enough;

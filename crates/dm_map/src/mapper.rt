@@ -4,7 +4,7 @@
 //! `specs/walk/Mapping.antt` defines what becomes of a sector, `walk` cuts a range into pieces, and
 //! `walker` keeps what one request leaves for the next.
 
-ghost use Rattle.std.specs.Prelude.{◌≡◌, ◌+◌, ◌*◌, ◌<◌, ◌≤◌, false, true, length, nat_lt, IfOk, IfSome};
+ghost use Rattle.std.specs.Prelude.{◌≡◌, ◌+◌, ◌*◌, ◌<◌, ◌≤◌, None, false, true, length, nat_lt, IfOk, IfSome};
 ghost use Rattle.dm_table.specs.declared.requests.request.Op.TheVariants.{Read};
 ghost use Rattle.dm_stack.specs.checks.Snapshots.{snapshots, IsSnapshot};
 ghost use Rattle.dm_stack.specs.checks.Depth.{stack_depth};
@@ -14,8 +14,13 @@ ghost use Rattle.dm_map.specs.state.Fitting.{IsWithinPlaces};
 ghost use Rattle.dm_map.specs.declared.mapper.MapFault.TheVariants.{Sink};
 ghost use Rattle.dm_map.specs.Mapper.{with_looked, HasMapped};
 ghost use Rattle.dm_map.specs.walk.Path.{read_stretches};
-ghost use Rattle.dm_map.specs.state.State.{start_state, taken_at};
-ghost use Rattle.dm_map.specs.state.Tables.{snapshot_at};
+ghost use Rattle.dm_map.specs.state.State.{lost, put, start_state, taken_at, with_chunk};
+ghost use Rattle.dm_map.specs.state.Snapshots.{number_in};
+ghost use Rattle.dm_stack.specs.declared.checks.limits.TheConstants.{MOST_LENGTH};
+ghost use Rattle.dm_stack.specs.Description.{lower_len};
+ghost use Rattle.dm_stack.specs.checks.Store.{IsStore};
+ghost use Rattle.dm_map.specs.walk.Homes.{IsFirstHomes};
+ghost use Rattle.dm_map.specs.state.Tables.{has_room, snapshot_at};
 ghost use Rattle.dm_map.specs.state.Usage.{usage_of};
 ghost use Rattle.dm_map.specs.walk.Home.{or_home};
 ghost use Rattle.dm_map.specs.walk.Range.{HasRoomFor, IsWalked};
@@ -27,8 +32,9 @@ use crate::state::taken::Taken;
 use crate::state::usage::{Usage, usage_of};
 use crate::state::walker::Walker;
 use crate::walk::home::{Home, handed};
+use crate::walk::homes::{HomeStretch, first_homes};
 use crate::walk::range::{fail, map_top};
-use dm_stack::{DeviceId, Looker};
+use dm_stack::{DeviceId, Looker, Lower};
 use dm_table::{Op, Request};
 use std::alloc::{AllocError, Global};
 use std::fmt;
@@ -182,6 +188,68 @@ impl<'s, T: Taken> Mapper<'s, T> {
             Ok(home) => Ok(home),
             Err(fault) => Err(self.stop(fault)),
         }
+    }
+
+    /// A valid snapshot has taken a chunk, the next in the list of its store: for a state that no request
+    /// of this mapper left. No memory is taken.
+    pub fn restore(&mut self, device: DeviceId, chunk: u64)
+        requires device { device < length self.old.stack.devices }
+        requires valid { (taken_at self.old.state device).valid ≡ true }
+        requires room { has_room self.old.stack device (length (taken_at self.old.state device).chunks)
+            ≡ true }
+        requires fresh { number_in chunk (taken_at self.old.state device).chunks ≡ None }
+        ensures { self.new ≡ record self.old {
+          state
+              = put self.old.state device (with_chunk (taken_at self.old.state device) chunk);
+        } }
+    {
+        self.walker.take(device, chunk);
+    }
+
+    /// A snapshot is invalid from now on, as its store says. No memory is taken.
+    pub fn lose(&mut self, device: DeviceId)
+        requires { device < length self.old.stack.devices }
+        ensures { self.new ≡ record self.old {
+          state
+              = put self.old.state device (lost (taken_at self.old.state device));
+        } }
+    {
+        self.walker.invalidate(device);
+    }
+
+    /// The number of a chunk among those that a snapshot took, from 0. No memory is taken.
+    pub fn number_of(&self, device: DeviceId, chunk: u64) -> Option<usize>
+        requires { device < length self.now.stack.devices }
+        ensures { result ≡ number_in chunk (taken_at self.now.state device).chunks }
+    {
+        self.walker.find(device, chunk)
+    }
+
+    /// Where the first sectors of a range of a store lie: in a row on a disk. The look-ups belong to no
+    /// request. No memory is taken.
+    pub fn first_homes(&mut self, store: Lower, sector: u64, len: u64) -> HomeStretch
+        requires some { 1 ≤ len }
+        requires inside { sector + len ≤ lower_len self.old.stack store }
+        requires store { IsStore self.old.stack store }
+        ensures is { IsFirstHomes self.old.stack store sector len result }
+        ensures near { result.start + result.len ≤ MOST_LENGTH }
+        ensures same { self.new ≡ with_looked self.old self.new.looked }
+        ensures looked { AreAdded self.old.looked self.new.looked }
+    {
+        let searches = self.walker.searches();
+        let comparisons = self.walker.comparisons();
+        self.walker.recall_soundness();
+        let stretch = first_homes(&mut self.walker, store, sector, len);
+        self.searches_before += self.walker.searches() - searches;
+        self.comparisons_before += self.walker.comparisons() - comparisons;
+        stretch
+    }
+
+    /// Recalls that no snapshot took more chunks than its store has places.
+    pub fn recall_places(&self)
+        ensures { IsWithinPlaces self.now.stack self.now.state }
+    {
+        self.walker.recall_places();
     }
 
     /// The sink failed: nothing more is mapped.

@@ -80,6 +80,20 @@ pub number_one : (c e : ℕ) (xs : List ℕ) (i : ℕ) → number_in c xs ≡ So
 number_one c e [] i f g = absurd cc
 number_one c e (x ∷ xs) i f g = inject_cons (x == c) (x == e) c e x i (number_in c xs) (number_in e xs) (λ t. eqb-true x c t) (λ t. eqb-true x e t) (λ j a b. number_one c e xs j a b) f g
 
+all_at : (P : ℕ → Type 0) (xs : List ℕ) (i d : ℕ) → AllByRecursion P xs → i < length xs → P (get_or xs i d)
+all_at P [] i d all within = absurd (omega (arith, within))
+all_at P (x ∷ xs) zero d all within = all.0
+all_at P (x ∷ xs) (suc i) d all within = all_at P xs i d all.1 (omega (arith, within))
+
+-- in a list without doubles, what stands at an index has that number
+pub number_distinct : (xs : List ℕ) (i d : ℕ) → IsDistinct nat_eq xs → i < length xs → number_in (get_or xs i d) xs ≡ Some i
+unfolding IsDistinct
+number_distinct [] i d distinct within = absurd (omega (arith, within))
+number_distinct (x ∷ xs) zero d distinct within = rw (eq-eqb x x refl) refl
+number_distinct (x ∷ xs) (suc i) d distinct within =
+    let other : (x == get_or xs i d) ≡ false = all_at (λ y. nat_eq x y ≡ false) xs i d distinct.0 (omega (arith, within)) in
+    rw (other, number_distinct xs i d distinct.1 (omega (arith, within))) refl
+
 -- Whole parts and a rest
 
 less_parts : (q r p t m : ℕ) → q * m + r ≡ p * m + t → r < m → q < p → ⊥

@@ -1,64 +1,46 @@
-//! Taken chunks as sorted runs: for snapshots with many of them.
+//! Taken chunks as sorted runs: few where many chunks were taken in a row.
 //!
 //! A run is a row of chunks that were taken one after the other, so its chunks and their numbers are
-//! neighbours. The runs lie in the order in which they were begun: only the last one grows, and a
-//! chunk's number follows from its run. `Order` has them in the order of their chunks, in which the run
-//! of a chunk is found by halving.
+//! neighbours. The runs lie in the order of their chunks, in which the run of a chunk is found by
+//! halving. Each says the number of its first chunk.
 
-ghost use Rattle.std.specs.Prelude.{◌≡◌, ◌<◌, ◌≤◌, ◌+◌, ◌++◌, ◌∷◌, [], ◌^◌, true, None, length, nat_eq};
-ghost use Rattle.std.specs.List.{IsDistinct, concat};
+ghost use Rattle.std.specs.Prelude.{◌≡◌, ◌<◌, ◌≤◌, ◌+◌, ◌-◌, ◌^◌, None, MatchBool, length, nat_eq};
+ghost use Rattle.std.specs.List.{IsDistinct};
 ghost use Rattle.std.proofs.Props.{props};
 ghost use Rattle.std.proofs.lemmas.Map.Keys.{IsDistinct-prop};
 ghost use Rattle.dm_stack.specs.lines.LineSearch.{binary_digits};
-ghost use Rattle.dm_map.specs.state.Blocks.{contents};
-ghost use Rattle.dm_map.specs.state.Runs.{AreRuns, AreSorted, begins, chunks_in, last_after, run_count};
+ghost use Rattle.dm_map.specs.state.Runs.{AreBegunBy, AreRuns, GoesOn, TakesOne, chunks_in, run_at, run_count};
 ghost use Rattle.dm_map.specs.state.Snapshots.{number_in};
 
-mod order;
 mod run;
-mod runs;
 mod search;
 #[cfg(test)]
 mod tests;
 
-use crate::state::run_taken::order::Order;
 use crate::state::run_taken::run::Run;
-use crate::state::run_taken::runs::Runs;
-use crate::state::run_taken::search::{begun_by, begun_near, goes_on};
+use crate::state::run_taken::search::begun_by;
 use crate::state::taken::Taken;
+use dm_table::Reserved;
 use std::alloc::{AllocError, Global};
-use std::cell::Cell;
 
 /// The chunks as runs.
 ///
-/// A chunk is found by at most as many comparisons as the number of runs has binary digits; `find`
-/// knows the chunk that was taken last without them, since a write asks for it again. `take` puts a
-/// chunk where `find` just looked for it, and searches only if it did not. A chunk that comes right
-/// after the one before it, as in a disk that is written from its front, is taken in constant time; any
-/// other is put between the runs that there are, which moves at most 4,096 ids of runs, and one for
-/// each 8,192 more.
-///
-/// All memory is reserved by `with_places`: 20 bytes for each place, and the head of a ring for each
-/// 8,192 of them. It refuses 2³² places and more as too much memory.
+/// A chunk is found by at most as many comparisons as the number of runs has binary digits. `take`
+/// lengthens a run, or puts a new one between those that there are, which moves all after it. All
+/// memory is reserved by `with_places`.
 #[derive(Drop)]
 pub struct RunTaken {
-    runs: Runs,
-    order: Order,
-    /// How many runs began at the chunk that was looked for last, or before it: where it is put if it is
-    /// taken next. No clause knows what a cell holds, so this is a guess.
-    begun: Cell<usize>,
+    runs: Reserved<Run>,
+    count: usize,
     places: usize,
     valid: bool,
     ghost reserved: { places ≤ runs.room },
-    ghost small: { places < 2 ^ 32 },
-    ghost room: { order.places ≡ places },
-    ghost len: { order.len ≡ length runs.items },
-    ghost fits: { length (chunks_in runs.items) ≤ places },
-    ghost once: { IsDistinct nat_eq (chunks_in runs.items) } by { IsDistinct-prop nat_eq
-        (chunks_in runs.items) },
-    ghost counted: { run_count (chunks_in runs.items) ≡ length runs.items },
-    ghost kept: { AreRuns runs.items } by { Prim.hlevel props },
-    ghost sorted: { AreSorted runs.items (concat (contents order.blocks.items)) } by { Prim.hlevel props },
+    ghost small: { places < 2 ^ 64 },
+    ghost fits: { length (chunks_in runs.items count) ≤ places },
+    ghost once: { IsDistinct nat_eq (chunks_in runs.items count) } by { IsDistinct-prop nat_eq
+        (chunks_in runs.items count) },
+    ghost counted: { run_count (chunks_in runs.items count) ≡ length runs.items },
+    ghost kept: { AreRuns runs.items count } by { Prim.hlevel props },
 }
 
 impl RunTaken {
@@ -80,78 +62,84 @@ impl RunTaken {
         ensures few { comparisons.new
             ≤ comparisons.old + binary_digits (run_count (⟦<RunTaken as Taken>⟧.chunks self.now)) }
     {
-        let (begun, made) = begun_by(&self.runs, &self.order, chunk);
+        let runs = self.runs.as_slice();
+        let (begun, made) = begun_by(runs, chunk);
         *comparisons = comparisons.saturating_add(made);
-        self.begun.set(begun);
         if begun == 0 {
             return None;
         }
-        let run = self.runs.at(self.order.at(begun - 1) as usize);
+        let run = runs[begun - 1];
         let offset = chunk - run.first;
-        if offset < u64::from(run.len) {
-            Some(run.number as usize + offset as usize)
+        if offset < run.len {
+            Some(run.number + offset as usize)
         } else {
             None
         }
     }
+}
 
-    /// Begins a run with a chunk that does not go on from the last one.
-    fn begin(&mut self, chunk: u64)
-        requires room { length (chunks_in self.old.runs.items) < self.old.places }
-        requires fresh { number_in chunk (chunks_in self.old.runs.items) ≡ None }
-        requires begins { begins (last_after None (chunks_in self.old.runs.items)) chunk ≡ true }
-        ensures chunks { chunks_in self.new.runs.items ≡ chunks_in self.old.runs.items ++ chunk ∷ [] }
-        ensures places { self.new.places ≡ self.old.places }
-        ensures valid { self.new.valid ≡ self.old.valid }
-    {
-        // A write looks for a chunk before it takes it.
-        let guess = self.begun.get();
-        let rank = begun_near(&self.runs, &self.order, chunk, guess);
-        let id = self.runs.len() as u32;
+/// Whether the last run that begins at a chunk or before it goes on with this chunk, as that of the next
+/// number.
+fn goes_on(runs: &[Run], begun: usize, chunk: u64, number: usize) -> bool
+    requires kept { AreRuns runs.now number }
+    requires begun { AreBegunBy runs.now chunk begun }
+    ensures { MatchBool result
+        (0 < begun × GoesOn (run_at runs.now (begun - 1)) chunk number)
+        (0 < begun → GoesOn (run_at runs.now (begun - 1)) chunk number → ⊥) }
+{
+    if begun == 0 {
+        return false;
+    }
+    let run = runs[begun - 1];
+    chunk - run.first == run.len && run.number + run.len as usize == number
+}
+
+/// Takes a chunk as that of the next number: it lengthens a run, or is one.
+fn take_next(runs: &mut Reserved<Run>, chunk: u64, number: usize)
+    requires kept { AreRuns runs.old.items number }
+    requires once { IsDistinct nat_eq (chunks_in runs.old.items number) }
+    requires fresh { number_in chunk (chunks_in runs.old.items number) ≡ None }
+    requires room { length runs.old.items < runs.old.room }
+    requires small { number + 1 < 2 ^ 64 }
+    ensures taken { TakesOne runs.old.items runs.new.items number chunk }
+    ensures room { runs.new.room ≡ runs.old.room }
+{
+    let (begun, _) = begun_by(runs.as_slice(), chunk);
+    if goes_on(runs.as_slice(), begun, chunk, number) {
+        runs[begun - 1].len += 1;
+    } else {
         let run = Run {
             first: chunk,
-            number: self.count() as u32,
+            number,
             len: 1,
         };
-        self.runs.push(run);
-        self.order.insert(rank, id);
+        runs.insert(begun, run);
     }
 }
 
 impl Taken for RunTaken {
-    ghost chunks = { λ taken. chunks_in taken.runs.items };
+    ghost chunks = { λ taken. chunks_in taken.runs.items taken.count };
 
     ghost places = { λ taken. taken.places };
 
     ghost valid = { λ taken. taken.valid };
 
     fn with_places(alloc: Global, count: usize) -> Result<RunTaken, AllocError> {
-        if count > u32::MAX as usize {
-            return Err(AllocError);
-        }
         Ok(RunTaken {
-            runs: Runs::with_capacity(alloc, count)?,
-            order: Order::with_places(alloc, count)?,
-            begun: Cell::new(0),
+            runs: Reserved::from_vec(Vec::with_capacity(alloc, count)?),
+            count: 0,
             places: count,
             valid: true,
         })
     }
 
     fn find(&self, chunk: u64) -> Option<usize> {
-        // The chunk that was taken last is the one that the next chunk would go on from.
-        if chunk < u64::MAX && goes_on(&self.runs, chunk + 1) {
-            return Some(self.count() - 1);
-        }
         let mut comparisons = 0;
         self.find_counted(chunk, &mut comparisons)
     }
 
     fn count(&self) -> usize {
-        match self.runs.last() {
-            Some(run) => run.number as usize + run.len as usize,
-            None => 0,
-        }
+        self.count
     }
 
     fn is_full(&self) -> bool {
@@ -163,11 +151,8 @@ impl Taken for RunTaken {
     }
 
     fn take(&mut self, chunk: u64) {
-        if goes_on(&self.runs, chunk) {
-            self.runs.lengthen();
-        } else {
-            self.begin(chunk);
-        }
+        take_next(&mut self.runs, chunk, self.count);
+        self.count += 1;
     }
 
     fn invalidate(&mut self) {

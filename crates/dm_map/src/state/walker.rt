@@ -46,7 +46,7 @@ impl<'s, T: Taken> Model for Walker<'s, T> {
 
 /// The length of a device or a disk of the looker's stack in sectors, from 1 to 2^50.
 #[inline(always)]
-pub(crate) fn lower_len(looker: &Looker<'_>, lower: Lower) -> u64
+pub fn lower_len(looker: &Looker<'_>, lower: Lower) -> u64
     requires { 0 < lower_len looker.now.stack lower }
     ensures len { result ≡ lower_len looker.now.stack lower }
     ensures small { result ≤ MOST_LENGTH }

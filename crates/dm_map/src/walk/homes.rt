@@ -16,10 +16,10 @@ use dm_stack::{DiskId, Lower, MOST_DEPTH};
 
 /// Sectors of a store that lie in a row on a disk: `len` of them, from `start` on.
 #[derive(Clone, Copy, Drop)]
-pub(crate) struct HomeStretch {
-    pub(crate) disk: DiskId,
-    pub(crate) start: u64,
-    pub(crate) len: u64,
+pub struct HomeStretch {
+    pub disk: DiskId,
+    pub start: u64,
+    pub len: u64,
 }
 
 /// Where the first sectors of a range of a store lie.

@@ -6,14 +6,7 @@ pub(crate) struct Run {
     /// The first chunk.
     pub(crate) first: u64,
     /// The number of the first chunk.
-    pub(crate) number: u32,
+    pub(crate) number: usize,
     /// How many chunks it has.
-    pub(crate) len: u32,
-}
-
-/// The numbers of a run's chunks: from which one, and how many.
-#[derive(Clone, Copy)]
-pub(crate) struct NumberRange {
-    pub(crate) number: u32,
-    pub(crate) len: u32,
+    pub(crate) len: u64,
 }

@@ -82,7 +82,7 @@ static TAKES: [Takes; 12] = [
         bits: 143,
     },
     Takes {
-        name: "one block less one",
+        name: "a power of two less one",
         count: 8_191,
         row: 1,
         apart: 1,
@@ -93,7 +93,7 @@ static TAKES: [Takes; 12] = [
         bits: 269,
     },
     Takes {
-        name: "one block",
+        name: "a power of two",
         count: 8_192,
         row: 1,
         apart: 1,
@@ -104,7 +104,7 @@ static TAKES: [Takes; 12] = [
         bits: 269,
     },
     Takes {
-        name: "one block and one",
+        name: "a power of two and one",
         count: 8_193,
         row: 1,
         apart: 1,

@@ -1,4 +1,4 @@
-use Rattle.std.proofs.Common.{◌≡◌, ℕ, ◌+◌, ◌-◌, ◌*◌, ◌^◌, ◌≤◌, sym, arith}
+use Rattle.std.proofs.Common.{◌≡◌, ℕ, ◌+◌, ◌-◌, ◌*◌, ◌^◌, ◌≤◌, arith}
 use Rattle.std.proofs.Math.Nat.{mul-le-mul_left}
 use Rattle.dm_stack.proofs.LineSearchLemmas.{few_digits, more-halved}
 use Rattle.dm_stack.specs.lines.LineSearch.{binary_digits}
@@ -17,16 +17,15 @@ few k all total some within =
 back : (n : ℕ) → n + 1 - 1 ≡ n
 back n = omega arith
 
-pub loop-low-preserved-then-first_at-chunk : goal.loop-low-preserved-then-first_at-chunk
-loop-low-preserved-then-first_at-chunk c =
+pub loop-low-preserved-then-runs-middle : goal.loop-low-preserved-then-runs-middle
+loop-low-preserved-then-runs-middle c =
     let l = c.loop-low in
     let i = l.invariant in
     let more = c.loop-low-test.true in
-    let first = rw c.first_at.ensures at c.if-first_at-chunk.true in
     record {
       within = omega (arith, more);
       end = i.end;
-      from = λ _. rw back first;
+      from = λ _. rw back c.if-runs-middle.true;
       next = i.next;
       small = omega (arith, i.small, more);
       halved = halved l.comparisons _ (l.high - l.low) _ (omega (arith, more)) i.halved;
@@ -42,7 +41,7 @@ loop-low-preserved c =
       within = omega (arith, more);
       end = omega (arith, i.end, more);
       from = i.from;
-      next = λ _. rw (sym c.first_at.ensures) c.if-first_at-chunk.false;
+      next = λ _. c.if-runs-middle.false;
       small = omega (arith, i.small, more);
       halved = halved l.comparisons _ (l.high - l.low) _ (omega (arith, more)) i.halved;
       few = few l.comparisons (l.high - l.low) _ (omega (arith, more)) i.halved;

@@ -1,20 +1,18 @@
--- the runs before a rank begin at the chunk or before it, those from another rank on after it; each comparison halves what lies between
+-- the runs before an index begin at the chunk or before it, those from another index on after it; each comparison halves what lies between
 use Rattle.std.proofs.Common.{◌+◌, ◌-◌, ◌*◌, ◌^◌, ◌<◌, ◌≤◌, length}
-use Rattle.std.specs.List.{concat}
 use Rattle.dm_stack.specs.lines.LineSearch.{binary_digits}
-use Rattle.dm_map.specs.state.Blocks.{contents}
-use Rattle.dm_map.specs.state.Runs.{ranked}
+use Rattle.dm_map.specs.state.Runs.{run_at}
 use Rattle.dm_map.proofs.state.run_taken.search.begun_by.Given as goal
 
 abbrev pub invariant-loop-low : goal.invariant-loop-low
 invariant-loop-low l = record {
   within : l.low ≤ l.high;
-  end : l.high ≤ length l.runs.items;
-  from : 0 < l.low → (ranked l.runs.items (concat (contents l.order.blocks.items)) (l.low - 1)).first ≤ l.chunk;
-  next : l.high < length l.runs.items → l.chunk < (ranked l.runs.items (concat (contents l.order.blocks.items)) l.high).first;
+  end : l.high ≤ length l.runs;
+  from : 0 < l.low → (run_at l.runs (l.low - 1)).first ≤ l.chunk;
+  next : l.high < length l.runs → l.chunk < (run_at l.runs l.high).first;
   small : l.comparisons + (l.high - l.low) < 2 ^ 64;
-  halved : 2 ^ l.comparisons * (l.high - l.low) ≤ length l.runs.items;
-  few : l.comparisons ≤ binary_digits (length l.runs.items);
+  halved : 2 ^ l.comparisons * (l.high - l.low) ≤ length l.runs;
+  few : l.comparisons ≤ binary_digits (length l.runs);
 }
 
 abbrev pub decreases-loop-low : goal.decreases-loop-low

@@ -3,7 +3,7 @@ use Rattle.std.proofs.lemmas.List.{get_or_read}
 use Rattle.dm_map.specs.declared.state.trie_taken.link.Node.TheVariants.{Number}
 use Rattle.dm_map.specs.state.Snapshots.{number_in}
 use Rattle.dm_map.specs.state.Trie.{chunk_at, end_of, node_at}
-use Rattle.dm_map.proofs.state.RunLemmas.{number_distinct}
+use Rattle.dm_map.proofs.state.Numbers.{number_distinct}
 use Rattle.dm_map.proofs.state.TrieLemmas.{end_within, last_read, not_taken, number_within, own_number}
 use Rattle.dm_map.proofs.state.trie_taken.TrieTaken.find_counted.Goals as goal
 
