@@ -1,6 +1,5 @@
 -- Of inputs and outputs: what was written, and what a block holds.
 pub mod BlockLemmas
-pub mod DigitLemmas
 pub mod Growth
 pub mod Portions
 pub mod WriteLemmas

@@ -4,5 +4,4 @@ pub mod DeviceIo
 pub mod Gathered
 pub mod Progress
 pub mod ShortIo
-pub mod Threes
 pub mod WriteAll

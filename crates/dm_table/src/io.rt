@@ -12,5 +12,4 @@ pub mod gathered;
 pub mod ghost_list;
 pub mod short_io;
 pub mod text;
-pub mod threes;
 pub mod writing;

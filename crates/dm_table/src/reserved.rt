@@ -6,8 +6,9 @@
 //! nothing but these, takes no memory. That is so as long as this module hands out no allocator, which no
 //! contract says.
 
-ghost use Rattle.std.specs.Prelude.{◌≡◌, ◌<◌, ◌++◌, ◌∷◌, [], IfOk, OnOk, length, slice_index_or, vec_capacity};
+ghost use Rattle.std.specs.Prelude.{◌≡◌, ◌<◌, ◌≤◌, ◌++◌, ◌∷◌, [], IfOk, OnOk, length, slice_index_or, vec_capacity};
 ghost use Rattle.std.specs.Borrow.{sem};
+ghost use Rattle.std.specs.List.{insert};
 ghost use Rattle.std.specs.String.{string_bytes};
 
 use std::alloc::{AllocError, Global};
@@ -74,6 +75,18 @@ impl<T> Reserved<T> {
 }
 
 impl<T: Drop> Reserved<T> {
+    /// Puts a value before that of an index, or at the end, where there is room. No memory is taken.
+    pub fn insert(&mut self, index: usize, value: T)
+        requires within { index ≤ length self.old.items }
+        requires room { length self.old.items < self.old.room }
+        ensures items { self.new.items ≡ insert self.old.items index value }
+        ensures room { self.new.room ≡ self.old.room }
+    {
+        let Ok(()) = self.items.insert(index, value) else {
+            unreachable!()
+        };
+    }
+
     /// Puts a value at the end, and takes memory where there is no room. Only who has an allocator may.
     #[inline(always)]
     pub(crate) fn grow(&mut self, _alloc: Global, value: T) -> Result<(), AllocError>
@@ -115,7 +128,7 @@ impl<T> IndexMut<usize> for Reserved<T> {
 
 /// A text. A clause sees its bytes.
 #[derive(Debug, Drop)]
-pub(crate) struct ReservedText {
+pub struct ReservedText {
     text: String,
 }
 
@@ -130,7 +143,7 @@ impl Model for ReservedText {
 
 impl ReservedText {
     /// A text as it is, with no memory taken.
-    pub(crate) fn from_string(text: String) -> ReservedText
+    pub fn from_string(text: String) -> ReservedText
         ensures { result ≡ string_bytes text }
     {
         ReservedText { text }
@@ -145,7 +158,7 @@ impl ReservedText {
 
     /// The text.
     #[inline(always)]
-    pub(crate) fn as_str(&self) -> &str
+    pub fn as_str(&self) -> &str
         ensures { result.now ≡ self.now }
     {
         self.text.as_str()

@@ -8,7 +8,7 @@ ghost use Rattle.dm_table.specs.io.Block.{IsPut};
 ghost use Rattle.dm_stream.specs.pieces.LineEnds.{AreMade, IsLineEnd, line_end};
 ghost use Rattle.dm_stream.specs.declared.pieces.line_ends.TheConstants.{LENGTHS, LONGEST, ROOM};
 
-use dm_table::{Threes, put_bytes, put_digits, put_next_digits};
+use dm_table::{put_bytes, put_digits};
 
 /// The bytes of the longest end: those of a length, and a newline.
 const LONGEST: usize = 21;
@@ -19,11 +19,10 @@ const LENGTHS: usize = 1000;
 /// The room in bytes: three digits, a newline, and how many bytes these are as the last.
 const ROOM: usize = 8;
 
-/// The ends of lines of each length below 1,000, and what digits of longer lengths and of starts are copied from.
+/// The ends of lines of each length below 1,000.
 #[derive(Drop)]
 pub(crate) struct LineEnds {
     ends: [[u8; ROOM]; LENGTHS],
-    threes: Threes,
     ghost made: { AreMade 1000 ends },
 }
 
@@ -36,31 +35,20 @@ impl LineEnds {
             ends[len] = line_end(len);
             len += 1;
         }
-        LineEnds {
-            ends,
-            threes: Threes::new(),
-        }
+        LineEnds { ends }
     }
 
-    /// What digits of numbers are copied from.
-    #[inline(always)]
-    pub(crate) fn threes(&self) -> &Threes {
-        &self.threes
-    }
-
-    /// Puts the end of a line of this length at an offset in a block, after at least four bytes, and
-    /// returns where it ends.
+    /// Puts the end of a line of this length at an offset in a block, and returns where it ends.
     #[inline(always)]
     pub(crate) fn put_into(&self, block: &mut [u8], at: usize, len: u64) -> usize
-        requires after { 4 ≤ at }
-        requires room { at + LONGEST ≤ length block.old }
+        requires { at + LONGEST ≤ length block.old }
         ensures put { IsPut (line_end len) at block.old block.new result }
         ensures few { result ≤ at + LONGEST }
     {
         if len < LENGTHS as u64 {
             return self.put_short(block, at, len);
         }
-        let at = put_next_digits(block, at, len, &self.threes);
+        let at = put_digits(block, at, len);
         put_bytes(block, at, b"\n")
     }
 

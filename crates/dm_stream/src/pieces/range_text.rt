@@ -9,7 +9,7 @@ ghost use Rattle.dm_table.specs.io.Block.{IsPut};
 ghost use Rattle.dm_stream.specs.pieces.RangeText.{range_text, IsKept};
 
 use crate::pieces::line_ends::LineEnds;
-use dm_table::{put_bytes, put_digits, put_next_digits, put_room};
+use dm_table::{put_bytes, put_digits, put_room};
 use std::marker::Model;
 
 /// The room in bytes: two numbers, a space and a newline, and what makes the copy cheap.
@@ -85,8 +85,7 @@ impl RangeText {
         self.end = put_range(&mut self.text, 0, start, len);
     }
 
-    /// Puts a range at an offset in a block, after at least four bytes, and returns where it ends. If a text is
-    /// kept, it is that of the range.
+    /// Puts a range at an offset in a block, and returns where it ends. If a text is kept, it is that of the range.
     #[inline(always)]
     pub(crate) fn put_into(
         &self,
@@ -96,7 +95,6 @@ impl RangeText {
         start: u64,
         len: u64,
     ) -> usize
-        requires after { 4 ≤ at }
         requires room { at + ROOM ≤ length block.old }
         requires kept { IsKept self.now start len }
         ensures put { IsPut (range_text start len) at block.old block.new result }
@@ -109,21 +107,20 @@ impl RangeText {
     }
 }
 
-/// Puts a start, a length and a newline at an offset in a block, after at least four bytes, and returns
-/// where they end.
+/// Puts a start, a length and a newline at an offset in a block, and returns where they end. The end of a
+/// short line is copied.
 #[inline(never)]
 fn put_next_range(ends: &LineEnds, block: &mut [u8], at: usize, start: u64, len: u64) -> usize
-    requires after { 4 ≤ at }
-    requires within { at + ROOM ≤ length block.old }
+    requires { at + ROOM ≤ length block.old }
     ensures put { IsPut (range_text start len) at block.old block.new result }
     ensures few { result ≤ at + 43 }
 {
-    let at = put_next_digits(block, at, start, ends.threes());
+    let at = put_digits(block, at, start);
     let at = put_bytes(block, at, b" ");
     ends.put_into(block, at, len)
 }
 
-/// The same wherever it is put.
+/// The same without ends that were made before.
 #[inline(never)]
 fn put_range(block: &mut [u8], at: usize, start: u64, len: u64) -> usize
     requires { at + ROOM ≤ length block.old }

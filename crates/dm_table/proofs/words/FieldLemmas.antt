@@ -112,7 +112,7 @@ last_or_more : {X : Type 0} (d x : X) (xs : List X) → 0 < length xs → last_o
 last_or_more d x [] h = absurd (omega arith)
 last_or_more d x (y ∷ xs) h = refl
 
-some_parts : (c : ℕ) (text : List ℕ) → 0 < length (parts_at c text)
+pub some_parts : (c : ℕ) (text : List ℕ) → 0 < length (parts_at c text)
 some_parts c text = omega (arith, length-slice_split (λ b. eqb b c) text)
 
 -- the first line of a text, where a search found its newline, and what comes after it

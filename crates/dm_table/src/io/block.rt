@@ -4,10 +4,9 @@
 //! the end is free: a room of a fixed size is copied whole, past the end of its text, since such a
 //! copy is the cheapest.
 
-ghost use Rattle.std.specs.Prelude.{◌≡◌, ◌++◌, ◌+◌, ◌-◌, ◌≤◌, length, take, drop, decimal};
+ghost use Rattle.std.specs.Prelude.{◌≡◌, ◌++◌, ◌+◌, ◌≤◌, length, take, drop, decimal};
 ghost use Rattle.dm_table.specs.io.Block.{IsPut};
 
-use crate::io::threes::Threes;
 use crate::words::number_text::MOST_DIGITS;
 use crate::words::room::as_room;
 
@@ -24,7 +23,7 @@ fn copy_to(block: &mut [u8], at: usize, bytes: &[u8])
 /// Sets a slice to a room, as one value: a copy from one slice to another asks first whether they
 /// overlap.
 #[inline(always)]
-pub(crate) fn set_room<const ROOM: usize>(place: &mut [u8], room: &[u8; ROOM])
+fn set_room<const ROOM: usize>(place: &mut [u8], room: &[u8; ROOM])
     requires { length place.old ≡ ROOM }
     ensures { place.new ≡ room.now }
 {
@@ -120,47 +119,6 @@ pub fn put_digits(block: &mut [u8], at: usize, number: u64) -> usize
     let end = at + count_digits(number);
     let _start = itoa::write_digits(number, block, end);
     end
-}
-
-/// The same at an offset that has at least four bytes before it.
-///
-/// The digits are written by threes from the last on. The first three have zeros in front of a shorter
-/// beginning, which run over the bytes before, and those are put back: so no jump depends on how many
-/// digits a number begins with, which a processor foresees only half of the time.
-#[inline(always)]
-pub fn put_next_digits(block: &mut [u8], at: usize, number: u64, threes: &Threes) -> usize
-    requires after { 4 ≤ at }
-    requires within { at + MOST_DIGITS ≤ length block.old }
-    ensures put { IsPut (decimal number) at block.old block.new result }
-    ensures few { result ≤ at + MOST_DIGITS }
-{
-    let before = *as_room::<4>(&block[at - 4..at]);
-    let end = at + count_digits(number);
-    put_padded(block, end, number, threes);
-    set_room(&mut block[at - 4..at], &before);
-    end
-}
-
-/// Writes the digits of a number up to an offset, and zeros before the first so that they are threes.
-#[inline(always)]
-fn put_padded(block: &mut [u8], end: usize, number: u64, threes: &Threes)
-    requires after { length (decimal number) + 4 ≤ end }
-    requires within { end ≤ length block.old }
-    ensures before { take (end - length (decimal number) - 4) block.new
-        ≡ take (end - length (decimal number) - 4) block.old }
-    ensures written { drop (end - length (decimal number)) block.new
-        ≡ decimal number ++ drop end block.old }
-{
-    let mut left = number;
-    let mut to = end;
-    'groups: while left >= 1000 {
-        let more = left / 1000;
-        // The rest, by an instruction less than by `%`.
-        threes.put_up_to(block, to, left - more * 1000);
-        left = more;
-        to -= 3;
-    }
-    threes.put_up_to(block, to, left);
 }
 
 /// How many digits a number has.
