@@ -4,9 +4,9 @@ pub mod OfDiskLemmas
 pub mod OneRuns
 pub mod OwnReads
 pub mod OwnWorlds
-pub mod PatchLemmas
 pub mod Playbacks
 pub mod PlayedLemmas
+pub mod RangeLemmas
 pub mod RerunLemmas
 pub mod RunLemmas
 pub mod RunTextLemmas

@@ -1,10 +1,12 @@
--- What a read of a top device answers, where no claims meet: what the device would hold alone, or an error.
-use Rattle.std.proofs.Common.{◌≡◌, ◌⊎◌, inl, inr, ℕ, zero, suc, ◌+◌, Bool, true, false, cond, List, [], ◌∷◌, Option, None, nat_lt, replicate, refl, ap}
+-- What a read of a top device answers, where no claims meet: what the device would hold alone, or an error, and without errors where the stack can lose nothing.
+use Rattle.std.proofs.Common.{◌≡◌, ◌⊎◌, inl, inr, ℕ, zero, suc, ◌+◌, ◌<◌, ◌≤◌, Bool, true, false, cond, List, [], ◌∷◌, Option, Some, None, nat_lt, replicate, refl, ap, arith}
+use Rattle.std.proofs.lemmas.Bool.{le-ltb}
 use Rattle.dm_table.specs.declared.requests.request.Op.TheVariants as ops
 use Rattle.dm_stack.specs.declared.checks.graph.TheConstants.{MOST_DEPTH}
 use Rattle.dm_stack.specs.declared.id.Lower.TheVariants.{Device}
 use Rattle.dm_stack.specs.claims.Claims.{IsTidy, IsTop}
 use Rattle.dm_stack.specs.Description.{Description, device_len}
+use Rattle.dm_map.specs.own.Ample.{AreAlwaysExact, IsAmple}
 use Rattle.dm_map.specs.own.Contents.{Stays, content, value_read}
 use Rattle.dm_map.specs.own.Requests.{AreAlone}
 use Rattle.dm_map.specs.own.Rows.{Rows}
@@ -12,15 +14,15 @@ use Rattle.dm_map.specs.walk.Mapping.{request_step, sector_step}
 use Rattle.dm_map.specs.walk.SnapshotWrites.{read}
 use Rattle.dm_map.specs.state.State.{State}
 use Rattle.dm_map.specs.walk.Steps.{keep, steps}
-use Rattle.dm_map.specs.pieces.Units.{BlockUnit, ReadOf, Zeros, Fails}
+use Rattle.dm_map.specs.pieces.Units.{BlockUnit, Fails}
 use Rattle.dm_map.proofs.ChunkOutcomes.{IsRead, Sector, Nothing, Fault, is_read}
 use Rattle.dm_replay.specs.declared.value.Value.{Value}
 use Rattle.dm_replay.specs.declared.value.Value.TheVariants as value
 use Rattle.dm_replay.specs.Histories.{Asked, World, asked_answers, world_after}
 use Rattle.dm_replay.specs.Replay.{AreOfTops}
-use Rattle.dm_replay.specs.Rows.{AreOfRow, answer_of, rows_after}
+use Rattle.dm_replay.specs.Rows.{AreExactlyRow, AreOfRow, answer_of, rows_after}
 use Rattle.dm_replay.specs.Values.{Answer, Gives, Failed, Values, played_answers}
-use Rattle.dm_replay.proofs.OwnWorlds.{IsOwn, own_after}
+use Rattle.dm_replay.proofs.OwnWorlds.{IsExact, IsOwn, exact_after, own_after}
 
 -- what the unit of a read answers
 abbrev read_answer : BlockUnit → Values → Answer
@@ -42,24 +44,16 @@ are_read : (stack : Description) (world : World) (rows : Rows Value) (device : �
 are_read stack world rows device top own sector =
     read_of (rows device sector) (content value.Zero stack world.state world.values (Device device) sector) (own.tops device sector top)
 
+-- a read's first unit answers what it gives
+first_read : (number sector : ℕ) (unit : BlockUnit) (units : List BlockUnit) (values : Values) → IsRead unit → played_answers number sector (unit ∷ units) values ≡ read_answer unit values ∷ played_answers number (suc sector) units values
+unfolding played_answers
+first_read number sector unit units values (Sector disk at is) = rw is refl
+first_read number sector unit units values (Nothing is) = rw is refl
+first_read number sector unit units values (Fault is) = rw is refl
+
 first_of_row : (number device sector : ℕ) (unit : BlockUnit) (units : List BlockUnit) (values : Values) (rows : Rows Value) → IsRead unit → IsOfSector rows device sector (read_answer unit values)
     → AreOfRow rows device (suc sector) (played_answers number (suc sector) units values) → AreOfRow rows device sector (played_answers number sector (unit ∷ units) values)
-unfolding played_answers
-first_of_row number device sector unit units values rows (Sector disk at is) first later =
-    rw is (on_disk (rw is at first))
-  where
-    on_disk : IsOfSector rows device sector (Gives (values disk at)) → AreOfRow rows device sector (played_answers number sector (ReadOf disk at ∷ units) values)
-    on_disk here = (here, later)
-first_of_row number device sector unit units values rows (Nothing is) first later =
-    rw is (of_zeros (rw is at first))
-  where
-    of_zeros : IsOfSector rows device sector (Gives value.Zero) → AreOfRow rows device sector (played_answers number sector (Zeros ∷ units) values)
-    of_zeros here = (here, later)
-first_of_row number device sector unit units values rows (Fault is) first later =
-    rw is of_nothing
-  where
-    of_nothing : AreOfRow rows device sector (played_answers number sector (Fails ∷ units) values)
-    of_nothing = (inr refl, later)
+first_of_row number device sector unit units values rows reads first later = rw (first_read number sector unit units values reads) (first, later)
 
 reads_of_row : (stack : Description) (state : State) (number device start len : ℕ) (values : Values) (rows : Rows Value) → AreRead stack state values rows device
     → AreOfRow rows device start (played_answers number start (steps (sector_step stack ops.Read MOST_DEPTH (Device device)) state start len).units values)
@@ -90,3 +84,40 @@ pub own_answers : (stack : Description) (all : List Asked) (asked : Asked) → A
 own_answers stack all asked law tidy each top whole reads =
     let world = world_after stack all in let rows = rows_after stack all in
     rw (whole, reads) (request_of_row stack world.state asked.number asked.device asked.start asked.len world.values rows (are_read stack world rows asked.device top (own_after stack all law tidy each)))
+
+-- Without errors, where the stack can lose nothing
+
+-- an answer is the value of a sector of a row
+abbrev IsExactlySector : Rows Value → (device sector : ℕ) → Answer → Type 0
+IsExactlySector rows device sector answer = (given : Value) × (rows device sector ≡ Some given) × (answer ≡ Gives given)
+
+-- one sector after the other, before the device's end
+abbrev AreReadExactly : Description → State → Values → Rows Value → (device : ℕ) → Type 0
+AreReadExactly stack state values rows device = (sector : ℕ) → sector < device_len stack device → IsExactlySector rows device sector (read_answer (read stack state (Device device) sector) values)
+
+are_exact : (stack : Description) (world : World) (rows : Rows Value) (device : ℕ) → IsTop stack device → IsExact stack world rows → AreReadExactly stack world.state world.values rows device
+are_exact stack world rows device top exact sector inside =
+    let of = exact.tops device sector top inside in
+    (of.0, of.2, ap answer_of of.1)
+
+reads_exactly : (stack : Description) (state : State) (number device start len : ℕ) (values : Values) (rows : Rows Value) → start + len ≤ device_len stack device → AreReadExactly stack state values rows device
+    → AreExactlyRow rows device start (played_answers number start (steps (sector_step stack ops.Read MOST_DEPTH (Device device)) state start len).units values)
+unfolding played_answers
+reads_exactly stack state number device start zero values rows inside each = none_of_row
+  where
+    none_of_row : AreExactlyRow rows device start (played_answers number start [] values)
+    none_of_row = tt
+reads_exactly stack state number device start (suc len) values rows inside each =
+    let unit = read stack state (Device device) start in
+    let units = (steps (sector_step stack ops.Read MOST_DEPTH (Device device)) state (suc start) len).units in
+    rw (first_read number start unit units values (is_read stack state MOST_DEPTH (Device device) start)) (each start (omega (arith, inside)), reads_exactly stack state number device (suc start) len values rows (omega (arith, inside)) each)
+
+request_exactly : (stack : Description) (state : State) (number device start len : ℕ) (values : Values) (rows : Rows Value) → start + len ≤ device_len stack device → AreReadExactly stack state values rows device
+    → AreExactlyRow rows device start (played_answers number start (request_step stack ops.Read device start len state).units values)
+request_exactly stack state number device start len values rows inside each = rw (le-ltb (device_len stack device) (start + len) inside) (reads_exactly stack state number device start len values rows inside each)
+
+pub exact_answers : (stack : Description) (all : List Asked) (asked : Asked) → AreAlwaysExact Value stack → IsAmple stack → IsTidy stack → AreOfTops stack all → IsTop stack asked.device → asked.halted_after ≡ None → asked.op ≡ ops.Read → asked.start + asked.len ≤ device_len stack asked.device
+    → AreExactlyRow (rows_after stack all) asked.device asked.start (asked_answers stack (world_after stack all) asked)
+exact_answers stack all asked law ample tidy each top whole reads inside =
+    let world = world_after stack all in let rows = rows_after stack all in
+    rw (whole, reads) (request_exactly stack world.state asked.number asked.device asked.start asked.len world.values rows inside (are_exact stack world rows asked.device top (exact_after stack all law ample tidy each)))

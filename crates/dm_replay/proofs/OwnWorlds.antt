@@ -1,7 +1,8 @@
--- Worlds in which each top device has what it would have alone, or errors: they stay so where no claims meet.
+-- Worlds in which each top device has what it would have alone, or errors, and those without errors: they stay so where no claims meet.
 use Rattle.std.proofs.Common.{ℕ, List, [], ◌∷◌, Option, Some, None}
 use Rattle.dm_stack.specs.claims.Claims.{IsTidy, IsTop}
 use Rattle.dm_stack.specs.Description.{Description}
+use Rattle.dm_map.specs.own.Ample.{AreAlwaysExact, AreExact, IsAmple}
 use Rattle.dm_map.specs.own.Contents.{played}
 use Rattle.dm_map.specs.own.Requests.{AreAlone}
 use Rattle.dm_map.specs.own.Rows.{AreOwn, Rows, rows_played}
@@ -12,14 +13,28 @@ use Rattle.dm_replay.specs.Replay.{AreOfTops}
 use Rattle.dm_replay.specs.Rows.{rows_after, rows_from}
 use Rattle.dm_replay.specs.Values.{old_values}
 
+-- What each request of a top device keeps, all of them do
+
+abbrev rows_next : Description → World → Asked → Rows Value → Rows Value
+rows_next stack world asked rows = rows_played (value.Wrote asked.number) asked.device asked.start (asked_units stack asked world.state) rows
+
+Keeps : Description → (World → Rows Value → Type 0) → Type 0
+Keeps stack P = (world : World) (asked : Asked) (rows : Rows Value) → IsTop stack asked.device → P world rows → P (next_world stack world asked) (rows_next stack world asked rows)
+
+kept_from : (stack : Description) (P : World → Rows Value → Type 0) (world : World) (all : List Asked) (rows : Rows Value) → Keeps stack P → AreOfTops stack all → P world rows → P (world_from stack world all) (rows_from stack world all rows)
+unfolding world_from rows_from Keeps
+kept_from stack P world [] rows keeps each was = was
+kept_from stack P world (asked ∷ later) rows keeps each was =
+    kept_from stack P (next_world stack world asked) later (rows_next stack world asked rows) keeps each.1 (keeps world asked rows each.0 was)
+
 -- Worlds in which each top device has its row, or errors
 
 abbrev pub IsOwn : Description → World → Rows Value → Type 0
 IsOwn stack world rows = AreOwn value.Zero stack world.state world.values rows
 
-own_next : (stack : Description) (world : World) (asked : Asked) (rows : Rows Value) → AreAlone Value stack → IsTidy stack → IsTop stack asked.device → IsOwn stack world rows
-    → IsOwn stack (next_world stack world asked) (rows_played (value.Wrote asked.number) asked.device asked.start (asked_units stack asked world.state) rows)
-own_next stack world asked rows law tidy top was = by_stop asked.halted_after
+own_next : (stack : Description) → AreAlone Value stack → IsTidy stack → Keeps stack (IsOwn stack)
+unfolding Keeps
+own_next stack law tidy world asked rows top was = by_stop asked.halted_after
   where
     by_stop : (stop : Option ℕ) → IsOwn stack
         (record { state = left_state stack stop asked world.state; values = played value.Zero (value.Wrote asked.number) asked.start (played_of stop (asked_step stack asked world.state).units) world.values })
@@ -27,12 +42,23 @@ own_next stack world asked rows law tidy top was = by_stop asked.halted_after
     by_stop None = law.request value.Zero (value.Wrote asked.number) asked.op world.state asked.device asked.start asked.len world.values rows tidy top was
     by_stop (Some count) = law.halted value.Zero (value.Wrote asked.number) asked.op world.state asked.device asked.start asked.len count world.values rows tidy top was
 
-own_from : (stack : Description) (world : World) (all : List Asked) (rows : Rows Value) → AreAlone Value stack → IsTidy stack → AreOfTops stack all → IsOwn stack world rows
-    → IsOwn stack (world_from stack world all) (rows_from stack world all rows)
-unfolding world_from rows_from
-own_from stack world [] rows law tidy each was = was
-own_from stack world (asked ∷ later) rows law tidy each was =
-    own_from stack (next_world stack world asked) later (rows_played (value.Wrote asked.number) asked.device asked.start (asked_units stack asked world.state) rows) law tidy each.1 (own_next stack world asked rows law tidy each.0 was)
-
 pub own_after : (stack : Description) (all : List Asked) → AreAlone Value stack → IsTidy stack → AreOfTops stack all → IsOwn stack (world_after stack all) (rows_after stack all)
-own_after stack all law tidy each = own_from stack (first_world stack) all _ law tidy each (law.start value.Zero old_values)
+own_after stack all law tidy each = kept_from stack (IsOwn stack) (first_world stack) all _ (own_next stack law tidy) each (law.start value.Zero old_values)
+
+-- And those without errors
+
+abbrev pub IsExact : Description → World → Rows Value → Type 0
+IsExact stack world rows = AreExact value.Zero stack world.state world.values rows
+
+exact_next : (stack : Description) → AreAlwaysExact Value stack → IsAmple stack → IsTidy stack → Keeps stack (IsExact stack)
+unfolding Keeps
+exact_next stack law ample tidy world asked rows top was = by_stop asked.halted_after
+  where
+    by_stop : (stop : Option ℕ) → IsExact stack
+        (record { state = left_state stack stop asked world.state; values = played value.Zero (value.Wrote asked.number) asked.start (played_of stop (asked_step stack asked world.state).units) world.values })
+        (rows_played (value.Wrote asked.number) asked.device asked.start (played_of stop (asked_step stack asked world.state).units) rows)
+    by_stop None = law.request value.Zero (value.Wrote asked.number) asked.op world.state asked.device asked.start asked.len world.values rows ample tidy top was
+    by_stop (Some count) = law.halted value.Zero (value.Wrote asked.number) asked.op world.state asked.device asked.start asked.len count world.values rows ample tidy top was
+
+pub exact_after : (stack : Description) (all : List Asked) → AreAlwaysExact Value stack → IsAmple stack → IsTidy stack → AreOfTops stack all → IsExact stack (world_after stack all) (rows_after stack all)
+exact_after stack all law ample tidy each = kept_from stack (IsExact stack) (first_world stack) all _ (exact_next stack law ample tidy) each (law.start value.Zero old_values ample)

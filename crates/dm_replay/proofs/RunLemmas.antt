@@ -6,7 +6,7 @@ use Rattle.std.proofs.lemmas.List.{append-nil}
 use Rattle.dm_replay.specs.declared.value_run.ValueRun.{ValueRun}
 use Rattle.dm_replay.specs.Runs.{NoneJoins, AreMaximal, Joins, answers_in, first_answer, flat, further_answer, next_answer, run_answers, run_len}
 use Rattle.dm_replay.specs.Values.{Answer, Gives, Failed}
-use Rattle.dm_replay.proofs.PatchLemmas.{further_next, further_none}
+use Rattle.dm_replay.proofs.RangeLemmas.{further_next, further_none}
 
 -- What they answer
 

@@ -14,11 +14,10 @@ use Rattle.std.specs.BTreeMap.{BTreeMap, IsOrdered, Updates, get, is_at}
 use Rattle.dm_replay.specs.declared.range_values.RangeValues.{RangeValues}
 use Rattle.dm_replay.specs.declared.value.Value.{Value}
 use Rattle.dm_replay.specs.declared.value.Value.TheVariants as value
-use Rattle.dm_replay.specs.Patches.{AreFirst}
-use Rattle.dm_replay.specs.Ranges.{HoldOn}
+use Rattle.dm_replay.specs.Ranges.{AreFirst, HoldOn}
 use Rattle.dm_replay.specs.Stored.{AreApart, Has, IsBare, IsCleared, IsCut, KeepsStored, NoneFrom, Shows, Stored, held, spanned, stored_in, values_of}
 use Rattle.dm_replay.specs.Values.{further}
-use Rattle.dm_replay.proofs.PatchLemmas.{further_twice}
+use Rattle.dm_replay.proofs.RangeLemmas.{further_twice}
 
 -- a map with another value, or none, at a key
 pub record Sets (old new : BTreeMap ℕ RangeValues) (key : ℕ) (to : Option RangeValues) : Type 0 where

@@ -8,7 +8,7 @@ use Rattle.dm_replay.specs.Ranges.{CanCopyAtOnce, HoldOn, ranged}
 use Rattle.dm_replay.specs.laws.Play.{AreSame}
 use Rattle.dm_replay.specs.Runs.{answers_in}
 use Rattle.dm_replay.specs.Values.{Gives, Failed, Values, next_value, played, played_answers}
-use Rattle.dm_replay.proofs.PatchLemmas.{hold_here, hold_later, ranged_none, ranged_step, stored_other}
+use Rattle.dm_replay.proofs.RangeLemmas.{hold_here, hold_later, ranged_none, ranged_step, stored_other}
 
 -- Units that change nothing
 

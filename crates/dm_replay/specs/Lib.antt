@@ -1,7 +1,6 @@
 pub mod Halting
 pub mod Histories
 pub mod OfDisks
-pub mod Patches
 pub mod Playback
 pub mod Player
 pub mod Ranges

@@ -1,5 +1,6 @@
 -- Values of ranges of disks.
 use Rattle.std.specs.Prelude.{◌≡◌, ℕ, ◌+◌, ◌-◌, ◌≤◌, ◌<◌, ◌&&◌, ◌==◌, Bool, nat_le, nat_lt, if◌then◌else◌}
+use Rattle.dm_replay.specs.declared.range_values.RangeValues.{RangeValues}
 use Rattle.dm_replay.specs.declared.value.Value.{Value}
 use Rattle.dm_replay.specs.Values.{Values, further}
 
@@ -14,6 +15,12 @@ ranged values on start len first disk sector = if is_within on start len disk se
 -- the values of len sectors of a disk from a start on go on from one
 abbrev pub HoldOn : Values → (disk start len : ℕ) → Value → Type 0
 HoldOn values disk start len first = (i : ℕ) → i < len → values disk (start + i) ≡ further first i
+
+-- the first of len sectors hold values that go on from one
+pub record AreFirst (values : Values) (disk start len : ℕ) (range : RangeValues) : Type 0 where
+  pub some : 1 ≤ range.len
+  pub most : range.len ≤ len
+  pub hold : HoldOn values disk start range.len range.first
 
 -- len sectors of a disk from a start on can be copied at once to others: none of them is read after it was written
 abbrev pub CanCopyAtOnce : (disk start to to_start len : ℕ) → Type 0

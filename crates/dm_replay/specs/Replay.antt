@@ -1,13 +1,14 @@
 -- A replay, and what its results say.
-use Rattle.std.specs.Prelude.{◌≡◌, ℕ, ◌<◌, ◌≤◌, Bool, true, false, List, [], ◌∷◌, ◌++◌, None, Some, length, position}
+use Rattle.std.specs.Prelude.{◌≡◌, ℕ, ◌+◌, ◌<◌, ◌≤◌, Bool, true, false, List, [], ◌∷◌, ◌++◌, None, Some, length, position}
 use Rattle.std.specs.List.{AllByRecursion}
 use Rattle.dm_table.specs.declared.requests.request.Op.TheVariants.{Read}
 use Rattle.dm_table.specs.declared.requests.request.Request.{Request}
 use Rattle.dm_table.specs.declared.requests.request.TheConstants.{MOST_SECTORS}
 use Rattle.dm_stack.specs.declared.claims.clash.Clash.{Clash}
 use Rattle.dm_stack.specs.claims.Claims.{AreTops, IsClash, IsTidy, IsTop, claims}
-use Rattle.dm_stack.specs.Description.{Description, device_id, is_same}
+use Rattle.dm_stack.specs.Description.{Description, device_id, device_len, is_same}
 use Rattle.dm_map.specs.Mapper.{MapperView}
+use Rattle.dm_map.specs.own.Ample.{IsAmple}
 use Rattle.dm_map.specs.state.State.{start_state}
 use Rattle.dm_replay.specs.declared.kept_write.KeptWrite.{KeptWrite}
 use Rattle.dm_replay.specs.declared.range_values.RangeValues.{RangeValues}
@@ -17,7 +18,7 @@ use Rattle.dm_replay.specs.declared.value_run.ValueRun.{ValueRun}
 use Rattle.dm_replay.specs.Histories.{Asked, asked_answers, world_after}
 use Rattle.dm_replay.specs.OfDisks.{AreRunsOf, AreValuesOf}
 use Rattle.dm_replay.specs.Reruns.{kept_request, rerun_from}
-use Rattle.dm_replay.specs.Rows.{AreOfRow, rows_after}
+use Rattle.dm_replay.specs.Rows.{AreExactlyRow, AreOfRow, rows_after}
 use Rattle.dm_replay.specs.Runs.{flat}
 use Rattle.dm_replay.specs.Stored.{values_of}
 
@@ -56,10 +57,11 @@ IsNotBegun faults.Memory of = Unit {0}
 IsNotBegun faults.NotTop of = ⊥
 IsNotBegun faults.Stopped of = ⊥
 
--- a request was answered by these runs after those before it: a read by its device's row, or errors. It is one of the requests then
+-- a request was answered by these runs after those before it: a read by its device's row, or errors, and without errors where the stack can lose nothing and the read doesn't pass the device's end. It is one of the requests then
 pub record IsAnswered (old new : Replaying) (request : Asked) (runs : List ValueRun) : Type 0 where
   pub answers : AreRunsOf (length old.stack.disks) (asked_answers old.stack (world_after old.stack old.asked) request) runs
   pub own : request.op ≡ Read → AreOfRow (rows_after old.stack old.asked) request.device request.start (flat runs)
+  pub exact : IsAmple old.stack → request.op ≡ Read → request.start + request.len ≤ device_len old.stack request.device → AreExactlyRow (rows_after old.stack old.asked) request.device request.start (flat runs)
   pub asked : new.asked ≡ old.asked ++ request ∷ []
   pub going : old.failed ≡ false
   pub goes_on : new.failed ≡ false

@@ -26,3 +26,8 @@ rows_after stack all = rows_from stack (first_world stack) all (first_rows value
 abbrev pub AreOfRow : Rows Value → (device sector : ℕ) → List Answer → Type 0
 AreOfRow rows device sector [] = Unit {0}
 AreOfRow rows device sector (answer ∷ answers) = ((answer ≡ answer_of (rows device sector)) ⊎ (answer ≡ Failed)) × AreOfRow rows device (suc sector) answers
+
+-- each answer of a device, from a sector on, is the value of its row, and none is an error
+abbrev pub AreExactlyRow : Rows Value → (device sector : ℕ) → List Answer → Type 0
+AreExactlyRow rows device sector [] = Unit {0}
+AreExactlyRow rows device sector (answer ∷ answers) = ((given : Value) × (rows device sector ≡ Some given) × (answer ≡ Gives given)) × AreExactlyRow rows device (suc sector) answers

@@ -4,7 +4,7 @@
 //! sector only the last can reach it, so a look-up finds it. Ranges that go on from each other are joined.
 
 ghost use Rattle.std.specs.Prelude.{◌≡◌, ℕ, ◌+◌, ◌<◌, ◌≤◌, ◌^◌, None, [], OnOk, IfSome};
-ghost use Rattle.dm_replay.specs.Patches.{AreFirst};
+ghost use Rattle.dm_replay.specs.Ranges.{AreFirst};
 ghost use Rattle.dm_replay.specs.Stored.{AreApart, Has, IsBare, IsCleared, IsCut, IsFirstFrom, IsLastBefore, KeepsCuts, KeepsStored, NoneFrom, Shows, Stored, held, spanned, stored_in};
 
 use crate::range_values::RangeValues;

@@ -3,12 +3,12 @@
 //! Each disk has its ranges, up to the last one in which something was stored. So memory grows with
 //! what was stored, however long the disks are.
 
-ghost use Rattle.std.specs.Prelude.{◌≡◌, ℕ, ◌<◌, [], length, OnOk};
+ghost use Rattle.std.specs.Prelude.{◌≡◌, ℕ, ◌+◌, ◌<◌, ◌≤◌, ◌^◌, [], length, OnOk};
+ghost use Rattle.dm_replay.specs.Ranges.{AreFirst, ranged};
 ghost use Rattle.dm_replay.specs.Stored.{values_of};
 
 use crate::disk_ranges::DiskRanges;
 use crate::range_values::RangeValues;
-use crate::sector_values::SectorValues;
 use crate::value::Value;
 use dm_stack::DiskId;
 use std::alloc::{AllocError, Global};
@@ -30,6 +30,49 @@ impl DiskValues {
             disks: Vec::new(alloc),
         }
     }
+
+    /// The first sectors of a range whose values go on from that of the first: at least one.
+    ///
+    /// Cost: logarithmic in the ranges of the disk. No memory is taken.
+    pub(crate) fn first_values(&self, disk: DiskId, start: u64, len: u64) -> RangeValues
+        requires some { 1 ≤ len }
+        requires small { start + len < 2 ^ 64 }
+        ensures { AreFirst (values_of self.now.disks.items) disk start len result }
+    {
+        let index = disk.index();
+        if index < self.disks.len() {
+            return self.disks[index].first_values(disk, start, len);
+        }
+        let first = Value::Old {
+            disk,
+            sector: start,
+        };
+        RangeValues { first, len }
+    }
+
+    /// Stores the values of a range in the sectors of a disk from `start` on.
+    ///
+    /// Cost: logarithmic in the ranges of the disk, for each of them that it touches.
+    ///
+    /// # Errors
+    ///
+    /// `AllocError` where it is out of memory.
+    pub(crate) fn store(
+        &mut self,
+        disk: DiskId,
+        start: u64,
+        range: RangeValues,
+    ) -> Result<(), AllocError>
+        requires { start + range.len < 2 ^ 64 }
+        ensures { OnOk result
+            ((on sector : ℕ) → values_of self.new.disks.items on sector
+            ≡ ranged (values_of self.old.disks.items) disk start range.len range.first on sector) }
+    {
+        let index = disk.index();
+        reach(self.alloc, &mut self.disks, index)?;
+        self.disks[index].store(start, range)?;
+        Ok(())
+    }
 }
 
 /// Adds disks of which nothing is stored, until there is one of this index.
@@ -42,29 +85,4 @@ fn reach(alloc: Global, disks: &mut Vec<DiskRanges>, index: usize) -> Result<(),
         disks.push(DiskRanges::new(alloc))?;
     }
     Ok(())
-}
-
-impl SectorValues for DiskValues {
-    ghost values = { λ all. values_of all.disks.items };
-
-    /// Cost: logarithmic in the ranges of the disk. No memory is taken.
-    fn first_values(&self, disk: DiskId, start: u64, len: u64) -> RangeValues {
-        let index = disk.index();
-        if index < self.disks.len() {
-            return self.disks[index].first_values(disk, start, len);
-        }
-        let first = Value::Old {
-            disk,
-            sector: start,
-        };
-        RangeValues { first, len }
-    }
-
-    /// Cost: logarithmic in the ranges of the disk, for each of them that it touches.
-    fn store(&mut self, disk: DiskId, start: u64, range: RangeValues) -> Result<(), AllocError> {
-        let index = disk.index();
-        reach(self.alloc, &mut self.disks, index)?;
-        self.disks[index].store(start, range)?;
-        Ok(())
-    }
 }

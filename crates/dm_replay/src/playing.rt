@@ -8,7 +8,6 @@ ghost use Rattle.dm_replay.specs.Runs.{flat, run_answers, run_len};
 
 use crate::disk_values::DiskValues;
 use crate::range_values::RangeValues;
-use crate::sector_values::SectorValues;
 use crate::value::Value;
 use crate::value_run::ValueRun;
 use crate::value_runs::ValueRuns;

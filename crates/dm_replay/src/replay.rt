@@ -20,7 +20,7 @@ use crate::replay_fault::ReplayFault;
 use crate::rerun::rerun;
 use crate::value::Value;
 use crate::value_run::ValueRun;
-use dm_map::{Mapper, Taken, requests_are_alone};
+use dm_map::{Mapper, Taken, nothing_is_lost, requests_are_alone};
 use dm_stack::{DeviceId, Stack};
 use dm_table::{Request, Reserved};
 use std::alloc::Global;
@@ -141,8 +141,10 @@ impl<'s, T: Taken> Replay<'s, T> {
         if !self.tops[device.index()] {
             return Err(ReplayFault::NotTop);
         }
-        // Called because its contract is the law that top devices are like disks of their own.
+        // Called because their contracts are the laws that top devices are like disks of their own, and
+        // when that is without errors.
         requests_are_alone::<Value>(self.stack);
+        nothing_is_lost::<Value>(self.stack);
         // So it has failed wherever memory runs out on the way.
         self.failed = true;
         let Ok(runs) = play_request(alloc, &mut self.mapper, &mut self.player, request, device)

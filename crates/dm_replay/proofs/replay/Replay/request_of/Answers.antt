@@ -3,7 +3,7 @@ use Rattle.std.proofs.lemmas.List.{get_or_read}
 use Rattle.dm_replay.specs.Replay.{whole_request}
 use Rattle.dm_replay.proofs.NamedLemmas.{noted_top}
 use Rattle.dm_replay.proofs.OneRuns.{one_runs}
-use Rattle.dm_replay.proofs.OwnReads.{own_answers}
+use Rattle.dm_replay.proofs.OwnReads.{exact_answers, own_answers}
 use Rattle.dm_replay.proofs.WorldLemmas.{answers_after, going_whole, is_kept}
 use Rattle.dm_replay.proofs.replay.Replay.request_of.Goals as goal
 
@@ -55,6 +55,7 @@ returns-clause-answered g c =
         on = rw going.mapper_stack at did.answers.on;
       };
       own = λ reads. rw are (own_answers inside.stack.now inside.asked (whole_request request device) c.requests_are_alone.ensures c.self.invariant.tidy going.asked_are top refl reads);
+      exact = λ ample reads within. rw are (exact_answers inside.stack.now inside.asked (whole_request request device) c.nothing_is_lost.ensures.exact ample c.self.invariant.tidy going.asked_are top refl reads within);
       asked = c.add.ensures;
       going = c.if-self.false;
       goes_on = refl;

@@ -1,6 +1,6 @@
 use Rattle.std.proofs.Common.{arith}
 use Rattle.dm_replay.proofs.StoredLemmas.{none_hold}
-use Rattle.dm_replay.proofs.disk_values.DiskValuesSectorValues.first_values.Goals as goal
+use Rattle.dm_replay.proofs.disk_values.DiskValues.first_values.Goals as goal
 
 pub returns : goal.returns
 returns c = record {
