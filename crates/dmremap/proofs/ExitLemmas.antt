@@ -9,6 +9,7 @@ use Rattle.dm_stream.specs.declared.runs.ending.Ending.{Ending}
 use Rattle.dm_stream.specs.declared.runs.ending.Ending.TheVariants as endings
 use Rattle.dm_stream.specs.declared.runs.ending.RequestWord.TheVariants as words
 use Rattle.dm_stream.specs.requests.Requests.{HasMet}
+use Rattle.dm_stream.specs.runs.Messages.{HasTold}
 use Rattle.lvm_volume.specs.declared.fault.NameFault.{NameFault}
 use Rattle.lvm_volume.specs.declared.fault.NameFault.TheVariants as names
 use Rattle.dmremap.specs.declared.exit.Exit.{Exit}
@@ -57,6 +58,15 @@ write_fault_is exit five = absurd (omega (arith, five))
 -- what was told where a command exits
 pub exits_told : {exit : Exit} {result : ℕ} {old new : OutputPast} → Exits exit result old new → MessagesTold result old new
 exits_told {exit = exit} is = record { message = exit_message exit; told = is.told; write_message = λ five. ap exit_message (write_fault_is exit (sym is.is ∙ five)) }
+
+-- and where it is refused by a message of its own
+pub refused_told : {message : List ℕ} {result : ℕ} {old new : OutputPast} → result ≡ STATUS_REFUSED → HasTold message old new → MessagesTold result old new
+refused_told {message = message} is told = record { message = message; told = told; write_message = λ five. absurd (omega (arith, is, five)) }
+
+-- the status of a load that was refused for another reason than memory
+pub refused_load : (kind : LoadKind) → kind ≢ kinds.Memory → load_status kind ≡ STATUS_REFUSED
+refused_load kinds.Memory other = absurd (other refl)
+refused_load kind other = refl
 
 -- ---- an output that was written to
 

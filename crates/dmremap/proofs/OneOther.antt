@@ -43,7 +43,7 @@ one_report_said (RefusedBy fault) a b x y = sym x ∙ y
 one_report_said (SoundAs description) a b x y = sym x.2 ∙ ap Prints (one_report description x.0 y.0 x.1 y.1) ∙ y.2
 
 one_said : (asked : JobWords) (source disks : Delivery) (a b : Said) → JobSays asked source disks a → JobSays asked source disks b → a ≡ b
-one_said (map_words from earlier status) source disks a b x y = absurd x
+one_said (map_words from paths earlier status) source disks a b x y = absurd x
 one_said (replay_words from) source disks a b x y = absurd x
 one_said (print_words form from) source disks a b x y = sym x.is ∙ ap (devices_said form) (one_load (format_of from) source disks x.load y.load x.loaded y.loaded) ∙ y.is
 one_said (check_words from) source disks a b x y =
@@ -188,6 +188,6 @@ one_replay format source disks requests a b x y plain plain' is is' =
 
 pub one_other : (asked : JobWords) (source disks requests : Delivery) (a b : Exit) (x y : List ℕ) → IsPlain a → IsPlain b
     → JobDoes asked source disks requests x a → JobDoes asked source disks requests y b → (a ≡ b) × (x ≡ y)
-one_other (map_words from earlier status) source disks requests a b x y plain plain' is is' = absurd is
+one_other (map_words from paths earlier status) source disks requests a b x y plain plain' is is' = absurd is
 one_other (replay_words from) source disks requests a b x y plain plain' is is' = one_replay (format_of from) source disks requests a b x y plain plain' is is'
 one_other asked source disks requests a b x y plain plain' is is' = one_printed (JobSays asked source disks) (one_said asked source disks) a b x y plain plain' is is'

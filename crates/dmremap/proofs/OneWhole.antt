@@ -21,7 +21,7 @@ use Rattle.dm_stack.specs.checks.Soundness.{IsSound}
 use Rattle.dm_stack.proofs.OneFault.{never_both, one_fault as one_refusal}
 use Rattle.lvm_volume.proofs.OneGroup.{never_refused, one_group, one_refusal as one_text_refusal}
 use Rattle.dmremap.specs.Load.{Load, RefusedBy, SoundAs, Describes, DescribesDevices, DescribesGroupAs, device_checks, GivesFault, MetadataGives, MetadataPartGives, TextsGive, TextPartsGive, PartsGive}
-use Rattle.dmremap.specs.Whole.{Whole, GiveAfter}
+use Rattle.dmremap.specs.Whole.{GiveAfter, GiveFrom, Start, Whole, fresh_start}
 
 -- What two texts describe
 
@@ -119,9 +119,13 @@ one_load Lvm source disks a b is_a is_b = one_of_part (part_read Source source) 
 
 -- What the run gives
 
-pub one_after : (format : Format) (flag : Bool) (source disks : Delivery) (before : Option Delivery) (requests : Delivery) (a b : Whole) → GiveAfter format flag source disks before requests a
-    → GiveAfter format flag source disks before requests b → a ≡ b
-one_after format flag source disks before requests a b is_a is_b =
+pub one_from : (starts : Description → Start) (format : Format) (flag : Bool) (source disks : Delivery) (before : Option Delivery) (requests : Delivery) (a b : Whole) → GiveFrom starts format flag source disks before requests a
+    → GiveFrom starts format flag source disks before requests b → a ≡ b
+one_from starts format flag source disks before requests a b is_a is_b =
     let same = one_load format source disks is_a.load is_b.load is_a.loaded is_b.loaded in
     let some : Some a ≡ Some b = cc in
     cc
+
+pub one_after : (format : Format) (flag : Bool) (source disks : Delivery) (before : Option Delivery) (requests : Delivery) (a b : Whole) → GiveAfter format flag source disks before requests a
+    → GiveAfter format flag source disks before requests b → a ≡ b
+one_after = one_from fresh_start

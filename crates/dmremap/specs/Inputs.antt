@@ -1,5 +1,5 @@
 -- What the inputs of a run delivered, where one may be missing.
-use Rattle.std.specs.Prelude.{[], Option, None, Some}
+use Rattle.std.specs.Prelude.{◌≡◌, [], Option, None, Some}
 use Rattle.dm_table.specs.io.DeviceIo.{Failed, Delivery, InputPast, delivery}
 use Rattle.dm_table.specs.io.Progress.{IsReadOn}
 
@@ -15,3 +15,16 @@ IsReadOnIf past (Some old) (Some new) = IsReadOn (past old) (past new)
 IsReadOnIf past (Some old) None = ⊥
 IsReadOnIf past None (Some new) = ⊥
 IsReadOnIf past None None = Unit {0}
+
+-- what an input delivered that may be missing, if it is there
+abbrev pub delivered_if : {X : Type 0} → (past : X → InputPast) → (old new : Option X) → Option Delivery
+delivered_if past (Some old) (Some new) = Some (delivery (past old) (past new))
+delivered_if past (Some old) None = None
+delivered_if past None new = None
+
+-- nothing was asked of an input that may be missing
+abbrev pub IsUnasked : {X : Type 0} → (past : X → InputPast) → (old new : Option X) → Type 0
+IsUnasked past (Some old) (Some new) = past new ≡ past old
+IsUnasked past (Some old) None = ⊥
+IsUnasked past None (Some new) = ⊥
+IsUnasked past None None = Unit {0}

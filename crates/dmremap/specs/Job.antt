@@ -17,7 +17,7 @@ pub data SourceWords : Type 0 where
 
 -- a job with its texts themselves
 pub data JobWords : Type 0 where
-  map_words : SourceWords → (earlier : Option Text) → (status : Bool) → JobWords
+  map_words : SourceWords → (paths earlier : Option Text) → (status : Bool) → JobWords
   print_words : TableForm → SourceWords → JobWords
   check_words : SourceWords → JobWords
   replay_words : SourceWords → JobWords
@@ -31,7 +31,8 @@ source_words (source.Tables form file disks) = table_words form file.now disks.n
 
 -- the texts of a job
 abbrev pub job_words : Job → JobWords
-job_words (job.Map from earlier status) = map_words (source_words from) (option_map (λ path. path.now) earlier) status
+job_words (job.Map from paths earlier status) =
+    map_words (source_words from) (option_map (λ path. path.now) paths) (option_map (λ path. path.now) earlier) status
 job_words (job.Print form from) = print_words form (source_words from)
 job_words (job.Check from) = check_words (source_words from)
 job_words (job.Replay from) = replay_words (source_words from)
@@ -40,7 +41,7 @@ job_words (job.SplitName name) = split_words name.now
 
 -- the source that a job loads, if it loads any
 abbrev pub source_of : JobWords → Option SourceWords
-source_of (map_words from earlier status) = Some from
+source_of (map_words from paths earlier status) = Some from
 source_of (print_words form from) = Some from
 source_of (check_words from) = Some from
 source_of (replay_words from) = Some from

@@ -8,6 +8,7 @@ pub mod OtherWhole
 pub mod PartFile
 pub mod Printing
 pub mod ReplayOutcome
+pub mod StoredStart
 pub mod Streams
 pub mod Whole
 pub mod Words

@@ -19,12 +19,12 @@ use Rattle.dmremap.specs.ReplayOutcome.{IsPlayed}
 
 -- the job is another than `map`
 abbrev pub is_other : JobWords → Bool
-is_other (map_words from earlier status) = false
+is_other (map_words from paths earlier status) = false
 is_other _ = true
 
 -- the job reads requests
 abbrev pub has_requests : JobWords → Bool
-has_requests (map_words from earlier status) = true
+has_requests (map_words from paths earlier status) = true
 has_requests (replay_words from) = true
 has_requests _ = false
 
@@ -46,6 +46,6 @@ ReplaysFiles format source disks requests text exit =
 
 -- the job writes this text, or a beginning of what it has to write, up to this exit
 abbrev pub JobDoes : JobWords → (source disks requests : Delivery) → List ℕ → Exit → Type 0
-JobDoes (map_words from earlier status) source disks requests text exit = ⊥
+JobDoes (map_words from paths earlier status) source disks requests text exit = ⊥
 JobDoes (replay_words from) source disks requests text exit = ReplaysFiles (format_of from) source disks requests text exit
 JobDoes asked source disks requests text exit = IsPrinted (JobSays asked source disks) text exit

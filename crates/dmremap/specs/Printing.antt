@@ -71,7 +71,7 @@ SplitSays name (Refuses refusal) = ((p : NameParts) → Builds p name → ⊥) �
 
 -- a job says this, by what its files delivered; `map` and `replay`, which read requests, are none of these jobs
 abbrev pub JobSays : JobWords → (source disks : Delivery) → Said → Type 0
-JobSays (map_words from earlier status) source disks said = ⊥
+JobSays (map_words from paths earlier status) source disks said = ⊥
 JobSays (replay_words from) source disks said = ⊥
 JobSays (print_words form from) source disks said = FilesSay form (format_of from) source disks said
 JobSays (check_words from) source disks said = CheckSays (format_of from) source disks said

@@ -1,5 +1,5 @@
 -- The whole run: what it writes, its message and its exit status, by what was delivered.
--- It may come after earlier requests, which are played and not answered.
+-- It may come after earlier requests, which are played and not answered, and begin from the state that stores hold.
 use Rattle.std.specs.Prelude.{◌≡◌, ◌⊎◌, ℕ, Bool, List, [], Option, None, Some}
 use Rattle.dm_table.specs.io.DeviceIo.{Delivery, InputPast, OutputPast, delivery, written_since}
 use Rattle.dm_table.specs.io.Progress.{FailedOutput}
@@ -7,7 +7,7 @@ use Rattle.dm_stream.specs.declared.runs.earlier.EarlierFault.{EarlierFault}
 use Rattle.dm_stream.specs.declared.runs.earlier.EarlierFault.TheVariants as earlier
 use Rattle.dm_stream.specs.declared.runs.ending.Ending.{Ending}
 use Rattle.dm_stream.specs.declared.runs.ending.Ending.TheVariants as endings
-use Rattle.dm_map.specs.state.State.{start_state}
+use Rattle.dm_map.specs.state.State.{State, start_state}
 use Rattle.dm_stack.specs.Description.{Description}
 use Rattle.dm_stream.specs.runs.Messages.{IsTold}
 use Rattle.dm_stream.specs.runs.Outcome.{Outcome, requests_outcome, run_outcome}
@@ -16,17 +16,36 @@ use Rattle.dmremap.specs.declared.exit.Exit.{Exit}
 use Rattle.dmremap.specs.declared.exit.Exit.TheVariants.{Ended, Refused}
 use Rattle.dmremap.specs.declared.exit.Refusal.TheVariants as refusals
 use Rattle.dmremap.specs.declared.job.Format.{Format}
+use Rattle.dmremap.specs.declared.status.TheConstants.{STATUS_REFUSED}
 use Rattle.dmremap.specs.Exit.{exit_message, exit_status}
 use Rattle.dmremap.specs.Load.{Load, RefusedBy, SoundAs, PartsGive}
 
--- the outcome of what earlier requests delivered, over a stack in its state at the start; where there are none, nothing happened yet
+-- the outcome of what earlier requests delivered, over a stack in this state; where there are none, nothing happened yet
+abbrev pub earlier_from : State → Description → (before : Option Delivery) → Outcome
+earlier_from start description None = record { output = []; state = start; ending = Some endings.Done }
+earlier_from start description (Some before) = requests_outcome description start before
+
+-- the same over one in its state at the start
 abbrev pub earlier_outcome : Description → (before : Option Delivery) → Outcome
-earlier_outcome description None = record { output = []; state = start_state description; ending = Some endings.Done }
-earlier_outcome description (Some before) = requests_outcome description (start_state description) before
+earlier_outcome description before = earlier_from (start_state description) description before
 
 -- the outcome of what the requests delivered, from the state that earlier ones left; the flag asks for status lines
+abbrev pub outcome_from : State → Description → (flag : Bool) → (before : Option Delivery) → Delivery → Outcome
+outcome_from start description flag before requests = run_outcome description flag (earlier_from start description before).state requests
+
+-- the same over a stack in its state at the start
 abbrev pub outcome_after : Description → (flag : Bool) → (before : Option Delivery) → Delivery → Outcome
-outcome_after description flag before requests = run_outcome description flag (earlier_outcome description before).state requests
+outcome_after description flag before requests = outcome_from (start_state description) description flag before requests
+
+-- from which state a run over a stack begins; or the message by which it is refused before that; or that isn't settled
+pub data Start : Type 0 where
+  Begins : State → Start
+  Refuses : (message : List ℕ) → Start
+  Unsettled : Start
+
+-- that of a stack whose stores nobody looked into
+abbrev pub fresh_start : Description → Start
+fresh_start description = Begins (start_state description)
 
 -- what a run gives
 pub record Whole : Type 0 where
@@ -55,41 +74,77 @@ begun_after (Some endings.ReadFault) outcome = earlier_refused earlier.Read
 begun_after (Some endings.WriteFault) outcome = None
 begun_after None outcome = None
 
--- a refused load writes nothing; a sound one goes by what the requests deliver, those of before first
-abbrev pub whole_after : Load → (flag : Bool) → (before : Option Delivery) → Delivery → Option Whole
-whole_after (RefusedBy fault) flag before requests = Some (whole_at [] (Refused (refusals.Load fault)))
-whole_after (SoundAs description) flag before requests =
-    begun_after (earlier_outcome description before).ending (outcome_after description flag before requests)
+-- a run over a stack that begins so
+abbrev pub whole_over : Start → Description → (flag : Bool) → (before : Option Delivery) → Delivery → Option Whole
+whole_over (Begins state) description flag before requests =
+    begun_after (earlier_from state description before).ending (outcome_from state description flag before requests)
+whole_over (Refuses message) description flag before requests = Some (record { output = []; message = message; status = STATUS_REFUSED })
+whole_over Unsettled description flag before requests = None
+
+-- a refused load writes nothing; a sound one goes by where it starts, and by what the requests deliver, those of before first
+abbrev pub whole_from : (starts : Description → Start) → Load → (flag : Bool) → (before : Option Delivery) → Delivery → Option Whole
+whole_from starts (RefusedBy fault) flag before requests = Some (whole_at [] (Refused (refusals.Load fault)))
+whole_from starts (SoundAs description) flag before requests = whole_over (starts description) description flag before requests
 
 -- the format, the flag and the deliveries of the source, of the disk list, of earlier requests and of the requests give this run
-pub record GiveAfter (format : Format) (flag : Bool) (source disks : Delivery) (before : Option Delivery) (requests : Delivery) (whole : Whole) : Type 0 where
+pub record GiveFrom (starts : Description → Start) (format : Format) (flag : Bool) (source disks : Delivery) (before : Option Delivery) (requests : Delivery) (whole : Whole) : Type 0 where
   pub load : Load
   pub loaded : PartsGive format source disks load
-  pub is : whole_after load flag before requests ≡ Some whole
+  pub is : whole_from starts load flag before requests ≡ Some whole
 
 -- ---- by what became of the streams
 
 -- the deliveries gave this run: it wrote its output, told its message, and exits with this status
-pub record IsRunAfter (format : Format) (flag : Bool) (source disks : Delivery) (before : Option Delivery) (requests : Delivery) (status : ℕ) (output_old output_new messages_old messages_new : OutputPast) : Type 0 where
+pub record IsRunFrom (starts : Description → Start) (format : Format) (flag : Bool) (source disks : Delivery) (before : Option Delivery) (requests : Delivery) (status : ℕ) (output_old output_new messages_old messages_new : OutputPast) : Type 0 where
   pub message : List ℕ
-  pub gives : GiveAfter format flag source disks before requests (record { output = written_since output_old output_new; message = message; status = status })
+  pub gives : GiveFrom starts format flag source disks before requests (record { output = written_since output_old output_new; message = message; status = status })
   pub told : IsTold message messages_old messages_new
 
--- earlier requests were played over a stack up to how they end, and nothing more was asked of them
-pub record ArePlayed (description : Description) (old new : InputPast) : Type 0 where
+-- earlier requests were played over a stack in this state up to how they end, and nothing more was asked of them
+pub record ArePlayedFrom (start : State) (description : Description) (old new : InputPast) : Type 0 where
   pub end : Ending
-  pub ends : (earlier_outcome description (Some (delivery old new))).ending ≡ Some end
+  pub ends : (earlier_from start description (Some (delivery old new))).ending ≡ Some end
   pub met : HasMet end old new
 
--- they are not asked for unless the load gave a stack
-abbrev pub EarlierRead : Format → (source disks : Delivery) → (old new : InputPast) → Type 0
-EarlierRead format source disks old new =
-    (new ≡ old) ⊎ ((description : Description) × PartsGive format source disks (SoundAs description) × ArePlayed description old new)
+-- so they were where the stack has a state to begin from
+abbrev pub ArePlayedOver : Start → Description → (old new : InputPast) → Type 0
+ArePlayedOver (Begins state) description old new = ArePlayedFrom state description old new
+ArePlayedOver (Refuses message) description old new = ⊥
+ArePlayedOver Unsettled description old new = ⊥
 
--- the output failed: all earlier requests were played, and a beginning was written of what the requests give that were delivered. Something was left to
--- write where no flush was asked for, and nothing where the flush failed.
-pub record IsFailedAfter (format : Format) (flag : Bool) (source disks : Delivery) (before : Option Delivery) (requests : Delivery) (old new : OutputPast) : Type 0 where
+-- they are not asked for unless the load gave a stack, and that a state
+abbrev pub EarlierReadFrom : (starts : Description → Start) → Format → (source disks : Delivery) → (old new : InputPast) → Type 0
+EarlierReadFrom starts format source disks old new =
+    (new ≡ old) ⊎ ((description : Description) × PartsGive format source disks (SoundAs description) × ArePlayedOver (starts description) description old new)
+
+-- all earlier requests were played over a stack in this state, and a beginning was written of what the requests give that were delivered. Something was
+-- left to write where no flush was asked for, and nothing where the flush failed.
+pub record FailsFrom (start : State) (description : Description) (flag : Bool) (before : Option Delivery) (requests : Delivery) (old new : OutputPast) : Type 0 where
+  pub played : (earlier_from start description before).ending ≡ Some endings.Done
+  pub output : FailedOutput (outcome_from start description flag before requests).output old new
+
+-- so it was where the stack has a state to begin from
+abbrev pub FailsOver : Start → Description → (flag : Bool) → (before : Option Delivery) → Delivery → (old new : OutputPast) → Type 0
+FailsOver (Begins state) description flag before requests old new = FailsFrom state description flag before requests old new
+FailsOver (Refuses message) description flag before requests old new = ⊥
+FailsOver Unsettled description flag before requests old new = ⊥
+
+-- the output failed
+pub record IsFailedFrom (starts : Description → Start) (format : Format) (flag : Bool) (source disks : Delivery) (before : Option Delivery) (requests : Delivery) (old new : OutputPast) : Type 0 where
   pub description : Description
   pub loaded : PartsGive format source disks (SoundAs description)
-  pub played : (earlier_outcome description before).ending ≡ Some endings.Done
-  pub output : FailedOutput (outcome_after description flag before requests).output old new
+  pub fails : FailsOver (starts description) description flag before requests old new
+
+-- ---- the same of a run that begins from the start
+
+abbrev pub GiveAfter : (format : Format) (flag : Bool) (source disks : Delivery) (before : Option Delivery) (requests : Delivery) (whole : Whole) → Type 0
+GiveAfter = GiveFrom fresh_start
+
+abbrev pub IsRunAfter : (format : Format) (flag : Bool) (source disks : Delivery) (before : Option Delivery) (requests : Delivery) (status : ℕ) (output_old output_new messages_old messages_new : OutputPast) → Type 0
+IsRunAfter = IsRunFrom fresh_start
+
+abbrev pub EarlierRead : Format → (source disks : Delivery) → (old new : InputPast) → Type 0
+EarlierRead = EarlierReadFrom fresh_start
+
+abbrev pub IsFailedAfter : (format : Format) (flag : Bool) (source disks : Delivery) (before : Option Delivery) (requests : Delivery) (old new : OutputPast) → Type 0
+IsFailedAfter = IsFailedFrom fresh_start

@@ -76,6 +76,10 @@ status_rule = flag_rule (codes "status") SetTrue
 abbrev pub before_rule : Rule
 before_rule = record (optional_rule (codes "before")) { long = Some (codes "before") }
 
+-- the option that names a list of paths, `--paths PATHS`, which may stand once
+abbrev pub paths_rule : Rule
+paths_rule = record (optional_rule (codes "paths")) { long = Some (codes "paths") }
+
 -- the flag that asks for the version
 abbrev pub version_rule : Rule
 version_rule = flag_rule (codes "version") Version
@@ -90,9 +94,9 @@ loading_app name parser = three_app name (format_rule parser) (required_rule (co
 
 -- a command with the options of `map`
 abbrev pub with_options : App → App
-with_options command = with_rule (with_rule command status_rule) before_rule
+with_options command = with_rule (with_rule (with_rule command status_rule) before_rule) paths_rule
 
--- `map FORMAT FILE [DISKS] [--status] [--before REQUESTS]`
+-- `map FORMAT FILE [DISKS] [--status] [--before REQUESTS] [--paths PATHS]`
 abbrev pub map_app : ValueParser → App
 map_app parser = with_options (loading_app (codes "map") parser)
 
@@ -138,10 +142,11 @@ HasApp app result = IfOk result (λ command. app_of command ≡ app)
 abbrev pub has_flag : Text → List Row → Bool
 has_flag id rows = option_map_or (λ text. bytes_eq text (codes "true")) (first_of id rows) false
 
--- the options of `map` in one of the places where they may stand: whether `--status` is there, and the file of `--before`
+-- the options of `map` in one of the places where they may stand: whether `--status` is there, and the files of `--before` and of `--paths`
 pub record OptionWords : Type 0 where
   pub status : Bool
   pub before : Option Text
+  pub paths : Option Text
 
 -- what clap found in words: the options before the command and those among its words, and the other texts
 pub record GivenWords : Type 0 where
@@ -162,7 +167,7 @@ text_if word = option_map (λ w. w.now) word
 
 -- the texts of what was found
 abbrev pub option_words : Options → OptionWords
-option_words options = record { status = options.status; before = text_if options.before }
+option_words options = record { status = options.status; before = text_if options.before; paths = text_if options.paths }
 
 -- what was given on the command line, as texts
 abbrev pub given_words : Given → GivenWords
@@ -181,7 +186,7 @@ given_words given = record {
 
 -- the options that matches give
 abbrev pub options_in : List Row → OptionWords
-options_in rows = record { status = has_flag (codes "status") rows; before = first_of (codes "before") rows }
+options_in rows = record { status = has_flag (codes "status") rows; before = first_of (codes "before") rows; paths = first_of (codes "paths") rows }
 
 -- what the matches of a command give
 abbrev pub given_in : (early : OptionWords) → Text → List Row → GivenWords
@@ -223,7 +228,7 @@ source_from given = source_if given.format given.file given.disks
 -- the job of a command that loads a source; `map` alone has options
 abbrev pub loading_job : Text → OptionWords → SourceWords → Result JobWords Lack
 loading_job command options from =
-    if bytes_eq command (codes "map") then Ok (map_words from options.before options.status)
+    if bytes_eq command (codes "map") then Ok (map_words from options.paths options.before options.status)
     else (if bytes_eq command (codes "table") then Ok (print_words Table from)
     else (if bytes_eq command (codes "concise") then Ok (print_words Concise from)
     else (if bytes_eq command (codes "check") then Ok (check_words from)
@@ -264,7 +269,7 @@ option_or None own = own
 
 -- the options before the command and after it: of two values the earlier counts
 abbrev pub both_options : OptionWords → OptionWords → OptionWords
-both_options early own = record { status = early.status || own.status; before = option_or early.before own.before }
+both_options early own = record { status = early.status || own.status; before = option_or early.before own.before; paths = option_or early.paths own.paths }
 
 -- the job that was given, whose options stand where they may
 abbrev pub placed_job : GivenWords → Result JobWords Lack
@@ -278,7 +283,8 @@ abbrev pub job_from : GivenWords → Result JobWords Lack
 job_from given = let is_map = bytes_eq given.command (codes "map") in
     if is_misplaced given.early.status given.options.status is_map then Err (lack.Place option.Status)
     else (if is_misplaced (is_some given.early.before) (is_some given.options.before) is_map then Err (lack.Place option.Before)
-    else placed_job given)
+    else (if is_misplaced (is_some given.early.paths) (is_some given.options.paths) is_map then Err (lack.Place option.Paths)
+    else placed_job given))
 
 -- what matches say, and those of their command, if there is one
 abbrev pub said_by : List Row → Option (Text × List Row) → Result JobWords Lack

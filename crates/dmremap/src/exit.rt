@@ -8,6 +8,8 @@ ghost use Rattle.std.specs.Prelude.{◌≡◌, ◌≢◌, OnErr, OnOk};
 ghost use Rattle.dmremap.specs.declared.exit.Exit.{Exit};
 ghost use Rattle.dmremap.specs.declared.exit.Exit.TheVariants.{Ended, Refused};
 ghost use Rattle.dmremap.specs.declared.exit.Refusal.TheVariants.{Load};
+ghost use Rattle.dmremap.specs.declared.status.TheConstants.{STATUS_REFUSED};
+ghost use Rattle.dm_stream.specs.runs.Messages.{HasTold};
 ghost use Rattle.dm_stream.specs.declared.runs.ending.Ending.TheVariants.{WriteFault};
 ghost use Rattle.dmremap.specs.Exit.{exit_after, exit_message, exit_status, is_refused, load_status, name_status, refusal_status};
 ghost use Rattle.dmremap.specs.Streams.{Exits, IsClosedAs};
@@ -61,6 +63,15 @@ impl Refusal {
             Refusal::Earlier(_) | Refusal::Split | Refusal::Untidy => STATUS_REFUSED,
         }
     }
+}
+
+/// Tells why a command was refused before it wrote anything, and returns its exit status.
+pub(crate) fn refuse<M: Output>(message: &[u8], messages: &mut M) -> u8
+    ensures status { result ≡ STATUS_REFUSED }
+    ensures told { HasTold message.now (M.past messages.old) (M.past messages.new) }
+{
+    tell(messages, message);
+    STATUS_REFUSED
 }
 
 /// The exit status of a refused load.

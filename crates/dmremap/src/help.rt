@@ -11,7 +11,7 @@ pub(crate) const NOTES: &str = "\
 
 Exit status
   0  done, or help or the version was asked for
-  1  FILE, DISKS, a name or the requests of --before were refused
+  1  FILE, DISKS, PATHS, a store, a name or the requests of --before were refused
   2  the words were refused
   3  a request was bad
   4  the requests could not be read
@@ -55,12 +55,17 @@ Lines
             NAME: 0 LEN snapshot Invalid
   --before  requests in the same form, which are played first: those of the standard input
             start from the state that they leave
+  --paths   DISK PATH             the file or block device that has this disk
+            DISK PATH?offset=BYTES
+                                  the same of a disk that begins later in it
+            The stores of snapshots of the kinds P and K are read there first, and the run starts
+            from what they hold. Without this, all snapshots are taken as fresh.
 DEV, ORIGIN and STORE are a disk, or /dev/mapper/NAME for a device of FILE. KIND is P, N or K.
 A request has 1 to 1048576 sectors.
 
 Exit status
   0  all requests were answered
-  1  FILE, DISKS or the requests of --before were refused
+  1  FILE, DISKS, PATHS, a store or the requests of --before were refused
   2  the words were refused
   3  a request was bad
   4  the requests could not be read
@@ -189,6 +194,9 @@ pub(crate) const STATUS_HELP: &str =
 
 pub(crate) const BEFORE_HELP: &str =
     "First play the requests of this file, and print nothing of them";
+
+pub(crate) const PATHS_HELP: &str =
+    "Start from what the stores of snapshots hold, on the disks of this list";
 
 pub(crate) const EARLY_HELP: &str = "For `map`, whose help says what it does";
 

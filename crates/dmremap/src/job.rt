@@ -42,11 +42,12 @@ pub enum Source<'a> {
 /// What the words ask for. The texts are those of the words.
 #[derive(Clone, Copy)]
 pub enum Job<'a> {
-    /// Map the requests of the standard input through the tables of a source, from the state that the requests
-    /// of the file `earlier` left, if there is one. Where `status` is true, the status lines of snapshots follow
-    /// the output.
+    /// Map the requests of the standard input through the tables of a source, from the state that the stores hold
+    /// that lie in the images of the list `paths`, if there is one, and that the requests of the file `earlier` left,
+    /// if there is one. Where `status` is true, the status lines of snapshots follow the output.
     Map {
         source: Source<'a>,
+        paths: Option<&'a str>,
         earlier: Option<&'a str>,
         status: bool,
     },

@@ -1,18 +1,21 @@
 //! dmremap maps block requests through device-mapper tables to the disks below.
 //!
-//! This file is the table of contents: `words` reads the command line, `map_whole`, `map_after` and
-//! `other_whole` do the work, and `main` joins them to the real files and streams and does nothing else.
+//! This file is the table of contents: `words` reads the command line, `map_whole`, `map_after`,
+//! `map_stored` and `other_whole` do the work, and `main` joins them to the real files and streams and does nothing else.
 #![tactic(auto)]
 
 ghost use Rattle.std.specs.Prelude.{◌≡◌, true};
 ghost use Rattle.dmremap.specs.Job.{job_words};
 ghost use Rattle.dmremap.specs.OtherWhole.{is_other};
 
+mod disk_paths;
 mod exit;
+mod file_images;
 mod help;
 mod job;
 mod load;
 mod map_after;
+mod map_stored;
 mod map_whole;
 mod other_whole;
 mod part_file;
@@ -25,11 +28,13 @@ use dm_map::has_stack_room;
 use dm_stream::{Ending, InTurn};
 use dm_table::{Counted, Gathered};
 use exit::Exit;
+use file_images::FileImages;
 use job::{Job, Source};
 use map_after::map_after;
+use map_stored::map_stored;
 use map_whole::map_whole;
 use other_whole::other_whole;
-use part_file::{DisksPart, EarlierPart, PartFile, SourcePart};
+use part_file::{DisksPart, EarlierPart, PartFile, PathsPart, SourcePart};
 use status::STATUS_DONE;
 use std::io;
 use std::io::{Stderr, Stdin, Stdout};
@@ -77,9 +82,13 @@ fn answer(rt: &HostRuntime) -> Result<u8, WordsFault> {
     match read_words(rt.alloc(), words.as_slice())? {
         Job::Map {
             source,
+            paths,
             earlier,
             status,
-        } => Ok(map_files(rt, source, earlier, status)),
+        } => match paths {
+            Some(paths) => map_images(rt, source, paths, earlier, status),
+            None => Ok(map_files(rt, source, earlier, status)),
+        },
         job => Ok(do_other(rt, &job)),
     }
 }
@@ -132,6 +141,42 @@ fn map_files(rt: &HostRuntime, source: Source<'_>, earlier: Option<&str>, status
     }
 }
 
+/// Maps the requests of the standard input through the tables of a source, from what the stores hold that lie in the
+/// images of a list, and after the requests of a file, if there is one.
+fn map_images(
+    rt: &HostRuntime,
+    source: Source<'_>,
+    paths: &str,
+    earlier: Option<&str>,
+    status: bool,
+) -> Result<u8, WordsFault> {
+    let mut images = FileImages::new(rt.alloc(), rt)?;
+    let mut disks = disks_at(rt, source);
+    let mut earlier = earlier_at(rt, earlier);
+    Ok(map_stored::<
+        File<'_, SourcePart>,
+        File<'_, DisksPart>,
+        File<'_, PathsPart>,
+        FileImages<'_>,
+        File<'_, EarlierPart>,
+        Requests,
+        Answers,
+        Messages,
+    >(
+        rt.alloc(),
+        source.format(),
+        status,
+        &mut source_at(rt, source),
+        &mut disks,
+        &mut Counted::new(PartFile::new(rt, paths)),
+        &mut images,
+        &mut earlier,
+        &mut InTurn::new(Counted::new(rt.stdin())),
+        &mut Gathered::new(Counted::new(rt.stdout())),
+        &mut Counted::new(rt.stderr()),
+    ))
+}
+
 /// Does a job of another command.
 fn do_other<'r>(rt: &'r HostRuntime, job: &'r Job<'r>) -> u8
     requires { is_other (job_words job.now) ≡ true }
@@ -159,6 +204,14 @@ fn source_at<'r>(rt: &'r HostRuntime, source: Source<'r>) -> File<'r, SourcePart
 /// The disk list of a source, where its format has one.
 fn disks_at<'r>(rt: &'r HostRuntime, source: Source<'r>) -> Option<File<'r, DisksPart>> {
     match source.disks() {
+        Some(path) => Some(Counted::new(PartFile::new(rt, path))),
+        None => None,
+    }
+}
+
+/// The file of earlier requests, if there is one.
+fn earlier_at<'r>(rt: &'r HostRuntime, earlier: Option<&'r str>) -> Option<File<'r, EarlierPart>> {
+    match earlier {
         Some(path) => Some(Counted::new(PartFile::new(rt, path))),
         None => None,
     }

@@ -37,6 +37,9 @@ pub(crate) struct DisksPart {}
 /// The part that is REQUESTS, those before a run.
 pub(crate) struct EarlierPart {}
 
+/// The part that is PATHS.
+pub(crate) struct PathsPart {}
+
 /// How far a file was read.
 #[derive(Drop)]
 pub(crate) enum Stage<F> {

@@ -3,7 +3,8 @@
 /// All was done, or help or the version was asked for.
 pub const STATUS_DONE: u8 = 0;
 
-/// The source, the disk list or a name was refused, or `replay` refused an untidy stack; nothing was written.
+/// The source, the disk list, the list of paths, a store, earlier requests or a name was refused, or `replay`
+/// refused an untidy stack; nothing was written.
 pub const STATUS_REFUSED: u8 = 1;
 
 /// The words were refused.

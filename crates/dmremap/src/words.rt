@@ -10,7 +10,7 @@ ghost use Rattle.clap.specs.Walk.{texts};
 ghost use Rattle.clap.specs.Words.{App, Rule, app_of, found_of, kind_of, new_app, rows_of, rule_of, subcommand_rows_of, with_rule, with_subcommand};
 ghost use Rattle.clap.specs.declared.error.kind.ErrorKind.TheVariants as kind;
 ghost use Rattle.dmremap.specs.Job.{source_words};
-ghost use Rattle.dmremap.specs.Words.{HasApp, TakesFormats, bare_app, before_rule, command_line, flag_rule, format_named, format_rule, loading_app, map_app, name_app, optional_rule, program_app, required_rule, split_app, status_rule, version_rule, with_options};
+ghost use Rattle.dmremap.specs.Words.{HasApp, TakesFormats, bare_app, before_rule, command_line, flag_rule, format_named, format_rule, loading_app, map_app, name_app, optional_rule, paths_rule, program_app, required_rule, split_app, status_rule, version_rule, with_options};
 ghost use Rattle.dmremap.specs.Words.{both_options, given_in, given_words, has_flag, has_lone_hyphen, is_misplaced, job_from, job_said, loading_job, name_from, option_words, options_in, placed_job, said_by, source_at, source_from, source_said, split_from};
 ghost use Rattle.dmremap.specs.Words.{IsFaultOf, IsJobOf, IsOfKind, IsTaken, IsUntaken, fault_from, status_of};
 ghost use Rattle.dmremap.specs.declared.words.WordsFault.TheVariants as fault;
@@ -58,6 +58,8 @@ enum MapOption {
     Status,
     /// `--before REQUESTS`.
     Before,
+    /// `--paths PATHS`.
+    Paths,
 }
 
 /// What clap found of them in one of the places where they may stand.
@@ -65,6 +67,7 @@ enum MapOption {
 struct Options<'a> {
     status: bool,
     before: Option<&'a str>,
+    paths: Option<&'a str>,
 }
 
 /// What clap found in words.
@@ -92,6 +95,8 @@ const WRONG_STATUS: &str = "unexpected argument '--status' found: `map` alone ta
 
 const WRONG_BEFORE: &str = "unexpected argument '--before' found: `map` alone takes it, once";
 
+const WRONG_PATHS: &str = "unexpected argument '--paths' found: `map` alone takes it, once";
+
 const FORMATS: &[&str] = &["lvm", "concise", "table"];
 
 // ---- what clap found
@@ -103,6 +108,7 @@ fn options_in<'a>(found: &ArgMatches<'a>) -> Options<'a>
     Options {
         status: has_flag(found, "status"),
         before: found.get_str("before"),
+        paths: found.get_str("paths"),
     }
 }
 
@@ -187,6 +193,7 @@ fn loading_job<'a>(command: &str, source: Source<'a>, options: Options<'a>) -> R
     match command {
         "map" => Ok(Job::Map {
             source,
+            paths: options.paths,
             earlier: options.before,
             status: options.status,
         }),
@@ -245,6 +252,10 @@ fn both_options<'a>(early: Options<'a>, own: Options<'a>) -> Options<'a>
             Some(path) => Some(path),
             None => own.before,
         },
+        paths: match early.paths {
+            Some(path) => Some(path),
+            None => own.paths,
+        },
     }
 }
 
@@ -273,6 +284,9 @@ fn job_from<'a>(given: Given<'a>) -> Result<Job<'a>, Lack>
     }
     if is_misplaced(early.before.is_some(), own.before.is_some(), is_map) {
         return Err(Lack::Place(MapOption::Before));
+    }
+    if is_misplaced(early.paths.is_some(), own.paths.is_some(), is_map) {
+        return Err(Lack::Place(MapOption::Paths));
     }
     placed_job(given)
 }
@@ -405,6 +419,14 @@ fn before_option<'a>(alloc: Global, help: &'a str) -> Arg<'a>
     optional(alloc, "before", "REQUESTS", help).long("before")
 }
 
+/// The option that names a list of paths.
+fn paths_option<'a>(alloc: Global, help: &'a str) -> Arg<'a>
+    ensures rule { rule_of result ≡ paths_rule }
+    ensures local { result.global ≡ false }
+{
+    optional(alloc, "paths", "PATHS", help).long("paths")
+}
+
 /// A command with what its help says, and without words.
 fn titled<'a>(alloc: Global, name: &'a str, about: &'a str, notes: &'a str) -> Command<'a>
     ensures { app_of result ≡ new_app name.entry.now }
@@ -457,19 +479,27 @@ fn with_options<'a>(
     command: Result<Command<'a>, AllocError>,
     status_help: &'a str,
     before_help: &'a str,
+    paths_help: &'a str,
 ) -> Result<Command<'a>, AllocError>
     ensures { (app : App) → HasApp app command.entry → HasApp (with_options app) result }
 {
     let command = with_word(command, status_flag(alloc, status_help));
-    with_word(command, before_option(alloc, before_help))
+    let command = with_word(command, before_option(alloc, before_help));
+    with_word(command, paths_option(alloc, paths_help))
 }
 
-/// `map FORMAT FILE [DISKS] [--status] [--before REQUESTS]`.
+/// `map FORMAT FILE [DISKS] [--status] [--before REQUESTS] [--paths PATHS]`.
 fn map_command<'a>(alloc: Global, parser: ValueParser<'a>) -> Result<Command<'a>, AllocError>
     ensures { HasApp (map_app parser.entry) result }
 {
     let command = loading_command(alloc, parser, "map", help::MAP_ABOUT, help::MAP_NOTES);
-    with_options(alloc, command, help::STATUS_HELP, help::BEFORE_HELP)
+    with_options(
+        alloc,
+        command,
+        help::STATUS_HELP,
+        help::BEFORE_HELP,
+        help::PATHS_HELP,
+    )
 }
 
 /// `name VG LV [LAYER]`.
@@ -508,6 +538,7 @@ fn program_alone<'a>(alloc: Global) -> Result<Command<'a>, AllocError>
     let line = with_options(
         alloc,
         Ok(bare_program(alloc)),
+        help::EARLY_HELP,
         help::EARLY_HELP,
         help::EARLY_HELP,
     );
@@ -583,6 +614,7 @@ fn misplaced_text(option: MapOption) -> &'static str {
     match option {
         MapOption::Status => WRONG_STATUS,
         MapOption::Before => WRONG_BEFORE,
+        MapOption::Paths => WRONG_PATHS,
     }
 }
 

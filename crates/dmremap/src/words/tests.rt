@@ -17,7 +17,7 @@ fn words_of<'a>(rt: &impl Abort, alloc: Global, line: &'a str) -> Vec<&'a str> {
 }
 
 /// Words, and the job that they ask for, in the words of `shown`.
-static JOBS: [(&str, &str); 21] = [
+static JOBS: [(&str, &str); 23] = [
     ("map table a.table a.disks", "map a.table a.disks"),
     ("map table -- a.table a.disks", "map a.table a.disks"),
     ("map lvm vg0.backup", "map lvm vg0.backup"),
@@ -60,6 +60,14 @@ static JOBS: [(&str, &str); 21] = [
         "status of a.table a.disks after a.requests",
     ),
     ("--before= map lvm vg0.backup", "map lvm vg0.backup after "),
+    (
+        "map lvm vg0.backup --paths= --before a.requests",
+        "stored map lvm vg0.backup after a.requests",
+    ),
+    (
+        "--paths a.paths map table a.table a.disks --status",
+        "stored status of a.table a.disks",
+    ),
 ];
 
 /// The form of tables, a table being that of most rows.
@@ -96,9 +104,18 @@ fn shown(rt: &impl Abort, alloc: Global, job: Job<'_>) -> String {
     let (command, source, earlier) = match job {
         Job::Map {
             source,
+            paths,
             earlier,
             status,
-        } => (if status { "status of" } else { "map" }, source, earlier),
+        } => {
+            let command = match (paths, status) {
+                (Some("a.paths"), true) => "stored status of",
+                (Some(_), _) => "stored map",
+                (None, true) => "status of",
+                (None, false) => "map",
+            };
+            (command, source, earlier)
+        }
         Job::Print { form, source } => match form {
             TableForm::Table => ("table", source, None),
             TableForm::Concise => ("concise", source, None),

@@ -62,9 +62,8 @@ returns-in-Ok-play_earlier-clause-beginning g c = λ five.
     record {
       description = c.in-Ok.stack;
       loaded = c.in-Ok.ensures.gives.sound;
-      played = played_ending c.in-Ok.stack _ before endings.Done starts done.0;
-      output = ran_failed _ _ c.args.status (Some before) requests c.in-Ok.stack c.play_earlier.new.mapper.state _ c.run-ending.result _
-          (played_state c.in-Ok.stack _ _ before starts done.1) c.run-ending.ensures.ran c.status.ensures five;
+      fails = ran_failed _ _ c.args.status (Some before) requests c.in-Ok.stack c.play_earlier.new.mapper.state _ c.run-ending.result _
+          (played_ending c.in-Ok.stack _ before endings.Done starts done.0) (played_state c.in-Ok.stack _ _ before starts done.1) c.run-ending.ensures.ran c.status.ensures five;
     }
 
 pub returns-in-Ok-play_earlier-clause-earlier : goal.returns-in-Ok-play_earlier-clause-earlier

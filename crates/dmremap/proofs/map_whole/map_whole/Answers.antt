@@ -40,8 +40,7 @@ returns-in-Ok-new-clause-beginning g c = λ five.
     record {
       description = c.in-Ok.stack;
       loaded = c.in-Ok.ensures.gives.sound;
-      played = refl;
-      output = ran_failed _ _ c.args.status None requests c.in-Ok.stack c.in-Ok-new.mapper.state _ c.run-ending.result _ starts c.run-ending.ensures.ran c.status.ensures five;
+      fails = ran_failed _ _ c.args.status None requests c.in-Ok.stack c.in-Ok-new.mapper.state _ c.run-ending.result _ refl starts c.run-ending.ensures.ran c.status.ensures five;
     }
 
 pub returns-in-Ok-new-clause-requests : goal.returns-in-Ok-new-clause-requests

@@ -1,0 +1,92 @@
+//! Images that are files or block devices, each opened at its first read, and only to read it.
+//!
+//! An image that can't be opened is one that can't be read, and why is not told. What is neither a file nor a
+//! block device isn't opened: a pipe would wait for a writer. Each read names its place, and one that the image
+//! doesn't fill, since it ends before, fails.
+
+ghost use Rattle.std.specs.Prelude.{◌≡◌, ◌<◌, ◌^◌};
+ghost use Rattle.dm_store.specs.ReadLog.{AgreesWith};
+
+use dm_stack::DiskId;
+use dm_store::{Images, ReadFault, ReadLog};
+use std::alloc::{AllocError, Global};
+use std::fs;
+use std::fs::File;
+use std::os::unix::fs::{FileExt, FileTypeExt};
+
+/// The most disks of a stack, and so the most images.
+const MOST_IMAGES: usize = 1024;
+
+/// The images of disks, and all that was read of them.
+#[derive(Drop)]
+pub(crate) struct FileImages<'r> {
+    files: &'r HostRuntime,
+    /// The image of each disk, by its id, once it is open.
+    open: Vec<Option<File>>,
+    log: ReadLog,
+}
+
+impl<'r> FileImages<'r> {
+    /// Images of which none is open. It fails only when out of memory.
+    pub(crate) fn new(alloc: Global, files: &'r HostRuntime) -> Result<FileImages<'r>, AllocError> {
+        let mut open = Vec::new(alloc);
+        for _ in 0..MOST_IMAGES {
+            open.push(None)?;
+        }
+        Ok(FileImages {
+            files,
+            open,
+            log: ReadLog::new(),
+        })
+    }
+
+    /// Reads the bytes of the image of a disk from a byte of it on.
+    fn read_at(
+        &mut self,
+        disk: DiskId,
+        path: &str,
+        byte: u64,
+        into: &mut [u8],
+    ) -> Result<(), ReadFault>
+        ensures { self.new.log ≡ self.old.log }
+    {
+        let Some(image) = self.open.get_mut(disk.index()) else {
+            return Err(ReadFault);
+        };
+        if image.is_none() {
+            *image = open_image(self.files, path);
+        }
+        match image {
+            Some(file) => match file.read_exact_at(into, byte) {
+                Ok(()) => Ok(()),
+                Err(_) => Err(ReadFault),
+            },
+            None => Err(ReadFault),
+        }
+    }
+}
+
+impl<'r> Images for FileImages<'r> {
+    ghost IsSeen = { λ images held. AgreesWith held images.log };
+
+    fn read(
+        &mut self,
+        disk: DiskId,
+        path: &str,
+        sector: u64,
+        into: &mut [u8],
+    ) -> Result<(), ReadFault> {
+        let answer = self.read_at(disk, path, 512 * sector, into);
+        self.log.note(path, sector, answer, into);
+        answer
+    }
+}
+
+/// The file or the block device at a path, if it can be opened.
+fn open_image(files: &HostRuntime, path: &str) -> Option<File> {
+    let kind = fs::metadata(files, path).ok()?.file_type();
+    if !kind.is_file() && !kind.is_block_device() {
+        return None;
+    }
+    File::open(files, path).ok()
+}
