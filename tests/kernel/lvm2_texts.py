@@ -8,7 +8,7 @@ import re
 
 import answers
 from copies import copy_of
-from vectors import Vector, end_of, tables_of
+from vectors import end_of, in_file, tables_of
 
 FOLDER = os.path.join(os.path.dirname(os.path.abspath(__file__)), "lvm2")
 PLAIN = {"linear", "striped", "zero", "error", "snapshot", "snapshot-origin"}
@@ -27,8 +27,8 @@ NUMBER = re.compile(r"\b\d+:\d+\b")
 
 
 def jobs(_):
-    paths = [os.path.join(FOLDER, kind, it) for kind in ("groups", "states") for it in sorted(os.listdir(os.path.join(FOLDER, kind)))]
-    return [[Vector(it) for it in paths[at:at + ROWS]] for at in range(0, len(paths), ROWS)]
+    vectors = [*in_file(FOLDER, "groups"), *in_file(FOLDER, "states")]
+    return [vectors[at:at + ROWS] for at in range(0, len(vectors), ROWS)]
 
 
 def compare(found, program, vectors):

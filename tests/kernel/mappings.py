@@ -3,7 +3,7 @@
 import random
 
 import answers
-from vectors import end_of, in_folder
+from vectors import end_of, in_file
 
 # How many random ranges of each run of sectors are asked for as one request, besides the whole run.
 RANGES = 6
@@ -13,7 +13,7 @@ BELOW = "a read-only device below a writable one"
 
 
 def jobs(folder):
-    return in_folder(folder, "map-")
+    return in_file(folder, "mappings")
 
 
 def compare(found, program, vector):

@@ -3,7 +3,7 @@
 import re
 
 import answers
-from vectors import in_folder
+from vectors import in_file
 
 ROWS = 16
 LONGEST = 127
@@ -11,7 +11,7 @@ ALLOWED = "names that LVM doesn't allow"
 
 
 def jobs(folder):
-    return [(vector, section, at) for vector in in_folder(folder, "splitname") for section in ("splitname.tsv", "build_name.jsonl")
+    return [(vector, section, at) for vector in in_file(folder, "names") for section in ("splitname.tsv", "build_name.jsonl")
             for at in range(0, len(vector.lines(section)), ROWS)]
 
 

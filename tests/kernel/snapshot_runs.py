@@ -8,7 +8,7 @@ import collections
 import re
 
 import answers
-from vectors import in_folder
+from vectors import in_file
 
 # How many requests of a longer run are followed by a look at the status lines.
 LOOKS = 12
@@ -30,7 +30,7 @@ Snapshot = collections.namedtuple("Snapshot", "store kind chunk length")
 
 
 def jobs(folder):
-    return in_folder(folder, "snap-")
+    return in_file(folder, "snapshots")
 
 
 class Run:

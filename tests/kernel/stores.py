@@ -1,7 +1,7 @@
 """Stores: how many chunks fit into one of each length, where each is kept, and what the kernel says of it."""
 
 import answers
-from vectors import in_folder
+from vectors import in_file
 
 AREA = "the last place before an area"
 SHORT = "a store of less than two chunks"
@@ -30,7 +30,7 @@ class Case:
 
 
 def jobs(folder):
-    return [(vector, at) for vector in in_folder(folder, "store-full") for at in range(0, len(vector.rows("cases.tsv")), ROWS)]
+    return [(vector, at) for vector in in_file(folder, "stores") for at in range(0, len(vector.rows("cases.tsv")), ROWS)]
 
 
 def compare(found, program, job):

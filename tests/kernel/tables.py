@@ -1,7 +1,7 @@
 """Tables: which the kernel takes, and which it refuses."""
 
 import answers
-from vectors import in_folder
+from vectors import in_file
 
 ROWS = 8
 ARGUMENTS = "arguments of `error`, features of a snapshot"
@@ -61,7 +61,7 @@ TAKEN = {
 
 
 def jobs(folder):
-    return [(vector, at) for vector in in_folder(folder, "accept") for at in range(0, len(vector.lines("cases.jsonl")), ROWS)]
+    return [(vector, at) for vector in in_file(folder, "tables") for at in range(0, len(vector.lines("cases.jsonl")), ROWS)]
 
 
 def compare(found, program, job):

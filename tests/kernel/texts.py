@@ -1,7 +1,7 @@
 """Texts: which of them libdevmapper's parser takes. Each stands inside of a group, which then loads or is refused."""
 
 import answers
-from vectors import in_folder
+from vectors import in_file
 
 ROWS = 8
 GROUP = 'contents = "Text Format Volume Group"\nversion = 1\nvg {\nextent_size = 8\nphysical_volumes { }\n%s\n}\n'
@@ -30,7 +30,7 @@ DEPARTING.update({it: (SPELLED, "syntax") for it in (
 
 
 def jobs(folder):
-    return [(vector, at) for vector in in_folder(folder, "lvm-text") for at in range(0, len(vector.lines("cases.jsonl")), ROWS)]
+    return [(vector, at) for vector in in_file(folder, "texts") for at in range(0, len(vector.lines("cases.jsonl")), ROWS)]
 
 
 def compare(found, program, job):

@@ -6,33 +6,36 @@ import os
 import re
 
 END = ".txt"
-HEADING = re.compile(r"^-- (.+) --\n", re.M)
+# The files of a folder of vectors, but for the one with the versions.
+KINDS = ["mappings", "snapshots", "stores", "tables", "groups", "names", "texts"]
+# A file holds experiments, each below a line `== NAME ==`; an experiment holds sections, each below a line `-- NAME --`.
+EXPERIMENT = re.compile(r"^== (.+) ==\n", re.M)
+SECTION = re.compile(r"^-- (.+) --\n", re.M)
 
 
-def parted(text):
-    """The sections of a text, by their names: each is all that stands below a heading `-- NAME --`, up to the next one."""
-    _, *parts = HEADING.split(text)
+def parted(heading, text):
+    """The parts of a text, by their names: each is all that stands below a heading, up to the next one."""
+    _, *parts = heading.split(text)
     return dict(zip(parts[::2], parts[1::2]))
 
 
 def joined(sections):
     """The text of these sections. One that would be read otherwise is refused: a line of it is a heading, or its last has no end."""
     text = "".join("-- %s --\n%s" % it for it in sections.items())
-    if parted(text) != sections:
+    if parted(SECTION, text) != sections or EXPERIMENT.search(text):
         raise ValueError("a section of %s can't be told from a heading" % ", ".join(sections))
     return text
 
 
 class Vector:
-    """The file of one experiment."""
+    """One experiment, by its name and its text."""
 
-    def __init__(self, path):
-        self.path, self.name = path, os.path.basename(path)[:-len(END)]
+    def __init__(self, name, text):
+        self.name, self.whole = name, text
 
     @functools.cached_property
     def sections(self):
-        with open(self.path, encoding="utf-8", errors="surrogateescape", newline="") as it:
-            return parted(it.read())
+        return parted(SECTION, self.whole)
 
     def has(self, name):
         return name in self.sections
@@ -85,6 +88,18 @@ def end_of(lines):
     return int(lines[-1][0]) + int(lines[-1][1])
 
 
-def in_folder(folder, prefix):
-    """The vectors of a folder whose names begin so, in their order."""
-    return [Vector(os.path.join(folder, it)) for it in sorted(os.listdir(folder)) if it.startswith(prefix) and it.endswith(END)]
+def in_file(folder, kind):
+    """The vectors of a kind, in the order of their file; none where a folder has no such file."""
+    path = os.path.join(folder, kind + END)
+    if not os.path.exists(path):
+        return []
+    with open(path, encoding="utf-8", errors="surrogateescape", newline="") as recorded:
+        return [Vector(name, text) for name, text in parted(EXPERIMENT, recorded.read()).items()]
+
+
+def put(folder, kind, name, sections):
+    """Writes a vector into the file of its kind, in place of one of that name; all stay in the order of their names."""
+    texts = {vector.name: vector.whole for vector in in_file(folder, kind)}
+    texts[name] = joined(sections)
+    with open(os.path.join(folder, kind + END), "w", encoding="utf-8", errors="surrogateescape", newline="") as recorded:
+        recorded.write("".join("== %s ==\n%s" % each for each in sorted(texts.items())))

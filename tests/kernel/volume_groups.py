@@ -10,7 +10,7 @@ import re
 import answers
 from copies import copy_of
 from partitions import PARTITIONS
-from vectors import end_of, in_folder, tables_of
+from vectors import end_of, in_file, tables_of
 
 # The length of a disk that dmsetup names by a number; no text here reaches its end.
 LONG = 1 << 50
@@ -81,7 +81,7 @@ RESTORED = {
 
 
 def jobs(folder):
-    return in_folder(folder, "lvm-")
+    return in_file(folder, "groups")
 
 
 def compare(found, program, vector):

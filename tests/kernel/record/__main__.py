@@ -4,13 +4,14 @@
                                        [--minutes N] [--qemu WORDS] [--work FOLDER]
     python3 tests/kernel/record --same FOLDER FOLDER
 
-The vectors go into FOLDER, a file for each experiment; what a guest didn't record is left there as it was. KERNEL is a
+The vectors go into FOLDER, a file for each kind of experiment; what a guest didn't record is left there as it was. KERNEL is a
 package of Debian, or the path of a kernel's image, with --modules as the folder of its modules. The second form compares
 two folders of vectors, apart from what differs between any two recordings.
 
-A vector is a text of sections. Each begins with a line `-- NAME --`, and below that stands what was recorded, unchanged, up
-to the next such line: a table of text with tabs, lines, or values in JSON where a text has more than one line. A section
-that has such a line itself, or no end of its last line, is not written, and is a fault of the recording.
+A vector stands below a line `== NAME ==`, and is a text of sections. Each begins with a line `-- NAME --`, and below that
+stands what was recorded, unchanged, up to the next such line: a table of text with tabs, lines, or values in JSON where a
+text has more than one line. A section that has such a line itself, or no end of its last line, is not written, and is a
+fault of the recording.
 
 It needs Debian or a system derived from it (apt-get and dpkg-deb, whose sources have lvm2, and the kernel where none
 is given), QEMU for x86-64 (the package qemu-system-x86), 1 GB on the disk, and 3 GB of memory for each guest at a time.

@@ -7,7 +7,7 @@ its metadata, and the order of the cases of a section; and the name of the kerne
 import json
 import re
 
-from vectors import in_folder
+from vectors import KINDS, in_file
 
 # What is taken to be the same. In a text that is a value in JSON, tabs and the ends of lines are written with backslashes.
 ALIKE = [
@@ -38,7 +38,7 @@ def differences(first, second):
 
 def sections_of(folder):
     """All sections of the vectors in a folder; what was recorded with has none."""
-    return {(it.name, section): text for it in in_folder(folder, "") for section, text in it.sections.items()}
+    return {(it.name, section): text for kind in KINDS for it in in_file(folder, kind) for section, text in it.sections.items()}
 
 
 def lines_of(section, text):

@@ -4,15 +4,15 @@ import json
 import os
 import re
 
+import vectors
 from stacks import concise_of, disks_text, text_of
-from vectors import END, joined
 
 # Of more places than this the file has the third and the last three.
 ALL_PLACES = 80
 
 
 class Writer:
-    """The folder of the vectors, each of which is a file with sections."""
+    """The folder of the vectors, a file for each kind of experiment."""
 
     def __init__(self, folder):
         self.folder, self.faults = folder, []
@@ -23,10 +23,10 @@ class Writer:
         with open(os.path.join(self.folder, name), "w", encoding="utf-8", errors="surrogateescape", newline="") as it:
             it.write(text)
 
-    def put_vector(self, name, sections):
-        """Writes a vector. Sections that can't be told apart in one file are a fault."""
+    def put_vector(self, kind, name, sections):
+        """Writes a vector into the file of its kind. Sections that can't be told apart in one file are a fault."""
         try:
-            self.put(name + END, joined(sections))
+            vectors.put(self.folder, kind, name, sections)
         except ValueError as why:
             self.faults.append("%s: %s" % (name, why))
 
@@ -58,7 +58,7 @@ class Writer:
             if not result["refused"]:
                 for section, seen in (("reads.tsv", result["reads"]), ("writes.tsv", result["writes"])):
                     sections[section] = table("device sector lands", landed(seen))
-            self.put_vector(name, {**sections, **message_sections(result)})
+            self.put_vector("mappings", name, {**sections, **message_sections(result)})
 
     def write_snapshots(self, done):
         for name, (experiment, result) in done.items():
@@ -66,11 +66,11 @@ class Writer:
             sections["requests.txt"] = "".join("%s %s %d %d\n" % tuple(it) for it in experiment["requests"])
             if not result["refused"]:
                 sections.update(run_sections(experiment, result))
-            self.put_vector(name, {**sections, **message_sections(result)})
+            self.put_vector("snapshots", name, {**sections, **message_sections(result)})
 
     def write_stores(self, done):
         head = "case chunk store how create ok_writes last_status_ok status_end fail read0 valid exceptions places dmesg"
-        self.put_vector("store-full", {"cases.tsv": table(head, [store_row(*it) for it in done.values()])})
+        self.put_vector("stores", "store-full", {"cases.tsv": table(head, [store_row(*it) for it in done.values()])})
 
     def write_tables(self, done):
         lines = []
@@ -79,14 +79,14 @@ class Writer:
             lines.append({"case": name, "table": text_of(experiment["devices"]), "concise": concise_of(experiment["devices"]),
                           "disks": disks_text(experiment["disks"]), "kernel": "refused" if at else "accepted", "at": at,
                           "message": message, "dmesg": result["messages"], "kernel_table": result["table"]})
-        self.put_vector("accept", {"cases.jsonl": json_lines(lines)})
+        self.put_vector("tables", "accept", {"cases.jsonl": json_lines(lines)})
 
     def write_names(self, result):
         split = [[name, *out.split("|")] + ([said] if status else []) for name, status, out, said in result["split"]]
         built = [{"vg": group, "lv": volume, "layer": layer, "real": name} for group, volume, layer, name in result["build"]]
         parsed = [{"text": text, "accepted": tree is not None, "tree": tree} for text, tree in result["text"]]
-        self.put_vector("splitname", {"splitname.tsv": table("name vg lv layer", split), "build_name.jsonl": json_lines(built)})
-        self.put_vector("lvm-text", {"cases.jsonl": json_lines(parsed)})
+        self.put_vector("names", "splitname", {"splitname.tsv": table("name vg lv layer", split), "build_name.jsonl": json_lines(built)})
+        self.put_vector("texts", "lvm-text", {"cases.jsonl": json_lines(parsed)})
 
     def write_groups(self, done):
         for name, (_, result) in done.items():
@@ -99,7 +99,7 @@ class Writer:
                 sections.update((it + ("-" + group if number else "") + ".txt", text or "") for it, text in texts.items())
             if "edits" in result:
                 sections.update(edit_sections(*result["edits"]))
-            self.put_vector(name, sections)
+            self.put_vector("groups", name, sections)
 
     def write_versions(self, versions, packages):
         said = "".join(versions[it] for it in ("dmsetup", "targets", "lvm"))
