@@ -1,0 +1,142 @@
+"""Says which files of a volume the sectors cost that are missing or can't be read.
+
+Has GROUP/VOLUME, and IMAGEs that are searched for it as by `scan`; a name means what it means to `save`. With --map IMAGE=MAP,
+for each image that has one, the areas that a map of ddrescue doesn't have as finished are missing, too. What another member of an
+array or another leg has isn't lost. Gets a line for each file: how many of its sectors are lost, and its path; `folder` stands
+before a folder, in which files may be lost whole. Other words than paths are those of `files`: `inode N`, `inode table`,
+`in use`, `no inode`, `unused`. The last line says how many sectors are lost in all.
+
+Needs debugfs of e2fsprogs for ext2, ext3 and ext4, and xfs_db of xfsprogs for XFS. These read the volume where it lies in one
+piece in an image, and else a copy in the folder for temporary files, or the one that --saved names, which `save` made.
+"""
+
+import os
+import re
+import tempfile
+from argparse import ArgumentParser, Namespace
+from collections import Counter
+from typing import Dict, List, Optional, Sequence
+
+from dmremap_tools.base import program, quoting, streams
+from dmremap_tools.base.numbers import SECTOR
+from dmremap_tools.base.refusal import WrongWords
+from dmremap_tools.images.copied import parts_of
+from dmremap_tools.layouts import rescue_map, systems
+from dmremap_tools.layouts.asked_runs import AskedRuns, Run
+from dmremap_tools.layouts.debugfs import Debugfs, quoted
+from dmremap_tools.model import mapping
+from dmremap_tools.model.device import Device, joined
+from dmremap_tools.model.image import Image
+from dmremap_tools.model.named import Target, target_of
+from dmremap_tools.model.pile import Pile
+
+EXAMPLE = "dmremap-tools lost vg0/home sda.img sdb.img --map sda.img=sda.map"
+FOLDER = re.compile(r"Type: directory")
+TABLE = "inode table: "
+
+
+class LostRuns(AskedRuns):
+    """The runs of sectors that are lost, as file systems are asked about them."""
+
+    def __init__(self, volume: str, runs: Sequence[Run]) -> None:
+        self.volume, self.runs = volume, list(runs)
+        self._source = self  # type: ignore[assignment]
+        self.name = volume
+
+
+def add_words(parser: ArgumentParser) -> None:
+    """Adds the arguments."""
+    parser.add_argument("volume", metavar="GROUP/VOLUME", help="the volume, by its name")
+    parser.add_argument("images", metavar="IMAGE", nargs="+", help="a file or a block device")
+    parser.add_argument("--map", metavar="IMAGE=MAP", action="append", default=[], help="the map of ddrescue of an image")
+    parser.add_argument("--saved", metavar="FILE", help="a copy of the volume that `save` made, for the file system to be read from")
+    program.add_words(parser)
+
+
+def run(words: Namespace) -> None:
+    """Prints what is lost."""
+    mapping.use(words.program)
+    pile = Pile(words.images, maps_in(words))
+    target = target_of(pile, words.volume)
+    runs = list(lost_runs(target.device, target.size))
+    if runs:
+        with tempfile.TemporaryDirectory(prefix="dmremap-tools-") as room:
+            path = words.saved or place_of(target) or copied(target, os.path.join(room, "volume.img"))
+            for line in lines_of(path, target.name, runs):
+                streams.out.write(line + "\n")
+    streams.out.write(f"{sum(run.count for run in runs)} sectors lost of {target.size // SECTOR}\n")
+
+
+def maps_in(words: Namespace) -> Dict[str, List["tuple[int, int]"]]:
+    """The runs of bytes that maps have as not finished, by the images' paths."""
+    found: Dict[str, List["tuple[int, int]"]] = {}
+    for word in words.map:
+        path, is_given, map_path = word.rpartition("=")
+        if not is_given or path in found or path not in words.images:
+            raise WrongWords(f"--map: not IMAGE=MAP of one of the images, or given twice: {quoting.shown(word)}")
+        source = streams.Lines(map_path)
+        rows = (row for row in source if row and not row.startswith("#"))
+        if not rescue_map.CURRENT.fullmatch(next(rows, "")):
+            source.refuse("not a map of ddrescue")
+        found[path] = [(area.begin // SECTOR * SECTOR, -(-area.end // SECTOR) * SECTOR) for area in rescue_map.areas_in(source, rows)
+                       if area.status != rescue_map.FINISHED]
+    return found
+
+
+def lost_runs(device: Device, size: int) -> "list[Run]":
+    """The runs of sectors that a device lacks."""
+    runs: List[Run] = []
+    at = 0
+    for extent in joined(device.extents(0, size)):
+        if extent.source.lack(extent.start, extent.size) is not None:
+            if runs and runs[-1].first + runs[-1].count == at // SECTOR:
+                runs[-1] = Run(runs[-1].first, runs[-1].count + extent.size // SECTOR)
+            else:
+                runs.append(Run(at // SECTOR, extent.size // SECTOR))
+        at += extent.size
+    return runs
+
+
+def place_of(target: Target) -> Optional[str]:
+    """Where a volume lies, if it is all in one piece of an image."""
+    first, *others = joined(target.device.extents(0, target.size))
+    if others or not isinstance(first.source, Image):
+        return None
+    return first.source.path + (f"?offset={first.start}" if first.start else "")
+
+
+def copied(target: Target, path: str) -> str:
+    """A copy of a volume, with holes where it has zeros or lacks bytes."""
+    at = 0
+    with open(path, "wb") as file:
+        for extent in joined(target.device.extents(0, target.size)):
+            streams.show_progress(f"copying {target.name}: {at >> 20} of {target.size >> 20} MiB")
+            for size, content, _ in parts_of(extent):
+                if content.strip(b"\0"):
+                    file.seek(at)
+                    file.write(content)
+                at += size
+        file.truncate(target.size)
+    return path
+
+
+def lines_of(path: str, volume: str, runs: Sequence[Run]) -> "list[str]":
+    """A line for each file that some of these sectors belong to."""
+    asked = LostRuns(volume, runs)
+    system = systems.system_in(path, asked, False, None)
+    counts: "Counter[str]" = Counter()
+    for each in runs:
+        for block, first, end in each.parts(system.sectors):
+            for file in system.users(block, first, end) if block < system.end else ["past its end"]:
+                counts[file] += end - first
+    folders = folders_of(path, [file[len(TABLE):] if file.startswith(TABLE) else file for file in counts])
+    return [f"{count} sectors: {'folder ' if file in folders else ''}{file}" for file, count in sorted(counts.items())]
+
+
+def folders_of(path: str, files: Sequence[str]) -> "set[str]":
+    """Those of these paths that are folders of an ext file system."""
+    asked = [file for file in files if file.startswith("/")]
+    with open(path.partition("?offset=")[0], "rb") as image:
+        is_xfs = image.read(4) == systems.XFS
+    answers = [] if is_xfs else Debugfs(path, []).ask_many("stat " + quoted(file) for file in asked)
+    return {file for file, answer in zip(asked, answers) if FOLDER.search(answer)}

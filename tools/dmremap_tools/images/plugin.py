@@ -1,0 +1,94 @@
+"""A volume of a pile of images as a disk, for nbdkit: what the plugin of `serve` calls. Its functions have the names and
+arguments of nbdkit-python-plugin(3)."""
+
+import errno
+import os
+from typing import Dict, List, NoReturn, Tuple
+
+import nbdkit  # type: ignore
+
+from dmremap_tools.base import streams
+from dmremap_tools.base.numbers import SECTOR
+from dmremap_tools.base.refusal import Refusal
+from dmremap_tools.model import mapping
+from dmremap_tools.model.device import joined
+from dmremap_tools.model.named import Target, target_of
+from dmremap_tools.model.pile import Pile
+
+__all__ = ["API_VERSION", "thread_model", "config", "get_ready", "open", "get_size", "can_multi_conn", "can_extents", "pread", "extents"]
+
+API_VERSION = 2
+_given: Dict[str, str] = {}
+_images: List[str] = []
+_target: Target
+
+
+def thread_model() -> int:
+    """One request is answered at a time, as the devices ask one child."""
+    return nbdkit.THREAD_MODEL_SERIALIZE_ALL_REQUESTS
+
+
+def config(key: str, value: str) -> None:
+    """Takes a parameter."""
+    if key == "image":
+        _images.append(value)
+    else:
+        _given[key] = value
+
+
+def get_ready() -> None:
+    """Finds the volume."""
+    global _target
+    try:
+        mapping.use(_given.get("program"))
+        _target = target_of(Pile(_images), _given["volume"])
+    except Refusal as refusal:
+        streams.tell(f"dmremap-tools serve: {refusal}")
+        os._exit(1)
+
+
+def open(readonly: bool) -> int:
+    """All clients are the same."""
+    return 1
+
+
+def get_size(handle: int) -> int:
+    """The bytes of the volume."""
+    return _target.size
+
+
+def can_multi_conn(handle: int) -> bool:
+    """Nothing is written, so all clients see the same."""
+    return True
+
+
+def can_extents(handle: int) -> bool:
+    """It is known what reads as zeros."""
+    return True
+
+
+def pread(handle: int, buffer: bytearray, offset: int, flags: int) -> None:
+    """Reads bytes."""
+    try:
+        buffer[:] = _target.device.read(offset, len(buffer))
+    except (Refusal, streams.OutputFailed) as fault:
+        _fail(fault)
+
+
+def extents(handle: int, count: int, offset: int, flags: int) -> List[Tuple[int, int, int]]:
+    """What reads as zeros, and what doesn't, of these bytes."""
+    first = offset // SECTOR * SECTOR
+    end = min(-(-(offset + count) // SECTOR) * SECTOR, _target.size)
+    found: List[Tuple[int, int, int]] = []
+    try:
+        for extent in joined(_target.device.extents(first, end - first)):
+            begin, first = max(first, offset), first + extent.size
+            found.append((begin, first - begin, (nbdkit.EXTENT_HOLE | nbdkit.EXTENT_ZERO) * extent.source.is_zero))
+    except (Refusal, streams.OutputFailed) as fault:
+        _fail(fault)
+    return found
+
+
+def _fail(fault: Exception) -> NoReturn:
+    nbdkit.set_error(errno.EIO)
+    raise RuntimeError(str(fault)) from None

@@ -1,0 +1,60 @@
+"""Saves a volume out of images, by its name.
+
+Has GROUP/VOLUME, and IMAGEs that are searched for it as by `scan`. GROUP may be the group's id, and be left out where one group
+has such a volume. A partition (disk.img:2), an array (md:NAME) or an image can be named as well. Gets OUT, a file with the
+bytes of the volume, with holes where it reads as zeros. Without a map OUT is made beside, and has its name when it is whole.
+
+Refuses a volume of which something is missing, and then there is no OUT; with --map or --allow-missing these sectors are told,
+and are holes. Sectors that can't be read are that in any case. The status is 4 then, or 0 with --allow-missing. With --map MAP
+these areas are written as a map of ddrescue, and where MAP is there already, a run that was broken off goes on.
+
+Also has VOLUME TARGET FORMAT FILE [DISKS], with FORMAT, FILE and DISKS as `dmremap map` takes them: the disks that they name are
+read, each at its name, or where --paths says. (An image that is called as a format is given as ./table.) With --extents, which
+is what `filefrag -v` printed of a file of the volume, TARGET is that file. A snapshot is read as its store says, which is on
+these disks, too, or where --store says; --fresh takes one for new, with the sectors of its origin alone.
+
+If a disk has errors, read it into an image with ddrescue first. A file system in OUT is mounted by `mount -o ro,loop,noload`,
+or its files are taken by `debugfs -R 'dump /FILE OUT' OUT`.
+"""
+
+from argparse import ArgumentParser, Namespace
+from typing import Optional
+
+from dmremap_tools.answers import save as by_tables
+from dmremap_tools.base import given, names
+from dmremap_tools.base.refusal import INCOMPLETE, WrongWords
+from dmremap_tools.images.copied import Copy
+from dmremap_tools.layers import started
+from dmremap_tools.model import mapping
+from dmremap_tools.model.named import target_of
+from dmremap_tools.model.pile import Pile
+
+EXAMPLE = "dmremap-tools save vg0/home home.img sda.img sdb.img --map home.map"
+USAGE = "usage: GROUP/VOLUME OUT IMAGE.., or VOLUME TARGET FORMAT FILE [DISKS]"
+
+
+def add_words(parser: ArgumentParser) -> None:
+    """Adds the arguments."""
+    parser.add_argument("volume", metavar="GROUP/VOLUME", help="the volume, by its name")
+    parser.add_argument("target", metavar="OUT")
+    parser.add_argument("images", metavar="IMAGE", nargs="+", help="a file or a block device; or FORMAT FILE [DISKS]")
+    parser.add_argument("--map", metavar="MAP", help="a map of ddrescue, which is written, and by which a run goes on")
+    parser.add_argument("--allow-missing", action="store_true", help="save what is there, and end with status 0")
+    parser.add_argument("--extents", metavar="EXTENTS", help="with FORMAT: what filefrag -v printed of a file")
+    names.add_words(parser)
+    started.add_words(parser)
+
+
+def run(words: Namespace) -> Optional[int]:
+    """Saves it by tables, or out of the images."""
+    form, *others = words.images
+    if form in given.FORMATS and 1 <= len(others) <= 2:
+        words.form, words.file, words.disks = form, others[0], others[1] if len(others) == 2 else None
+        return by_tables.run(words)
+    for option in ("extents", "paths", "ls", "store", "fresh"):
+        if getattr(words, option):
+            raise WrongWords(f"--{option} is for FORMAT FILE [DISKS]", USAGE)
+    mapping.use(words.program)
+    pile = Pile(words.images)
+    copy = Copy(target_of(pile, words.volume), words.target, words.map, words.allow_missing)
+    return INCOMPLETE if copy.made() and not words.allow_missing else None

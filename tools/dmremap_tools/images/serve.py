@@ -1,0 +1,88 @@
+"""Serves a volume out of images as a disk, by nbdkit, until it is interrupted.
+
+Has GROUP/VOLUME, and IMAGEs that are searched for it as by `scan`; a name means what it means to `save`. Gets the URI of the
+disk, and lines that read it: a copy, a check, a file, a mount. Nothing is ever written, neither to an image nor to the disk.
+A read of sectors that are missing or can't be read fails, and every other one is answered.
+
+Needs nbdkit with its plugin for Python. The lines need libnbd-bin (nbdcopy, nbdfuse), qemu-utils (qemu-img) and e2fsprogs; to
+mount the file that nbdfuse shows takes root.
+"""
+
+import os
+import shlex
+import shutil
+import subprocess
+import tempfile
+import time
+from argparse import ArgumentParser, Namespace
+from typing import List
+
+from dmremap_tools.base import program, streams
+from dmremap_tools.base.refusal import Refusal
+from dmremap_tools.model import mapping
+from dmremap_tools.model.named import target_of
+from dmremap_tools.model.pile import Pile
+
+EXAMPLE = "dmremap-tools serve vg0/home sda.img sdb.img"
+PLUGIN = """import sys
+sys.path.insert(0, {package!r})
+sys.argv = [{tool!r}]
+from dmremap_tools.images.plugin import *
+"""
+# How long the server may take to begin, in steps of so many seconds.
+STEPS, STEP = 200, 0.05
+LINES = """copy it:    nbdcopy {uri} volume.img    (or: qemu-img convert -f raw -O raw {uri} volume.img)
+as a file:  mkdir disk; nbdfuse disk/volume.img {uri} &    (fusermount3 -u disk, or as root umount disk, ends it)
+check it:   e2fsck -fn disk/volume.img
+a file:     debugfs -R 'dump /PATH OUT' disk/volume.img
+mount it:   mount -o ro,loop,noload disk/volume.img /mnt    (as root; of XFS norecovery in place of noload)
+"""
+
+
+def add_words(parser: ArgumentParser) -> None:
+    """Adds the arguments."""
+    parser.add_argument("volume", metavar="GROUP/VOLUME", help="the volume, by its name")
+    parser.add_argument("images", metavar="IMAGE", nargs="+", help="a file or a block device")
+    parser.add_argument("--socket", metavar="SOCKET", help="where the server listens, if not in a folder for temporary files")
+    program.add_words(parser)
+
+
+def run(words: Namespace) -> None:
+    """Serves it."""
+    nbdkit = shutil.which("nbdkit")
+    if not nbdkit:
+        raise Refusal("nbdkit", "it isn't here: install nbdkit and its plugin for Python (nbdkit-plugin-python), or use `save`")
+    mapping.use(words.program)
+    # What is refused is refused before the server begins.
+    target = target_of(Pile(words.images), words.volume)
+    why = target.device.lack(0, target.size)
+    if why:
+        streams.tell(f"{target.name}: {why}: reads of that fail")
+    asked = os.path.abspath(shutil.which(program.dmremap(words.program)) or "dmremap")
+    with tempfile.TemporaryDirectory(prefix="dmremap-tools-") as room:
+        plugin, socket = os.path.join(room, "volume.py"), os.path.abspath(words.socket or os.path.join(room, "socket"))
+        with open(plugin, "w", encoding="utf-8", errors="surrogateescape") as file:
+            package = os.path.dirname(os.path.dirname(os.path.dirname(os.path.abspath(__file__))))
+            file.write(PLUGIN.format(package=package, tool=os.path.join(os.path.dirname(asked), "dmremap-tools")))
+        images = [f"image={os.path.abspath(path)}" for path in words.images]
+        serve([nbdkit, "-f", "-r", "-U", socket, "python", plugin, f"program={asked}", f"volume={words.volume}", *images], socket)
+
+
+def serve(command: List[str], socket: str) -> None:
+    """Runs the server until it ends, and says how to read from it once it listens."""
+    child = subprocess.Popen(command, stdin=subprocess.DEVNULL)
+    try:
+        for _ in range(STEPS):
+            if os.path.exists(socket) or child.poll() is not None:
+                break
+            time.sleep(STEP)
+        if child.poll() is None:
+            uri = shlex.quote(f"nbd+unix:///?socket={socket}")
+            streams.out.write(f"{uri}\n" + LINES.format(uri=uri))
+            streams.flush()
+        if child.wait():
+            raise Refusal("nbdkit", f"it ended with status {child.returncode}")
+    finally:
+        if child.poll() is None:
+            child.terminate()
+            child.wait()

@@ -1,0 +1,66 @@
+"""Writes FILE, DISKS and PATHS of a group, by which dmremap itself answers for its volumes.
+
+Has GROUP, its name or its id, IMAGEs that are searched for it as by `scan`, and the folder that gets the three files, which
+mustn't be there yet. FILE is table text: the volumes under the names that lvm2 gives them, snapshots over their origins and
+stores, and the md arrays that they lie on. DISKS are the images, and PATHS has where they are. Gets the command line to use
+them. A volume that a layer computes, as a thin one, or one with parity, has no table: it is told, and `save` and `serve` give it.
+"""
+
+import os
+import shlex
+from argparse import ArgumentParser, Namespace
+
+from dmremap_tools.base import program, quoting, streams, tables
+from dmremap_tools.base.given import put
+from dmremap_tools.base.refusal import Refusal
+from dmremap_tools.model import mapping
+from dmremap_tools.model.group_tables import GroupTables
+from dmremap_tools.model.named import groups_named
+from dmremap_tools.model.pile import Pile
+
+EXAMPLE = "dmremap-tools tables vg0 sda.img sdb.img --to vg0.tables"
+FILES = ("FILE", "DISKS", "PATHS")
+
+
+def add_words(parser: ArgumentParser) -> None:
+    """Adds the arguments."""
+    parser.add_argument("group", metavar="GROUP", help="the group, by its name or its id")
+    parser.add_argument("images", metavar="IMAGE", nargs="+", help="a file or a block device")
+    parser.add_argument("--to", metavar="FOLDER", required=True, help="where the files are written")
+    program.add_words(parser)
+
+
+def run(words: Namespace) -> None:
+    """Writes them."""
+    mapping.use(words.program)
+    groups = groups_named(Pile(words.images), words.group)
+    if len(groups) > 1:
+        raise Refusal(quoting.shown(words.group), "several groups or sides of one are called so: say the id, or give the images of one side")
+    group = groups[0]
+    made = GroupTables(group.side.layout())
+    for volume in group.volumes:
+        if volume.side is group.side and not volume.is_removed:
+            made.add(volume.key)
+    for name, why in made.left_out.items():
+        streams.tell(f"left out: {quoting.shown(name)}: {why}")
+    if not made.devices:
+        raise Refusal(quoting.shown(words.group), "none of its volumes has a table: `save` and `serve` give those that are computed")
+    write(made, words.to)
+
+
+def write(made: GroupTables, folder: str) -> None:
+    """Writes the three files, and prints how they are used."""
+    file, disks, paths = (os.path.join(folder, name) for name in FILES)
+    try:
+        os.makedirs(folder, exist_ok=True)
+    except OSError as fault:
+        raise streams.OutputFailed(f"{quoting.shown(folder)}: {streams.why(fault)}")
+    for path in (file, disks, paths):
+        if os.path.lexists(path):
+            raise Refusal(quoting.shown(path), "it is there already")
+    put(file, [tables.text_of(list(made.devices.values()), False)])
+    put(disks, [f"{name} {made.sectors_of(name)}\n" for name in made.disks])
+    put(paths, [f"{name} {os.path.abspath(image.path)}\n" for name, image in made.disks.items()])
+    words = f"map table {shlex.quote(file)} {shlex.quote(disks)}"
+    used = f"dmremap-tools used --paths {shlex.quote(paths)} {words}" if made.has_snapshots else f"dmremap {words}"
+    streams.out.write(used + "\n")

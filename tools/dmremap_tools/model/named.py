@@ -1,0 +1,91 @@
+"""What somebody means by a name: a volume of a group, a partition, an array or a whole image."""
+
+from typing import List, NamedTuple
+
+from dmremap_tools.base import quoting
+from dmremap_tools.base.numbers import SECTOR
+from dmremap_tools.base.refusal import Refusal
+from dmremap_tools.model.device import Device
+from dmremap_tools.model.groups import REMOVED, Group, same_id
+from dmremap_tools.model.pile import Pile
+from dmremap_tools.model.volume import Volume
+
+SCAN = "`scan` lists what is there"
+
+
+class Target(NamedTuple):
+    """What is meant: its name, and its bytes."""
+
+    name: str
+    device: Device
+    size: int
+
+
+def target_of(pile: Pile, name: str) -> Target:
+    """What a name means. One that means nothing, or several things, is refused, with what to say instead."""
+    devices = spots_named(pile, name)
+    if devices:
+        check_alone(pile, name)
+        return Target(name, devices[0], devices[0].size)
+    try:
+        volume = volume_named(pile, name)
+        if volume.why() is None or not pile.search():
+            return Target(volume.path, volume.device(), volume.sectors * SECTOR)
+    except Refusal:
+        if not pile.search():
+            raise
+    volume = volume_named(pile, name)
+    return Target(volume.path, volume.device(), volume.sectors * SECTOR)
+
+
+def check_alone(pile: Pile, name: str) -> None:
+    """Refuses the name of an image that a volume has, too."""
+    try:
+        volume = volume_named(pile, name)
+    except Refusal:
+        return
+    raise Refusal(quoting.shown(name), f"both an image and a volume are called so: say ./{quoting.shown(name)}, or {quoting.shown(volume.path)}")
+
+
+def spots_named(pile: Pile, name: str) -> List[Device]:
+    """The image, the partition or the array of this name."""
+    found = []
+    for spot in pile.spots():
+        paths = [spot.path, spot.path.rpartition("/")[2], f"./{spot.path}"] if spot.image else [spot.path]
+        if any(name == path + (f":{spot.partition}" if spot.partition else "") for path in paths):
+            found.append(spot.device)
+    for array in pile.arrays:
+        is_meant = name == array.label or name == f"md:{array.identity}"
+        if is_meant and array.why:
+            raise Refusal(array.label, array.why)
+        if is_meant and array.device and array.device not in found:
+            found.append(array.device)
+    if len(found) > 1:
+        raise Refusal(quoting.shown(name), "several are called so: give an image by its path as it is given, or an array as md:UUID")
+    return found
+
+
+def volume_named(pile: Pile, name: str) -> Volume:
+    """The volume of this name: GROUP/VOLUME, where GROUP may be the group's id, or VOLUME alone."""
+    group_name, slash, volume_name = name.rpartition("/")
+    groups = [group for group in pile.groups if not slash or group_name == group.name or same_id(group_name, group.identity)]
+    if slash and not groups:
+        raise Refusal(quoting.shown(name), f"no group is called {quoting.shown(group_name)}: {SCAN}")
+    having = [(group, volume) for group in groups for volume in [group.volume(volume_name)] if volume]
+    living = [(group, volume) for group, volume in having if group.state != REMOVED and not volume.is_removed] or having
+    if not living:
+        where = f"the group {quoting.shown(group_name)} has no such volume" if slash else "no group has such a volume"
+        raise Refusal(quoting.shown(name), f"{where}: {SCAN}")
+    if len({group.identity for group, _ in living}) > 1:
+        called = [f"{group.identity}/{quoting.shown(volume_name)} (on {', '.join(map(quoting.shown, group.places))})" for group, _ in living]
+        raise Refusal(quoting.shown(name), "several groups have such a volume: say " + quoting.some(called, " or "))
+    return living[0][1]
+
+
+def groups_named(pile: Pile, name: str) -> List[Group]:
+    """The groups of this name or id."""
+    pile.search()
+    found = [group for group in pile.groups if name == group.name or same_id(name, group.identity)]
+    if not found:
+        raise Refusal(quoting.shown(name), f"no group is called so: {SCAN}")
+    return found
