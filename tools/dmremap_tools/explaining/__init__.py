@@ -1,0 +1,1 @@
+"""Why dmremap refuses something, and how an answer comes about."""
