@@ -96,10 +96,11 @@ def started(command, **how):
 
 
 def become(program, words):
-    """Gives place to the program. Python passes over two signals, which the program is not to find passed over."""
+    """Gives place to the program. Python passes over two signals, which the program is not to find passed over. It refuses words
+    that are no UTF-8, and so is told a name that has the rest of its path."""
     for it in (signal.SIGPIPE, signal.SIGXFSZ):
         signal.signal(it, signal.SIG_DFL)
-    os.execv(program, [program, *words])
+    os.execv(program, [os.fsencode(program).decode("utf-8", "replace").encode(), *words])
 
 
 def take(file, why):

@@ -20,10 +20,12 @@ What a command uses of `base`, so that all behave alike:
     streams.read(path)          the whole text of a file or of `-`
     streams.out.write(text)     standard output; it is flushed before an input is waited for
     streams.beside(path)        a file that is written beside it, as PLACES
+    written.Place(path)         any other file that is written: never over an input, and put in its place once it is whole
     streams.tell(text)          a line on standard error
     streams.show_progress(text) how far long work is, on a terminal alone
     refusal.Refusal(where, why) raised, it ends the command with `dmremap-tools NAME: WHERE: WHY` and status 1
     quoting.shown(text)         foreign text, for a message
+    written.note_input(..)      for a file that is opened for reading in another way than by streams
     numbers, names, tables, listings, pieces, requests, paths, program
 
 A command opens no output by itself, catches no OSError of one, and never prints. A failing output, a closed

@@ -2,10 +2,11 @@
 
 from typing import List, NamedTuple, Optional
 
+IMAGES = "images of disks"
 REQUESTS, MACHINES, METADATA, ANSWERS, LAYOUTS = "requests", "FILE and DISKS", "metadata", "answers", "layouts"
-LAYERS = "used snapshots and other layers"
-FOLDERS = {REQUESTS: "requests", MACHINES: "machines", METADATA: "metadata", ANSWERS: "answers", LAYOUTS: "layouts",
-           LAYERS: "layers"}
+LAYERS, REASONS = "used snapshots and other layers", "refusals and answers, explained"
+FOLDERS = {IMAGES: "images", REQUESTS: "requests", MACHINES: "machines", METADATA: "metadata", ANSWERS: "answers", LAYOUTS: "layouts",
+           LAYERS: "layers", REASONS: "explaining"}
 
 
 class Command(NamedTuple):
@@ -23,6 +24,11 @@ class Command(NamedTuple):
 
 
 COMMANDS: List[Command] = [
+    Command("scan", IMAGES, "what a pile of images holds"),
+    Command("save", IMAGES, "a volume, or a file of one, out of images or disks"),
+    Command("serve", IMAGES, "a volume as a disk, by nbdkit"),
+    Command("lost", IMAGES, "the files that missing or unreadable sectors cost"),
+    Command("tables", IMAGES, "FILE, DISKS and PATHS of a group, for dmremap itself"),
     Command("filefrag", REQUESTS, "from the extents of files, as filefrag prints them", True),
     Command("debugfs", REQUESTS, "from the extents of a file that isn't mounted", True),
     Command("bytes", REQUESTS, "from offsets and lengths in bytes", True),
@@ -46,7 +52,6 @@ COMMANDS: List[Command] = [
     Command("json", ANSWERS, "an object for each piece"),
     Command("to-fio", ANSWERS, "a log of the disks' reads, which fio replays", True),
     Command("dd", ANSWERS, "a line for dd for each piece", True),
-    Command("save", ANSWERS, "a volume or a file of it, out of disks or images"),
     Command("read-back", ANSWERS, "a file, put together from the disks"),
     Command("spans", LAYOUTS, "which line uses which sectors of disks and devices, sorted", True),
     Command("free", LAYOUTS, "the same, with what no line names in between"),
@@ -69,6 +74,7 @@ COMMANDS: List[Command] = [
     Command("nbd-plugin", LAYERS, "the path of a plugin by which nbdkit serves a device as a disk"),
     Command("picture", LAYERS, "the disks and what lies on them, as a picture"),
     Command("plot", LAYERS, "where answers read and write over their course, as a picture"),
+    Command("explain", REASONS, "why dmremap refuses something, or how an answer comes about"),
 ]
 
 

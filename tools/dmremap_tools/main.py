@@ -9,11 +9,21 @@ from types import ModuleType
 from typing import Callable, List, NoReturn
 
 from dmremap_tools import commands
-from dmremap_tools.base import quoting, streams
+from dmremap_tools.base import quoting, streams, written
 from dmremap_tools.base.refusal import Refusal, WrongWords
 
 TOOL = "dmremap-tools"
-REFUSED, WRONG_WORDS, OUTPUT_FAILED, OWN_FAULT, INTERRUPTED, READER_GONE = 1, 2, 5, 70, 130, 141
+REFUSED, WRONG_WORDS, OUTPUT_FAILED, OWN_FAULT, READER_GONE = 1, 2, 5, 70, 141
+# What tells a command to end; its status is then this number and that of the signal, as a shell has it.
+ENDS = (signal.SIGINT, signal.SIGTERM, signal.SIGHUP)
+BY_SIGNAL = 128
+
+
+_heard: List[int] = []
+
+
+class ToldToEnd(BaseException):
+    """A signal told the command to end: its number."""
 
 
 class Parser(argparse.ArgumentParser):
@@ -66,8 +76,8 @@ def run(words: List[str]) -> int:
     except OSError as fault:
         # Of a file for what is kept meanwhile: those that are named are told where they are opened.
         return _end(OUTPUT_FAILED, "%s: a temporary file: %s" % (name, streams.why(fault)), is_fed)
-    except KeyboardInterrupt:
-        return _end(INTERRUPTED, "", is_fed)
+    except ToldToEnd as told:
+        return _end(BY_SIGNAL + told.args[0], "", is_fed)
     except Exception as fault:
         return _end(OWN_FAULT, "%s: a fault of this tool: %r" % (name, fault), is_fed)
 
@@ -81,14 +91,26 @@ def _run(command: "commands.Command | None", name: str, words: List[str]) -> int
         except SystemExit:
             # After its help.
             return 0
-        if signal.getsignal(signal.SIGINT) is signal.SIG_DFL:
-            signal.signal(signal.SIGINT, signal.default_int_handler)
+        # Not those that are passed over, as nohup wants it.
+        _heard.extend(it for it in ENDS if signal.getsignal(it) in (signal.SIG_DFL, signal.default_int_handler))
+        _answer_signals(_told_to_end)
         return module.run(typed) or 0
     if words and words[0] in ("-h", "--help"):
         streams.out.write(commands.overview())
         return 0
     reason = "no command '%s'; --help lists them" % quoting.shown(words[0]) if words else "--help lists the commands"
     raise WrongWords(reason, "usage: %s COMMAND .." % TOOL)
+
+
+def _told_to_end(number: int, _: object) -> NoReturn:
+    """Ends the command. Until what it began is removed, it is told no more."""
+    _answer_signals(signal.SIG_IGN)
+    raise ToldToEnd(number)
+
+
+def _answer_signals(action: "signal.Handlers | Callable[[int, object], object]") -> None:
+    for number in _heard:
+        signal.signal(number, action)
 
 
 def _parsed(parser: Parser, words: List[str]) -> argparse.Namespace:
@@ -112,7 +134,10 @@ def parser_of(command: "commands.Command", module: ModuleType, name: str) -> Par
 
 
 def _end(status: int, message: str, is_fed: bool, usage: str = "") -> int:
-    """Says why, and spoils the outputs. One that fails only now is told, too, unless messages fail."""
+    """Removes what was begun, says why, and spoils the outputs. One that fails only now is told, too, unless messages fail."""
+    _answer_signals(signal.SIG_IGN)
+    written.discard()
+    _answer_signals(signal.SIG_DFL)
     unsaid = _failure_of(lambda: [streams.tell(line) for line in usage.split("\n") + [message] if line])
     failed = _failure_of(lambda: streams.spoil(is_fed))
     if failed and status != OUTPUT_FAILED:

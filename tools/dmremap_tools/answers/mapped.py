@@ -18,7 +18,7 @@ class Mapped:
         self._name = command[0]
         streams.flush()
         try:
-            self._child = subprocess.Popen(command, stdin=subprocess.PIPE, stdout=subprocess.PIPE)
+            self._child = program.start(command, stdin=subprocess.PIPE, stdout=subprocess.PIPE)
         except OSError as fault:
             raise Refusal(quoting.shown(command[0]), streams.why(fault))
         self._faults: List[BaseException] = []

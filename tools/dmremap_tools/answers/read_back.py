@@ -1,11 +1,12 @@
 """Puts a file together from the disks.
 
-Has PLACES, which `filefrag` or `debugfs` wrote beside the requests for the file, PIECES, the answers to these requests,
-and the disks that they name, or images of them with --paths. Gets FILE, of the file's length, with holes where it reads
-as zeros. Refuses pieces that aren't whole or don't fit PLACES; a disk that isn't there or ends too early; a FILE that is
-there already, also as a link.
+Has PLACES, which `filefrag` or `debugfs` wrote beside the requests for the file, REQUESTS, these, and FORMAT, FILE and DISKS, as
+`dmremap map` takes them; and the disks, or images of them with --paths. Gets TARGET, of the file's length, with holes where it
+reads as zeros. A snapshot is read as its store says, which is on these disks or where --store says, unless --fresh insists that
+nothing is in it. Refuses requests that don't fit PLACES; a disk that isn't there or ends too early; a TARGET that is there already,
+also as a link.
 
-Sectors that can't be read are told, and are zeros in FILE; the status is 4 then. If a disk has errors, read it into an
+Sectors that can't be read are told, and are zeros in TARGET; the status is 4 then. If a disk has errors, read it into an
 image with ddrescue first.
 """
 
@@ -16,42 +17,42 @@ from typing import Dict, Iterable, Iterator, List, Optional, Tuple
 from dmremap_tools.answers.gaps import Gaps
 from dmremap_tools.answers.sources import Sources
 from dmremap_tools.answers.target import Target
-from dmremap_tools.base import numbers, paths, pieces, quoting, streams
+from dmremap_tools.answers.mapping import mapping
+from dmremap_tools.base import given, numbers, pieces, quoting, streams
 from dmremap_tools.base.refusal import INCOMPLETE
+from dmremap_tools.layers import started
 
-EXAMPLE = "dmremap-tools read-back places pieces report.odt"
+EXAMPLE = "dmremap-tools read-back places requests report.odt lvm vg0.backup"
 READ = ("R", "zero", "error")
 MOST_BYTES = 1 << 63
 
 
 def add_words(parser: ArgumentParser) -> None:
     """Adds the arguments."""
-    paths.add_words(parser)
     parser.add_argument("places", metavar="PLACES")
-    parser.add_argument("pieces", metavar="PIECES")
-    parser.add_argument("file", metavar="FILE")
+    parser.add_argument("requests", metavar="REQUESTS")
+    parser.add_argument("target", metavar="TARGET")
+    given.add_words(parser)
+    started.add_words(parser)
 
 
 def run(words: Namespace) -> Optional[int]:
     """Checks all of it, and then makes the file."""
+    source = given.given_in(words, "PLACES REQUESTS TARGET FORMAT FILE [DISKS]")
     places = Places(words.places)
     steps = Steps()
-    for at, piece in placed(places, pieces.Answers(words.pieces)):
-        steps.add(at, piece)
-    found = paths.places(words.paths)
-    paths.tell_unknown(words.paths, found, steps.ends)
+    with mapping(words, words.requests, source) as (answers, found):
+        for at, piece in placed(places, answers):
+            steps.add(at, piece)
     sources = Sources(found)
     for name, end in steps.ends.items():
         sources.check(name, end)
-    target, gaps = Target(words.file, places.size), Gaps()
-    try:
-        for at, name, start, count in steps:
-            copy(sources, target, gaps, at, name, start, count)
-        gaps.tell()
-        target.close()
-    except BaseException:
-        target.discard()
-        raise
+    target, gaps = Target(words.target, places.size), Gaps()
+    for at, name, start, count in steps:
+        copy(sources, target, gaps, at, name, start, count)
+    gaps.tell()
+    target.close()
+    target.put()
     return INCOMPLETE if gaps.were_any else None
 
 

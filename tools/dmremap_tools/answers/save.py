@@ -1,20 +1,23 @@
-"""Saves a whole volume, or a file of it, out of disks or images of them.
+"""`save` by tables: a whole volume, or a file of it, out of disks or images of them.
 
 Has a VOLUME, FORMAT, FILE and DISKS, as `dmremap map` takes them, and the disks that they name: each at its name, or where
 --paths says. With lvm, a whole disk will do for a partition, as the ids in labels tell. Gets TARGET, a file with what the
 volume has, with holes where it reads as zeros; or with --extents, which is what `filefrag -v` printed of a file of the
-volume, that file.
+volume, that file. A snapshot is read as its store says, which is on these disks, too, or where --store says; one that is
+invalid is refused, and --fresh takes one for new, with the sectors of its origin alone.
 
 Sectors that can't be read, and those of disks that aren't there, are told and are holes; the status is 4 then, or 0 with
 --allow-missing. With --map MAP these areas are written as a map of ddrescue, and where MAP is there already, a run that was
-broken off goes on, and tries what was missing again. Refuses a TARGET that is there already, but for that.
+broken off goes on, and tries what was missing again. Refuses a TARGET that is there already, but for that; without a map it
+is made beside its place, and is there once it is whole. Neither it nor MAP is a file that is read.
 
 If a disk has errors, read it into an image with ddrescue first. A file system in TARGET is mounted by
 `mount -o ro,loop,noload`, or its files are taken by `debugfs -R 'dump /FILE OUT' TARGET`.
 """
 
+import tempfile
 import time
-from argparse import ArgumentParser, Namespace
+from argparse import Namespace
 from typing import Iterator, List, NamedTuple, Optional, Set, Tuple
 
 from dmremap_tools.answers.gaps import Gaps
@@ -23,14 +26,13 @@ from dmremap_tools.answers.read_back import placed
 from dmremap_tools.answers.saved_map import SavedMap
 from dmremap_tools.answers.sources import Sources
 from dmremap_tools.answers.target import Target
-from dmremap_tools.base import given, names, numbers, paths, pieces, program, quoting, requests, streams
+from dmremap_tools.base import given, names, numbers, pieces, quoting, requests, streams
 from dmremap_tools.base.refusal import INCOMPLETE, Refusal
 from dmremap_tools.layouts.rescue_map import BAD, FINISHED, UNTRIED
-from dmremap_tools.layers.stack import sizes_of
-from dmremap_tools.machines.placed import by_ids
+from dmremap_tools.layers import started
+from dmremap_tools.layers.stack import Stack
 from dmremap_tools.requests import filefrag
 
-EXAMPLE = "dmremap-tools save vg0-lv0 lv0.img lvm vg0.backup --paths paths --map lv0.map"
 SECONDS = 30
 
 
@@ -42,53 +44,51 @@ class Extent(NamedTuple):
     count: int
 
 
-def add_words(parser: ArgumentParser) -> None:
-    """Adds the arguments."""
-    parser.add_argument("volume", metavar="VOLUME", help="the device, by its name or path")
-    parser.add_argument("target", metavar="TARGET")
-    given.add_words(parser)
-    parser.add_argument("--extents", metavar="EXTENTS", help="what filefrag -v printed of a file")
-    parser.add_argument("--map", metavar="MAP", help="a map of ddrescue, which is written, and by which a run goes on")
-    parser.add_argument("--allow-missing", action="store_true", help="end with status 0 where sectors are missing")
-    paths.add_words(parser)
-    names.add_words(parser)
-    program.add_words(parser)
-
-
 def run(words: Namespace) -> Optional[int]:
     """Makes the file, or goes on with it."""
-    with given.plain(words, "VOLUME TARGET FORMAT FILE [DISKS]") as source:
-        gaps = save(words, source)
+    source = given.given_in(words, "VOLUME TARGET FORMAT FILE [DISKS]")
+    with tempfile.TemporaryDirectory(prefix="dmremap-tools-") as room:
+        gaps = save(words, source, room)
     return INCOMPLETE if gaps.were_any and not words.allow_missing else None
 
 
-def save(words: Namespace, source: given.Given) -> Gaps:
-    """The same, from this source; returns what is missing."""
+def save(words: Namespace, source: given.Given, room: str) -> Gaps:
+    """The same, from this source, with a folder for what dmremap reads; returns what is missing."""
     volume = names.Names(words.ls).device(words.volume, names.Word("VOLUME"))
-    command = [program.dmremap(words.program), "map", *source.words()]
-    size, extents = extents_of(words.extents, volume) if words.extents is not None else whole(command, volume, words.file)
-    places, sizes = paths.places(words.paths), sizes_of(source)
-    paths.check_known(words.paths, places, sizes)
-    sources = Sources(by_ids(source.file if source.form == "lvm" else None, places, sizes))
+    begun = started.start(words, source, [volume], room)
+    begun.check_valid()
+    size, extents = extents_of(words.extents, volume) if words.extents is not None else whole(begun.loaded, volume, words.file)
+    sources = Sources(begun.places)
+    sources.note(begun.loaded.sizes)
     areas = [(it.at * numbers.SECTOR, (it.at + it.count) * numbers.SECTOR) for it in extents]
     saved = SavedMap(words.map, size, areas)
     target = Target(words.target, size, saved.is_begun)
-    is_kept = saved.is_begun
+    if words.map is not None:
+        begin_kept(target, saved)
+    try:
+        gaps = fill(begun.words, volume, list(left(extents, saved)), Saver(sources, target, saved, size))
+    finally:
+        # Where the file's disk doesn't take what was written, the map doesn't say that it did.
+        if words.map is not None:
+            target.sync()
+            saved.write()
+    target.close()
+    if words.map is None:
+        target.put()
+    return gaps
+
+
+def begin_kept(target: Target, saved: SavedMap) -> None:
+    """Puts the file in its place, once its map is there: without that it would look whole."""
+    if saved.is_begun:
+        saved.write()
+        return
     try:
         saved.write()
-        is_kept = words.map is not None
-        gaps = fill(command, volume, list(left(extents, saved)), Saver(sources, target, saved, size))
-        if is_kept:
-            target.sync()
-        target.close()
+        target.put()
     except BaseException:
-        if not is_kept:
-            target.discard()
+        saved.remove()
         raise
-    finally:
-        if is_kept:
-            saved.write()
-    return gaps
 
 
 def fill(command: List[str], volume: str, todo: List[Extent], saver: "Saver") -> Gaps:
@@ -101,14 +101,12 @@ def fill(command: List[str], volume: str, todo: List[Extent], saver: "Saver") ->
     return saver.gaps
 
 
-def whole(command: List[str], volume: str, name: str) -> Tuple[int, List[Extent]]:
+def whole(loaded: Stack, volume: str, name: str) -> Tuple[int, List[Extent]]:
     """The length of a volume in bytes, and all of it as one extent. `name` is what FILE is called."""
-    printed = program.ask([command[0], "table", *command[2:]])
-    lines = [row.split(" ") for row in printed.split("\n") if row.startswith(volume + ": ")]
-    if not lines:
+    device = loaded.by_path().get(names.MAPPER + volume)
+    if device is None:
         raise Refusal(streams.name_of(name), "no device " + volume)
-    length = int(lines[-1][1]) + int(lines[-1][2])
-    return length * numbers.SECTOR, [Extent(0, 0, length)]
+    return device.end() * numbers.SECTOR, [Extent(0, 0, device.end())]
 
 
 def extents_of(path: str, volume: str) -> Tuple[int, List[Extent]]:

@@ -6,7 +6,7 @@ import itertools
 import os
 from typing import Iterable, Iterator, List, Optional, Tuple
 
-from dmremap_tools.base import quoting, streams
+from dmremap_tools.base import quoting, streams, written
 from dmremap_tools.base.refusal import Refusal
 from dmremap_tools.layouts import rescue_map
 from dmremap_tools.layouts.rescue_map import FINISHED, UNTRIED, Area
@@ -18,7 +18,8 @@ class SavedMap:
     """The areas of a file of so many bytes, of which only some, given by begin and end, have to be put together."""
 
     def __init__(self, path: Optional[str], size: int, wanted: Iterable[Tuple[int, int]]) -> None:
-        self._path, self._size = None if path is None else streams.file_of(path), size
+        self._path, self._size = path, size
+        self._place = None if path is None else written.Place(path)
         self.is_begun = path is not None and os.path.lexists(path)
         self._areas = self._read() if self.is_begun else list(joined(first_areas(size, wanted)))
         self._ends = [it.end for it in self._areas]
@@ -40,22 +41,22 @@ class SavedMap:
 
     def write(self) -> None:
         """Writes the map, in place of the one that was there."""
-        if self._path is None:
+        if self._place is None:
             return
         areas = list(joined(overlaid(self._areas, self._marks)))
         left = next((it for it in areas if it.status != FINISHED), None)
         lines = ["0x%08X  0x%08X  %s\n" % (it.begin, it.end - it.begin, it.status) for it in areas]
         text = "%s0x%08X     %s               1\n#      pos        size  status\n" % (
             HEAD, left.begin if left else self._size, UNTRIED if left else FINISHED)
-        try:
-            with open(self._path + ".new", "w", encoding="ascii") as file:
-                file.write(text + "".join(lines))
-            os.replace(self._path + ".new", self._path)
-        except OSError as fault:
-            raise streams.OutputFailed("%s: %s" % (quoting.shown(self._path), streams.why(fault)))
+        self._place.write((text + "".join(lines)).encode("ascii"))
+
+    def remove(self) -> None:
+        """Takes the map away that was written."""
+        if self._place:
+            self._place.remove()
 
     def _read(self) -> List[Area]:
-        source = streams.Lines(_opening(self._path or ""))
+        source = streams.Lines(_opening(self._path or ""), is_written=True)
         rows = (it for it in source if it and not it.startswith("#"))
         if not rescue_map.CURRENT.fullmatch(next(rows, "")):
             source.refuse("not a map of ddrescue")

@@ -2,9 +2,9 @@
 
 import os
 import stat
-from typing import Dict, Iterator, Optional, Tuple
+from typing import Dict, Iterable, Iterator, Optional, Tuple
 
-from dmremap_tools.base import disk_image, numbers, quoting, streams
+from dmremap_tools.base import disk_image, numbers, quoting, streams, written
 from dmremap_tools.base.paths import Place
 from dmremap_tools.base.refusal import Refusal
 
@@ -28,6 +28,11 @@ class Sources:
             raise Refusal(quoting.shown(place.path), missing)
         if os.lseek(self._open[name], 0, os.SEEK_END) < place.start + end * numbers.SECTOR:
             raise Refusal(quoting.shown(place.path), "it ends before sector %d" % end)
+
+    def note(self, names: Iterable[str]) -> None:
+        """Notes the disks of these names, so that nothing is written over one."""
+        for name in names:
+            written.note_path(self._place(name).path)
 
     def missing(self, name: str) -> Optional[str]:
         """Why a disk isn't there, or None if it is."""
@@ -66,6 +71,7 @@ def opened(path: str) -> int:
     if not stat.S_ISREG(kind) and not stat.S_ISBLK(kind):
         os.close(descriptor)
         raise Refusal(quoting.shown(path), "neither a file nor a disk")
+    written.note_input(descriptor)
     disk_image.check_form(descriptor, quoting.shown(path))
     return descriptor
 

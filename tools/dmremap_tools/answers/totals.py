@@ -1,7 +1,8 @@
 """Totals of each disk, from answers.
 
 Gets for each disk what is done there (R or W; a copy is a read and a write), in how many pieces, and how many sectors and
-bytes; for `zero`, `drop` and `error` the same after `-`. Tells if nothing came. Refuses lines that are no pieces.
+bytes; for `zero`, `drop` and `error` the same after `-`. A kernel also writes the list of a snapshot's store, which answers leave
+out, so that the disk of a store does more than is counted here. Tells if nothing came. Refuses lines that are no pieces.
 """
 
 from argparse import ArgumentParser, Namespace

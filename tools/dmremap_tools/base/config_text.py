@@ -5,7 +5,7 @@ fraction, numbers with a zero in front, which are octal, commas that are missing
 quotes, other white space. Nearly all of a text has none of that, and is read a field at a time (`STEP`); the rest
 is read token by token. The time is linear in the text."""
 
-import bisect
+import itertools
 import re
 from typing import Iterator, List, NamedTuple, Optional, Tuple, Union
 
@@ -20,6 +20,9 @@ STRINGS = {b'"': re.compile(rb'"[^"\\]*(?:\\.[^"\\]*)*"', re.S), b"'": re.compil
 WORDS = re.compile(rb"[^ \t\n\v\f\r#={}]+")
 OCTAL = re.compile(rb"([+-]?)0([0-7]*)")
 MOST_DIGITS = 20
+# How many keys and values a text has at most, as each takes some hundred bytes of memory; and in how many bytes lines are counted
+# at a time.
+MOST_PARTS, BLOCK = 150000, 1 << 16
 
 # What lvm2 itself writes, and dmremap reads: a key with a value, the beginning of a section, the end of one.
 _ITEM = rb'(?:"[^"\\\n]*"|(?:0|[1-9][0-9]{0,17})(?=[ \t\n#},\]]))'
@@ -108,20 +111,30 @@ class Document:
     `tight` has the places where a word begins right after a number."""
 
     def __init__(self, path: str, content: bytes) -> None:
-        self.path, self.content = path, content.split(b"\0", 1)[0]
+        self.path, self.content = path, content.split(b"\0", 1)[0] if b"\0" in content else content
         self.tight: List[int] = []
-        self._newlines: Optional[List[int]] = None
+        # The number of lines before each block, once it is asked for.
+        self._lines: List[int] = []
+        self._parts = 0
         self.top = self._tree()
 
     def line_at(self, at: int) -> int:
         """The line of a byte."""
-        if self._newlines is None:
-            self._newlines = [it.start() for it in re.finditer(b"\n", self.content)]
-        return 1 + bisect.bisect_left(self._newlines, at)
+        if not self._lines:
+            counts = (self.content.count(b"\n", begin, begin + BLOCK) for begin in range(0, len(self.content), BLOCK))
+            self._lines = [0, *itertools.accumulate(counts)]
+        block = at // BLOCK
+        return 1 + self._lines[block] + self.content.count(b"\n", block * BLOCK, at)
 
     def refused(self, at: int, why: str) -> Refusal:
         """A refusal at the line of a byte."""
         return Refusal("%s:%d" % (self.path, self.line_at(at)), why)
+
+    def count_part(self, at: int) -> None:
+        """Counts a key or a value, which begins here, and refuses a text that has too many."""
+        self._parts += 1
+        if self._parts > MOST_PARTS:
+            raise self.refused(at, "more than %d keys and values: give the text of one group, without other volumes" % MOST_PARTS)
 
     def _tree(self) -> Node:
         """The section without a key that holds the text."""
@@ -139,6 +152,7 @@ class Document:
             if found.lastindex == CLOSED:
                 self._close(opened, at)
                 continue
+            self.count_part(at)
             node = Node(self, found[1], found.start(1), found.start(found.lastindex), at, len(opened), True)
             opened[-1].children.append(node)
             if found.lastindex == SECTION:
@@ -159,6 +173,7 @@ class Document:
                 raise self.refused(start, "the end is missing: %s, line %d, isn't closed"
                                    % (shown(opened[-1].key), self.line_at(opened[-1].start)))
             return None
+        self.count_part(start)
         node = Node(self, self._key(kind, start, end), start, start, end, len(opened), False)
         opened[-1].children.append(node)
         kind, node.value_at, node.end = self._token(end, False)
@@ -216,6 +231,7 @@ class Document:
         items: List[Item] = []
         kind, start, end = self._token(end, True)
         while kind != "]":
+            self.count_part(start)
             items.append(self._item(kind, start, end))
             kind, start, end = self._token(end, False)
             if kind == ",":

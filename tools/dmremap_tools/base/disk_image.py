@@ -6,7 +6,7 @@ import os
 import stat
 from typing import BinaryIO, Optional, Tuple
 
-from dmremap_tools.base import plain_text, streams
+from dmremap_tools.base import plain_text, streams, written
 from dmremap_tools.base.numbers import SECTOR
 from dmremap_tools.base.paths import Place
 from dmremap_tools.base.refusal import Refusal
@@ -76,6 +76,7 @@ def open_image(path: str) -> Image:
         file = open(streams.take_input() if path == "-" else path, "rb", buffering=0, closefd=path != "-", opener=_open)
     except OSError as fault:
         raise Unreadable(name, streams.why(fault))
+    written.note_input(file.fileno())
     image = Image(file, name)
     if not image.size:
         raise Unreadable(name, "it is empty")

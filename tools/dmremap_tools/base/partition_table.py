@@ -4,38 +4,28 @@ import struct
 import zlib
 from typing import List, NamedTuple, Optional, Tuple
 
-from dmremap_tools.base import streams
+from dmremap_tools.base import mbr
 from dmremap_tools.base.disk_image import Image
 from dmremap_tools.base.numbers import SECTOR
+from dmremap_tools.base.partition import Partition
 from dmremap_tools.base.refusal import Refusal
 
 
-class Partition(NamedTuple):
-    """The number that Linux gives a partition, and where its bytes are on the disk."""
-
-    number: int
-    start: int
-    size: int
-
-
 class Table(NamedTuple):
-    """A partition table: what it is called, and what it has."""
+    """A partition table: what it is called, the partitions that it has, and what it takes itself: starts and ends in bytes. It may be
+    the second copy, where the first isn't sound."""
 
     kind: str
     partitions: List[Partition]
+    taken: List[Tuple[int, int]]
+    is_backup: bool = False
 
 
-# The type of a partition, its first sector and its sectors.
-Entry = Tuple[int, int, int]
 GPT = b"EFI PART"
 # A GPT lies in the second sector, of which a disk may have either size.
 GPT_SECTORS = (512, 4096)
-# An MBR has four entries of 16 bytes from here on, and these two bytes after them.
-ENTRIES, MAGIC = 446, b"\x55\xaa"
-EXTENDED, PROTECTIVE = (0x05, 0x0F, 0x85), 0xEE
-FIRST_LOGICAL = 5
-# Bounds of what is read: entries of a GPT in bytes, and logical partitions.
-MOST_ENTRIES, MOST_LOGICAL = 1 << 20, 256
+# How many bytes of entries are read.
+MOST_ENTRIES = 1 << 20
 
 
 class DamagedTable(Refusal):
@@ -45,14 +35,15 @@ class DamagedTable(Refusal):
 def table_of(image: Image, sector: int = SECTOR) -> Optional[Table]:
     """The partition table of a disk, or None where it has none. As with Linux, an MBR that doesn't say that
     there is a GPT goes before what is left of one. It counts in sectors of so many bytes; where a GPT lies says that."""
-    entries = mbr_entries(image.read(0, SECTOR))
-    is_protective = any(kind == PROTECTIVE for kind, _, _ in entries)
+    entries = mbr.entries_of(image.read(0, SECTOR))
+    is_protective = any(it.kind == mbr.PROTECTIVE for it in entries)
     if entries and not is_protective:
-        return Table("MBR", mbr_partitions(image, entries, sector))
+        tables = mbr.Tables(image, entries, sector)
+        return Table("MBR", tables.partitions, [(it, it + SECTOR) for it in tables.starts])
     for size in GPT_SECTORS:
-        partitions = gpt_partitions(image, size, size)
-        if partitions is not None:
-            return Table("GPT", partitions)
+        found = gpt_at(image, size, size)
+        if found:
+            return found
     if is_protective or any(image.read(it, len(GPT)) == GPT for it in GPT_SECTORS):
         backup = backup_of(image)
         if backup is None:
@@ -66,16 +57,15 @@ def backup_of(image: Image) -> Optional[Table]:
     """The second copy of a GPT, which lies in the last sectors of a disk, or None where it isn't sound."""
     for sector in GPT_SECTORS:
         place = image.size // sector * sector - sector
-        partitions = gpt_partitions(image, place, sector) if place > sector else None
-        if partitions is not None:
-            streams.tell("%s: the first copy of the partition table (GPT) is damaged: its backup at the end is read" % image.path)
-            return Table("GPT", partitions)
+        found = gpt_at(image, place, sector) if place > sector else None
+        if found:
+            return found._replace(is_backup=True)
     return None
 
 
-def gpt_partitions(image: Image, place: int, sector: int) -> Optional[List[Partition]]:
-    """The partitions of a GPT whose header is at this byte, or None where it isn't sound: header and entries have a CRC-32
-    each, and the header says where it is."""
+def gpt_at(image: Image, place: int, sector: int) -> Optional[Table]:
+    """The GPT whose header is at this byte, or None where it isn't sound: header and entries have a CRC-32 each, and the header says
+    where it is. What no partition may have is the table's own."""
     header = image.read(place, sector)
     if header[:len(GPT)] != GPT:
         return None
@@ -84,7 +74,7 @@ def gpt_partitions(image: Image, place: int, sector: int) -> Optional[List[Parti
     size = number(header, 12)
     if not 92 <= size <= sector or zlib.crc32(header[:16] + bytes(4) + header[20:size]) != number(header, 16):
         return None
-    belongs, start, count, length, checksum = struct.unpack_from("<Q40xQLLL", header, 24)
+    belongs, first_usable, last_usable, start, count, length, checksum = struct.unpack_from("<Q8xQQ16xQLLL", header, 24)
     if belongs * sector != place or length < 128 or count * length > MOST_ENTRIES:
         return None
     entries = image.read(start * sector, count * length)
@@ -97,7 +87,7 @@ def gpt_partitions(image: Image, place: int, sector: int) -> Optional[List[Parti
         first, last = struct.unpack_from("<QQ", entries, at + 32)
         if any(entries[at:at + 16]) and first <= last:
             found.append(Partition(at // length + 1, first * sector, (last - first + 1) * sector))
-    return found
+    return Table("GPT", found, [(0, first_usable * sector), ((last_usable + 1) * sector, image.size)])
 
 
 def cut_off(image: Image) -> Refusal:
@@ -108,45 +98,3 @@ def cut_off(image: Image) -> Refusal:
 def number(content: bytes, at: int) -> int:
     """The number of four bytes at this place."""
     return struct.unpack_from("<L", content, at)[0]
-
-
-def mbr_entries(sector: bytes) -> List[Entry]:
-    """Each of the four entries, or none where this is no partition table.
-
-    It is one where the first byte of each entry is 0 or 0x80, and one of them has sectors."""
-    if len(sector) < SECTOR or sector[-2:] != MAGIC:
-        return []
-    entries = [struct.unpack_from("<B3xB3xLL", sector, ENTRIES + 16 * place) for place in range(4)]
-    if any(boot & 0x7F for boot, _, _, _ in entries) or not any(size for _, _, _, size in entries):
-        return []
-    return [(kind, start, size) for _, kind, start, size in entries]
-
-
-def mbr_partitions(image: Image, entries: List[Entry], sector: int) -> List[Partition]:
-    """The partitions of an MBR, those inside extended ones included."""
-    found = []
-    for place, (kind, start, size) in enumerate(entries, 1):
-        if size and kind and kind not in EXTENDED:
-            found.append(Partition(place, start * sector, size * sector))
-    for kind, start, size in entries:
-        if size and kind in EXTENDED:
-            return found + logical_partitions(image, start, sector)
-    return found
-
-
-def logical_partitions(image: Image, extended: int, sector: int) -> List[Partition]:
-    """The partitions inside an extended one, as far as the image goes: a chain of tables, each with two entries."""
-    found: List[Partition] = []
-    at, seen = extended, set()
-    while at not in seen and len(seen) < MOST_LOGICAL:
-        seen.add(at)
-        entries = mbr_entries(image.read(at * sector, SECTOR))
-        if not entries:
-            break
-        (kind, start, size), (_, following, more) = entries[:2]
-        if size and kind:
-            found.append(Partition(FIRST_LOGICAL + len(found), (at + start) * sector, size * sector))
-        if not more:
-            break
-        at = extended + following
-    return found

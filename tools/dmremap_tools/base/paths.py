@@ -60,10 +60,3 @@ def check_known(where: Optional[str], named: Iterable[str], disks: Container[str
     for name in named:
         if name not in disks:
             raise Refusal(streams.name_of(where or "--paths"), "no disk is called " + quoting.shown(name))
-
-
-def tell_unknown(where: Optional[str], named: Iterable[str], disks: Container[str]) -> None:
-    """Tells these names, where a file may be for more disks than those that are known."""
-    for name in named:
-        if name not in disks:
-            streams.tell("%s: nothing is read of %s" % (streams.name_of(where or "--paths"), quoting.shown(name)))

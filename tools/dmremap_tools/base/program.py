@@ -5,7 +5,7 @@ import shutil
 import subprocess
 import sys
 from argparse import ArgumentParser
-from typing import IO, NoReturn, Optional, Sequence, Tuple
+from typing import IO, Any, NoReturn, Optional, Sequence, Tuple
 
 from dmremap_tools.base import quoting, streams
 from dmremap_tools.base.refusal import Refusal
@@ -29,6 +29,15 @@ def dmremap(given: Optional[str]) -> str:
         if os.access(beside, os.X_OK):
             return beside
     return shutil.which("dmremap") or "dmremap"
+
+
+def at_hand(given: Optional[str]) -> Optional[str]:
+    """The same, if it is there and hasn't to be built first, as in a repository; else None."""
+    found = dmremap(given)
+    folder = os.path.dirname(os.path.realpath(found))
+    if given is None and os.path.exists(os.path.join(folder, "crates.txt")):
+        found = os.path.join(folder, "crates", "dmremap", "out", "dmremap")
+    return found if given is not None or os.access(found, os.X_OK) else None
 
 
 def ask(words: Sequence[str], most: int = streams.MOST_TEXT, given: Optional[int] = None, said: Optional[IO[bytes]] = None) -> str:
@@ -58,11 +67,17 @@ def ask_quietly(words: Sequence[str], most: int = streams.MOST_TEXT, given: Opti
         return printed, said.read(most).decode("utf-8", "surrogateescape")
 
 
+def start(words: Sequence[str], **how: Any) -> "subprocess.Popen[bytes]":
+    """Starts a program. Its path may have any bytes; what it is told to be called is text, as dmremap refuses words that are none."""
+    path, *others = (it.encode("utf-8", "surrogateescape") for it in words)
+    return subprocess.Popen([words[0].encode("utf-8", "replace"), *others], executable=path, **how)
+
+
 def _asked(words: Sequence[str], most: int, given: Optional[int], said: Optional[IO[bytes]]) -> Tuple[str, int]:
     streams.flush()
     try:
-        child = subprocess.Popen([it.encode("utf-8", "surrogateescape") for it in words], stdout=subprocess.PIPE, stderr=said,
-                                 stdin=subprocess.DEVNULL if given is None else given, env=dict(os.environ, LC_ALL="C"))
+        child = start(words, stdout=subprocess.PIPE, stderr=said, stdin=subprocess.DEVNULL if given is None else given,
+                      env=dict(os.environ, LC_ALL="C"))
     except OSError as fault:
         raise Refusal(quoting.shown(words[0]), streams.why(fault))
     try:

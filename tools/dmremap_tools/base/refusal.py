@@ -10,7 +10,11 @@ class Refusal(Exception):
 
     def __init__(self, where: str, why: str) -> None:
         super().__init__("%s: %s" % (where, why))
-        self.why = why
+        self.where, self.why = where, why
+
+
+class OutputFailed(Exception):
+    """An output didn't take all that was written."""
 
 
 class WrongWords(Exception):

@@ -8,8 +8,8 @@ import os
 import stat
 from typing import Callable, Dict, Iterator, List, NoReturn, Optional, Pattern, Tuple
 
-from dmremap_tools.base import numbers, plain_text, quoting
-from dmremap_tools.base.refusal import Refusal, WrongWords
+from dmremap_tools.base import numbers, plain_text, quoting, written
+from dmremap_tools.base.refusal import OutputFailed, Refusal, WrongWords
 
 CHUNK = 1 << 16
 # Parts of an output that are gathered, and how long one is that isn't held back.
@@ -21,19 +21,15 @@ UNENDED = "the text ends within a line: "
 NO_NUMBER = "not a whole number below 2^64: '%s'"
 
 
-class OutputFailed(Exception):
-    """An output didn't take all that was written."""
-
-
 class ReaderGone(Exception):
     """Nobody reads the output any more."""
 
 
 class Output:
-    """A file or pipe that text is written to. Nothing foreign reaches a terminal unescaped."""
+    """A file or pipe that text is written to. Nothing foreign reaches a terminal unescaped. `place` is that of a file."""
 
-    def __init__(self, descriptor: int, name: str) -> None:
-        self._descriptor, self._name = descriptor, name
+    def __init__(self, descriptor: int, name: str, place: Optional[written.Place] = None) -> None:
+        self._descriptor, self._name, self.place = descriptor, name, place
         self._parts: List[str] = []
         self._is_open = True
 
@@ -63,14 +59,18 @@ class Output:
         """Flushes, and closes it, as some file systems say only then that they are full."""
         self.flush()
         self._is_open = False
+        if self.place:
+            self.place.close()
+            return
         try:
             os.close(self._descriptor)
         except OSError as fault:
             self._fail(fault)
 
     def spoil(self) -> None:
-        """Ends it with the line `refused`, which dmremap takes for nothing, wherever it reads it."""
-        if self._is_open:
+        """Ends it with the line `refused`, which dmremap takes for nothing, wherever it reads it. A file that isn't in its place
+        is removed."""
+        if self._is_open and not (self.place and not self.place.is_special):
             self.write(SPOILED)
             self.flush()
 
@@ -83,12 +83,13 @@ class Output:
 
 class Lines:
     """The lines of a file, or of standard input for `-`, as they come, without a byte order mark and carriage returns. A text
-    that ends within a line is refused, as nobody can tell what the rest of it was. `number` is that of the line that was read last, from 1."""
+    that ends within a line is refused, as nobody can tell what the rest of it was. `number` is that of the line that was read last, from 1.
+    `is_written` says that the file is written, too, once it is read."""
 
-    def __init__(self, path: str) -> None:
+    def __init__(self, path: str, is_written: bool = False) -> None:
         self.name = name_of(path)
         self.number = 0
-        self._descriptor = _open(path)
+        self._descriptor = _open(path, is_written)
         self._block, self._before = "", 0
         # Those of the block, once one of them is asked for.
         self._lines: List[str] = []
@@ -235,25 +236,17 @@ def rows(path: str, most: int = MOST_TEXT) -> List[str]:
 
 
 def beside(path: str) -> Output:
-    """A file that is written beside standard output. It is spoiled where the command fails."""
-    try:
-        made = Output(os.open(file_of(path), os.O_WRONLY | os.O_CREAT | os.O_TRUNC, 0o666), name_of(path))
-    except OSError as fault:
-        raise OutputFailed("%s: %s" % (name_of(path), why(fault)))
+    """A file that is written beside standard output. It gets to its place where the command has an answer."""
+    place = written.Place(path)
+    made = Output(place.begin(), name_of(path), place)
     _besides.append(made)
     return made
 
 
-def file_of(path: str) -> str:
-    """The path of a file that is written, which standard output can't be."""
-    if path == "-":
-        raise WrongWords("'-' is no file to write: give it a name")
-    return path
-
-
-def tell(text: str) -> None:
-    """Says on standard error, in a line, what stands beside the answer."""
-    _messages.write(quoting.escaped(text) + "\n")
+def tell(*texts: str) -> None:
+    """Says on standard error, in a line each, what stands beside the answer."""
+    for text in texts:
+        _messages.write(quoting.escaped(text) + "\n")
     _clear_progress()
     _messages.flush()
 
@@ -281,11 +274,14 @@ def _show(text: str) -> None:
 
 
 def finish() -> None:
-    """Writes what is left to all outputs, and closes them."""
+    """Writes what is left to all outputs, and closes them. Standard output comes last: who reads it to its end finds the files
+    beside it in their places."""
     _clear_progress()
     flush()
-    for each in [out, *_besides]:
+    for each in _besides:
         each.close()
+    written.put_all([it.place for it in _besides])
+    out.close()
 
 
 def flush() -> None:
@@ -296,7 +292,7 @@ def flush() -> None:
 
 def spoil(is_fed: bool) -> None:
     """Spoils what stands beside standard output, and that itself if dmremap reads it; else what was written there stays.
-    Each is tried, whatever becomes of the others."""
+    Files that were begun are removed. Each is tried, whatever becomes of the others."""
     failed = None
     for each in [*_besides, out]:
         try:
@@ -332,16 +328,20 @@ def take_input() -> int:
     if _is_input_taken:
         raise WrongWords("standard input can't be two files")
     _is_input_taken = True
+    written.note_input(0)
     return 0
 
 
-def _open(path: str) -> int:
-    if path == "-":
-        return take_input()
+def _open(path: str, is_written: bool = False) -> int:
     try:
-        return os.open(path, os.O_RDONLY)
+        if path == "-":
+            return take_input()
+        descriptor = os.open(path, os.O_RDONLY)
     except OSError as fault:
         raise Refusal(name_of(path), why(fault))
+    if not is_written:
+        written.note_input(descriptor)
+    return descriptor
 
 
 def _read_some(descriptor: int, name: str) -> bytes:

@@ -34,6 +34,7 @@ class Array:
         self.there = list(self.by_role.values())
         self.level = examine.same(self.there, "Raid Level")
         self._disks, self._sizes = disks, sizes
+        self._beginnings: Dict[int, Tuple[str, int]] = {}
         is_said = any("Layout" in it.fields for it in self.there)
         self.layout = examine.same(self.there, "Layout") if is_said else ""
         self.chunk = 0 if self.level in ("linear", "raid1") else self._chunk()
@@ -57,9 +58,24 @@ class Array:
             self.refuse("no name of a disk, give --path %s=DISK" % quoting.shown(name))
         return name
 
+    @functools.lru_cache(maxsize=1 << 12)
+    def role_in(self, row: int, column: int) -> int:
+        """The member that has a column of data beside parity."""
+        role = (_role_of_raid5 if self.level == "raid5" else _role_of_raid6)(self.layout, self.count, row, column)
+        if role is None:
+            self.refuse("no layout of %s that is known: %s" % (self.level, quoting.shown(self.layout)))
+        return role
+
+    def beginning(self, role: int) -> Tuple[str, int]:
+        """A member's disk, and its first sector of data."""
+        if role not in self._beginnings:
+            self._beginnings[role] = self.disk(role), self.member(role).data_offset()
+        return self._beginnings[role]
+
     def spot(self, role: int, row: int = 0) -> List[str]:
         """A member's disk, and a sector of its data, as words of a line."""
-        return [self.disk(role), str(self.member(role).data_offset() + row)]
+        disk, start = self.beginning(role)
+        return [disk, str(start + row)]
 
     def available(self, role: int) -> int:
         """The sectors that a member has for data."""
@@ -181,10 +197,8 @@ def place(array: Array, number: int, copy: int) -> Tuple[int, int]:
     row, column = divmod(number, array.count - (2 if array.level == "raid6" else 1))
     if array.level == "raid4":
         return column, row
-    role = (_role_of_raid5 if array.level == "raid5" else _role_of_raid6)(array.layout, array.count, row, column)
-    if role is None:
-        array.refuse("no layout of %s that is known: %s" % (array.level, quoting.shown(array.layout)))
-    return role, row
+    # Layouts that end in -6 come again after one row less.
+    return array.role_in(row % (array.count * (array.count - 1)), column), row
 
 
 def _place_of_copy(array: Array, number: int, copy: int) -> Tuple[int, int]:

@@ -11,13 +11,16 @@ Refuses a text without chunks, one that isn't whole, a device that isn't given, 
 
 import re
 from argparse import ArgumentParser, Namespace
-from typing import Dict, Iterator, List, NoReturn
+from typing import Dict, Iterator, List, NoReturn, Set
 
 from dmremap_tools.base import numbers, streams, tables
 from dmremap_tools.base.refusal import Refusal
 from dmremap_tools.layers import parts
 
 EXAMPLE = "dmremap-tools btrfs --name btrfs --device 1 /dev/sda chunks.txt > btrfs.table"
+BLOCK = re.compile(r"(?:leaf|node) (\d{1,20}) (?:level \d+ )?items (\d{1,5}) free.* owner (\S+)")
+POINTER = re.compile(r"\s*key \(.*\) block (\d{1,20}) .*")
+CHUNK_TREE = ("CHUNK_TREE", "3")
 ITEM = re.compile(r"\s*item \d+ key \((\S+) (\S+) (\d{1,20})\).*")
 LENGTH = re.compile(r"\s*length (\d{1,20}) owner \d+ stripe_len (\d{1,20}) type (\S+)")
 COUNT = re.compile(r"\s*num_stripes (\d{1,5}) sub_stripes (\d{1,5})")
@@ -102,22 +105,51 @@ def run(words: Namespace) -> None:
     streams.out.write(tables.text_of([device], False))
 
 
+class Blocks:
+    """The blocks of the tree of chunks that a text has. Each says how many items or pointers it has, and a pointer names a block, so
+    that a text without its end, or with a block that couldn't be read, is told from a whole one."""
+
+    def __init__(self) -> None:
+        # What the last block lacks, and whether one before it lacked something.
+        self._lacking, self._was_short = 0, False
+        self._awaited: Set[str] = set()
+        self._is_in = self._are_any = False
+
+    def take(self, row: str) -> bool:
+        """Takes a line, and says whether it begins a block or is a pointer."""
+        block, pointer = BLOCK.fullmatch(row), POINTER.fullmatch(row)
+        self._is_in = block[3] in CHUNK_TREE if block else self._is_in
+        if block and self._is_in:
+            self._was_short = self._was_short or self._lacking != 0
+            self._awaited.discard(block[1])
+            self._lacking, self._are_any = int(block[2]), True
+        elif self._is_in and (pointer or ITEM.fullmatch(row)):
+            self._lacking -= 1
+            self._awaited.update(pointer.groups() if pointer else ())
+        return bool(block or pointer)
+
+    def are_whole(self) -> bool:
+        """Whether all is there that blocks say."""
+        return self._are_any and not (self._lacking or self._was_short or self._awaited)
+
+
 def read(path: str) -> List[Chunk]:
     """The chunks that a text has."""
     found: List[Chunk] = []
-    is_chunk = is_whole = False
+    is_chunk, blocks = False, Blocks()
     source = streams.Lines(path)
     for row in source:
         item = ITEM.fullmatch(row)
-        if item:
+        if blocks.take(row):
+            is_chunk = False
+        elif item:
             is_chunk = item[2] == "CHUNK_ITEM"
             if is_chunk:
                 found.append(Chunk("%s:%d" % (source.name, source.number), int(item[3])))
         elif is_chunk:
             found[-1].take(row)
-        is_whole = is_whole or row.startswith("total bytes ")
-    if not is_whole:
-        source.refuse("its end is missing")
+    if found and not blocks.are_whole():
+        source.refuse("the tree of chunks isn't all there")
     return found
 
 

@@ -3,7 +3,7 @@
 import contextlib
 import itertools
 import subprocess
-from typing import Iterable, Iterator, List, NamedTuple, Sequence, Tuple
+from typing import Iterable, Iterator, List, NamedTuple, NoReturn, Sequence, Tuple
 
 from dmremap_tools.base import program, quoting, streams
 from dmremap_tools.base.refusal import Refusal
@@ -23,12 +23,13 @@ class Part(NamedTuple):
 
 
 class Mapper:
-    """A child that answers each request before it waits for the next."""
+    """A child that answers each request before it waits for the next. Whoever reads its answers may stop at any of them: the
+    others are passed over by their numbers."""
 
     def __init__(self, words: Sequence[str]) -> None:
-        self._name = words[0]
+        self._name, self._asked = words[0], 0
         try:
-            self._child = subprocess.Popen(words, stdin=subprocess.PIPE, stdout=subprocess.PIPE)
+            self._child = program.start(words, stdin=subprocess.PIPE, stdout=subprocess.PIPE)
         except OSError as fault:
             raise Refusal(quoting.shown(words[0]), streams.why(fault))
 
@@ -39,9 +40,11 @@ class Mapper:
             batch = list(itertools.islice(left, BATCH))
             if not batch:
                 return
+            first = self._asked + 1
             self._ask("".join("R %s %d %d\n" % (device, start, count) for start, count in batch))
-            for _, count in batch:
-                yield list(self._parts(count))
+            self._asked += len(batch)
+            for number, (_, count) in enumerate(batch, first):
+                yield list(self._parts(number, count))
 
     def close(self) -> None:
         """Ends the child."""
@@ -59,17 +62,33 @@ class Mapper:
         except OSError:
             self._fail()
 
-    def _parts(self, left: int) -> Iterator[Part]:
+    def _parts(self, number: int, left: int) -> Iterator[Part]:
         while left > 0:
-            words = self._child.stdout.readline().decode().split()
+            words = self._answer_from(number)
             if len(words) == 5 and words[1] == READ:
                 part = Part(READ, int(words[4]), words[2], int(words[3]))
             elif len(words) == 3 and words[1] in (ZERO, ERROR):
                 part = Part(words[1], int(words[2]))
             else:
-                self._fail()
+                self._refuse(number, words)
             left -= part.count
             yield part
 
-    def _fail(self) -> None:
+    def _answer_from(self, number: int) -> List[str]:
+        """The words of the next line that answers a request of this number, after those of requests before it."""
+        while True:
+            line = self._child.stdout.readline()
+            if not line.endswith(b"\n"):
+                self._fail()
+            words = line.decode("utf-8", "surrogateescape").split()
+            if not words or not words[0].isdigit() or int(words[0]) > number:
+                self._refuse(number, words)
+            if int(words[0]) == number:
+                return words
+
+    def _refuse(self, number: int, words: List[str]) -> NoReturn:
+        raise streams.OutputFailed("%s: no answer to request %d, which comes next: %s"
+                                   % (quoting.shown(self._name), number, quoting.shown(" ".join(words))))
+
+    def _fail(self) -> NoReturn:
         program.fail(self._name, self._child.wait())

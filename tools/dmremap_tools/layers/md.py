@@ -16,6 +16,7 @@ missing. In answers it refuses writes beside parity, copies and fills, and what 
 """
 
 import argparse
+import itertools
 from typing import Dict, Iterator, List, Tuple
 
 from dmremap_tools.base import names, numbers, pieces, quoting, requests, streams
@@ -24,6 +25,8 @@ from dmremap_tools.layers import arrays, examine
 
 # The name of a disk, a sector of it, and how many follow.
 Run = Tuple[str, int, int]
+# Lines that are written at once.
+AT_ONCE = 1 << 10
 
 EXAMPLE = "dmremap-tools md --name md0 examine.txt > md0.table"
 
@@ -82,8 +85,13 @@ def follow(array: arrays.Array, disk: str, copy: "int | None", source: pieces.An
             source.refuse_line("longer than a request is")
         if piece.start + piece.count > array.sectors:
             source.refuse_line("%s has %d sectors" % (quoting.shown(disk), array.sectors))
-        for name, start, count in _joined(_read(array, piece, copy or 0) if piece.what == "R" else _written(array, piece)):
-            streams.out.write("%d %s %s %d %d\n" % (piece.request, piece.what, name, start, count))
+        runs = _joined(_read(array, piece, copy or 0) if piece.what == "R" else _written(array, piece))
+        words = "%d %s " % (piece.request, piece.what)
+        while True:
+            lines = [f"{words}{name} {start} {count}\n" for name, start, count in itertools.islice(runs, AT_ONCE)]
+            if not lines:
+                break
+            streams.out.write("".join(lines))
 
 
 def _chunks(array: arrays.Array, piece: pieces.Piece) -> Iterator[Tuple[int, int, int]]:
@@ -100,9 +108,12 @@ def _read(array: arrays.Array, piece: pieces.Piece, first: int) -> Iterator[Run]
     """Where a piece is read: in one of the copies, or in the next one that is there."""
     many = array.copies.near * array.copies.far
     for number, at, count in _chunks(array, piece):
-        places = [arrays.place(array, number, (first + it) % many) for it in range(many)]
-        role, row = next((it for it in places if it[0] in array.by_role), places[0])
-        yield array.disk(role), array.member(role).data_offset() + row * array.chunk + at, count
+        role, row = arrays.place(array, number, first % many)
+        if role not in array.by_role and many > 1:
+            others = (arrays.place(array, number, (first + it) % many) for it in range(1, many))
+            role, row = next((it for it in others if it[0] in array.by_role), (role, row))
+        disk, start = array.beginning(role)
+        yield disk, start + row * array.chunk + at, count
 
 
 def _written(array: arrays.Array, piece: pieces.Piece) -> Iterator[Run]:
@@ -114,7 +125,8 @@ def _written(array: arrays.Array, piece: pieces.Piece) -> Iterator[Run]:
         for number, at, count in _chunks(array, piece):
             role, row = arrays.place(array, number, copy)
             if role in array.by_role:
-                yield array.disk(role), array.member(role).data_offset() + row * array.chunk + at, count
+                disk, start = array.beginning(role)
+                yield disk, start + row * array.chunk + at, count
 
 
 def _joined(runs: Iterator[Run]) -> Iterator[Run]:

@@ -26,7 +26,7 @@ import sys
 import zlib
 from argparse import ArgumentParser, Namespace
 
-from dmremap_tools.base import streams
+from dmremap_tools.base import streams, written
 
 EXAMPLE = """nbdkit python "$(dmremap-tools nbd-plugin)" format=lvm source=vg0.backup device=vg0-lv0 image=/dev/sda1=sda1.img"""
 FILE = "nbd_volume.py"
@@ -52,9 +52,7 @@ def _cached(packed: str) -> str:
     path = os.path.join(folder, "nbd_volume-%08x.py" % zlib.crc32(packed.encode("utf-8", "surrogateescape")))
     try:
         os.makedirs(folder, 0o700, exist_ok=True)
-        with open(path + ".new", "w", encoding="utf-8", errors="surrogateescape") as it:
-            it.write(TEXT % packed)
-        os.replace(path + ".new", path)
     except OSError as fault:
         raise streams.OutputFailed("%s: %s" % (path, streams.why(fault)))
+    written.Place(path, is_word=False).write((TEXT % packed).encode("utf-8", "surrogateescape"))
     return path

@@ -7,8 +7,10 @@ each is looked at as it comes. Refuses lines that are no pieces, disks that DISK
 requests that TIMES has not.
 """
 
+import functools
 import re
 from argparse import ArgumentParser, Namespace
+from array import array
 from typing import Dict, Iterator, List, Optional
 
 from dmremap_tools.base import disks, pieces, quoting, streams
@@ -17,6 +19,8 @@ from dmremap_tools.layers import svg
 EXAMPLE = "dmremap-tools plot disks pieces > pieces.svg"
 COLUMNS, ROWS, CELL, MARGIN = 450, 150, 2, 20
 DARKEST = 16
+# The cells of a column, of what is read and of what is written.
+BOTH = 2 * ROWS
 READ, WRITTEN = 0, 1
 COLOURS = ((31, 95, 191), (192, 48, 32))
 TIME = re.compile(r"\d{1,15}(?:\.\d{1,12})?")
@@ -24,38 +28,54 @@ STEP = 1e-6
 
 
 class Field:
-    """How often each cell of a disk's field was read and written, up to the darkest, column by column."""
+    """How often each cell of a disk's field was read and written, up to the darkest. Columns in which something was take memory."""
 
     def __init__(self, size: int) -> None:
         self.size = size
-        self._counts = bytearray(COLUMNS * ROWS), bytearray(COLUMNS * ROWS)
+        # For each column how many were there when it began, counted from 1, or 0; and the counts of what is read in them, and of
+        # what is written.
+        self._index, self._counts = array("H", bytes(2 * COLUMNS)), bytearray()
 
     def mark(self, what: int, column: int, start: int, count: int) -> None:
         """Marks the cells of some sectors."""
-        cells = self._counts[what]
-        first = column * ROWS + start * ROWS // self.size
-        for it in range(first, first + (start + count - 1) * ROWS // self.size - start * ROWS // self.size + 1):
-            if cells[it] < DARKEST:
-                cells[it] += 1
+        if not self._index[column]:
+            self._counts += bytes(BOTH)
+            self._index[column] = len(self._counts) // BOTH
+        counts, base = self._counts, (self._index[column] - 1) * BOTH + what * ROWS
+        for it in range(base + start * ROWS // self.size, base + (start + count - 1) * ROWS // self.size + 1):
+            if counts[it] < DARKEST:
+                counts[it] += 1
 
     def halve(self) -> None:
         """Lets two columns be one."""
-        for cells in self._counts:
-            both = [bytes(min(DARKEST, it) for it in map(sum, zip(cells[at:at + ROWS], cells[at + ROWS:at + 2 * ROWS])))
-                    for at in range(0, len(cells), 2 * ROWS)]
-            cells[:] = b"".join(both) + bytes(len(cells) - len(both) * ROWS)
+        index, counts = array("H", bytes(2 * COLUMNS)), bytearray()
+        for column in range(0, COLUMNS, 2):
+            both = [self._column(it) for it in (column, column + 1) if self._index[it]]
+            if both:
+                counts += bytes(min(DARKEST, it) for it in map(sum, zip(*both)))
+                index[column // 2] = len(counts) // BOTH
+        self._index, self._counts = index, counts
 
     def pixels(self, columns: int) -> List[bytes]:
         """The rows of the picture, the last sectors above."""
-        read, written = self._counts
-        return [b"".join(_pixel(read[it], written[it]) for it in range(row, columns * ROWS, ROWS))
-                for row in reversed(range(ROWS))]
+        rows = [bytearray(4 * columns) for _ in range(ROWS)]
+        for column in range(columns):
+            if self._index[column]:
+                found = self._column(column)
+                for row, both in zip(reversed(rows), zip(found[:ROWS], found[ROWS:])):
+                    if both != (0, 0):
+                        row[4 * column:4 * column + 4] = _pixel(*both)
+        return [bytes(it) for it in rows]
+
+    def _column(self, column: int) -> bytearray:
+        """The counts of a column that has some."""
+        begin = (self._index[column] - 1) * BOTH
+        return self._counts[begin:begin + BOTH]
 
 
+@functools.lru_cache(maxsize=None)
 def _pixel(read: int, written: int) -> bytes:
     most = read + written
-    if not most:
-        return bytes(4)
     mixed = [(one * read + other * written) // most for one, other in zip(*COLOURS)]
     return bytes([*mixed, 64 + 191 * min(most, DARKEST) // DARKEST])
 

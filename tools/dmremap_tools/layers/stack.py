@@ -2,7 +2,7 @@
 
 import os
 import tempfile
-from typing import Dict, List, NamedTuple, Optional
+from typing import Dict, Iterable, List, NamedTuple, Optional, Set, Tuple
 
 from dmremap_tools.base import disks, names, program, streams, tables
 from dmremap_tools.base.given import Given, put
@@ -22,6 +22,16 @@ class Stack(NamedTuple):
     def by_path(self) -> Dict[str, tables.Device]:
         """The devices, each by its path."""
         return {names.MAPPER + it.name: it for it in self.devices}
+
+    def below(self, devices: Iterable[str]) -> Tuple[Set[str], Set[str]]:
+        """The paths of the devices that these stand on, with their own, and the disks."""
+        lower, found, left = self.by_path(), set(), [names.MAPPER + it for it in devices]
+        while left:
+            path = left.pop()
+            if path not in found:
+                found.add(path)
+                left += lower[path].lowers() if path in lower else []
+        return found & set(lower), found - set(lower)
 
     def write(self, folder: str) -> List[str]:
         """Writes FILE, in the concise form, and DISKS into a folder; the words with which dmremap reads them."""

@@ -22,23 +22,35 @@ from dmremap_tools.layers.stores import INVALID, Snapshot
 MOST_SECTORS = 1 << 20
 BLOCK = 1 << 16
 PIECE = 1 << 20
+# What is made in a folder.
+FILES = ("FILE", "DISKS", "BEFORE")
 # More bytes than the beginning of an answer has that says `error`.
 LONGEST = 40
 
 
 class Wanted(NamedTuple):
-    """What is said of stores: the image of each snapshot that has one, snapshots that are fresh, and places of disks."""
+    """What is said of stores: the image of each snapshot that has one, snapshots that are fresh, and places of disks. Disks
+    without a place are at their names, unless only those are here that have one."""
 
     images: Dict[str, str]
     fresh: List[str]
     places: Dict[str, Place]
+    are_all: bool = False
+
+    def place_of(self, disk: str) -> Place:
+        """Where a disk is."""
+        if self.are_all and disk not in self.places:
+            raise stores.Lost(quoting.shown(disk), "there is no image of it")
+        return self.places.get(disk) or Place(disk)
 
 
 class Prepared(NamedTuple):
-    """The words with which dmremap maps from the state, and the own name of each snapshot that has another there."""
+    """The words with which dmremap maps from the state, the own name of each snapshot that has another there, and the snapshots
+    whose stores were looked into."""
 
     words: List[str]
     renamed: Dict[str, str]
+    looked: List[Snapshot]
 
 
 def add_words(parser: argparse.ArgumentParser) -> None:
@@ -63,45 +75,55 @@ def wanted_in(words: argparse.Namespace) -> Wanted:
 
 def prepare(asked: str, stack: Stack, wanted: Wanted, room: str) -> Prepared:
     """Writes FILE, DISKS and BEFORE into a folder, or refuses a store."""
+    found = look(asked, stack, wanted, room)
+    devices, renamed = _changed(stack.devices, found)
+    source = Stack(devices, stack.sizes).write(room)
+    if renamed:
+        _check_loads(asked, source)
+    before = os.path.join(room, FILES[2])
+    put(before, (block for it in found for block in _writes_of(it)))
+    if os.path.getsize(before) and any(line.target == "error" for it in devices for line in it.lines):
+        _check_origins([asked, "map", *source], before, renamed)
+    return Prepared([asked, "map", *source] + ["--before", before] * (os.path.getsize(before) > 0), renamed,
+                    [it for it in found if it.device.name not in wanted.fresh])
+
+
+def look(asked: str, stack: Stack, wanted: Wanted, room: str) -> List[Snapshot]:
+    """The snapshots of a stack, with what their stores have, or refuses a store. The folder is for FILE and DISKS."""
     found = [Snapshot(it) for it in stack.devices if it.lines[0].target == "snapshot"]
     for name in [*wanted.images, *wanted.fresh]:
         if name not in (it.name for it in found):
             raise Refusal(quoting.shown(name), "FILE has no such snapshot")
-    look = [it for it in found if it.name not in wanted.fresh]
-    for snapshot in look:
+    looked = [it for it in found if it.name not in wanted.fresh]
+    for snapshot in looked:
         if snapshot.kind == "N":
             snapshot.refuse("it isn't persistent, so no disk says what is in it; --fresh %s takes it as fresh" % snapshot.name)
         for other in found:
             if snapshot.store == other.origin if other is snapshot else snapshot.store == other.store:
                 snapshot.refuse("it is %s, too, which a kernel refuses" % ("the origin" if other is snapshot else "that of " + other.name))
-    if look:
-        _look_into(asked, stack, wanted, look, room)
-    for it in look:
+    if looked:
+        _look_into(asked, stack, wanted, looked, room)
+    for it in looked:
         streams.tell("%s: %s, with %d of its chunks in the store" % (it.name, it.state, len(it.taken)))
-    devices, renamed = _changed(stack.devices, found)
-    source = Stack(devices, stack.sizes).write(room)
-    if renamed:
-        _check_loads(asked, source)
-    before = os.path.join(room, "BEFORE")
-    put(before, (block for it in found for block in _writes_of(it)))
-    if any(line.target == "error" for it in devices for line in it.lines):
-        _check_origins([asked, "map", *source], before, renamed)
-    return Prepared([asked, "map", *source] + ["--before", before] * (os.path.getsize(before) > 0), renamed)
+    return found
 
 
-def _look_into(asked: str, stack: Stack, wanted: Wanted, look: List[Snapshot], room: str) -> None:
+def _look_into(asked: str, stack: Stack, wanted: Wanted, looked: List[Snapshot], room: str) -> None:
     lower, files = stack.by_path(), stores.Files()
     mapper = Mapper([asked, "map", *stack.write(room)])
     try:
-        for it in look:
+        for it in looked:
             length = lower[it.store].end() if it.store in lower else stack.sizes[it.store]
-            if it.name in wanted.images:
-                reader = stores.Image(files, Place(wanted.images[it.name]))
-            elif it.store in lower:
-                reader = stores.Spread(files, mapper, lower[it.store].name, wanted.places)
-            else:
-                reader = stores.Image(files, wanted.places.get(it.store) or Place(it.store))
-            stores.look_into(it, reader, length)
+            try:
+                if it.name in wanted.images:
+                    reader: "stores.Image | stores.Spread" = stores.Image(files, Place(wanted.images[it.name]))
+                elif it.store in lower:
+                    reader = stores.Spread(files, mapper, lower[it.store].name, wanted.place_of)
+                else:
+                    reader = stores.Image(files, wanted.place_of(it.store))
+                stores.look_into(it, reader, length)
+            except stores.Lost as lost:
+                it.refuse("%s: --paths or --store says where it is, and --fresh %s that nothing is in it" % (lost, it.name))
     finally:
         mapper.close()
         files.close()
@@ -171,7 +193,7 @@ def _check_origins(words: List[str], before: str, renamed: Dict[str, str]) -> No
 
 def _first_error(words: List[str], given: int) -> int:
     """The number of the first request that fails, or 0."""
-    child = subprocess.Popen(words, stdin=given, stdout=subprocess.PIPE)
+    child = program.start(words, stdin=given, stdout=subprocess.PIPE)
     try:
         left = b"\n"
         while True:

@@ -8,9 +8,10 @@ import stat
 import struct
 import sys
 from array import array
-from typing import Dict, Iterable, Iterator, NamedTuple, NoReturn, Tuple
+from typing import Callable, Dict, Iterable, Iterator, NamedTuple, NoReturn, Tuple
 
-from dmremap_tools.base import disk_image, numbers, quoting, store_places, streams, tables
+from dmremap_tools.answers.sources import opened
+from dmremap_tools.base import numbers, quoting, store_places, streams, tables
 from dmremap_tools.base.paths import Place
 from dmremap_tools.base.refusal import Refusal
 from dmremap_tools.layers.mapper import READ, Mapper
@@ -45,6 +46,10 @@ class Snapshot:
         raise Refusal("the store of " + self.name, why)
 
 
+class Lost(Refusal):
+    """What a store lies on isn't there."""
+
+
 class Files:
     """The disks and images that are read, each opened once, and never for writing."""
 
@@ -53,13 +58,11 @@ class Files:
 
     def read(self, place: Place, first: int, count: int) -> bytes:
         """So many sectors from this one on."""
-        path, start = place.path, place.start
+        path = place.path
+        if path not in self._opened:
+            self._opened[path] = self._open(path)
         try:
-            if path not in self._opened:
-                self._opened[path] = os.open(path, os.O_RDONLY)
-                disk_image.check_form(self._opened[path], quoting.shown(path))
-                self._tell_if_live(path)
-            found = os.pread(self._opened[path], count * numbers.SECTOR, start + first * numbers.SECTOR)
+            found = os.pread(self._opened[path], count * numbers.SECTOR, place.start + first * numbers.SECTOR)
         except OSError as fault:
             raise Refusal(quoting.shown(path), streams.why(fault))
         if len(found) < count * numbers.SECTOR:
@@ -71,10 +74,17 @@ class Files:
         for each in self._opened.values():
             os.close(each)
 
-    def _tell_if_live(self, path: str) -> None:
-        if stat.S_ISBLK(os.fstat(self._opened[path]).st_mode):
+    def _open(self, path: str) -> int:
+        try:
+            descriptor = opened(path)
+        except Refusal as refusal:
+            if not os.path.exists(path):
+                raise Lost(refusal.where, refusal.why)
+            raise
+        if stat.S_ISBLK(os.fstat(descriptor).st_mode):
             streams.tell("%s is a block device: if its snapshot is in use, suspend it first, or give an image that was read with "
                          "O_DIRECT, as `dd iflag=direct` does" % quoting.shown(path))
+        return descriptor
 
 
 class Image:
@@ -94,14 +104,14 @@ class Spread(NamedTuple):
     files: Files
     mapper: Mapper
     device: str
-    places: Dict[str, Place]
+    place_of: Callable[[str], Place]
 
     def read(self, spans: Iterable[Tuple[int, int]]) -> Iterator[bytes]:
         """The content of each span of sectors."""
         for parts in self.mapper.read(self.device, spans):
             if any(it.what != READ for it in parts):
                 raise Refusal(self.device, "the list of a store lies where no disk is read")
-            yield b"".join(self.files.read(self.places.get(it.disk) or Place(it.disk), it.start, it.count) for it in parts)
+            yield b"".join(self.files.read(self.place_of(it.disk), it.start, it.count) for it in parts)
 
 
 def look_into(snapshot: Snapshot, reader: "Image | Spread", length: int) -> None:

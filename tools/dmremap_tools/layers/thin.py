@@ -6,12 +6,13 @@ lies there on the origin of another kind. `under` puts the pool's data under it.
 block, or move one that is shared, so it is refused by dmremap.
 
 A device of more lines than dmremap takes is refused, unless --part says which of its sectors are asked for. Refuses a dump
-that isn't whole, a device that it hasn't, and blocks past the end of the data or twice. Take the dump of a pool that
+that isn't whole, a device or a list that it hasn't, and blocks past the end of the data or twice. Take the dump of a pool that
 isn't active, or of `thin_dump --metadata-snap`.
 """
 
+import array
 from argparse import ArgumentParser, Namespace
-from typing import Dict, Iterator, List, Optional, Tuple
+from typing import Dict, Iterable, Iterator, List, Optional, Tuple
 
 from dmremap_tools.base import numbers, quoting, streams, tables
 from dmremap_tools.base.refusal import Refusal
@@ -21,34 +22,57 @@ EXAMPLE = "dmremap-tools thin --data tdata --device 1 vg0-thin1 2097152 dump.xml
 MOST_RUNS = 1 << 20
 
 
-class Run:
-    """So many blocks of a device from one on, and where they begin in the data."""
-
-    __slots__ = ("first", "where", "count")
-
-    def __init__(self, first: int, where: int, count: int) -> None:
-        self.first, self.where, self.count = first, where, count
-
-
 class Runs:
-    """The runs of a device or of a shared list, with what follows each other as one."""
+    """The runs of a device or of a shared list: the first block of each, where it begins in the data, and how many blocks follow.
+    What follows each other is one. `lists` are those that a list refers to, which may be shared by many."""
 
     def __init__(self, most_blocks: int) -> None:
         self._most, self.blocks = most_blocks, 0
-        self.found: List[Run] = []
+        self._firsts, self._places, self._counts = array.array("Q"), array.array("Q"), array.array("Q")
+        self.lists: List["Runs"] = []
+        self.is_empty = True
 
-    def add(self, source: streams.Lines, first: int, where: int, count: int) -> None:
+    def add(self, source: streams.Lines, first: int, place: int, count: int) -> None:
         """Adds a run."""
-        if where + count > self._most or not count:
+        if place + count > self._most or not count:
             source.refuse_line("past the end of the data, of %d blocks" % self._most)
         self.blocks += count
-        last = self.found[-1] if self.found else None
-        if last and last.first + last.count == first and last.where + last.count == where:
-            last.count += count
-        elif len(self.found) < MOST_RUNS:
-            self.found.append(Run(first, where, count))
+        self.is_empty = False
+        if self._firsts and self._firsts[-1] + self._counts[-1] == first and self._places[-1] + self._counts[-1] == place:
+            self._counts[-1] += count
+        elif len(self._firsts) < MOST_RUNS:
+            self._firsts.append(first)
+            self._places.append(place)
+            self._counts.append(count)
         else:
             source.refuse("more than %d runs of blocks" % MOST_RUNS)
+
+    def add_list(self, other: "Runs") -> None:
+        """Adds what a list has, once it is asked for."""
+        if not other.is_empty:
+            self.lists.append(other)
+            self.is_empty = False
+
+    def take_lists(self, source: streams.Lines) -> None:
+        """Adds the runs of all lists that it refers to, by way of others as well, none of which a device can have twice."""
+        seen, waiting = set(), self.lists[::-1]
+        while waiting:
+            each = waiting.pop()
+            if id(each) in seen:
+                source.refuse("a list of blocks is in a device twice")
+            seen.add(id(each))
+            waiting += each.lists[::-1]
+            for run in each.runs(range(len(each._firsts))):
+                self.add(source, *run)
+        self.lists = []
+
+    def in_order(self) -> Iterator[Tuple[int, int, int]]:
+        """The runs by their first blocks."""
+        return self.runs(sorted(range(len(self._firsts)), key=self._firsts.__getitem__))
+
+    def runs(self, places: Iterable[int]) -> Iterator[Tuple[int, int, int]]:
+        """The runs at these places."""
+        return ((self._firsts[it], self._places[it], self._counts[it]) for it in places)
 
 
 def add_words(parser: ArgumentParser) -> None:
@@ -84,21 +108,30 @@ def read(path: str, wanted: "set[int]") -> Tuple[int, Dict[int, Runs]]:
     devices: Dict[int, Runs] = {}
     lists: Dict[str, Runs] = {}
     into: Optional[Runs] = None
+    name = ""
     for it in dumps.elements(path, "thin_dump"):
         if it.tag == "superblock":
             block, most = (block, most) if it.is_end else (it.block_size("data_block_size"), it.number("nr_data_blocks"))
         elif it.tag == "device" and it.is_end:
-            if into and into.blocks != count:
-                it.source.refuse("it has %d blocks and not %d, as it says" % (into.blocks, count))
+            if into:
+                into.take_lists(it.source)
+                if into.blocks != count:
+                    it.source.refuse("it has %d blocks and not %d, as it says" % (into.blocks, count))
             into = None
         elif it.tag == "device":
             number, count = it.number("dev_id"), it.number("mapped_blocks")
             into = devices.setdefault(number, Runs(most)) if number in wanted else None
         elif it.tag == "def":
-            into = None if it.is_end else lists.setdefault(it.said.get("name", ""), Runs(most))
+            if into and it.is_end:
+                lists[name] = into
+            into, name = (None if it.is_end else Runs(most)), it.said.get("name", "")
+            if name in lists and not it.is_end:
+                it.source.refuse_line("a list of this name is there already")
         elif it.tag == "ref":
-            for run in lists[it.said["name"]].found if into and it.said.get("name", "") in lists else ():
-                into.add(it.source, run.first, run.where, run.count)
+            if it.said.get("name", "") not in lists:
+                it.source.refuse_line("no list of this name comes before it")
+            if into:
+                into.add_list(lists[it.said["name"]])
         elif it.tag == "single_mapping":
             _add(into, it, it.number("origin_block"), it.number("data_block"), 1)
         elif it.tag == "range_mapping":
@@ -116,15 +149,15 @@ def _add(into: Optional[Runs], it: dumps.Element, first: int, where: int, count:
 def lines_of(name: str, runs: Runs, block: int, sectors: int, data: str, external: Optional[str]) -> Iterator[tables.Line]:
     """The lines of a device, from its first sector to its last."""
     at = 0
-    for run in sorted(runs.found, key=lambda it: it.first):
-        first, end = run.first * block, min((run.first + run.count) * block, sectors)
+    for number, place, count in runs.in_order():
+        first, end = number * block, min((number + count) * block, sectors)
         if first < at:
-            raise Refusal(quoting.shown(name), "block %d of a device is there twice" % run.first)
+            raise Refusal(quoting.shown(name), "block %d of a device is there twice" % number)
         if first >= sectors:
             break
         if at < first:
             yield hole(at, first, external)
-        yield tables.Line(first, end - first, "linear", [data, str(run.where * block)])
+        yield tables.Line(first, end - first, "linear", [data, str(place * block)])
         at = end
     if at < sectors:
         yield hole(at, sectors, external)

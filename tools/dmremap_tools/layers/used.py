@@ -19,13 +19,13 @@ bytes for each chunk of the stores, and a file of about 20 in the folder for tem
 import argparse
 import os
 import re
+import shutil
 import subprocess
 import tempfile
-from typing import BinaryIO, Dict
+from typing import BinaryIO, Dict, List
 
-from dmremap_tools.base import given, paths, program, quoting, streams
-from dmremap_tools.layers import stack, state
-from dmremap_tools.machines.placed import by_ids
+from dmremap_tools.base import given, program, quoting, streams, written
+from dmremap_tools.layers import started, state
 
 EXAMPLE = "echo 'R vg0-snap 8000 16' | dmremap-tools used --paths paths map lvm vg0-snapshot.backup"
 PIECE = 1 << 18
@@ -33,8 +33,7 @@ PIECE = 1 << 18
 
 def add_words(parser: argparse.ArgumentParser) -> None:
     """Adds the options and the words of a map."""
-    program.add_words(parser)
-    state.add_words(parser)
+    started.add_words(parser)
     parser.add_argument("--keep", metavar="FOLDER", help="where FILE, DISKS and BEFORE are left")
     parser.add_argument("map", choices=["map"], metavar="map", help="the words of a map begin here")
     given.add_words(parser)
@@ -46,35 +45,43 @@ def run(words: argparse.Namespace) -> None:
     source = given.given_in(words, "map FORMAT FILE [DISKS] [--status]")
     # The requests.
     streams.take_input()
-    wanted, asked = state.wanted_in(words), program.dmremap(words.program)
+    kept = [] if words.keep is None else _places_in(words.keep)
     with tempfile.TemporaryDirectory(prefix="dmremap-tools-") as room:
-        loaded = stack.load(asked, source, room)
-        paths.check_known(words.paths, wanted.places, loaded.sizes)
-        wanted = wanted._replace(places=by_ids(loaded.group, wanted.places, loaded.sizes))
-        prepared = state.prepare(asked, loaded, wanted, room if words.keep is None else _folder(words.keep))
-        _map(prepared, words.status)
+        begun = started.start(words, source, None, room)
+        _copy(room, kept)
+        _map(begun, words.status)
+    streams.flush()
+    written.put_all(kept)
 
 
-def _folder(path: str) -> str:
+def _places_in(folder: str) -> List[written.Place]:
+    """The places of what is kept in a folder, which is made if need be."""
     try:
-        os.makedirs(path, exist_ok=True)
+        os.makedirs(folder, exist_ok=True)
     except OSError as fault:
-        raise streams.OutputFailed("%s: %s" % (quoting.shown(path), streams.why(fault)))
-    return os.path.abspath(path)
+        raise streams.OutputFailed("%s: %s" % (quoting.shown(folder), streams.why(fault)))
+    return [written.Place(os.path.join(folder, it), is_word=False) for it in state.FILES]
 
 
-def _map(prepared: state.Prepared, is_status: bool) -> None:
+def _copy(room: str, places: List[written.Place]) -> None:
+    """Copies what was made in a room, beside its places."""
+    for name, place in zip(state.FILES, places):
+        with open(os.path.join(room, name), "rb") as made, open(place.begin(), "wb", closefd=False) as copy:
+            shutil.copyfileobj(made, copy)
+
+
+def _map(begun: started.Started, is_status: bool) -> None:
     """Passes on what dmremap answers to standard input, as it comes."""
     streams.flush()
-    child = subprocess.Popen(prepared.words + ["--status"] * is_status, stdin=0, stdout=subprocess.PIPE)
+    child = program.start(begun.words + ["--status"] * is_status, stdin=0, stdout=subprocess.PIPE)
     try:
-        _pass_on(child.stdout, prepared.renamed if is_status else {})
+        _pass_on(child.stdout, begun.renamed if is_status else {})
         status = child.wait()
     finally:
         child.kill()
         child.wait()
     if status:
-        program.fail(prepared.words[0], status)
+        program.fail(begun.words[0], status)
 
 
 def _pass_on(answers: BinaryIO, renamed: Dict[str, str]) -> None:

@@ -1,7 +1,6 @@
 """A device of a stack as a disk, served by nbdkit: what the plugin of `nbd-plugin` calls. Its functions have the names and
 arguments of nbdkit-python-plugin(3). Images and disks are opened for reading only."""
 
-import contextlib
 import errno
 import functools
 import itertools
@@ -18,7 +17,7 @@ from dmremap_tools.base import names, numbers, paths, program, quoting, streams
 from dmremap_tools.base.given import Given
 from dmremap_tools.base.paths import Place
 from dmremap_tools.base.refusal import Refusal
-from dmremap_tools.layers import stack, state
+from dmremap_tools.layers import stack, started, state
 from dmremap_tools.layers.mapper import READ, ZERO, Mapper, Part
 from dmremap_tools.machines.placed import by_ids
 
@@ -27,7 +26,10 @@ __all__ = ["API_VERSION", "thread_model", "config", "config_complete", "get_read
 
 API_VERSION = 2
 ONCE, MANY = ("format", "source", "disks", "device", "program", "paths"), ("image", "store", "fresh")
-MOST_SECTORS = 1 << 20
+# So many sectors of a client's question are looked at, of which it gets so many extents: it goes on asking.
+MOST_SECTORS, MOST_EXTENTS = 1 << 20, 1 << 10
+# So many are asked for at once, as each may have a part of its own, and more where there were few parts before.
+AT_ONCE, MOST_AT_ONCE, FEW = 1 << 12, 1 << 15, 1 << 6
 Call = TypeVar("Call", bound=Callable[..., Any])
 
 
@@ -50,9 +52,8 @@ class Volume:
 
     def read(self, view: memoryview, first: int, skipped: int) -> None:
         """Fills a view from a sector on, less some of its first bytes. What can't be read is an OSError."""
-        count = -(-(skipped + len(view)) // numbers.SECTOR)
         at = -skipped
-        for part in self.parts(first, count):
+        for part in self.parts(first, -(-(skipped + len(view)) // numbers.SECTOR)):
             begin, end = max(at, 0), min(at + part.count * numbers.SECTOR, len(view))
             if part.what == READ:
                 self._fill(view[begin:end], part, begin - at)
@@ -62,25 +63,31 @@ class Volume:
                 raise OSError(errno.EIO, "an error in the tables")
             at += part.count * numbers.SECTOR
 
-    def parts(self, first: int, count: int) -> List[Part]:
-        """Where sectors are read."""
-        with self._mapper() as mapper:
-            spans = ((at, min(MOST_SECTORS, first + count - at)) for at in range(first, first + count, MOST_SECTORS))
-            return list(itertools.chain.from_iterable(mapper.read(self.device, spans)))
+    def parts(self, first: int, count: int) -> Iterator[Part]:
+        """Where sectors are read, as far as somebody goes on asking. A child that was ended meanwhile costs no read: another one
+        is asked instead."""
+        at, end, size = first, first + count, AT_ONCE
+        while at < end:
+            mapper, is_new = self._mapper()
+            try:
+                [answer] = mapper.read(self.device, [(at, min(size, end - at))])
+            except (Refusal, streams.OutputFailed):
+                mapper.close()
+                if is_new:
+                    raise
+                continue
+            self._idle.append(mapper)
+            yield from answer
+            at += sum(it.count for it in answer)
+            size = min(size * 2, MOST_AT_ONCE) if len(answer) <= FEW else AT_ONCE
 
-    @contextlib.contextmanager
-    def _mapper(self) -> Iterator[Mapper]:
+    def _mapper(self) -> "Tuple[Mapper, bool]":
+        """A child that nobody asks, and whether it was started just now."""
         # Between a look at the list and a pop, another thread may have taken the last.
         try:
-            mapper = self._idle.pop()
+            return self._idle.pop(), False
         except IndexError:
-            mapper = Mapper(self._words)
-        try:
-            yield mapper
-        except BaseException:
-            mapper.close()
-            raise
-        self._idle.append(mapper)
+            return Mapper(self._words), True
 
     def _fill(self, view: memoryview, part: Part, skipped: int) -> None:
         if part.disk not in self._files:
@@ -154,14 +161,12 @@ def get_ready() -> None:
     if device is None:
         raise Refusal(quoting.shown(_given["device"]), "source has no such device")
     places = _places(loaded.group, loaded.sizes)
-    below, disks = _below(loaded, names.MAPPER + name)
+    disks = loaded.below([name])[1]
     for disk in sorted(disks - set(places)):
         streams.tell("no image of %s: what lies there fails to be read" % quoting.shown(disk))
-    # What isn't read may have stores that nobody has.
-    others = [it.name for it in loaded.devices if names.MAPPER + it.name not in below and it.lines[0].target == "snapshot"]
-    fresh = _lists["fresh"] + others
-    prepared = state.prepare(asked, loaded, state.Wanted(_pairs("store", _lists["store"]), fresh, places), _room)
-    _volume = Volume(name, device.end(), prepared.words, {disk: it for disk, it in places.items() if disk in disks})
+    wanted = state.Wanted(_pairs("store", _lists["store"]), _lists["fresh"], places, are_all=True)
+    begun = started.start_loaded(asked, loaded, wanted, [name], _room)
+    _volume = Volume(name, device.end(), begun.words, {disk: it for disk, it in places.items() if disk in disks})
     _volume.tell_short(loaded.sizes)
 
 
@@ -192,17 +197,6 @@ def _pairs(key: str, words: List[str]) -> Dict[str, str]:
             raise Refusal(key, "not %s=NAME=PATH, or twice: %s" % (key, quoting.shown(word)))
         found[name] = path
     return found
-
-
-def _below(loaded: stack.Stack, top: str) -> "Tuple[set[str], set[str]]":
-    """The paths of the devices that one stands on, with its own, and the disks."""
-    lower, found, left = loaded.by_path(), set(), [top]
-    while left:
-        path = left.pop()
-        if path not in found:
-            found.add(path)
-            left += lower[path].lowers() if path in lower else []
-    return found & set(lower), found - set(lower)
 
 
 def cleanup() -> None:
@@ -240,18 +234,19 @@ def pread(handle: int, buffer: bytearray, offset: int, flags: int) -> None:
 
 
 def extents(handle: int, count: int, offset: int, flags: int) -> List[Tuple[int, int, int]]:
-    """What reads as zeros, and what doesn't, of the first bytes from here on."""
+    """What reads as zeros, and what doesn't, of the first bytes from here on: as many as there is room for."""
     first, skipped = divmod(offset, numbers.SECTOR)
     sectors = min(-(-(skipped + count) // numbers.SECTOR), MOST_SECTORS)
     found, at = [], offset - skipped
     try:
-        parts = _volume.parts(first, sectors)
+        for is_zero, run in itertools.groupby(_volume.parts(first, sectors), lambda it: it.what == ZERO):
+            end = at + sum(it.count for it in run) * numbers.SECTOR
+            found.append((max(at, offset), end - max(at, offset), (nbdkit.EXTENT_HOLE | nbdkit.EXTENT_ZERO) * is_zero))
+            at = end
+            if len(found) == MOST_EXTENTS:
+                break
     except (Refusal, streams.OutputFailed) as fault:
         _fail(fault)
-    for is_zero, run in itertools.groupby(parts, lambda it: it.what == ZERO):
-        end = at + sum(it.count for it in run) * numbers.SECTOR
-        found.append((max(at, offset), end - max(at, offset), (nbdkit.EXTENT_HOLE | nbdkit.EXTENT_ZERO) * is_zero))
-        at = end
     return found
 
 

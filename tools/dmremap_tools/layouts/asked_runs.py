@@ -9,7 +9,9 @@ from dmremap_tools.base.refusal import Refusal
 from dmremap_tools.layouts import sectors_asked
 
 OWNED = re.compile(r"\S+ [0-9]+(?: ([0-9]+))? = .*")
-STEP = re.compile(r" = (\S+) ([0-9]+)(?: until it is copied)?(?:, ([0-9]+) of every ([0-9]+))?(?= = |$)")
+STEP = re.compile(r"(\S+) ([0-9]+)( until it is copied)?(?:, ([0-9]+) of every ([0-9]+))?")
+# Of a store that `owner` didn't read, and the devices that stand on the snapshot.
+STORE = re.compile(r"in the store of (\S+?)(?:, below (.*))?")
 MOST_BLOCKS = 1000000
 
 
@@ -34,6 +36,8 @@ def add_words(parser: ArgumentParser) -> None:
     """Adds VOLUME, OWNERS and how their numbers are read."""
     parser.add_argument("volume", metavar="VOLUME", help="the device that the file system lies on, by its name or path")
     parser.add_argument("owners", metavar="OWNERS")
+    parser.add_argument("--fresh", metavar="SNAPSHOT", action="append", default=[], help="a snapshot that is to have nothing in its store, "
+                        "where `owner` didn't read it")
     names.add_words(parser)
     sectors_asked.add_words(parser)
 
@@ -45,7 +49,7 @@ class AskedRuns:
         self._names, self._unit = names.Names(words.ls), sectors_asked.unit_of(words)
         self.volume = self._names.device(words.volume, names.Word("VOLUME"))
         self._source = streams.Lines(words.owners)
-        self._others = 0
+        self._others, self._fresh = 0, words.fresh
         self.runs: List[Run] = []
         for row in self._source:
             self.runs += self._owned(row) if " = " in row else self._asked(row)
@@ -69,10 +73,25 @@ class AskedRuns:
         if not match:
             self._source.refuse("not a line of owner: " + quoting.shown(row))
         count = self._source.whole(match[1] or "1")
-        here = [run for name, sector, chunk, every in STEP.findall(row) if name == self.volume
-                for run in self._runs(self._source.whole(sector), count, chunk, every)]
+        here: List[Run] = []
+        unread = ""
+        for step in row.split(" = ")[1:]:
+            found, store = STEP.fullmatch(step), STORE.fullmatch(step)
+            if store and self.volume in [store[1], *(store[2] or "").split()]:
+                self._check_read(store[1])
+            elif found:
+                unread = found[1] if found[3] and found[1] not in self._fresh else unread
+                if found[1] == self.volume:
+                    self._check_read(unread)
+                    here += self._runs(self._source.whole(found[2]), count, found[4], found[5])
         self._others += 0 if here else count
         return here
+
+    def _check_read(self, snapshot: str) -> None:
+        """Refuses a line about a snapshot whose store `owner` didn't read."""
+        if snapshot and snapshot not in self._fresh:
+            self._source.refuse("nothing says which chunks of %s are in its store: let `owner` read it, by --disks and --paths; --fresh %s "
+                                "insists that there are none" % (snapshot, snapshot))
 
     def _runs(self, first: int, count: int, chunk: str, every: str) -> Iterator[Run]:
         """Sectors of the volume, in one run or, of stripes, in many."""

@@ -2,7 +2,7 @@
 
 Has SPANS, what `spans` printed; else standard input. Gets on what, the first and the last sector that two lines have in
 common, and their devices. `dmremap check` prints the first clash alone. Snapshots may share an origin, also with the line
-`snapshot-origin` that serves them.
+`snapshot-origin` that serves them. Refuses to go on after a million.
 """
 
 import argparse
@@ -10,11 +10,14 @@ import heapq
 from typing import Dict, List, Tuple
 
 from dmremap_tools.base import streams
+from dmremap_tools.base.refusal import Refusal
 from dmremap_tools.layouts import span_lines
 from dmremap_tools.layouts.span_lines import Span
 
 EXAMPLE = "dmremap-tools spans stack.disks stack.table | dmremap-tools clashes"
 ORIGIN, SERVES, OTHER = "origin", "snapshot-origin", "other"
+# How many clashes are printed: nested ranges have as many as their number squared.
+MOST = 1000000
 # The kinds that have no sector in common with one of these.
 MEET = {ORIGIN: (OTHER,), SERVES: (SERVES, OTHER), OTHER: (ORIGIN, SERVES, OTHER)}
 
@@ -57,12 +60,15 @@ def add_words(parser: argparse.ArgumentParser) -> None:
 
 def run(words: argparse.Namespace) -> None:
     """Prints each clash."""
-    on, opened = "", Open()
+    on, opened, count = "", Open(), 0
     for span in span_lines.spans_in(words.spans):
         if span.kind == span_lines.END or span.first == span.end:
             continue
         if span.on != on:
             on, opened = span.on, Open()
         for other in opened.meeting(span):
+            count += 1
+            if count > MOST:
+                raise Refusal(streams.name_of(words.spans), "there are more than %d clashes: take the lines of one disk, or of fewer devices" % MOST)
             streams.out.write("%s %d %d %s %s\n" % (on, span.first, min(other.end, span.end) - 1, other.device, span.device))
         opened.add(span)

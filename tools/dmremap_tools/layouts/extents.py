@@ -1,42 +1,59 @@
-"""Where a whole device lies, through all levels, from the answers to the requests of `whole`.
+"""Where a whole device lies, through all levels.
 
-Has PIECES, the answers to reads; else standard input. Gets a line for each extent: the sector of the device, the number of
-sectors, and the disk with the sector there, `zero` or `error`.
+Has VOLUME, FORMAT, FILE and DISKS, as `dmremap map` takes them. Gets a line for each extent: the sector of the device, the number
+of sectors, and the disk with the sector there, `zero` or `error`. Of a snapshot it reads the store, which lies where --paths or
+--store says, unless --fresh insists that nothing is in it.
 """
 
 import argparse
+import itertools
+import tempfile
 
-from dmremap_tools.base import pieces, quoting, streams
+from dmremap_tools.answers.mapped import Mapped
+from dmremap_tools.base import given, names, pieces, requests, streams
+from dmremap_tools.base.refusal import Refusal
+from dmremap_tools.layers import started
 
-EXAMPLE = "dmremap-tools whole home t | dmremap map table t d | dmremap-tools extents"
-READ = ("R", "zero", "error")
+EXAMPLE = "dmremap-tools extents home table t d"
 
 
 def add_words(parser: argparse.ArgumentParser) -> None:
-    """Adds PIECES."""
-    parser.add_argument("pieces", metavar="PIECES", nargs="?", default="-")
+    """Adds VOLUME and what it is a device of."""
+    parser.add_argument("volume", metavar="VOLUME", help="the device, by its name or path")
+    given.add_words(parser)
+    names.add_words(parser)
+    started.add_words(parser)
 
 
 def run(words: argparse.Namespace) -> None:
     """Prints the extents."""
-    answers = pieces.Answers(words.pieces)
-    at = count = last = 0
-    begun = None
-    for piece in answers:
-        if piece.what not in READ or piece.request < last:
-            answers.refuse("not a piece of a read: " + quoting.shown(answers.line))
-        last = piece.request
-        goes_on = begun and begun[:2] == (piece.what, piece.disk) and (piece.what != "R" or piece.start == begun[2] + count)
-        if not goes_on:
-            write(at, count, begun)
-            at, count, begun = at + count, 0, (piece.what, piece.disk, piece.start)
-        count += piece.count
-    write(at, count, begun)
-    answers.tell_if_none()
+    source = given.given_in(words, "VOLUME FORMAT FILE [DISKS]")
+    name = names.Names(words.ls).device(words.volume, names.Word("VOLUME"))
+    with tempfile.TemporaryDirectory(prefix="dmremap-tools-") as room:
+        begun = started.start(words, source, [name], room)
+        device = begun.loaded.by_path().get(names.MAPPER + name)
+        if device is None:
+            raise Refusal(streams.name_of(words.file), "no device " + name)
+        if device.end() > requests.LONGEST:
+            raise Refusal(streams.name_of(words.file), "%s is %s" % (name, requests.TOO_LONG))
+        asked = ("R %s %d %d\n" % (name, at, count) for at, count in requests.parts(0, device.end()))
+        with Mapped(begun.words, asked) as mapped:
+            write(mapped.answers)
 
 
-def write(at: int, count: int, begun: "tuple[str, str, int] | None") -> None:
-    """Prints an extent."""
-    if begun:
-        what, disk, start = begun
-        streams.out.write("%d %d %s\n" % (at, count, "%s %d" % (disk, start) if what == "R" else what))
+def write(answers: pieces.Answers) -> None:
+    """Prints the extents of a device that is read from its first sector to its last."""
+    at, last = 0, None
+    for piece in itertools.chain(answers, [None]):
+        if last and piece and goes_on(last, piece):
+            last = last._replace(count=last.count + piece.count)
+            continue
+        if last:
+            streams.out.write("%d %d %s\n" % (at, last.count, "%s %d" % (last.disk, last.start) if last.what == "R" else last.what))
+            at += last.count
+        last = piece
+
+
+def goes_on(last: pieces.Piece, piece: pieces.Piece) -> bool:
+    """Whether a piece goes on where the last one ends."""
+    return (piece.what, piece.disk) == (last.what, last.disk) and (piece.what != "R" or piece.start == last.start + last.count)

@@ -3,7 +3,8 @@
 Has OWNERS, what `owner` printed, and IMAGE, the file system on one of the devices: that device, an image of it, or
 FILE?offset=BYTES where the file system begins later in a file, as in the image of a disk that has all of the volume in one
 piece; if it is in several, `save` the volume. Lines DISK SECTOR and DISK SECTOR COUNT of the volume
-itself do as well, as do lines of a kernel's log; --bytes and --sector-size say what they count in.
+itself do as well, as do lines of a kernel's log; --bytes and --sector-size say what they count in. Refuses lines of `owner` about a
+snapshot whose store it didn't read, unless --fresh says that nothing is in it.
 
 Gets a line for each run of sectors, with the volume, the first sector, how many there are, and a file; one with several
 names has a line for each. A name that wouldn't print as it is stands in quotes, with escapes. Other words are

@@ -13,13 +13,15 @@ ALLOCATED = "allocated"
 
 
 class Taken(NamedTuple):
-    """A range of a physical volume, of the device and with the kind of a span, and which sector of the device it begins with."""
+    """A range of a physical volume, of the device and with the kind of a span, and which sector of the device it begins with. Of
+    several stripes that is said of all of them."""
 
     first: int
     end: int
     device: str
     start: str
     kind: str
+    is_striped: bool = False
 
 
 class PhysicalVolume(NamedTuple):
@@ -64,14 +66,15 @@ def own(path: str, group: Group, node: Node) -> List[Taken]:
 def add_segment(group: Group, segment: Segment, device: str, found: Dict[bytes, PhysicalVolume]) -> None:
     """Adds the extents that a segment has on physical volumes, as far as its figures make sense."""
     begin = segment.node.value(b"start_extent", int)
-    if begin is None or begin < 0 or not segment.count or segment.count < 0 or not segment.stripes:
+    if begin is None or begin < 0 or not segment.count or segment.count < 0:
         return
-    length = -(-segment.count // len(segment.stripes)) * group.extent_size
-    for key, place in segment.stripes:
+    stripes, legs = segment.stripes, segment.node.values(b"mirrors")
+    for key, place in [*stripes, *zip(legs[::2], legs[1::2])]:
+        length = (-(-segment.count // len(stripes)) if stripes else segment.count) * group.extent_size
         start = group.physicals[key].value(b"pe_start", int) if key in group.physicals else None
         if start is not None and isinstance(place, int) and place >= 0:
             first = start + place * group.extent_size
-            found[key].taken.append(Taken(first, first + length, device, str(begin * group.extent_size), ALLOCATED))
+            found[key].taken.append(Taken(first, first + length, device, str(begin * group.extent_size), ALLOCATED, len(stripes) > 1))
 
 
 def word_of(content: bytes) -> str:

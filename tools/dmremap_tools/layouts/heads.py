@@ -1,16 +1,23 @@
-"""What the beginning of a disk or a device says is taken there: a partition table, a header of LUKS, a label of LVM."""
+"""What a disk, a partition or a device says is taken of it, though no line names it: superblocks of md, a partition table, a header
+of LUKS, a label of LVM."""
 
-import struct
-from typing import Iterator, NamedTuple, Optional
+from typing import Iterable, Iterator, NamedTuple, Optional
 
-from dmremap_tools.base import partition_table
+from dmremap_tools.base import md_superblock, partition_table
 from dmremap_tools.base.disk_image import Image
+from dmremap_tools.base.md_superblock import Superblock
 from dmremap_tools.base.numbers import SECTOR
 from dmremap_tools.base.refusal import Refusal
 from dmremap_tools.machines import luks_header
-from dmremap_tools.metadata import physical_volume
+from dmremap_tools.metadata import chosen_part, physical_volume
+from dmremap_tools.metadata.volumes_within import volume_label
 
-OF_LVM = "-of-LVM"
+OF_LVM, OF_LUKS, OF_MD = "-of-LVM", "-of-LUKS", "-of-md"
+# What holds something else: a partition, the data of a member of an array, and that of a container.
+PARTITION, MEMBER, CONTAINER, DAMAGED = "partition-", "member-of-", "container" + OF_LUKS, "damaged-"
+# How much of a disk a GPT takes at its beginning, and what a header of LUKS takes with its keys, as both are made; where neither is
+# sound, nothing says more.
+GPT_SECTORS, LUKS_SECTORS, SUPERBLOCK_SECTORS = 34, 32768, 8
 
 
 class Head(NamedTuple):
@@ -20,45 +27,103 @@ class Head(NamedTuple):
     end: int
     what: str
 
+    def is_outer(self) -> bool:
+        """Whether it holds something else, which may be named as well."""
+        return self.what.startswith((PARTITION, MEMBER, CONTAINER))
 
-def heads_of(image: Image) -> Iterator[Head]:
-    """What is taken of an image. What isn't sound is passed over."""
-    label, _ = physical_volume.label_of(image)
-    if label:
-        yield Head(label.sector, label.sector + 1, "label" + OF_LVM)
-        for start, size in label.areas:
-            if start + size <= label.size:
-                yield Head(start // SECTOR, -(-(start + size) // SECTOR), "area" + OF_LVM)
+    def is_damaged(self) -> bool:
+        """Whether it isn't sound, so that it doesn't say what else is taken."""
+        return self.what.startswith(DAMAGED)
+
+
+def heads_of(image: Image, size: Optional[int] = None, is_deep: bool = False) -> Iterator[Head]:
+    """What is taken of an image, or of the first so many bytes of a disk that it is of; what lies in its partitions and in the data of a
+    mirror as well, if it is to be deep. What is damaged is told as that."""
+    length = image.size if size is None else size
+    found = list(contents_of(image, length, is_deep)) or list(table_heads(image, is_deep))
+    # What would begin after the end of an image that is cut isn't there.
+    yield from (it for it in found if it.first < it.end)
+
+
+def contents_of(image: Image, size: int, is_deep: bool) -> Iterator[Head]:
+    """The same without a partition table, and nothing where there may be one."""
+    members = md_superblock.superblocks(image, size)
+    for member in members:
+        yield from member_heads(image, member, size, is_deep)
+    for at in md_superblock.damaged(image, size):
+        yield Head(at // SECTOR, at // SECTOR + SUPERBLOCK_SECTORS, DAMAGED + "superblock" + OF_MD)
+    if any(it.start == 0 for it in members):
         return
-    if luks_header.is_container(image):
-        try:
-            yield Head(0, luks_header.container_in(image).start, "header-of-LUKS")
-        except Refusal:
-            pass
+    label = volume_label(image)
+    if label:
+        yield from label_heads(label)
+    else:
+        yield from container_heads(image, size)
+
+
+def member_heads(image: Image, member: Superblock, size: int, is_deep: bool) -> Iterator[Head]:
+    """A member of an array: its data, what that holds if it is all of the array's, and the rest, which is the array's own."""
+    end, last = member.start + member.length, size // SECTOR
+    if member.start:
+        yield Head(0, member.start, "superblock" + OF_MD)
+    if end < last:
+        yield Head(end, last, "superblock" + OF_MD)
+    yield Head(member.start, end, MEMBER + member.level_name().replace(" ", "-"))
+    if member.has_all() and (is_deep or not member.start):
+        data = image.part(member.start * SECTOR, member.length * SECTOR)
+        label = physical_volume.label_of(data)[0]
+        within = label_heads(label) if label else container_heads(data, member.length * SECTOR)
+        yield from moved(list(within) or list(table_heads(data, is_deep)), member.start)
+
+
+def label_heads(label: physical_volume.Label) -> Iterator[Head]:
+    """A label of LVM, and the metadata areas that it lists."""
+    yield Head(label.sector, label.sector + 1, "label" + OF_LVM)
+    for start, size in label.areas:
+        if start + size <= label.size:
+            yield Head(start // SECTOR, -(-(start + size) // SECTOR), "area" + OF_LVM)
+
+
+def container_heads(image: Image, size: int) -> Iterator[Head]:
+    """A header of LUKS with its keys, and the data, where that is on the same disk. Of a header whose first copy is lost only the second
+    is told, as another system may have written over it."""
+    if not luks_header.is_container(image):
+        for header in luks_header.headers_in(image):
+            yield Head(header.place // SECTOR, (header.place + header.size) // SECTOR, "second-header" + OF_LUKS)
         return
     try:
-        table = partition_table.table_of(image)
+        container = luks_header.container_in(image)
     except Refusal:
+        yield Head(0, min(LUKS_SECTORS, size // SECTOR), DAMAGED + "header" + OF_LUKS)
         return
-    if table:
-        yield from table_heads(image, table)
+    yield Head(0, max(container.header, container.start), "header" + OF_LUKS)
+    if not container.is_detached():
+        end = size // SECTOR if container.length is None else container.start + container.length
+        yield Head(container.start, end, CONTAINER)
 
 
-def table_heads(image: Image, table: partition_table.Table) -> Iterator[Head]:
-    """A partition table, with the second copy of a GPT, and the partitions."""
-    sector, usable = gpt_usable(image) if table.kind == "GPT" else (SECTOR, None)
-    yield Head(0, usable[0] * sector // SECTOR if usable else 1, table.kind)
-    if usable and (usable[1] + 1) * sector < image.size:
-        yield Head((usable[1] + 1) * sector // SECTOR, image.size // SECTOR, table.kind)
+def table_heads(image: Image, is_deep: bool) -> Iterator[Head]:
+    """A partition table, with the tables of extended partitions or the second copy of a GPT, and the partitions."""
+    try:
+        table = chosen_part.found_table(image)
+    except partition_table.DamagedTable:
+        yield Head(0, GPT_SECTORS, DAMAGED + "GPT")
+        return
+    except Refusal:
+        # It ends after the image does.
+        yield Head(0, GPT_SECTORS, "GPT")
+        return
+    if not table:
+        return
+    for start, end in table.taken:
+        if start < min(end, image.size):
+            yield Head(start // SECTOR, min(end, image.size) // SECTOR, table.kind)
     for number, start, size in table.partitions:
-        yield Head(start // SECTOR, (start + size) // SECTOR, "partition-%d" % number)
+        yield Head(start // SECTOR, (start + size) // SECTOR, "%s%d" % (PARTITION, number))
+        if is_deep and start < image.size:
+            yield from moved(contents_of(image.part(start, size), size, True), start // SECTOR)
 
 
-def gpt_usable(image: Image) -> "tuple[int, Optional[tuple[int, int]]]":
-    """The bytes of a sector in which a GPT counts, and the first and the last sector that partitions may have."""
-    for sector in partition_table.GPT_SECTORS:
-        header = image.read(sector, sector)
-        if header.startswith(partition_table.GPT) and len(header) == sector:
-            first, last = struct.unpack_from("<QQ", header, 40)
-            return sector, (first, last) if first <= last < 1 << 55 else None
-    return SECTOR, None
+def moved(heads: Iterable[Head], by: int) -> Iterator[Head]:
+    """The same of what begins so many sectors further on."""
+    return (Head(it.first + by, it.end + by, it.what) for it in heads)

@@ -5,8 +5,14 @@ of which the lines with `dev DISK, sector N` are taken, or what biosnoop prints.
 which the areas that couldn't be read are asked for, or a list of badblocks; with --trace it is a trace of disks.
 
 Gets a line for each run of sectors that goes one way up, and that way. A sector of an origin belongs to its snapshots
-`until it is copied`; of the store of a snapshot only that is said. Many chunks of a striped line are one run, as far as what lies on
+`until it is copied`; of the store of a snapshot only that is said, and what stands on it. With --disks and --paths, or --store, the
+stores are read: then a sector belongs to the snapshot or was `copied to the store`, and a sector of the store is one of the
+snapshot, or `its list`, or `unused`. Many chunks of a striped line are one run, as far as what lies on
 them has them whole: `= mail 0, 128 of every 256`.
+
+What no line names may be in use all the same, as a volume that isn't active, which is told. With --group, the metadata of a
+group, sectors of such volumes are named, and with --paths the disks are read: labels and areas of LVM, partition tables and
+partitions, superblocks and members of md arrays, headers and containers of LUKS.
 
 A kernel's log counts in 512 bytes. Other tools count in the sectors of the disk (`blockdev --getss`), as smartctl, or in
 bytes: --sector-size and --bytes say so.
@@ -14,15 +20,19 @@ bytes: --sector-size and --bytes say so.
 
 import argparse
 import itertools
-from typing import Dict, Iterator, Optional
+from typing import Dict, Iterator, Optional, Set
 
-from dmremap_tools.base import listings, quoting, streams
+from dmremap_tools.base import listings, paths, quoting, streams
 from dmremap_tools.base.refusal import Refusal
+from dmremap_tools.layers import started
 from dmremap_tools.layouts import sectors_asked, stacked
+from dmremap_tools.layouts.copies import Copies
+from dmremap_tools.layouts.holders import Holders
 from dmremap_tools.layouts.uses import Step, Uses, Way
 
 EXAMPLE = "echo 'sda 12096' | dmremap-tools owner stack.table -"
 MOST_WAYS = 1000000
+UNSURE = "sectors of %s that no line names may be in use: see --group and --paths"
 
 
 def add_words(parser: argparse.ArgumentParser) -> None:
@@ -33,7 +43,10 @@ def add_words(parser: argparse.ArgumentParser) -> None:
     parser.add_argument("--trace", metavar="LSBLK", help="SECTORS is a trace of disks, by blktrace or the event block_bio_queue; LSBLK "
                         "has what `%s` prints, for their numbers" % listings.LSBLK_COMMAND)
     parser.add_argument("--ls", metavar="LS", help="what `dmsetup ls` prints, where a device is given as /dev/dm-N")
+    parser.add_argument("--group", metavar="TEXT", action="append", default=[], help="the metadata of a group, of which some volumes have no line")
     sectors_asked.add_words(parser)
+    parser.add_argument("--disks", metavar="DISKS", help="the disks of FILE, so that the stores of its snapshots are read")
+    started.add_words(parser)
     parser.add_argument("file", metavar="FILE")
     parser.add_argument("sectors", metavar="SECTORS", nargs="?", default="-")
 
@@ -41,8 +54,11 @@ def add_words(parser: argparse.ArgumentParser) -> None:
 def run(words: argparse.Namespace) -> None:
     """Prints the ways up from each of the sectors that are asked for."""
     minors = {number.partition(":")[2]: name for name, number in listings.read_ls(words.ls)} if words.ls else {}
-    uses = Uses(stacked.devices_in(words.file), minors)
+    devices = stacked.devices_in(words.file)
+    holders = Holders(devices, words.group, paths.places(words.paths))
+    uses = Uses(devices, minors, holders, {it.name: Copies(it) for it in started.snapshots(words, devices)})
     known: Dict[str, Optional[str]] = {}
+    unsure: Set[str] = set()
     for query in queries(words, uses):
         if query.disk not in known:
             known[query.disk] = uses.named(query.disk)
@@ -53,6 +69,9 @@ def run(words: argparse.Namespace) -> None:
         ways = uses.ways(on, query.first, end, (Step(query.disk, query.first),))
         for way, count in itertools.islice(ways, MOST_WAYS):
             streams.out.write(text_of(way, count if query.count else None))
+            if len(way) == 1 and on is not None and on not in unsure and not holders.is_known(on):
+                unsure.add(on)
+                streams.tell(UNSURE % quoting.shown(query.disk))
         if next(ways, None):
             raise Refusal(streams.name_of(words.sectors), "too many ways up from %s %d" % (quoting.shown(query.disk), query.first))
 

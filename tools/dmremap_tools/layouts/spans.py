@@ -7,25 +7,23 @@ where that line begins on it, and as what. A line with `end` says where a disk o
 A snapshot uses all of its origin, as `origin`, and all of its store. With metadata, what a physical volume has before its
 extents, its label and an area for the metadata, is `label+metadata` of its group; what it has after them, where a second
 area may lie, and the extents of volumes that have no line, as inactive ones, are `allocated`. With --paths the disks are
-read: labels tell which physical volume is which, and partition tables, partitions without a line, headers of LUKS, and
-labels and areas of LVM are `allocated` as well.
+read: labels tell which physical volume is which, and partition tables, partitions without a line, headers and data of LUKS,
+labels and areas of LVM, and superblocks and data of members of md arrays are `allocated` as well.
 """
 
 from argparse import ArgumentParser, Namespace
-from typing import Dict, Iterator, List, Optional, Sequence, Set
+from typing import Dict, List, Sequence, Set
 
-from dmremap_tools.base import disk_image, disks, names, paths, quoting, streams, tables
+from dmremap_tools.base import disks, names, paths, quoting, streams, tables
 from dmremap_tools.base.disk_image import Image
-from dmremap_tools.base.numbers import SECTOR
 from dmremap_tools.base.refusal import Refusal
 from dmremap_tools.layouts import stacked
+from dmremap_tools.layouts.beginnings import Beginnings
 from dmremap_tools.layouts.group_spans import ALLOCATED, PhysicalVolume, physical_volumes
 from dmremap_tools.layouts.heads import OF_LVM, heads_of
 from dmremap_tools.layouts.span_lines import END, Span
-from dmremap_tools.metadata.physical_volume import label_of
 
 EXAMPLE = "dmremap-tools spans stack.disks stack.table > spans"
-PARTITION = "partition-"
 
 
 def add_words(parser: ArgumentParser) -> None:
@@ -42,42 +40,14 @@ def run(words: Namespace) -> None:
     spans = Spans(disks.read(words.disks), devices)
     if not devices and not spans.disks:
         streams.tell("no disk and no device came")
-    found = paths.places(words.paths)
-    images = {disk: disk_image.image_at(found[disk]) for disk in spans.disks if disk in found}
-    beginnings = list(images_in(images, devices))
-    known = {label.identity: on for on, image in beginnings for label in label_of(image)[:1] if label}
+    beginnings = Beginnings(paths.places(words.paths), spans.disks, devices)
     for path in words.metadata:
         for physical in physical_volumes(path, {it.name for it in devices}):
-            spans.add_physical(physical, known.get(physical.identity))
-    for on, image in beginnings:
+            spans.add_physical(physical, beginnings)
+    for on, image in beginnings.images.items():
         spans.add_heads(on, image)
     for span in spans.sorted():
         streams.out.write(str(span))
-
-
-def images_in(images: Dict[str, Image], devices: Sequence[tables.Device]) -> "Iterator[tuple[str, Image]]":
-    """The images of disks, and the beginnings of devices that lie on them in one piece."""
-    yield from images.items()
-    known = {names.MAPPER + it.name: it for it in devices}
-    for device in devices:
-        image = beginning(device, images, known)
-        if image:
-            yield names.MAPPER + device.name, image
-
-
-def beginning(device: tables.Device, images: Dict[str, Image], devices: Dict[str, tables.Device]) -> Optional[Image]:
-    """The first linear line of a device, where that lies on an image through other such lines."""
-    at, size = 0, device.lines[0].length
-    while True:
-        line = device.lines[0]
-        if line.target != "linear" or at + size > line.length:
-            return None
-        lower, first = line.words[0], int(line.words[1])
-        if lower in images:
-            return images[lower].part((first + at) * SECTOR, size * SECTOR)
-        if lower not in devices:
-            return None
-        device, at = devices[lower], at + first
 
 
 class Spans:
@@ -98,25 +68,25 @@ class Spans:
         ends = [Span(on, self._sizes[on], self._sizes[on], "-", "-", END) for on in self._ended]
         return sorted(self._spans + ends)
 
-    def add_physical(self, physical: PhysicalVolume, on: Optional[str]) -> None:
-        """Adds what is taken of a physical volume, if it is a disk or a device here: this one, by its label."""
-        on = on or next((it for it in tables.names_in(physical.path) + [physical.key] if it in self._sizes), None)
+    def add_physical(self, physical: PhysicalVolume, beginnings: Beginnings) -> None:
+        """Adds what is taken of a physical volume, if it is a disk or a device here."""
+        on = beginnings.place_of(physical, self._sizes)
         if on is None:
             streams.tell("left out: the physical volume %s (%s), which is neither a disk nor a device here"
                          % (quoting.shown(physical.key), quoting.shown(physical.path)))
             return
         self._described.add(on)
         for taken in physical.taken:
-            self._add(Span(on, *taken))
+            self._add(Span(on, *taken[:5]))
 
     def add_heads(self, on: str, image: Image) -> None:
         """Adds what the beginning of a disk or a device says is taken, and those partitions in which nothing lies."""
-        for first, end, what in heads_of(image):
-            end = min(end, self._sizes[on])
-            is_told = any(it.on == on and it.first < end and first < it.end for it in self._spans) if what.startswith(PARTITION) \
-                else what.endswith(OF_LVM) and on in self._described
+        for head in heads_of(image):
+            first, end = head.first, min(head.end, self._sizes[on])
+            is_told = any(it.on == on and it.first < end and first < it.end for it in self._spans) if head.is_outer() \
+                else head.what.endswith(OF_LVM) and on in self._described
             if first < end and not is_told:
-                self._add(Span(on, first, end, what, "-", ALLOCATED))
+                self._add(Span(on, first, end, head.what, "-", ALLOCATED))
 
     def _add(self, span: Span) -> None:
         self._spans.append(span)

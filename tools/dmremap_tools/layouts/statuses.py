@@ -18,7 +18,7 @@ def statuses_after(command: Sequence[str], requests: BinaryIO, size: int) -> Dic
     """The status of each snapshot after the requests in the first bytes of a file."""
     streams.flush()
     try:
-        child = subprocess.Popen(command, stdin=subprocess.PIPE, stdout=subprocess.PIPE)
+        child = program.start(command, stdin=subprocess.PIPE, stdout=subprocess.PIPE)
     except OSError as fault:
         raise Refusal(quoting.shown(command[0]), streams.why(fault))
     faults: List[OSError] = []

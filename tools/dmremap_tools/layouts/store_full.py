@@ -1,8 +1,9 @@
 """When the stores of snapshots are full: the request that makes each of them invalid.
 
 Has REQUESTS, and what maps them: FORMAT, FILE and DISKS, as `dmremap map` takes them. Gets a line for each
-snapshot: the request that makes it invalid, and how full its store was before that, as `--status` prints it. Refuses
-what dmremap refuses, and a FILE without snapshots.
+snapshot: the request that makes it invalid, and how full its store was before that, as `--status` prints it. A snapshot begins
+with what its store has, which lies where --paths or --store says; --fresh says that it is new. Refuses what dmremap refuses, and a
+FILE without snapshots.
 
 dmremap is run over the first half of the requests, then over less or more of them, and so on: about twenty times for a
 million requests. A snapshot of kind `K` stays valid by its own writes when its store is full, so only a write to its
@@ -15,11 +16,12 @@ import tempfile
 from argparse import ArgumentParser, Namespace
 from typing import BinaryIO, Dict, List, Optional, Tuple
 
-from dmremap_tools.base import given, plain_text, program, streams
+from dmremap_tools.base import given, plain_text, streams
 from dmremap_tools.base.refusal import Refusal
+from dmremap_tools.layers import started
 from dmremap_tools.layouts.statuses import statuses_after
 
-EXAMPLE = "dmremap-tools store-full requests table snaps.table snaps.disks"
+EXAMPLE = "dmremap-tools store-full --fresh noon requests table snaps.table snaps.disks"
 INVALID = "Invalid"
 # More bytes than a request has.
 LONGEST = 8192
@@ -29,26 +31,30 @@ def add_words(parser: ArgumentParser) -> None:
     """Adds the arguments."""
     parser.add_argument("requests", metavar="REQUESTS")
     given.add_words(parser)
-    program.add_words(parser)
+    started.add_words(parser)
 
 
 def run(words: Namespace) -> None:
     """Prints a line for each snapshot."""
     requests = opened(words.requests)
-    with given.plain(words, "REQUESTS FORMAT FILE [DISKS]") as source:
-        tell(streams.name_of(words.requests), Runs(requests, [program.dmremap(words.program), "map", *source.words(), "--status"]))
+    source = given.given_in(words, "REQUESTS FORMAT FILE [DISKS]")
+    with tempfile.TemporaryDirectory(prefix="dmremap-tools-") as room:
+        begun = started.start(words, source, None, room)
+        begun.check_valid()
+        tell(streams.name_of(words.requests), Runs(requests, [*begun.words, "--status"]), begun.renamed)
 
 
-def tell(name: str, runs: "Runs") -> None:
-    """Says when each snapshot becomes invalid."""
+def tell(name: str, runs: "Runs", renamed: Dict[str, str]) -> None:
+    """Says when each snapshot becomes invalid. Some have other names in the answers."""
     if not runs.statuses(runs.size):
         raise Refusal(name, "the command knows no snapshot")
     for name, status in runs.statuses(runs.size).items():
+        told = renamed.get(name, name)
         if status == INVALID:
             low, high = runs.last_valid(name)
-            streams.out.write("%s: invalid by request %d, before it %s\n" % (name, runs.requests(high), runs.statuses(low)[name]))
+            streams.out.write("%s: invalid by request %d, before it %s\n" % (told, runs.requests(high), runs.statuses(low)[name]))
         else:
-            streams.out.write("%s: valid to the end, %s\n" % (name, status))
+            streams.out.write("%s: valid to the end, %s\n" % (told, status))
 
 
 def opened(path: str) -> BinaryIO:

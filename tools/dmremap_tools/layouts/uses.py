@@ -4,6 +4,8 @@ import itertools
 from typing import Dict, Iterator, List, NamedTuple, Optional, Sequence, Tuple
 
 from dmremap_tools.base import names, numbers, tables
+from dmremap_tools.layouts.copies import Copies
+from dmremap_tools.layouts.holders import Holders
 from dmremap_tools.layouts.overlaps import Overlaps
 
 # More chunks than these of a striped line are told as one run, as long as no more than these uses lie above them.
@@ -88,22 +90,25 @@ class Comb(NamedTuple):
 
 
 class Uses:
-    """What uses each disk and device. `minors` has the name of each device by its minor number."""
+    """What uses each disk and device. `minors` has the name of each device by its minor number, `holders` knows of what no line
+    names, and `copies` has what the stores of snapshots have that were read."""
 
-    def __init__(self, devices: Sequence[tables.Device], minors: Dict[str, str]) -> None:
+    def __init__(self, devices: Sequence[tables.Device], minors: Dict[str, str], holders: Holders,
+                 copies: Optional[Dict[str, Copies]] = None) -> None:
         found: Dict[str, List[Use]] = {names.MAPPER + it.name: [] for it in devices}
         for device in devices:
             for line in device.lines:
                 for place, (lower, first, count) in enumerate(line.spans()):
                     found.setdefault(lower, []).append(Use(device.name, line, place, first, end_of(line, place, first, count)))
         self._uses = {on: Overlaps(uses) for on, uses in found.items()}
-        self._minors = minors
+        self._minors, self._holders, self._copies = minors, holders, copies or {}
+        self._users = {on: sorted({it.device for it in uses}) for on, uses in found.items()}
 
     def named(self, disk: str) -> Optional[str]:
         """The name that the stack has for a disk or a device that is asked for, or None."""
         known = tables.names_in(disk)
         known += [names.MAPPER + self._minors[it] for it in map(minor_of, known) if it in self._minors]
-        return next((it for it in known if it in self._uses), None)
+        return next((it for it in known if it in self._uses), None) or self._holders.named(disk)
 
     def ways(self, on: Optional[str], first: int, end: int, way: Way) -> Iterator[Tuple[Way, int]]:
         """Each way up from these sectors, and the number of sectors that go it."""
@@ -112,7 +117,7 @@ class Uses:
         for use in uses.meeting(first, end) if uses else ():
             begin, stop = max(use.first, first), min(use.end, end)
             if at < begin:
-                yield moved(way, at - first), begin - at
+                yield from self._held(on, at, begin, moved(way, at - first))
             whole, rest = use.whole_chunks(begin, stop)
             if whole < rest:
                 yield from self._through(use, begin, whole, moved(way, begin - first))
@@ -123,16 +128,50 @@ class Uses:
             yield from self._through(use, begin, stop, moved(way, begin - first))
             at = max(at, stop)
         if at < end:
-            yield moved(way, at - first), end - at
+            yield from self._held(on, at, end, moved(way, at - first))
+
+    def _held(self, on: Optional[str], first: int, end: int, way: Way) -> Iterator[Tuple[Way, int]]:
+        """Each way up from sectors that no line names: to what has them else, or no further."""
+        for begin, stop, holder in self._holders.parts(on, first, end):
+            step = (Step(holder.name, holder.sector_at(begin)),) if holder else ()
+            yield moved(way, begin - first) + step, stop - begin
 
     def _through(self, use: Use, first: int, end: int, way: Way) -> Iterator[Tuple[Way, int]]:
         """Each way up that goes through a use, from these sectors, the first of which the way stands at."""
+        if self._is_read(use):
+            yield from self._through_read(use, first, end, way)
+            return
         for sector, count, to in use.runs(first, end):
             below = moved(way, sector - first)
             if use.is_store():
-                yield below + (store_of(use),), count
+                yield below + (self._store_of(use),), count
             else:
                 yield from self.ways(names.MAPPER + use.device, to, to + count, below + (step_of(use, to),))
+
+    def _is_read(self, use: Use) -> bool:
+        """Whether it is of a snapshot whose store was read."""
+        return use.line.target == "snapshot" and use.device in self._copies
+
+    def _through_read(self, use: Use, first: int, end: int, way: Way) -> Iterator[Tuple[Way, int]]:
+        """The same of a snapshot whose store was read."""
+        copies = self._copies[use.device]
+        for part in copies.of_store(first, end) if use.is_store() else copies.of_origin(first, end):
+            below = moved(way, part.first - first)
+            if part.sector is None:
+                yield below + (Step(part.said, None),), part.count
+            else:
+                to = part.sector
+                yield from self.ways(names.MAPPER + use.device, to, to + part.count, below + (Step(use.device, to),))
+
+    def _store_of(self, use: Use) -> Step:
+        """The step to a snapshot by its store, with the devices that stand on it, as nobody knows which sectors of them these are."""
+        found, waiting = [], [use.device]
+        while waiting:
+            for name in self._users.get(names.MAPPER + waiting.pop(), ()):
+                if name not in found:
+                    found.append(name)
+                    waiting.append(name)
+        return Step("in the store of " + use.device + (", below " + " ".join(sorted(found)) if found else ""), None)
 
     def _combed(self, on: str, comb: Comb) -> Iterator[Tuple[Way, int]]:
         """Each way up of chunks that lie apart on a device: together, as long as what uses them uses them whole."""
@@ -145,9 +184,12 @@ class Uses:
         for begin, stop in zip(cuts, cuts[1:]):
             part = comb.part(begin, stop)
             over = [(use, it) for use, it in zip(uses, met) if it[0] < stop and begin < it[3]]
-            if not over:
+            if not over and self._holders.are_on(on, *part.span()):
+                yield from self._one_by_one(on, part)
+            elif not over:
                 yield part.way(), part.count * part.chunk
-            elif all(it[1] <= begin and stop <= it[2] and (use.is_store() or use.stripes()[0] == 1) for use, it in over):
+            elif all(it[1] <= begin and stop <= it[2] and (use.is_store() or use.stripes()[0] == 1) and not self._is_read(use)
+                     for use, it in over):
                 for use, _ in over:
                     yield from self._over(use, part)
             else:
@@ -156,7 +198,7 @@ class Uses:
     def _over(self, use: Use, comb: Comb) -> Iterator[Tuple[Way, int]]:
         """Each way up of chunks that goes through a use of one column."""
         if use.is_store():
-            yield comb.way() + (store_of(use),), comb.count * comb.chunk
+            yield comb.way() + (self._store_of(use),), comb.count * comb.chunk
         else:
             (_, _, to) = next(use.runs(comb.span()[0], use.end))
             yield from self._combed(names.MAPPER + use.device, comb._replace(above=comb.above + (step_of(use, to),)))
@@ -167,11 +209,6 @@ class Uses:
             part = comb.part(number, number + 1)
             first, end = part.span()
             yield from self.ways(on, first, end, part.below + part.above)
-
-
-def store_of(use: Use) -> Step:
-    """The step to a snapshot by its store."""
-    return Step("in the store of " + use.device, None)
 
 
 def step_of(use: Use, sector: int) -> Step:

@@ -6,8 +6,9 @@ several times, a line NAME PATH for each physical volume in an image, as --paths
 is, whatever its path was. One on a partition of the image of a whole disk, or in a member of an md array, has
 PATH?offset=BYTES; IMAGE may say so, too, where one begins. Physical volumes without an image are told.
 
-Refuses a text that is no metadata of a group, physical volumes of which it has no length, images of others, and that of a
-whole disk at PATHS for a partition.
+Refuses a text that is no metadata of a group, physical volumes of which it has no length, images of others, that of a whole
+disk at PATHS for a partition, and members of md arrays, unless each has all of the array's bytes, as of raid1, and no newer
+one is given.
 """
 
 import argparse
@@ -18,6 +19,7 @@ from dmremap_tools.base.config_text import Document, Node, shown
 from dmremap_tools.base.refusal import Refusal, WrongWords
 from dmremap_tools.machines import pictured
 from dmremap_tools.machines.kernel_names import is_partition
+from dmremap_tools.metadata.array_members import check_places
 from dmremap_tools.metadata.chosen_part import chosen_parts, table_in
 from dmremap_tools.metadata.physical_volume import label_of
 from dmremap_tools.metadata.volume_group import disk_names, sections_in
@@ -73,9 +75,10 @@ def found_images(text: str, images: List[str]) -> Iterator[Tuple[str, str]]:
     """The name of each physical volume in the images, and its path. Those without an image are told."""
     of = names_by_id(text)
     found: Dict[str, str] = {}
+    if "-" in images:
+        raise WrongWords("a line names each image, and standard input has no name")
+    check_places({path: paths.place_of(path) for path in images}, True)
     for path in images:
-        if path == "-":
-            raise WrongWords("a line names each image, and standard input has no name")
         place = paths.place_of(path)
         begun = begun_in(place)
         if not begun:
@@ -97,7 +100,7 @@ def found_images(text: str, images: List[str]) -> Iterator[Tuple[str, str]]:
 def begun_in(place: paths.Place) -> Dict[bytes, int]:
     """The ids of the physical volumes in a disk, or of what begins at a place in it, and the bytes at which they begin."""
     members = chosen_parts(disk_image.image_at(place), 0 if place.is_said else None, PLACES)
-    for each in members:
+    for each in [] if place.is_said else members:
         check_mirrored(each)
     return {label.identity: it.base for it in map(taken_from_array, members) for label in label_of(it)[:1] if label}
 

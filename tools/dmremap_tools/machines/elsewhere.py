@@ -10,7 +10,7 @@ given, IMAGE is to be replaced by the image of the disk behind `#`.
 snapshot's store which chunks it has, so such a snapshot shows its copies. Mount with `-o ro,noload`, so that ext4 doesn't
 replay its journal; for XFS it is `norecovery`.
 
-Refuses a disk that has no path here, unless --missing is given.
+Refuses a disk that has no path here, unless --missing is given, and one on which a store lies where that would read as zeros.
 """
 
 import argparse
@@ -19,7 +19,9 @@ from typing import Dict, List, Optional
 
 from dmremap_tools.base import names, numbers, paths, quoting, streams, tables
 from dmremap_tools.base.refusal import Refusal, WrongWords
+from dmremap_tools.layers.stack import Stack
 from dmremap_tools.machines import missing
+from dmremap_tools.metadata.array_members import check_places
 from dmremap_tools.machines.missing import StandIns
 
 EXAMPLE = "dmremap concise lvm vg0.backup | dmremap-tools elsewhere --paths paths.txt > here.concise"
@@ -41,6 +43,7 @@ def run(words: argparse.Namespace) -> None:
     if words.paths is None and not words.losetup:
         raise WrongWords("the following arguments are required: --paths")
     path_of = paths.read(words.paths, PATH) if words.paths is not None else None
+    check_places({name: paths.place_of(it) for name, it in (path_of or {}).items()})
     devices, is_concise = tables.read(words.file)
     name = streams.name_of(words.file)
     if not devices:
@@ -70,6 +73,8 @@ class Moved:
     def devices_of(self, devices: List[tables.Device]) -> List[tables.Device]:
         """The devices, in their order, after those that stand for disks."""
         moved, taken = [], {self._prefix + it.name for it in devices}
+        for device in devices:
+            self._check_store(device, devices)
         stand_ins = StandIns(self._source, self._target or "error", "ro", self._prefix, taken)
         for device in devices:
             made = tables.Device(self._prefix + device.name, "ro")
@@ -78,6 +83,16 @@ class Moved:
                 made.lines.append(line.with_lowers(lambda it: self._lower(it, stand_ins)))
             moved.append(made)
         return stand_ins.devices() + moved
+
+    def _check_store(self, device: tables.Device, devices: List[tables.Device]) -> None:
+        """Refuses a snapshot whose store would read as zeros: a kernel takes one that begins so for new."""
+        line = device.lines[0]
+        if line.target == "snapshot" and self._target == "zero" and line.words[1].startswith(names.MAPPER):
+            disks = Stack(devices, {}).below([line.words[1][len(names.MAPPER):]])[1]
+            lost = sorted(it for it in disks if it not in self._path_of)
+            if lost:
+                raise Refusal(self._source, "the store of %s lies on %s, and would read as one that has nothing in it: give --missing error"
+                              % (device.name, quoting.shown(lost[0])))
 
     def _is_missing(self, disk: str) -> bool:
         """Whether a disk has no path, which may be refused."""

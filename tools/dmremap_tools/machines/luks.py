@@ -6,17 +6,18 @@ text of a linear device, named NAME or luks-UUID, from the first sector of the d
 volume group: their disk is the key of the physical volume, as pv0, of which `disks --image` says whether it is the opened
 container, or its image where `partitions --group` put that. What lies there is encrypted, so compare nothing with it.
 
-Refuses a header that its sum doesn't confirm (version 1 has none), one of a container that is being encrypted anew, and an
-image that ends before the data: --length says how many sectors the disk has.
+Of two headers of version 2 the newer one is read. Refuses a header that its sum doesn't confirm (version 1 has none), one of a
+container that is being encrypted anew, an image that ends before the data, and a header apart from the data: --length says how
+many sectors the disk has.
 """
 
 import argparse
-from typing import Optional
+from typing import Optional, Tuple
 
 from dmremap_tools.base import disk_image, names, numbers, quoting, streams
-from dmremap_tools.base.partition_table import Partition
+from dmremap_tools.base.partition import Partition
 from dmremap_tools.base.refusal import Refusal, WrongWords
-from dmremap_tools.machines.luks_header import container_in, is_container, is_text
+from dmremap_tools.machines.luks_header import Container, container_in, is_container, is_text
 from dmremap_tools.metadata.chosen_part import numbers_of, part_of, partition_of, table_in
 
 EXAMPLE = "dmremap-tools luks /dev/sda2 sda2.img > luks.table && dmremap-tools under --disk pv0 home vg0.table luks.table"
@@ -34,19 +35,14 @@ def add_words(parser: argparse.ArgumentParser) -> None:
 def run(words: argparse.Namespace) -> None:
     """Prints the device."""
     image = disk_image.raw_image(words.header)
-    first, length = 0, words.length
-    if length is not None and numbers.check_length("--length", length) < image.size // numbers.SECTOR and not is_text(image):
-        raise Refusal("--length", "the disk has %d sectors, and HEADER alone has %d" % (length, image.size // numbers.SECTOR))
+    if words.length is not None:
+        numbers.check_length("--length", words.length)
     if is_text(image) and words.partition is not None:
         raise WrongWords("--partition is of an image, and luksDump tells of one container")
-    if not is_text(image):
-        partition = _partition_with_header(image, words.partition)
-        first = partition.start // numbers.SECTOR
-        length = _length_of(partition, length)
-        if partition.number and length <= 0:
-            raise Refusal(image.path, "partition %d begins at sector %d, and the disk ends at sector %d" % (partition.number, first, words.length))
-        image = part_of(image, partition)
-    container = container_in(image)
+    if is_text(image):
+        container, first, length = container_in(image), 0, words.length
+    else:
+        container, first, length = pictured(image, words)
     name = words.name if words.name is not None else "luks-" + container.uuid
     if not names.FORM.fullmatch(name):
         raise Refusal("NAME", "no name of a device: '%s'" % quoting.shown(name))
@@ -60,6 +56,24 @@ def run(words: argparse.Namespace) -> None:
     if length is not None and container.start + count > length:
         raise Refusal(image.path, "the data ends at sector %d, and the disk at sector %d" % (container.start + count, length))
     streams.out.write("%s: 0 %d linear %s %d\n" % (name, count, words.disk, first + container.start))
+
+
+def pictured(image: disk_image.Image, words: argparse.Namespace) -> Tuple[Container, int, Optional[int]]:
+    """The container in an image, the first sector of its partition, and how many sectors there are from that on, if it is known."""
+    partition = _partition_with_header(image, words.partition)
+    first = partition.start // numbers.SECTOR
+    container = container_in(part_of(image, partition))
+    if container.is_detached() and partition.number:
+        raise Refusal(image.path, "the header in partition %d is of a container whose data lies on another disk: cut it out with dd, and give "
+                      "--length" % partition.number)
+    if container.is_detached():
+        return container, 0, words.length
+    if words.length is not None and words.length < image.size // numbers.SECTOR:
+        raise Refusal("--length", "the disk has %d sectors, and HEADER alone has %d" % (words.length, image.size // numbers.SECTOR))
+    length = _length_of(partition, words.length)
+    if partition.number and length <= 0:
+        raise Refusal(image.path, "partition %d begins at sector %d, and the disk ends at sector %d" % (partition.number, first, words.length))
+    return container, first, length
 
 
 def _length_of(partition: Partition, of_disk: Optional[int]) -> int:

@@ -26,6 +26,7 @@ from dmremap_tools.machines.partition_devices import devices_of
 from dmremap_tools.machines.pictured import pictured
 from dmremap_tools.machines.sfdisk_text import Partition, partitions_in
 from dmremap_tools.metadata.chosen_part import LARGE_SECTOR
+from dmremap_tools.metadata.volumes_within import check_mirrored
 
 EXAMPLE = "dmremap-tools partitions --lsblk lsblk.txt --disks whole.disks sfdisk.txt tables > whole"
 NO_LINE = "no line names one of these partitions; --lsblk says what numbers are, --image what is an image"
@@ -101,6 +102,7 @@ def partitions_of(path: str, lowers: Lowers, sector: int, names_of: Dict[bytes, 
     lowers.measure(path, image.length)
     bound = {place: names_of[identity] for place, identity in image.identities.items() if identity in names_of}
     for place, name in bound.items():
+        check_mirrored(image.places[place])
         lowers.bind(name, place)
     if is_bare and not bound:
         array = "; %s is a member of an md array: `md` makes its table, and `under` puts that below those of the group" % image.members[0] \

@@ -6,10 +6,11 @@ from typing import Dict, List, Optional, Sequence, Tuple
 from dmremap_tools.base import disk_image, quoting, streams
 from dmremap_tools.base.config_text import shown
 from dmremap_tools.base.numbers import SECTOR
-from dmremap_tools.base.partition_table import Partition
+from dmremap_tools.base.partition import Partition
 from dmremap_tools.base.paths import Place
 from dmremap_tools.base.refusal import Refusal
 from dmremap_tools.machines.disks import begun_in, names_by_id
+from dmremap_tools.metadata.array_members import check_places
 from dmremap_tools.metadata.chosen_part import table_in
 from dmremap_tools.metadata.ways import GIVE
 
@@ -19,6 +20,7 @@ def by_ids(text: Optional[str], places: Dict[str, Place], sizes: Dict[str, int],
     images are. Without `text`, the metadata of their group, they are what was given. `sizes` has the sectors of each disk."""
     named = names_by_id(text) if text is not None else {}
     found, decided = dict(places), set()
+    check_places({**places, **{it.path: it for it in images}}, bool(named))
     given, bare = [*places.values(), *images], {it.path for it in images}
     for path in dict.fromkeys(it.path for it in given):
         here = [it for it in given if it.path == path]

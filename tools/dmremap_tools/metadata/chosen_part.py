@@ -5,7 +5,8 @@ from typing import List, Optional
 from dmremap_tools.base import quoting, streams
 from dmremap_tools.base.disk_image import Image, dd
 from dmremap_tools.base.numbers import SECTOR
-from dmremap_tools.base.partition_table import DamagedTable, Partition, Table, backup_of, table_of
+from dmremap_tools.base.partition import Partition
+from dmremap_tools.base.partition_table import DamagedTable, Table, backup_of, table_of
 from dmremap_tools.base.refusal import Refusal
 from dmremap_tools.metadata.physical_volume import label_of
 from dmremap_tools.metadata.volumes_within import array_data, where_volumes_begin
@@ -67,6 +68,14 @@ def volumes_of(disk: Image, table: Table, ways: Ways) -> List[Image]:
 
 
 def table_in(disk: Image, sector: int = SECTOR) -> Optional[Table]:
+    """The partition table of a disk, of which it is told where only its second copy is sound."""
+    table = found_table(disk, sector)
+    if table and table.is_backup:
+        streams.tell("%s: the first copy of the partition table (GPT) is damaged: its backup at the end is read" % disk.path)
+    return table
+
+
+def found_table(disk: Image, sector: int = SECTOR) -> Optional[Table]:
     """The partition table of a disk. Where its beginning is lost, the second copy of a GPT is read, unless the disk itself is
     a physical volume, before whose time there may have been one."""
     return table_of(disk, sector) or (backup_of(disk) if label_of(disk)[0] is None else None)

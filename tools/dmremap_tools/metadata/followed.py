@@ -76,12 +76,22 @@ def are_even(group: Group, segment: Segment) -> bool:
 def judge_record(group: Group, record: Record, merging: Dict[Optional[bytes], Optional[bytes]]) -> List[bytes]:
     """Looks at a snapshot anew, and returns the volumes that can no longer stay."""
     origin, store = group.volumes.get(record.origin), group.volumes.get(record.store)
-    if record.is_merging and not (origin and store):
-        return leave([record.volume], "the record of a snapshot that is being merged")
+    if record.is_merging:
+        return leave_merging(record, origin, store)
     if not origin or not store:
         return []
     fault = record_fault(group, record, origin, store, merging.get(origin.name))
     return leave_snapshot(record, store, fault) if fault else []
+
+
+def leave_merging(record: Record, origin: Optional[Volume], store: Optional[Volume]) -> List[bytes]:
+    """Says of a snapshot that is being merged, and of its origin, why they can't stay: the origin reads as the snapshot does, from
+    what is left in the store, and what it has itself is a mixture of both. Returns the volumes that could."""
+    names = [shown(it or record.volume.name) for it in (record.store, record.origin)]
+    gone = leave([record.volume], "the record of a snapshot that is being merged")
+    gone += leave([store] if store else [], "it is being merged into %s" % names[1])
+    return gone + leave([origin] if origin else [], "the snapshot %s is being merged into it, so that some of its sectors are older and some "
+                        "newer: go on when that is done (`lvs -o+copy_percent`)" % names[0])
 
 
 def leave_snapshot(record: Record, store: Volume, why: str) -> List[bytes]:
@@ -102,9 +112,7 @@ def record_fault(group: Group, record: Record, origin: Volume, store: Volume, me
     count, name = record.volume.segments[0].count, shown(origin.name)
     if store.why:
         return store.why
-    if record.is_merging:
-        return "it is being merged into %s" % name
-    if origin.why:
+    if origin.why and not merged:
         return "it is a snapshot of %s, which is left out" % name
     if merged:
         return "it is a snapshot of %s, into which %s is being merged" % (name, shown(merged))

@@ -8,8 +8,9 @@ it is. Whatever is left out or changed is told with its line. Left out are
 
     volumes of other types than striped, linear, zero and error, and what lies on them or is a snapshot of them;
     volumes on another volume, as while they are moved; stripes that don't divide one; names that no device can have;
-    snapshots that are being merged, or aren't as long as their origin, or whose store has zero or error or is left out,
-    or has more places for chunks than dmremap counts in all: the origin stays, and what answers lack is said;
+    snapshots that aren't as long as their origin, or whose store has zero or error or is left out, or has more places for
+    chunks than dmremap counts in all: the origin stays, and what answers lack is said;
+    snapshots that are being merged, with their origin: it reads as the snapshot does, from what is left in the store;
     fields that don't matter, with negative numbers, fractions, words without quotes or several lines.
 
 Changed are a disk that is shorter than its extents, as after pvresize, one without a name or a length, parts of raid
@@ -18,36 +19,35 @@ place of a list, commas too many or too few, fields that are there twice, other 
 
 The parts of a volume that is left out stay, under the names that they have in the kernel: `r1_rimage_0` is one half of the
 mirror `r1`, and `pool_tdata` has the data of a thin pool. For a cached volume, the cache may have newer data than
-`home_corig`. Of a snapshot that is being merged, what isn't merged yet is read from its store, which answers don't show.
+`home_corig`.
 
 With --only, which may be given several times, the copy has that volume, its origin if it is a snapshot, and the disks that
 they lie on.
 
-Refuses a text of which no volume would be left, one that is no metadata of a group, and forms that lvm2 never writes.
+Refuses a text of which no volume would be left, one that is no metadata of a group, and forms that lvm2 never writes; one
+that is damaged, so that dmremap would refuse the copy: by the rules of that, and where it is at hand it is asked; and one of
+more than 8 MiB, or of more than 150,000 keys and values.
 Nothing about the copy is proved. The text can't say whether it is the newest, and a machine's devices are those of the text
 only if `dmsetup table` says so.
 """
 
 import argparse
 import os
-import re
-from typing import Dict, List
+import tempfile
+from typing import Dict, List, Optional
 
-from dmremap_tools.base import quoting, streams
-from dmremap_tools.base.config_text import Document, Node, is_word_between, shown
+from dmremap_tools.base import program, quoting, streams
+from dmremap_tools.base.config_text import Document, Node, shown
 from dmremap_tools.base.refusal import Refusal
+from dmremap_tools.metadata import loads
 from dmremap_tools.metadata.followed import NOT_ASKED, judge, leave_others
 from dmremap_tools.metadata.mending import LIST, ONE, Mending, mend_section
-from dmremap_tools.metadata.text_copy import is_readable
 from dmremap_tools.metadata.volume_group import LINEAR, STRIPED, Group, Volume
+from dmremap_tools.metadata.white_space import MARK, mend_bytes
 
 EXAMPLE = "dmremap-tools lvm2-text vgm.backup > copy.backup && dmremap table lvm copy.backup"
-MARK = b"\xef\xbb\xbf"
-# White space that dmremap doesn't take for such: that at the end of a line or before a word, and other. In comments,
-# which stand between the two, it may stand.
-OTHER_SPACE = re.compile(rb"(\r+(?=\n|\Z))|#(?:[^\n\r]+|\r+(?![\n\r]|\Z))*|([\r\v\f])")
-OTHER = 2
-CARRIAGE_RETURN = re.compile(b"\r")
+# How many bytes of a text are taken.
+MOST_TEXT = 8 << 20
 
 # The fields that dmremap reads, and what each has. Others it passes over.
 TOP = {b"contents": ONE, b"version": ONE}
@@ -62,13 +62,16 @@ WRITE, WRITE_LOCKED = b"WRITE", b"WRITE_LOCKED"
 def add_words(parser: argparse.ArgumentParser) -> None:
     """Adds TEXT and --only."""
     parser.add_argument("--only", metavar="NAME", action="append", default=[], help="a volume that is asked for, with its origin and its disks")
+    program.add_words(parser)
     parser.add_argument("text", metavar="TEXT", help="the metadata, as vgcfgbackup writes it")
 
 
 def run(words: argparse.Namespace) -> None:
     """Prints the copy."""
-    content = streams.read_bytes(words.text)
+    content = streams.read_bytes(words.text, MOST_TEXT)
     name = streams.name_of(words.text)
+    if content.count(b"\n") > loads.MOST_BYTES:
+        raise Refusal(name, "it has more than %d lines, all of which the copy would have, and dmremap takes as many bytes" % loads.MOST_BYTES)
     copy = Mending(Document(name, content[len(MARK):] if content.startswith(MARK) else content))
     drop_twice(copy)
     group = Group(group_of(copy))
@@ -83,7 +86,23 @@ def run(words: argparse.Namespace) -> None:
     mend_group(copy, group)
     mend_bytes(copy, content)
     copy.tell()
-    streams.out.write(copy.content().decode("utf-8", "surrogateescape"))
+    made = copy.content()
+    check_copy(words.program, copy.document.path, made)
+    streams.out.write(made.decode("utf-8", "surrogateescape"))
+
+
+def check_copy(given: Optional[str], path: str, content: bytes) -> None:
+    """Refuses a copy that dmremap would refuse, by its rules, and by itself where it is at hand."""
+    loads.check(Document(path, content))
+    asked = program.at_hand(given)
+    if asked is None:
+        return
+    with tempfile.NamedTemporaryFile(prefix="dmremap-tools-") as file:
+        file.write(content)
+        file.flush()
+        _, said = program.ask_quietly([asked, "map", "lvm", file.name])
+    if said:
+        raise Refusal(path, "dmremap refuses the copy, whose lines have the same numbers (%s): %s" % (quoting.shown(said.strip()), loads.ADVICE))
 
 
 def drop_twice(copy: Mending) -> None:
@@ -159,12 +178,7 @@ def say_kept(copy: Mending, group: Group) -> None:
         origin = group.volumes.get(record.origin or b"")
         if not record.volume.why or not origin or origin.why:
             continue
-        name = record.store or record.volume.name
-        if record.is_merging:
-            copy.say(origin.node.start, "kept: %s, without its snapshot %s, which is being merged into it: on a machine, what isn't "
-                     "merged yet is read from there, which the answers don't show" % (shown(origin.name), shown(name)))
-        else:
-            without.setdefault(origin.name, []).append(name)
+        without.setdefault(origin.name, []).append(record.store or record.volume.name)
     for name, snapshots in without.items():
         copy.say(group.volumes[name].node.start, "kept: %s, without its snapshot %s: on a machine, a write to it also copies what it "
                  "overwrites, which the answers don't show" % (shown(name), shown(b", ".join(snapshots))))
@@ -231,45 +245,3 @@ def mend_physical(copy: Mending, group: Group, node: Node) -> None:
     elif size is not None and size < least:
         copy.put(size_field, size_field.items[0], b"%d" % least,
                  "%s is at least %d sectors long, where its extents end, and not %d" % (name, least, size))
-
-
-def mend_bytes(copy: Mending, content: bytes) -> None:
-    """Says what the copy lacks of white space, and of bytes that are no text."""
-    document = copy.document
-    if content.startswith(MARK):
-        copy.said.append((1, "changed: a byte order mark is taken out"))
-    if b"\0" in content:
-        copy.said.append((1 + content[:content.index(b"\0")].count(b"\n"), "left out: the NUL here, and what comes after it"))
-    if document.tight or not is_readable(document.content) or re.search(rb"[\r\v\f]", document.content):
-        mend_spaces(copy)
-
-
-def mend_spaces(copy: Mending) -> None:
-    """Writes white space as dmremap reads it, and says so, but for what is left out."""
-    content, end, returns = copy.document.content, 0, []
-    gaps = iter(sorted(copy.gaps()) + [(len(content) + 1, len(content) + 2, b"")])
-    gap = next(gaps)
-    for _, start, following in copy.document.tokens():
-        while gap[1] <= start:
-            gap = next(gaps)
-        if not gap[0] <= start:
-            returns += [copy.document.line_at(it.start()) for it in CARRIAGE_RETURN.finditer(content, end, start)]
-            say_space(copy, end, start, following)
-        for found in OTHER_SPACE.finditer(content, end, start):
-            if found.lastindex:
-                copy.write(found.start(), found.end(), b" " if found.lastindex == OTHER else b"")
-        end = following
-    if returns:
-        copy.said.append((returns[0], "changed: carriage returns are taken out of %d lines" % len(set(returns))))
-
-
-def say_space(copy: Mending, end: int, start: int, following: int) -> None:
-    """Says what is odd in white space from `end` to `start`, and in the token from there on."""
-    content = copy.document.content
-    others = [it for it in OTHER_SPACE.finditer(content, end, start) if it.lastindex]
-    if others and not CARRIAGE_RETURN.search(content, end, start):
-        copy.say(start, "changed: white space of another kind")
-    if not is_readable(content[end:following]):
-        copy.say(start, "changed: bytes that are no UTF-8")
-    if start == end and is_word_between(content, start):
-        copy.say(start, "changed: a space is missing")

@@ -34,8 +34,8 @@ class Mending(Copy):
 
     def tell(self) -> None:
         """Tells all that was said, in the order of the lines."""
-        for line, what in sorted(self.said, key=lambda it: it[0]):
-            streams.tell("%s:%d: %s" % (self.document.path, line, what))
+        self.said.sort(key=lambda it: it[0])
+        streams.tell(*("%s:%d: %s" % (self.document.path, line, what) for line, what in self.said))
 
     def put(self, node: Node, item: Item, content: bytes, why: str) -> None:
         """Writes other bytes in the place of a value of a field, and says why."""

@@ -2,7 +2,8 @@
 
 Have: HEAD, the physical volume, or an image of its beginning, such as its first MiB, or of the whole disk, of which each
 partition with a sound label is taken, or the one that --partition names. A volume that begins elsewhere is taken with
---start. In a member of an md array it is found behind the superblock (1.1 or 1.2). Several physical volumes have to agree.
+--start. In a member of an md array it is found behind the superblock (1.1 or 1.2), unless a newer member is given as well.
+Several physical volumes have to agree.
 `dd if=/dev/sda1 of=head.img bs=1M count=1` makes an image of the beginning; where there is lvm2, `pvck --dump metadata -f
 TEXT head.img` does the same.
 
@@ -29,6 +30,7 @@ from dmremap_tools.base import numbers, streams
 from dmremap_tools.base.disk_image import Image, open_image
 from dmremap_tools.base.numbers import SECTOR
 from dmremap_tools.base.refusal import Refusal, WrongWords
+from dmremap_tools.metadata.array_members import check_newest
 from dmremap_tools.metadata.chosen_part import chosen_parts
 from dmremap_tools.metadata.group_text import summary, without_time
 from dmremap_tools.metadata.older_texts import text_at, text_with, texts_in
@@ -57,6 +59,7 @@ def run(words: argparse.Namespace) -> None:
     is_of_one = words.list or any(it is not None for it in (words.area, words.seqno, words.at))
     if len(words.heads) > 1 and is_of_one:
         raise WrongWords("--area, --list, --seqno and --at take one HEAD")
+    check_newest(words.heads)
     images = [it for path in words.heads for it in volumes_in(path, words)]
     if len(images) > 1 and is_of_one:
         raise Refusal(images[0].path, "it has several physical volumes: take one with --partition N")

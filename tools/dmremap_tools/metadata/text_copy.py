@@ -9,6 +9,8 @@ BLANK = b" \t\v\f\r"
 # What stands behind a section or a field in its line, up to the end of that.
 REST_OF_LINE = re.compile(rb"[ \t\v\f\r]*(?:#[^\n]*)?(?=\n)")
 UNKNOWN = "\ufffd".encode()
+# That in the place of each byte that is no UTF-8, as Python reads these.
+MARKS = dict.fromkeys(range(0xDC80, 0xDD00), "\ufffd")
 
 
 class Copy:
@@ -93,4 +95,4 @@ def readable(content: bytes) -> bytes:
     """Bytes with a mark in the place of each that is no UTF-8."""
     if is_readable(content):
         return content
-    return re.sub("[\udc80-\udcff]", "\ufffd", content.decode("utf-8", "surrogateescape")).encode()
+    return content.decode("utf-8", "surrogateescape").translate(MARKS).encode()

@@ -2,49 +2,67 @@
 by their labels."""
 
 import itertools
-import struct
 from typing import Iterator, Optional
 
-from dmremap_tools.base import quoting, streams
+from dmremap_tools.base import md_superblock, quoting, streams
 from dmremap_tools.base.disk_image import Image
+from dmremap_tools.base.md_superblock import BAD_BLOCKS, BITMAP, LAYOUT_SAID, Superblock
 from dmremap_tools.base.numbers import SECTOR
 from dmremap_tools.base.refusal import Refusal
-from dmremap_tools.metadata.physical_volume import LABEL, LABEL_SECTORS, label_fault, label_of
+from dmremap_tools.metadata.physical_volume import LABEL, LABEL_SECTORS, Label, label_fault, label_of
 from dmremap_tools.metadata.ways import Ways
 
-# The superblock of an md array, of the two versions that lie before the data, where it says of which level the array is, and
-# in which sector the data begins.
-MD_MAGIC, MD_PLACES, MD_LEVEL, MD_DATA = b"\xfc\x4e\x2b\xa9\x01\0\0\0", (0, 4096), 72, 128
-MIRRORED = 1
 WINDOW = 4 << 20
 PROGRESS = 64
-
-
-def superblocks(image: Image) -> Iterator[bytes]:
-    """What looks like the superblock of an md array in an image of a member."""
-    for place in MD_PLACES:
-        superblock = image.read(place, SECTOR)
-        if superblock[:len(MD_MAGIC)] == MD_MAGIC and len(superblock) == SECTOR:
-            yield superblock
+# Bits of a superblock's feature map that don't say that data is elsewhere; bad blocks are refused by themselves.
+HARMLESS = BITMAP | LAYOUT_SAID | BAD_BLOCKS
+# The last byte at which a superblock begins that lies before its data.
+LAST_BEFORE_DATA = 4096
+# What is said of a member that doesn't have all of a physical volume, and of what may be no member any more.
+PARTS = ("a member of an md array that isn't raid1, so that no member has all of a physical volume: `md` makes a table of the array, and `under` puts "
+         "it below those of the group")
+CHANGING = "a member of an md array that is a spare, or is being filled or reshaped, so that it doesn't have the array's bytes: take another member"
+BAD = "a member of an md array that has bad blocks, which a kernel reads from another one: take that"
+DAMAGED = ("the superblock of an md array at byte %d is damaged, so that nothing says whose bytes lie here: take another member, or, if it is no member "
+           "any more, a copy of the volume that dd cuts out")
 
 
 def array_data(image: Image) -> Optional[Image]:
     """The physical volume in a member of an md array, if the image is one and there is a sound label."""
-    for superblock in superblocks(image):
-        start, = struct.unpack_from("<Q", superblock, MD_DATA)
-        data = image.part(start * SECTOR, image.size)
+    for superblock in md_superblock.superblocks(image):
+        data = image.part(superblock.start * SECTOR, min(image.size, superblock.length * SECTOR))
         if label_of(data)[0]:
             return data
     return None
 
 
-def check_mirrored(image: Image) -> None:
-    """Refuses a member of an md array that doesn't have all of its data."""
-    for superblock in superblocks(image):
-        level, = struct.unpack_from("<l", superblock, MD_LEVEL)
-        if level != MIRRORED and label_of(image)[0] is None:
-            raise Refusal(image.path, "a member of an md array that isn't raid1, so that no member has all of a physical volume: "
-                          "`md` makes a table of the array, and `under` puts it below those of the group")
+def volume_label(image: Image) -> Optional[Label]:
+    """The sound label at the beginning of an image, unless that is a member of an array whose bytes these are not."""
+    label = label_of(image)[0]
+    is_of_another = label and any(it.start == 0 and fault_of(it) for it in md_superblock.superblocks(image))
+    return None if is_of_another else label
+
+
+def check_mirrored(image: Image, size: Optional[int] = None) -> None:
+    """Refuses a member of an md array that doesn't have all of its data. A label at its beginning is in that only where the data
+    begins there, and else of a time after the array's. The member has so many bytes, or those that are there."""
+    is_labelled = label_of(image)[0] is not None
+    for superblock in md_superblock.superblocks(image, size):
+        why = fault_of(superblock)
+        if why and not (is_labelled and superblock.start):
+            raise Refusal(image.path, why)
+    for at in md_superblock.damaged(image, size):
+        if not is_labelled or at > LAST_BEFORE_DATA:
+            raise Refusal(image.path, DAMAGED % (image.base + at))
+
+
+def fault_of(superblock: Superblock) -> Optional[str]:
+    """Why the bytes of a member aren't those of its array, or None."""
+    if not superblock.has_all():
+        return PARTS
+    if superblock.role is None or superblock.features & ~HARMLESS:
+        return CHANGING
+    return BAD if superblock.features & BAD_BLOCKS else None
 
 
 def taken_from_array(image: Image) -> Image:

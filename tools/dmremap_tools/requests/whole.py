@@ -9,7 +9,7 @@ from argparse import ArgumentParser, Namespace
 from dmremap_tools.base import names, requests, streams, tables
 from dmremap_tools.base.refusal import Refusal
 
-EXAMPLE = "dmremap-tools whole home tables | dmremap map table tables disks | dmremap-tools extents"
+EXAMPLE = "dmremap-tools whole home tables | dmremap map table tables disks"
 
 
 def add_words(parser: ArgumentParser) -> None:
