@@ -124,7 +124,7 @@ ROWS = [
     (["bytes"], in_bytes), (["cut"], in_bytes), (["trace", "ls", "table"], queued), (["trace", "ls", "table"], traced),
     (["trace", "--times", "beside", "ls", "table"], queued), (["fio", "table"], logged), (["filefrag", "a"], extents),
     (["totals"], pieces), (["totals"], snapshot_pieces), (["histogram"], pieces), (["splits"], pieces), (["times", "moments"], pieces),
-    (["seeks"], pieces), (["json"], pieces), (["to-fio"], pieces), (["dd", "--image", "x"], pieces),
+    (["seeks"], pieces), (["json"], pieces), (["to-fio"], pieces),
     (["free"], spans), (["clashes"], spans), (["clashes"], origins), (["owner", "table", "-"], places),
     (["owner", "wide", "-"], places), (["store-size"], writes),
     (["lvm2-text", "-"], physicals), (["lvm2-text", "-"], chain),

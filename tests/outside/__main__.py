@@ -15,18 +15,21 @@ A new case is a row of a table in one of the modules beside this file.
 import inspect
 import os
 import shutil
+import signal
 import sys
 import tempfile
 
 sys.dont_write_bytecode = True
 
 import answers
+import array_members
 import backups
 import before
 import building
 import completions
 import crate_pages
 import documents
+import explained
 import field_lengths
 import files
 import groups
@@ -46,6 +49,7 @@ import lvm2_texts
 import machines
 import manual
 import metadata_areas
+import models
 import origins
 import pictures
 import power_cuts
@@ -60,9 +64,11 @@ import reports
 import request_lines
 import saves
 import sector_files
+import snapshot_readers
 import snapshot_rows
 import snapshots
 import source_names
+import stored
 import streams
 import tool_answers
 import tool_documents
@@ -83,15 +89,20 @@ BUILT = os.path.join(TOP, "crates", "dmremap", "out", "dmremap")
 
 # The modules, in the order in which they run.
 PARTS = (
-    words, before, files, loads, backups, groups, records, printing, reports, request_lines, field_lengths, answers,
+    words, before, stored, files, loads, backups, groups, records, printing, reports, request_lines, field_lengths, answers,
     ranges, snapshot_rows, snapshots, origins, kinds, replays, streams, limits, hostile, growths, help_texts,
     launcher, building, trying, installs, documents, crate_pages, worked, manual, completions, reading_list, source_names, recipes,
-    tool_requests, tool_answers, tool_documents, tool_streams, layouts, layers, used, volumes, pictures, trace_parts,
-    sector_files, saves, machines, metadata_areas, lvm2_texts, walks, lookers, refusals, halts, power_cuts,
+    tool_requests, tool_answers, tool_documents, tool_streams, layouts, layers, explained, used, snapshot_readers, volumes, pictures,
+    trace_parts, sector_files, saves, models, machines, metadata_areas, array_members, lvm2_texts, walks, lookers, refusals, halts,
+    power_cuts,
 )
 
 
 def main():
+    # A shell lets what it starts in the background pass over interrupts, and nohup hangups; so would all that is started here.
+    for number in signal.SIGINT, signal.SIGHUP:
+        if signal.getsignal(number) is signal.SIG_IGN:
+            signal.signal(number, lambda *_: None)
     built = os.path.abspath(sys.argv[1]) if len(sys.argv) > 1 else BUILT
     wanted = sys.argv[2:] or [it.__name__ for it in PARTS]
     tally = Tally()

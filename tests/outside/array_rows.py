@@ -93,6 +93,10 @@ TABLES = [
     table(member(0, count=3, size=16, layout="alternate") + member(1, count=3, size=40, layout="alternate") + member(2, count=3, size=64, layout="alternate"),
           "m: 0 48 striped 3 16 /dev/sda 2048 /dev/sdb 2048 /dev/sdc 2048\nm: 48 32 striped 2 16 /dev/sdb 2064 /dev/sdc 2064\n"
           "m: 80 32 linear /dev/sdc 2080\n"),
+    table(member(0, count=3, size=32, layout="original") + member(1, count=3, size=80, layout="original") + member(2, count=3, size=80, layout="original"),
+          "m: 0 96 striped 3 16 /dev/sda 2048 /dev/sdb 2048 /dev/sdc 2048\nm: 96 96 striped 2 16 /dev/sdb 2080 /dev/sdc 2080\n"),
+    table("".join(member(it, count=4, size=16 * (1 + it // 2), layout="original") for it in range(4)),
+          "m: 0 64 striped 4 16 /dev/sda 2048 /dev/sdb 2048 /dev/sdc 2048 /dev/sdd 2048\nm: 64 32 striped 2 16 /dev/sdc 2064 /dev/sdd 2064\n"),
     table(member(0, size=16) + member(1, size=32), "m: 0 32 striped 2 16 /dev/sda 2048 /dev/sdb 2048\nm: 32 16 linear /dev/sdb 2064\n"),
     table(members(2, level="raid1", chunk="", sizes="     Array Size : 30 KiB (30.00 KiB)\n"), "m: 0 60 linear /dev/sda 2048\n"),
     table(members(2, level="raid1", chunk="", sizes="     Array Size : 30 KiB (30.00 KiB)\n"), "m: 0 60 linear b.img 2048\n",
@@ -125,6 +129,13 @@ TABLES = [
     table(old(0, state="spare") + old(1), "m: 0 64 linear /dev/sdb 0\n", message="left out: /dev/sda, which is no active device\n"),
 ]
 FAR = members(3, level="raid10", layout="near=2")
+
+
+def without_second(count, layout):
+    """The members of an array with copies, but for the second."""
+    return "".join(member(it, count=count, level="raid10", layout=layout) for it in range(count) if it != 1)
+
+
 REFUSED = [
     no_table("", "1: no member of an array"),
     no_table("mdadm: No md superblock detected on /dev/sda.\n", "1:1: not a line of `mdadm --examine`: mdadm: No md superblock detected on /dev/sda."),
@@ -154,6 +165,10 @@ REFUSED = [
     no_table(FAR, "1:1: raid10 of 3 devices with the layout near=2, which no table can say: follow the answers with --follow"),
     no_table(members(4, level="raid10", layout="offset=2"), "1:1: raid10 of 4 devices with the layout offset=2, which no table can say: follow the answers with --follow"),
     no_table(members(4, level="raid10", layout="near=2"), "1:1: it has 2 copies, counted from 0", ["--copy", "2"]),
+    # A copy that is missing isn't another one.
+    no_table(member(0, level="raid1", chunk="", sizes="     Array Size : 30\n"), "1:1: device 1 of the array is missing", ["--copy", "1", "1"]),
+    no_table(without_second(4, "near=2"), "1:1: device 1 of the array is missing", ["--copy", "1", "1"]),
+    no_table(without_second(3, "far=2"), "1:1: device 1 of the array is missing", ["--copy", "1", "1"]),
     no_table(members(4, level="raid10", layout="near=9"), "1:1: no layout of raid10: near=9"),
     no_table(members(2, disk="sd,a"), "1:1: no name of a disk, give --path /dev/sd,a=DISK"),
     no_table(old(0, level="raid0", sizes="", chunk=CHUNK) + old(1, level="raid0", sizes="", chunk=CHUNK),
@@ -212,6 +227,15 @@ FOLLOWED = [
     followed(members(4, level="raid10", layout="offset=2"), "1 R /dev/md0 48 32\n", "1 R /dev/sda 2064 16\n1 R /dev/sdb 2096 16\n", ["--copy", "1", "1", "2"]),
     followed(members(4, level="raid10", layout="near=2, far=2"), "1 W /dev/md0 16 8\n",
              "1 W /dev/sdc 2048 8\n1 W /dev/sda 2080 8\n1 W /dev/sdd 2048 8\n1 W /dev/sdb 2080 8\n"),
+    # Over five devices a chunk may lie at both ends of them. The second half begins after as many rows as the first has, the last one included.
+    followed(members(5, level="raid10", layout="near=2, far=2"), "1 W /dev/md0 32 8\n",
+             "1 W /dev/sde 2048 8\n1 W /dev/sdb 2080 8\n1 W /dev/sda 2064 8\n1 W /dev/sdc 2096 8\n"),
+    followed(members(5, level="raid10", layout="near=2, far=2", size=96), "1 W /dev/md0 96 8\n1 R /dev/md0 96 8\n",
+             "1 W /dev/sdc 2080 8\n1 W /dev/sde 2128 8\n1 W /dev/sdd 2080 8\n1 W /dev/sda 2128 8\n1 R /dev/sde 2128 8\n", ["--copy", "1", "1", "2"]),
+    followed(without_second(2, "near=2"), "1 R /dev/md0 0 16\n", "1 R /dev/sda 2048 16\n", ["--copy", "1", "1", "2"]),
+    # The rows of this layout come again after four, and not five.
+    followed(members(5, level="raid6", layout="left-symmetric-6", size=128), "1 R /dev/md0 240 48\n",
+             "1 R /dev/sdd 2128 16\n1 R /dev/sda 2128 16\n1 R /dev/sdb 2128 16\n"),
     # Neighbours on a disk are one piece.
     followed(members(2, level="raid10", layout="near=2"), "1 R /dev/md0 8 40\n", "1 R /dev/sda 2056 40\n"),
 ]

@@ -6,7 +6,9 @@ import struct
 UUID = "9f0ddaf8-7f12-4f09-98b6-4e4d01cf8b28"
 # The bytes of a header of version 2, of which there are two, one after the other.
 SIZE = 1 << 14
-SEGMENT = '"%d":{"type":"crypt","offset":"131072","size":"%s","sector_size":512}'
+SEGMENT = '"%d":{"type":"crypt","offset":"%d","size":"%s","sector_size":512}'
+# Where its data begins.
+DATA = 131072
 DUMP_1 = """\
 LUKS header information for sda2.img
 
@@ -35,21 +37,27 @@ Keyslots:
 """ % UUID
 
 
-def version_1(payload):
-    """A header of version 1, whose data begins in this sector."""
-    head = b"LUKS\xba\xbe\0\1".ljust(104, b"\0") + struct.pack(">L", payload)
-    return head.ljust(168, b"\0") + UUID.encode().ljust(40, b"\0") + bytes(800)
+def version_1(payload, keys=()):
+    """A header of version 1, whose data begins in this sector. Each key is the sector where its material begins."""
+    head = b"LUKS\xba\xbe\0\1".ljust(104, b"\0") + struct.pack(">LL", payload, 64)
+    head = head.ljust(168, b"\0") + UUID.encode().ljust(40, b"\0")
+    return (head + b"".join(struct.pack(">40xLL", it, 4000) for it in keys)).ljust(1008, b"\0")
 
 
-def version_2(size="dynamic", segments=1, json=None):
-    """Both headers of version 2, whose data begins in sector 256."""
-    text = json or ('{"segments":{%s}}' % ",".join(SEGMENT % (it, size) for it in range(segments))).encode()
-    return header(b"LUKS", 0, text) + header(b"SKUL", SIZE, text)
+def version_2(size="dynamic", segments=1, json=None, second=None, sequences=(3, 3)):
+    """Both headers of version 2, whose data begins in sector 256, or where the `second` of them says. Each was written so often."""
+    first = json or text_of(size, segments)
+    return header(b"LUKS", 0, first, sequences[0]) + header(b"SKUL", SIZE, text_of(size, segments, second) if second is not None else first, sequences[1])
 
 
-def header(magic, place, text):
-    """A header of version 2 at this byte."""
-    fields = magic + b"\xba\xbe\0\2" + struct.pack(">QQ", SIZE, 3)
+def text_of(size="dynamic", segments=1, data=DATA):
+    """The text of a header of version 2."""
+    return ('{"segments":{%s},"config":{"keyslots_size":"32768"}}' % ",".join(SEGMENT % (it, data, size) for it in range(segments))).encode()
+
+
+def header(magic, place, text, sequence=3):
+    """A header of version 2 that says that it is at this byte."""
+    fields = magic + b"\xba\xbe\0\2" + struct.pack(">QQ", SIZE, sequence)
     fields = fields.ljust(72, b"\0") + b"sha256".ljust(96, b"\0") + UUID.encode().ljust(40, b"\0")
     head = (fields.ljust(256, b"\0") + struct.pack(">Q", place)).ljust(4096, b"\0")
     area = text.ljust(SIZE - 4096, b"\0")

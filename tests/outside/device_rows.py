@@ -75,6 +75,20 @@ POOLS = [
     no_thin(THIN + ["8"], "1:8: `single_mapping` doesn't say data_block", pool().replace('data_block="12" ', "")),
     no_thin(THIN + ["4000"], "t: block 12 of a device is there twice", pool().replace('"20" data_block="12"', '"12" data_block="12"')),
 ]
+# Lists of blocks that refer to others.
+FIRST_LIST = '<def name="3">\n    <range_mapping origin_begin="30" data_begin="40" length="2" time="0"/>\n  </def>\n'
+NESTED = FIRST_LIST + '  <def name="4">\n    <single_mapping origin_block="21" data_block="14" time="0"/>\n    <ref name="3"/>\n  </def>\n  <def name="5">\n  </def>\n'
+WITH_NESTED = pool().replace(FIRST_LIST, NESTED)
+POOLS += [
+    thin(["--data", "d"] + TWO, "u,,,ro,0 2560 zero,2560 256 linear d 1664,2816 1024 zero,3840 60 linear d 5120\n",
+         WITH_NESTED.replace('3"/>\n    <single_mapping origin_block="20" data_block="13"', '4"/>\n    <ref name="5"/>\n    <ref name="5"/>\n'
+                             '    <single_mapping origin_block="20" data_block="13"').replace('mapped_blocks="3"', 'mapped_blocks="4"')),
+    no_thin(["--data", "d"] + TWO, "1:20: a list of blocks is in a device twice",
+            WITH_NESTED.replace('<ref name="3"/>\n    <single_mapping origin_block="20"', '<ref name="3"/>\n    <ref name="4"/>\n    <single_mapping origin_block="20"')),
+    no_thin(THIN + ["8"], "1:11: no list of this name comes before it:     <ref name=\"6\"/>", pool().replace('<ref name="3"/>', '<ref name="6"/>')),
+    no_thin(THIN + ["8"], "1:3: no list of this name comes before it:     <ref name=\"4\"/>", WITH_NESTED.replace('    <range_mapping origin_begin="30"', '    <ref name="4"/>\n    <range_mapping origin_begin="30"')),
+    no_thin(THIN + ["8"], "1:5: a list of this name is there already:   <def name=\"3\">", WITH_NESTED.replace('<def name="4">', '<def name="3">')),
+]
 
 CACHE = """\
 <superblock uuid="" block_size="128" nr_cache_blocks="%s" policy="smq" hint_width="4">
@@ -96,7 +110,14 @@ CACHES = [
     wrong("cache", CACHED + ["1125899906842625"], CACHE % 64, "--sectors: a device has from 1 to 2^50 sectors, and not 1125899906842625"),
     good("cache", CACHED + ["400", "--part", "0", "1"], [CACHE % 64], "d,,,ro,0 128 linear c 1152,128 272 error\n"),
     bad("cache", CACHED + ["1000"], [CACHE % 9], "1:6: past the end of the cache, of 9 blocks:     <mapping cache_block=\"9\" origin_block=\"0\" dirty=\"true\"/>"),
-    bad("cache", CACHED + ["1000"], [(CACHE % 64).replace('origin_block="4"', 'origin_block="3"')], "d: block 3 of the origin is there twice"),
+    bad("cache", CACHED + ["1000"], [(CACHE % 64).replace('origin_block="4"', 'origin_block="3"')], "1: block 3 of the origin is there twice"),
+    bad("cache", CACHED + ["1000"], [(CACHE % 64).replace('cache_block="1"', 'cache_block="0"')], "1: block 0 of the cache is there twice"),
+    bad("cache", CACHED + ["1000"], [(CACHE % 64).replace('cache_block="2"', 'cache_block="0"')], "1: block 0 of the cache is there twice"),
+    bad("cache", CACHED + ["1000"], [(CACHE % 64).replace('origin_block="5"', 'origin_block="4"')], "1: block 4 of the origin is there twice"),
+    bad("cache", CACHED + ["1000"], [(CACHE % 64).replace('dirty="false"', 'dirty="True"')],
+        "1:5: `dirty` is neither true nor false:     <mapping cache_block=\"2\" origin_block=\"5\" dirty=\"True\"/>"),
+    bad("cache", CACHED + ["1000", "--all"], [(CACHE % 64).replace(' dirty="false"', '')],
+        "1:5: `dirty` is neither true nor false:     <mapping cache_block=\"2\" origin_block=\"5\"/>"),
     bad("cache", CACHED + ["1000"], ["<superblock block_size=\"0\" nr_cache_blocks=\"1\">\n"],
         "1:1: blocks of no sectors: <superblock block_size=\"0\" nr_cache_blocks=\"1\">"),
     bad("cache", CACHED + ["1000"], ["<superblock block_size=\"1\" nr_cache_blocks=\"1\">\n"], "1:1: its end is missing"),
@@ -107,7 +128,8 @@ CACHES = [
 CHUNKS = """\
 btrfs-progs v6.2
 chunk tree
-leaf 22036480 items 7 free space 15316 generation 6 owner CHUNK_TREE
+leaf 22036480 items 3 free space 15316 generation 6 owner CHUNK_TREE
+leaf 22036480 flags 0x1(WRITTEN) backref revision 1
 \titem 0 key (DEV_ITEMS DEV_ITEM 1) itemoff 16185 itemsize 98
 \t\tdevid 1 total_bytes 314572800 bytes_used 67108864
 \titem 1 key (FIRST_CHUNK_TREE CHUNK_ITEM 131072) itemoff 15989 itemsize 80
@@ -125,25 +147,50 @@ leaf 22036480 items 7 free space 15316 generation 6 owner CHUNK_TREE
 \t\t\tstripe 1 devid 2 offset 4194304
 \t\t\tstripe 2 devid 1 offset 5242880
 \t\t\tstripe 3 devid 2 offset 6291456
-total bytes 629145600
 """
 BTRFS = ["--name", "b", "--device", "1", "d", "--device", "2", "e"]
 BEFORE, AFTER = "b: 0 256 error\n", "b: 384 128 error\nb: 512 512 striped 2 128 d 6144 d 10240\n"
+LEAF = """\
+leaf 22052864 items 1 free space 100 generation 6 owner CHUNK_TREE
+\titem 0 key (FIRST_CHUNK_TREE CHUNK_ITEM 524288) itemoff 15989 itemsize 80
+\t\tlength 65536 owner 2 stripe_len 65536 type DATA|single
+\t\tnum_stripes 1 sub_stripes 1
+\t\t\tstripe 0 devid 1 offset 8388608
+"""
+NODE = """\
+node 22020096 level 1 items 2 free space 491 generation 6 owner CHUNK_TREE
+node 22020096 flags 0x1(WRITTEN) backref revision 1
+\tkey (DEV_ITEMS DEV_ITEM 1) block 22036480 gen 6
+\tkey (FIRST_CHUNK_TREE CHUNK_ITEM 524288) block 22052864 gen 6
+"""
+OTHER_TREE = """\
+extent tree key (EXTENT_TREE ROOT_ITEM 0)
+leaf 30408704 items 12 free space 15614 generation 6 owner EXTENT_TREE
+\titem 0 key (13631488 BLOCK_GROUP_ITEM 8388608) itemoff 16259 itemsize 24
+total bytes 629145600
+"""
 TREES = [
     good("btrfs", BTRFS, [CHUNKS % "|RAID1"], BEFORE + "b: 256 128 linear d 2048\n" + AFTER),
     good("btrfs", BTRFS, [CHUNKS % "|RAID0"], BEFORE + "b: 256 128 striped 2 128 d 2048 e 4096\n" + AFTER),
     good("btrfs", BTRFS + ["--copy", "1"], [CHUNKS % "|DUP"], BEFORE + "b: 256 128 linear e 4096\nb: 384 128 error\nb: 512 512 striped 2 128 e 8192 e 12288\n"),
     good("btrfs", BTRFS, [CHUNKS % "|RAID5"], "b: 0 256 error\nb: 256 128 error\n" + AFTER, "left out: the chunk at 131072, which is of RAID5\n"),
-    bad("btrfs", BTRFS + ["--copy", "2"], [CHUNKS % "|DUP"], "1:6: the chunk at 131072 has 2 copies, counted from 0"),
+    bad("btrfs", BTRFS + ["--copy", "2"], [CHUNKS % "|DUP"], "1:7: the chunk at 131072 has 2 copies, counted from 0"),
     bad("btrfs", BTRFS + ["--copy", "1"], [(CHUNKS % "|RAID0").replace("|RAID10", "|RAID0")], "1: no chunk has a copy 1, counted from 0"),
-    bad("btrfs", BTRFS + ["--copy", "2"], [CHUNKS % "|RAID0"], "1:14: the chunk at 262144 has 2 copies, counted from 0"),
+    bad("btrfs", BTRFS + ["--copy", "2"], [CHUNKS % "|RAID0"], "1:15: the chunk at 262144 has 2 copies, counted from 0"),
     good("btrfs", BTRFS + ["--part", "300", "8"], [CHUNKS % ""], BEFORE + "b: 256 128 linear d 2048\nb: 384 640 error\n"),
-    bad("btrfs", BTRFS[:-3], [CHUNKS % "|RAID0"], "1:6: device 2 of the file system isn't given"),
+    bad("btrfs", BTRFS[:-3], [CHUNKS % "|RAID0"], "1:7: device 2 of the file system isn't given"),
     bad("btrfs", BTRFS, ["chunk tree\ntotal bytes 0\n"], "1: no chunks of a btrfs file system"),
-    bad("btrfs", BTRFS, [(CHUNKS % "").replace("total bytes 629145600\n", "")], "1:20: its end is missing"),
-    bad("btrfs", BTRFS, [(CHUNKS % "").replace("num_stripes 4", "num_stripes 5")], "1:14: a stripe of the chunk at 262144 is missing"),
-    bad("btrfs", BTRFS, [(CHUNKS % "").replace("offset 1048576", "offset 1048577")], "1:6: no whole sectors: 1048577 bytes"),
-    bad("btrfs", BTRFS, [(CHUNKS % "").replace("CHUNK_ITEM 262144", "CHUNK_ITEM 131584")], "1:14: it begins before the end of another"),
+    # All trees of a file system, and a tree of two leaves. A leaf that isn't all there, or that couldn't be read, is missed.
+    good("btrfs", BTRFS, [CHUNKS % "|RAID1" + OTHER_TREE], BEFORE + "b: 256 128 linear d 2048\n" + AFTER),
+    good("btrfs", BTRFS, [NODE + CHUNKS % "|RAID1" + LEAF], BEFORE + "b: 256 128 linear d 2048\n" + AFTER + "b: 1024 128 linear d 16384\n"),
+    bad("btrfs", BTRFS, [NODE + CHUNKS % "|RAID1"], "1:25: the tree of chunks isn't all there"),
+    bad("btrfs", BTRFS, [NODE + CHUNKS % "|RAID1" + LEAF.split("\titem")[0]], "1:26: the tree of chunks isn't all there"),
+    bad("btrfs", BTRFS, [(CHUNKS % "").replace("items 3", "items 4")], "1:21: the tree of chunks isn't all there"),
+    bad("btrfs", BTRFS, [(CHUNKS % "").replace("items 3", "items 4") + LEAF], "1:26: the tree of chunks isn't all there"),
+    bad("btrfs", BTRFS, [(CHUNKS % "").split("leaf")[0] + "\titem" + (CHUNKS % "").split("\titem", 2)[2]], "1:17: the tree of chunks isn't all there"),
+    bad("btrfs", BTRFS, [(CHUNKS % "").replace("num_stripes 4", "num_stripes 5")], "1:15: a stripe of the chunk at 262144 is missing"),
+    bad("btrfs", BTRFS, [(CHUNKS % "").replace("offset 1048576", "offset 1048577")], "1:7: no whole sectors: 1048577 bytes"),
+    bad("btrfs", BTRFS, [(CHUNKS % "").replace("CHUNK_ITEM 262144", "CHUNK_ITEM 131584")], "1:15: it begins before the end of another"),
 ]
 
 FOUND = "Filesystem type is: %s\nFile size of /f is 4096 (8 blocks of 512 bytes)\n ext:     logical_offset:        physical_offset: length:   expected: flags:\n" \

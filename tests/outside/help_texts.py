@@ -16,7 +16,7 @@ CLASH, CLASH_DISKS = "a: 0 8 linear sda 0\nb: 0 8 linear sda 4\n", "sda 16\n"
 # What a text on a status has to say, wherever it stands.
 MEANT = [
     ("0", r"help (?:or the version )?was asked for"),
-    ("1", r"FILE.*DISKS.* a name or the requests of --before (?:are|were) refused"),
+    ("1", r"FILE.*DISKS.*PATHS.* a store, a name or the requests of --before (?:are|were) refused"),
     ("2", r"[Tt]he words (?:of the command line )?(?:are|were) refused"),
     ("3", r"[Aa] request (?:is|was) bad"),
     ("4", r"[Tt]he requests (?:can't|could not) be read"),
@@ -31,8 +31,10 @@ WAYS = {
     "the check was printed, also one with a clash": ("good", "clash"),
     "the name was printed": ("good",),
     "the parts were printed": ("good",),
-    "FILE, DISKS, a name or the requests of --before were refused": ("no file", "bad disks", "bad name", "bad earlier"),
-    "FILE, DISKS or the requests of --before were refused": ("no file", "bad disks", "bad earlier"),
+    "FILE, DISKS, PATHS, a store, a name or the requests of --before were refused": (
+        "no file", "bad disks", "bad paths", "bad store", "bad name", "bad earlier"),
+    "FILE, DISKS, PATHS, a store or the requests of --before were refused": (
+        "no file", "bad disks", "bad paths", "bad store", "bad earlier"),
     "FILE or DISKS was refused": ("no file", "bad disks"),
     "FILE or DISKS was refused, or two lines claim one sector": ("no file", "bad disks", "clash"),
     "a part was refused, or the name is too long": ("bad name", "long name"),
@@ -100,6 +102,9 @@ def outcomes(program, command):
         found.update({"bad request": status(good, given="R b 0 1\n"), "closed input": status(good, stdin=-1, before=lambda: os.close(0))})
     if command == "map":
         found["bad earlier"] = status([*good, "--before", bad])
+        found["bad paths"] = status([*good, "--paths", bad])
+        snapshot = program.file("help/snapshot", "s: 0 8 snapshot sda sdb P 8\n")
+        found["bad store"] = status([command, "table", snapshot, program.file("help/two disks", "sda 8\nsdb 64\n"), "--paths", os.devnull])
     if command == "replay":
         found["lower device"] = status(lower)
     return found

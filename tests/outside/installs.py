@@ -53,6 +53,7 @@ def check(tally, program, top):
     check_installed(tally, program, tree)
     check_destination(tally, program, tree)
     check_removed(tally, program, tree)
+    check_links(tally, program, tree)
     check_libraries(tally, program, top)
     missing = [it for it in ("git", "cc") if shutil.which(it) is None]
     if missing:
@@ -64,7 +65,7 @@ def check(tally, program, top):
 def make_tree(program, top, name):
     """A repository with the scripts, what they install, and the program."""
     tree = os.path.join(program.room, name)
-    for it in [*SCRIPTS, "install", "release", "README.md", ".gitignore", "docs", "benches/RESULTS.md", "completions", "examples", "tools"]:
+    for it in [*SCRIPTS, "install", "release", "README.md", "CHANGELOG.md", ".gitignore", "docs", "benches/RESULTS.md", "completions", "examples", "tools"]:
         one, other = os.path.join(top, it), os.path.join(tree, it)
         os.makedirs(os.path.dirname(other), exist_ok=True)
         if os.path.isdir(one):
@@ -102,7 +103,7 @@ def installed_in(tree):
     """What is installed, and the bytes that it has. Those of the tool aren't looked at."""
     places = {"bin/dmremap": "crates/dmremap/out/dmremap", TOOL: PACK, **dict([PLUGIN])}
     places.update((place % name, path % name) for name in ("dmremap", "dmremap-tools") for place, path in PLACES.items())
-    for pattern in ("README.md", "docs/*.md", "docs/*.svg", "benches/RESULTS.md", "examples/*.*", "examples/samples/*.*"):
+    for pattern in ("README.md", "CHANGELOG.md", "docs/*.md", "docs/*.svg", "benches/RESULTS.md", "examples/*.*", "examples/samples/*.*"):
         paths = [os.path.relpath(it, tree) for it in glob.glob(os.path.join(tree, pattern))]
         places.update(("%s/%s" % (DOCUMENTS, it), it) for it in paths)
     return {place: None if place == TOOL else bytes_of(os.path.join(tree, path)) for place, path in places.items()}
@@ -151,6 +152,22 @@ def check_destination(tally, program, tree):
         there = files_below(os.path.join(below, prefix))
         is_there = got.status == 0 and there == installed_in(tree)
         tally.holds("./install below DESTDIR, %s" % prefix, is_there, "%s, %r, %s" % (got.status, got.err, sorted(there)))
+
+
+def check_links(tally, program, tree):
+    """What is installed gets in place of a link, and not through it."""
+    folder = os.path.join(program.room, "linked prefix")
+    mine = program.file("mine", "mine\n")
+    places = ("bin/dmremap", TOOL, PLUGIN[0], DOCUMENTS + "/README.md")
+    for it in places:
+        os.makedirs(os.path.dirname(os.path.join(folder, it)), exist_ok=True)
+        os.symlink(mine, os.path.join(folder, it))
+    got = run([os.path.join(tree, "install"), folder])
+    tally.same("./install where links are", got, 0, "dmremap: installed below %s\n" % folder)
+    tally.holds("what a link leads to", bytes_of(mine) == b"mine\n", "it is another")
+    tally.holds("what ./install puts there", files_below(folder) == installed_in(tree), "it is %s" % sorted(files_below(folder)))
+    tally.holds("links that stay", not any(os.path.islink(os.path.join(folder, it)) for it in places), "one does")
+    check_works(tally, program, folder, "./install over links")
 
 
 def check_removed(tally, program, tree):
@@ -229,6 +246,7 @@ def check_release(tally, program, top, tree):
     check_unpacked(tally, program, tree, os.path.join(folder, names[0]), names[0][:-len(".tar.gz")])
     check_packages(tally, program, folder, names[1:])
     check_refused(tally, program, tree, release, env)
+    check_full(tally, program, release, env)
 
 
 def names_of(program):
@@ -236,6 +254,21 @@ def names_of(program):
     version = run([program.path, "--version"]).out.decode().split()[-1]
     names = [(None, "dmremap-%s-x86_64-linux.tar.gz"), ("dpkg-deb", "dmremap_%s_amd64.deb"), ("rpmbuild", "dmremap-%s-1.x86_64.rpm")]
     return [it % version for tool, it in names if tool is None or shutil.which(tool)]
+
+
+def check_full(tally, program, release, env):
+    """On a disk that is full, nothing has the name of what it is a part of."""
+    full = os.path.join(program.room, "a full disk")
+    os.mkdir(full)
+    small = ["unshare", "--map-root-user", "--mount", "sh", "-c",
+             'mount -t tmpfs -o size="$1" none "$2" && { "$3" "$2" 2> /dev/null; echo "status $?"; ls -A "$2"; }', "sh"]
+    sizes = [os.path.getsize(os.path.join(program.room, "packed", "63", it)) for it in names_of(program)]
+    for size in (sizes[0] // 2, sizes[0] + sizes[-1] // 2):
+        got = run([*small, str(size), full, release], env=env)
+        if b"unshare" in got.err or b"mount" in got.err:
+            tally.skip("./release to a disk that is full", "no disk can be made here")
+            break
+        tally.holds("./release to a disk of %d bytes" % size, got.out == b"status 1\n", "%s, %r, %r" % (got.status, got.out, got.err))
 
 
 def check_refused(tally, program, tree, release, env):
@@ -332,7 +365,24 @@ def check_packages(tally, program, folder, names):
             listed = run(["rpm", "-qp", "--nosignature", "--qf", "[%{FILENAMES} %{FILEUSERNAME}/%{FILEGROUPNAME}\n]", path]).out.decode()
             there = {it.split()[0][1:] for it in listed.splitlines() if it.split()[0][1:] in wanted}
             owners = {it.split()[1] for it in listed.splitlines()}
+            check_folders(tally, path, name)
         tally.holds("what is in %s" % name, there == wanted and owners == {"root/root"}, "it is %s, of %s" % (sorted(there ^ wanted), owners))
+
+
+def check_folders(tally, path, name):
+    """Each folder of dmremap's own belongs to the package, so that it goes with it."""
+    listed = run(["rpm", "-qp", "--nosignature", "--qf", "[%{FILEMODES:perms} %{FILENAMES}\n]", path]).out.decode().splitlines()
+    files = [it.split()[1] for it in listed]
+    own = {it for file in files for it in above(file) if "/dmremap/" in it + "/"}
+    folders = {it.split()[1] for it in listed if it.startswith("d")}
+    tally.holds("the folders of %s" % name, own and folders == own, "they are %s and not %s" % (sorted(folders), sorted(own)))
+
+
+def above(path):
+    """The folders above a file."""
+    while os.path.dirname(path) != path:
+        path = os.path.dirname(path)
+        yield path
 
 
 def bytes_of(path):

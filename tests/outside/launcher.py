@@ -5,6 +5,8 @@ import contextlib
 import os
 import re
 import shutil
+import signal
+import subprocess
 import time
 
 from harness import run
@@ -29,6 +31,8 @@ def check(tally, program, top, is_own):
     check_times(tally, tree)
     check_kept(tally, tree)
     check_lacking(tally, tree)
+    check_own_path(tally, program, top)
+    check_interrupts(tally, tree)
 
 
 def check_version(tally, top):
@@ -122,6 +126,40 @@ def check_odd_places(tally, program, top):
             got = tree.run(words, script, given=REQUESTS, folder=at)
             tally.same("./dmremap in %r %s" % (odd, name), got, 0, ANSWER)
         os.remove(link)
+
+
+def check_own_path(tally, program, top):
+    """A path to the program that is no UTF-8, or in other letters, by each way to it."""
+    room = os.path.join(program.room, os.fsdecode(b"a path \xff"))
+    tree = Tree(program, top, "own")
+    for name in "t", "a:t", "\u00e9":
+        at = shutil.copytree(tree.top, os.path.join(room, name))
+        for how, said in ("that builds", BUILDING + told()), ("that is built", ""):
+            tally.same("./dmremap %s in %r" % (how, name), tree.run(["splitname", "a-b"], os.path.join(at, "dmremap")), 0, "a b\n", said)
+    copy = shutil.copy(program.path, os.path.join(room, "dmremap"))
+    listed = program.file("own/paths", "a %s\n" % program.file("own/a", bytes(4096)))
+    stack = ["table", program.file("own/table", "v: 0 8 linear a 0\n"), program.file("own/disks", "a 8\n")]
+    words = ["save", "--program", copy, "--paths", listed, "v", os.path.join(program.room, "own", "out"), *stack]
+    tally.same("the tools over such a program", run([os.path.join(top, "dmremap-tools"), *words]))
+
+
+def check_interrupts(tally, tree):
+    """An interrupt while the scripts are loaded, before they can end a build, ends them in silence."""
+    path = tree.path("launch/calls.py")
+    with open(path, encoding="utf-8") as it:
+        kept = it.read()
+    begun = os.path.join(tree.room, "begun")
+    tree.write("launch/calls.py", "import time\nopen(%r, 'w').close()\ntime.sleep(30)\n%s" % (begun, kept))
+    for script in tree.script, tree.build:
+        tree.remove()
+        ran = subprocess.Popen([script, "--run"], env=tree.environment(), stdout=subprocess.PIPE, stderr=subprocess.PIPE, start_new_session=True)
+        has_begun = becomes(lambda: os.path.exists(begun))
+        os.killpg(ran.pid, signal.SIGINT)
+        out, err = ran.communicate(timeout=30)
+        is_so = has_begun and ran.returncode in (130, -signal.SIGINT) and not out and not err
+        tally.holds("an interrupt of %s while it is loaded" % os.path.basename(script), is_so, "%s, %r" % (ran.returncode, err))
+        os.remove(begun)
+    tree.write("launch/calls.py", kept)
 
 
 def check_changes(tally, tree):
@@ -301,12 +339,12 @@ def check_lacking(tally, tree):
     tally.same("./dmremap once it is built, without python3", got, 0, ANSWER)
     tree.remove()
     got = tree.run(["--version"], variables={"PATH": path_without(tree, "python3")})
-    tally.same("./dmremap without python3", got, 70, "", "dmremap: ./build makes the program, and there is no python3 on the path\n")
+    tally.same("./dmremap without python3", got, 70, "", "dmremap: ./build makes the program, and there is no python3 on the path that runs\n")
     broken = path_without(tree, "python3", "rt")
-    os.chmod(tree.program.file(os.path.join(broken, "python3"), "#!/no/such/interpreter\n"), 0o755)
-    got = tree.run(["--version"], variables={"PATH": broken})
-    is_told = got.status == 70 and got.out == b"" and got.err.endswith(b"dmremap: python3 can't be run\n")
-    tally.holds("./dmremap with a python3 that can't be run", is_told, "%s, %r" % (got.status, got.err))
+    for name, text in ("fails", "#!/bin/sh\nexit 1\n"), ("can't be run", "#!/no/such/interpreter\n"):
+        os.chmod(tree.program.file(os.path.join(broken, "python3"), text), 0o755)
+        got = tree.run(["--version"], variables={"PATH": broken})
+        tally.same("./dmremap with a python3 that " + name, got, 70, "", "dmremap: ./build makes the program, and there is no python3 on the path that runs\n")
     for name in "build", "try":
         for few in path_without(tree, "python3"), broken:
             got = tree.run([], tree.path(name), variables={"PATH": few})

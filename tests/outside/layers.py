@@ -8,11 +8,50 @@ from physical_volumes import gpt, mbr, volume
 from tool_calls import TOOL, call, check_rows
 
 SECTOR = 512
+# What a command may take, beside what Python does.
+MEMORY = 200 << 20
 
 
 def check(tally, program, top):
     check_rows(tally, program, top, array_rows.ROWS + device_rows.ROWS)
     check_images(tally, program, top)
+    check_lists(tally, top)
+    check_small_chunks(tally, program, top)
+
+
+def check_lists(tally, top):
+    """Shared lists of a pool, each of which has the one before it twice, take neither memory nor time that a text has not."""
+    twice = '<def name="%d">\n<ref name="%d"/>\n<ref name="%d"/>\n</def>\n'
+    first = '<def name="0">\n<single_mapping origin_block="0" data_block="5" time="0"/>\n</def>\n'
+    head = '<superblock uuid="" time="0" version="2" data_block_size="128" nr_data_blocks="9">\n'
+    device = '<device dev_id="1" mapped_blocks="%d">\n<ref name="40"/>\n</device>\n</superblock>\n'
+    words = ["thin", "--data", "d", "--device", "1", "t", "128", "-"]
+    lists = "".join(twice % (it, it - 1, it - 1) for it in range(1, 41))
+    got = call(top, words, given=head + first + lists + device % 1, memory=MEMORY)
+    tally.same("lists of lists", got, 1, "refused\n", TOOL + " thin: standard input:167: a list of blocks is in a device twice\n")
+    got = call(top, words, given=head + first.replace(first.split("\n")[1] + "\n", "") + lists + device % 0, memory=MEMORY)
+    tally.same("lists of empty lists", got, 0, "t,,,ro,0 128 zero\n")
+
+
+def check_small_chunks(tally, program, top):
+    """The longest read that is followed through chunks of two sectors: a line for each of half a million, in a second or two."""
+    text = array_rows.members(3, level="raid5", layout="left-symmetric", size=1 << 40, chunk="     Chunk Size : 1K\n")
+    examined, pieces = program.file("layers/examined", text), program.file("layers/pieces", "1 R /dev/md0 0 1048576\n")
+    begun = os.times()
+    got = call(top, ["md", "--follow", "/dev/md0", examined, pieces], memory=MEMORY)
+    ended = os.times()
+    wanted = "".join("1 R /dev/sd%s %d 2\n" % (disk, 2048 + 2 * row) for row in range(1 << 18) for disk in (("ab", "ca", "bc")[row % 3]))
+    tally.same("a long read through small chunks", got, 0, wanted)
+    took = ended.children_user + ended.children_system - begun.children_user - begun.children_system
+    tally.holds("how long that takes", took < 3, "it takes %.1f s" % took)
+
+
+def tables_at(first, *others):
+    """An image that begins with a partition table, and has others in these sectors."""
+    image = bytearray(first.ljust(256 * SECTOR, b"\0"))
+    for at, table in others:
+        image[at * SECTOR:at * SECTOR + SECTOR] = table
+    return bytes(image)
 
 
 GROUP = "vg0-lv0: 0 16 linear /dev/sda2 8\n"
@@ -29,6 +68,20 @@ PARTED = [
      "sda.img1: 0 16 linear sda.img 8\nsda.img2: 0 128 linear sda.img 64\n"),
     ("an extended partition", mbr((5, 16, 100), (0x8E, 8, 24)) + bytes(15 * SECTOR) + mbr((0x8E, 4, 16)), [],
      "sda.img2: 0 24 linear sda.img 8\nsda.img5: 0 16 linear sda.img 20\n"),
+    ("a partition of type 0", mbr((0, 8, 8), (0x8E, 16, 100)), [], "sda.img1: 0 8 linear sda.img 8\nsda.img2: 0 100 linear sda.img 16\n"),
+    ("two extended partitions", tables_at(mbr((5, 16, 16), (0x8E, 128, 64), (0xF, 64, 64)), (16, mbr((0x8E, 4, 4))), (64, mbr((0, 4, 16)))), [],
+     "sda.img2: 0 64 linear sda.img 128\nsda.img5: 0 4 linear sda.img 20\nsda.img6: 0 16 linear sda.img 68\n"),
+    ("three logical partitions", tables_at(mbr((5, 16, 90), (0x8E, 128, 64)), (16, mbr((0x83, 4, 4), (5, 16, 20))),
+                                           (32, mbr((0x83, 4, 8), (5, 40, 20))), (56, mbr((0x83, 1, 2)))), [],
+     "sda.img2: 0 64 linear sda.img 128\nsda.img5: 0 4 linear sda.img 20\nsda.img6: 0 8 linear sda.img 36\nsda.img7: 0 2 linear sda.img 57\n"),
+    # A third entry within an extended partition counts where it lies inside, and the table that comes next may be the first.
+    ("a third entry", tables_at(mbr((5, 16, 90), (0x8E, 128, 64)), (16, mbr((5, 16, 20), (0x83, 1, 2), (0x83, 4, 2), (0x83, 8, 2000))),
+                                (32, mbr((0x83, 1, 1), (0, 0, 0), (0x83, 4, 17), (0x83, 4, 16)))), [],
+     "sda.img2: 0 64 linear sda.img 128\nsda.img5: 0 2 linear sda.img 17\nsda.img6: 0 2 linear sda.img 20\nsda.img7: 0 1 linear sda.img 33\n"
+     "sda.img8: 0 16 linear sda.img 36\n"),
+    ("extended partitions that lead to each other", tables_at(mbr((5, 16, 90), (0x8E, 128, 64)), (16, mbr((0x83, 1, 2), (5, 16, 20))),
+                                                              (32, mbr((0x83, 1, 1), (5, 0, 20)))), [],
+     "sda.img2: 0 64 linear sda.img 128\nsda.img5: 0 2 linear sda.img 17\nsda.img6: 0 1 linear sda.img 33\n"),
     ("a partition table beside a label", mbr((0x83, 64, 8), (0x8E, 128, 64)) + volume()[SECTOR:], [],
      "sda.img1: 0 8 linear sda.img 64\nsda.img2: 0 64 linear sda.img 128\n"),
 ]

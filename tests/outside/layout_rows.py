@@ -80,7 +80,6 @@ READERS = [
     good("free", [], ["d 4 8 a 0 linear\nd 6 7 b 0 linear\nd 9 9 - - end\ne 5 5 - - end\n"],
          "d 0 4 unnamed\nd 4 8 a 0 linear\nd 6 7 b 0 linear\nd 8 9 unnamed\ne 0 5 unnamed\n"),
     *(good(it, [], [""], "", "no line came\n") for it in ("free", "clashes", "align", "store-size")),
-    good("extents", [], [""], "", "no piece came\n"),
     good("tree", [], [""], "", "no device came\n"),
     good("spans", [], ["", ""], "", "no disk and no device came\n"),
     good("owner", ["1"], ["", ""], "", "no line came\n"),
@@ -121,40 +120,6 @@ PICTURES = [
     bad("dot", [], ["a 0 8 zero\n"], "1:1: not table text: a 0 8 zero"),
 ]
 
-EXTENTS = [
-    good("extents", [], ["1 R a 0 8\n2 R a 8 8\n2 zero 4\n3 zero 4\n3 R a 16 1\n3 R b 17 1\n4 error 2\n"],
-         "0 16 a 0\n16 8 zero\n24 1 a 16\n25 1 b 17\n26 2 error\n"),
-    good("extents", [], ["1 R - 0 5\n1 R - 0 5\n"], "0 5 - 0\n5 5 - 0\n"),
-    lost("extents", [], ["1 W a 0 8\n"], "1:1: not a piece of a read: 1 W a 0 8"),
-    lost("extents", [], ["2 R a 0 8\n1 R a 8 8\n"], "1:2: not a piece of a read: 1 R a 8 8"),
-]
-
-PLACES = "size 4000\n0 8\n16 8\n"
-READ = "1 R a 0 4\n1 R b 0 4\n2 error 8\n"
-
-
-def no_file(inputs, message):
-    return lost("read-back", ["1", "2", "out"], inputs, message)
-
-
-READ_BACK = [
-    no_file([PLACES, READ[:10]], "2:1: request 1 is not answered in full"),
-    no_file([PLACES, READ[:20]], "2:2: request 2 is not answered in full"),
-    no_file([PLACES, READ[:10] + "2 error 8\n"], "2:2: request 1 is not answered in full"),
-    no_file([PLACES, READ.replace("1 R b 0 4", "1 R b 0 5")], "2:2: not asked for by PLACES: 1 R b 0 5"),
-    no_file([PLACES, READ + "3 R a 0 8\n"], "2:4: not asked for by PLACES: 3 R a 0 8"),
-    no_file([PLACES, READ + "1 R a 0 8\n"], "2:4: not asked for by PLACES: 1 R a 0 8"),
-    no_file([PLACES, "1 W a 0 8\n"], "2:1: not of a read: 1 W a 0 8"),
-    no_file([PLACES, "1 wrote 1 18 1\n"], "2:1: not a piece of an answer: 1 wrote 1 18 1"),
-    no_file([PLACES[10:], READ], "1:1: not PLACES of filefrag or debugfs"),
-    no_file(["refused\n", READ], "1:1: not PLACES of filefrag or debugfs"),
-    no_file(["", READ], "1: not PLACES of filefrag or debugfs"),
-    no_file(["size 9223372036854775808\n", ""], "1:1: no file is as long: 9223372036854775808"),
-    no_file(["size 9\n18014398509481983 1\n", "1 R a 0 1\n"], "1:2: no file is as long: 18014398509481983 1"),
-    no_file([PLACES, READ], "a: No such file or directory"),
-    no_file([PLACES, READ.replace("a", ".").replace("b", ".")], ".: neither a file nor a disk"),
-]
-
 STORES = [
     good("store-size", [], ["R a 0 800\nW a 0 9\nW b 8 8\nW a 16 8\n"], "a 3 40 16\nb 1 24 16\n"),
     good("store-size", ["--kind", "N", "--chunk", "4"], ["W a 3 2\n"], "a 2 8 0\n"),
@@ -162,4 +127,4 @@ STORES = [
     lost("store-size", [], ["W a 0 18446744073709551615\n"], "1:1: the chunks lie too far apart to be counted in 256 MiB"),
 ]
 
-ROWS = SPANS + READERS + PICTURES + EXTENTS + READ_BACK + STORES
+ROWS = SPANS + READERS + PICTURES + STORES

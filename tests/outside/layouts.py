@@ -19,10 +19,22 @@ STACKS = 12
 def check(tally, program, top):
     tool_calls.check_rows(tally, program, top, layout_rows.ROWS + owner_rows.ROWS)
     check_taken(tally, program, top)
+    check_holders(tally, program, top)
     check_full(tally, program, top)
     check_sizes(tally, program, top)
+    check_many_clashes(tally, program, top)
     for seed in range(STACKS):
         check_stack(tally, program, top, random.Random(seed))
+
+
+def check_many_clashes(tally, program, top):
+    """Of ranges within each other all have clashes with all: a million are printed."""
+    nested = "".join("sda %d %d v%d 0 linear\n" % (it, 10000 - it, it) for it in range(3000))
+    path = program.file("clashes/spans", nested)
+    got = tool_calls.call(top, ["clashes", path])
+    said = "dmremap-tools clashes: %s: there are more than 1000000 clashes: take the lines of one disk, or of fewer devices\n" % path
+    tally.holds("clashes of nested ranges", (got.status, got.out.count(b"\n"), got.err.decode()) == (1, 1000000, said),
+                "status %s, %d lines, %r" % (got.status, got.out.count(b"\n"), got.err))
 
 
 def check_taken(tally, program, top):
@@ -36,7 +48,7 @@ def check_taken(tally, program, top):
     places = "".join("%s %s\n" % (name, program.file("taken/" + name, bytes(content))) for name, content in (("sda", disk), ("sdb", volume)))
     files = [program.file("taken/disks", "sda 131\nsdb 64\n"), program.file("taken/table", "p: 0 50 linear sda 40\nv: 0 20 linear /dev/mapper/p 8\n")]
     words = ["spans", "--paths", program.file("taken/paths", places), *files]
-    wanted = ("/dev/mapper/p 8 28 v 0 linear\n/dev/mapper/p 50 50 - - end\n/dev/mapper/v 0 4 header-of-LUKS - allocated\n"
+    wanted = ("/dev/mapper/p 8 28 v 0 linear\n/dev/mapper/p 50 50 - - end\n/dev/mapper/v 0 4 header-of-LUKS - allocated\n/dev/mapper/v 4 20 container-of-LUKS - allocated\n"
               "/dev/mapper/v 20 20 - - end\nsda 0 34 GPT - allocated\nsda 40 90 p 0 linear\nsda 90 98 partition-2 - allocated\n"
               "sda 98 131 GPT - allocated\nsda 131 131 - - end\nsdb 1 2 label-of-LVM - allocated\nsdb 8 12 area-of-LVM - allocated\n"
               "sdb 48 50 area-of-LVM - allocated\nsdb 64 64 - - end\n")
@@ -54,11 +66,77 @@ def check_taken(tally, program, top):
         tally.holds("what is taken of a changed disk", got.status == 0 and b"sda 40 90 p 0 linear\n" in got.out, "%s, %r" % (got.status, got.err))
 
 
+def laid(size, *parts):
+    """The image of a disk of so many sectors, with parts from other sectors on."""
+    disk = bytearray(size * 512)
+    for at, content in parts:
+        disk[at * 512:at * 512 + len(content)] = content
+    return bytes(disk)
+
+
+LABELLED = physical_volumes.volume((4096, physical_volumes.area(b"x {\n}\n\0")), length=64 << 9)
+KEYED = containers.version_1(32) + bytes(64 << 9)
+MIRROR, PARITY = (physical_volumes.md_member(LABELLED, 16, 4096, level=it, count=3) for it in (1, 5))
+END = physical_volumes.md_end_member(LABELLED, 5, count=3)
+PARTED = laid(400, (0, physical_volumes.gpt((64, 127), (128, 191), (192, 191 + len(PARITY) // 512), (300, 350), last=399)), (64, KEYED[:64 << 9]), (128, LABELLED),
+              (192, PARITY))
+CHAINED = laid(200, (0, physical_volumes.mbr((5, 20, 90), (0x8E, 120, 64))), (20, physical_volumes.mbr((0x83, 4, 4), (5, 16, 20))),
+               (36, physical_volumes.mbr((0x83, 4, 8))), (120, LABELLED))
+SECOND = bytes(4096) + containers.version_2()[4096:] + bytes(1 << 17)
+APART = containers.version_1(0, [8])
+UNSURE = "sectors of d that no line names may be in use: see --group and --paths\n"
+# Disks, and what the runs of their sectors are from one on.
+HELD = [
+    ("a GPT", PARTED, "d 0 34 = GPT\nd 34 30\nd 64 32 = header-of-LUKS\nd 96 32 = container-of-LUKS\nd 128 1 = partition-2\nd 129 1 = label-of-LVM\n"
+     "d 130 6 = partition-2\nd 136 8 = area-of-LVM\nd 144 48 = partition-2\nd 192 16 = superblock-of-md\nd 208 64 = member-of-raid5\nd 272 28\n"
+     "d 300 51 = partition-4\nd 351 16\nd 367 33 = GPT\n", ""),
+    ("an MBR", CHAINED, "d 0 1 = MBR\nd 1 19\nd 20 1 = MBR\nd 21 3\nd 24 4 = partition-5\nd 28 8\nd 36 1 = MBR\nd 37 3\nd 40 8 = partition-6\n"
+     "d 48 72\nd 120 1 = partition-2\nd 121 1 = label-of-LVM\nd 122 6 = partition-2\nd 128 8 = area-of-LVM\nd 136 48 = partition-2\nd 184 16\n", ""),
+    ("a GPT that is damaged", laid(100, (0, physical_volumes.gpt((64, 71), damage=512 + 60))), "d 0 34 = damaged-GPT\nd 34 66\n", UNSURE),
+    ("a GPT that the image cuts", laid(400, (0, physical_volumes.gpt((64, 71))))[:20 * 512], "d 0 34 = GPT\n", ""),
+    ("a mirror", MIRROR, "d 0 16 = superblock-of-md\nd 16 1 = member-of-raid1\nd 17 1 = label-of-LVM\nd 18 6 = member-of-raid1\nd 24 8 = area-of-LVM\n"
+     "d 32 48 = member-of-raid1\n", ""),
+    ("a member with parity", PARITY, "d 0 16 = superblock-of-md\nd 16 64 = member-of-raid5\n", ""),
+    ("a member whose first sector shows a label", END, "d 0 64 = member-of-raid5\nd 64 24 = superblock-of-md\n", ""),
+    ("a member with a damaged superblock", containers.flipped(PARITY, 4096 + 76), "d 0 8\nd 8 8 = damaged-superblock-of-md\nd 16 64\n", UNSURE),
+    ("a container", KEYED[:64 << 9], "d 0 32 = header-of-LUKS\nd 32 32 = container-of-LUKS\n", ""),
+    ("a header without its data", APART + bytes(272), "d 0 3 = header-of-LUKS\n", ""),
+    ("a container whose header is damaged", containers.flipped(containers.version_2()[:1 << 14], 300), "d 0 32 = damaged-header-of-LUKS\n", ""),
+    ("the second header of a container", SECOND, "d 0 32\nd 32 32 = second-header-of-LUKS\nd 64 256\n", UNSURE),
+    # Metadata says of the rest what has it.
+    ("a label", LABELLED, "d 0 1\nd 1 1 = label-of-LVM\nd 2 6\nd 8 8 = area-of-LVM\nd 16 48\n", UNSURE),
+    ("nothing that is known", b"x" * (64 << 9), "d 0 64\n", UNSURE),
+]
+
+
+def check_holders(tally, program, top):
+    """What has sectors of disks that no line names, by the disks themselves."""
+    paths = program.file("held/paths", "d %s\n" % program.file("held/image"))
+    table = program.file("held/table")
+    for name, disk, wanted, told in HELD:
+        program.file("held/image", disk)
+        got = tool_calls.call(top, ["owner", "--paths", paths, table], given="d 0 %d\n" % -(-len(disk) // 512))
+        # What ends after the image isn't there to be asked for.
+        tally.same("the holders of " + name, got, 0, wanted.replace("d 0 34 = GPT\n", "d 0 20 = GPT\n") if "cuts" in name else wanted, told)
+    # Lines go before what the disk says, and labels before the paths in metadata.
+    program.file("held/image", PARTED)
+    lines = program.file("held/table", "v: 0 20 linear d 140\n")
+    got = tool_calls.call(top, ["owner", "--paths", paths, lines], given="d 128 40\n")
+    tally.same("the holders beside a line", got, 0, "d 128 1 = partition-2\nd 129 1 = label-of-LVM\nd 130 6 = partition-2\nd 136 4 = area-of-LVM\nd 140 20 = v 0\n"
+               "d 160 8 = partition-2\n")
+    program.file("held/image", physical_volumes.volume(length=1 << 16, identity=b"another".ljust(32, b"x")))
+    text = program.file("held/group", 'g { extent_size = 8 physical_volumes { p { id = "theone-xxxx" device = "/dev/d" pe_start = 16 dev_size = 64 pe_count = 4 } } }\n')
+    got = tool_calls.call(top, ["owner", "--group", text, "--paths", paths, program.file("held/table")], given="d 3\n/dev/d 3\n")
+    tally.same("the holders of another physical volume", got, 0, "d 3\n/dev/d 3\n",
+               "left out: the physical volume p (/dev/d), which is neither a disk nor a device here\n" + UNSURE)
+
+
 def check_full(tally, program, top):
     """When stores are full: as the status after each number of requests says it."""
     def full(requests, table, disks):
         files = [program.file("full/requests", requests), "table", program.file("full/table", table), program.file("full/disks", disks)]
-        return tool_calls.call(top, ["store-full", "--program", program.path, *files])
+        fresh = [word for name in re.findall(r"^(\w+): 0 \d+ snapshot ", table, re.M) for word in ("--fresh", name)]
+        return tool_calls.call(top, ["store-full", "--program", program.path, *fresh, *files])
 
     for seed in range(5):
         dice = random.Random(seed)
@@ -153,9 +231,10 @@ def check_stack(tally, program, top, dice):
         found = sorted(set(line for it in lines for line in each_sector(it)))
         tally.holds("the owners of all in " + concise(stack), found == wanted, difference(found, wanted))
     for name in stack.tables:
-        asked = tool("whole", name, tables).out
-        answers = program.run(["map", "concise", source, disks], given=asked).out
-        found = tool("extents", given=answers).out.decode()
+        asked = tool("whole", name, tables).out.decode()
+        tally.holds("the whole of %s" % name, asked == "R %s 0 %d\n" % (name, stack.length("/dev/mapper/" + name)), asked)
+        fresh = [word for it, table in stack.tables.items() if table[0][2][0] == "snapshot" for word in ("--fresh", it)]
+        found = tool("extents", "--program", program.path, *fresh, name, "concise", source, disks).out.decode()
         wanted = extents([stack.read("/dev/mapper/" + name, at) for at in range(stack.length("/dev/mapper/" + name))])
         tally.holds("the extents of %s" % name, found == wanted, "%r and not %r" % (found, wanted))
 
@@ -179,7 +258,8 @@ def owners(stack, on, at, path):
         words = table[0][2]
         if words[0] == "snapshot" and words[2] == on:
             found = True
-            yield "%s = in the store of %s" % (path, name)
+            above = " ".join(sorted(standing_on(stack, "/dev/mapper/" + name)))
+            yield "%s = in the store of %s%s" % (path, name, ", below " + above if above else "")
         for sector in range(stack.length("/dev/mapper/" + name)):
             to, *place = stack.below(name, sector)
             beside = " until it is copied" if to == "snapshot" else ""
@@ -189,6 +269,12 @@ def owners(stack, on, at, path):
                 yield from owners(stack, "/dev/mapper/" + name, sector, "%s = %s %d%s" % (path, name, sector, beside))
     if not found:
         yield path
+
+
+def standing_on(stack, path):
+    """The names of the devices that stand on one, directly or on others that do, also by a store."""
+    users = {name for name, table in stack.tables.items() for _, _, words in table if path in words}
+    return users | {it for name in users for it in standing_on(stack, "/dev/mapper/" + name)}
 
 
 def each_sector(line):

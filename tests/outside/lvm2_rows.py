@@ -90,8 +90,8 @@ def snapshot(origin, store, count, at, store_count, store_at, chunk=1):
 OTHER = "left out: %s: its segment1 has the type %s"
 RECORD = "left out: snapshot%d: the record of the snapshot %s"
 KEPT = "kept: %s, without its snapshot %s: on a machine, a write to it also copies what it overwrites, which the answers don't show"
-MERGING_KEPT = ("kept: home, without its snapshot snap, which is being merged into it: on a machine, what isn't merged yet is read from "
-                "there, which the answers don't show")
+MIXED = ("left out: home: the snapshot %s is being merged into it, so that some of its sectors are older and some newer: go on when that is "
+         "done (`lvs -o+copy_percent`)")
 UNREAD = "left out: %s: %s, which dmremap doesn't read; it says nothing of sectors"
 HOME, LINES = plain("home", 4, 0), lines("home", 4, 0)
 RAID = other("r1", "raid1", "\t\t\t\tdevice_count = 1\n" + listed("raids", "r1_rmeta_0", "r1_rimage_0"))
@@ -171,8 +171,8 @@ NOTHING = other("none", "zero", count=2)
 OF_NOTHING = record("home", "none")
 SHOWN = snapshot("home", "snap", 4, 0, 2, 20)
 APART, APART_LINES = plain("apart", 1, 60), lines("apart", 1, 60)
-MERGED = [("home {", MERGING_KEPT), ("snap {", "left out: snap: it is being merged into home"), ("snapshot0 {", RECORD % (0, "snap"))]
 MERGING_GONE = "left out: snapshot0: the record of a snapshot that is being merged"
+MERGED = [("home {", MIXED % "snap"), ("snap {", "left out: snap: it is being merged into home"), ("snapshot0 {", MERGING_GONE)]
 RESIZED = [("home {", KEPT % ("home", "snap")),
            ("snap {", "left out: snap: it is a snapshot of home, but not as long, as that was resized since"), ("snapshot0 {", RECORD % (0, "snap"))]
 WIDE, FAR_GROUP = "l" * 121, "g" * 118
@@ -181,21 +181,18 @@ SNAPSHOTS = [
     row("a sparse volume", [SNAP, SPARSE, record("s_vorigin", "snap")], (), (),
         lines("snap", 2, 20, "snap-cow") + "g-snap: 0 32 snapshot /dev/mapper/g-s_vorigin-real /dev/mapper/g-snap-cow P 1\n"
         "g-s_vorigin-real: 0 32 zero\ng-s_vorigin: 0 32 snapshot-origin /dev/mapper/g-s_vorigin-real\n"),
-    row("a snapshot that is being merged", [HOME, SNAP, MERGING, APART], [gone(SNAP + MERGING)], MERGED, LINES + APART_LINES),
+    row("a snapshot that is being merged", [HOME, SNAP, MERGING, APART], [gone(HOME + SNAP + MERGING)], MERGED, APART_LINES),
     row("another snapshot of one that is being merged into", [APART, OF_SECOND, SECOND, HOME, SNAP, MERGING],
-        [gone(OF_SECOND + SECOND), gone(SNAP + MERGING)],
-        [("snapshot1 {", RECORD % (1, "two")), ("two {", "left out: two: it is a snapshot of home, into which snap is being merged"),
-         MERGED[0], ("home {", KEPT % ("home", "two"))] + MERGED[1:], APART_LINES + LINES),
-    row("a snapshot that is being merged, whose volume is gone", [HOME, MERGING], [gone(MERGING)],
-        [("home {", MERGING_KEPT), ("snapshot0 {", MERGING_GONE)], LINES),
-    row("a snapshot that is being merged into a volume that is gone", [SNAP, MERGING], [gone(MERGING)],
-        [("snapshot0 {", MERGING_GONE)], lines("snap", 2, 20)),
+        [gone(OF_SECOND + SECOND + HOME + SNAP + MERGING)],
+        [("snapshot1 {", RECORD % (1, "two")), ("two {", "left out: two: it is a snapshot of home, into which snap is being merged")] + MERGED, APART_LINES),
+    row("a snapshot that is being merged, whose volume is gone", [HOME, MERGING, APART], [gone(HOME + MERGING)], MERGED[:1] + MERGED[2:], APART_LINES),
+    row("a snapshot that is being merged into a volume that is gone", [SNAP, MERGING, APART], [gone(SNAP + MERGING)], MERGED[1:], APART_LINES),
     row("a snapshot that is being merged into a raid volume", [HOME, RAID, SNAP, record("r1", "snap", kind="merging_store")],
         [gone(RAID + SNAP + record("r1", "snap", kind="merging_store"))],
-        [R1, ("snap {", "left out: snap: it is being merged into r1"), ("snapshot0 {", RECORD % (0, "snap"))], LINES),
+        [R1, ("snap {", "left out: snap: it is being merged into r1"), ("snapshot0 {", MERGING_GONE)], LINES),
     row("a snapshot that is being merged into what a number names", [HOME, SNAP, MERGING.replace('= "snap"', "= 5")],
-        [gone(MERGING.replace('= "snap"', "= 5"))],
-        [("home {", MERGING_KEPT.replace("snap,", "snapshot0,")), ("snapshot0 {", MERGING_GONE)], LINES + lines("snap", 2, 20)),
+        [gone(HOME), gone(MERGING.replace('= "snap"', "= 5"))],
+        [("home {", MIXED % "snapshot0"), ("snapshot0 {", MERGING_GONE)], lines("snap", 2, 20)),
     row("a snapshot of an origin that was extended", [HOME, SNAP, SHORT], [gone(SNAP + SHORT)], RESIZED, LINES),
     row("one snapshot that is as long as the origin, and one that isn't", [HOME, SNAP, SECOND, SHORT, OF_SECOND], [gone(SNAP), gone(SHORT)],
         RESIZED, "".join(snapshot("home", "two", 4, 0, 2, 23))),

@@ -7,6 +7,8 @@ beginning of a line. A change is bytes of the text and what stands there in the 
 import os
 import random
 import re
+import shutil
+import sys
 
 import tool_calls
 from harness import run
@@ -14,7 +16,8 @@ from lvm2_rows import BARE, GROUP, ONLY, REFUSED, ROWS, other
 
 PLAIN = ("vg0.backup", "vg0-snapshot.backup")
 SEEDS = 20
-USAGE = "usage: dmremap-tools lvm2-text [-h] [--only NAME] TEXT\ndmremap-tools lvm2-text: "
+DAMAGES, MEMORY = 60, 200 << 20
+USAGE = "usage: dmremap-tools lvm2-text [-h] [--only NAME] [--program PROGRAM] TEXT\ndmremap-tools lvm2-text: "
 
 
 def check(tally, program, top):
@@ -31,6 +34,8 @@ def check(tally, program, top):
         check_same(tally, program, top, name, read(os.path.join(top, "examples", name)))
         for seed in range(SEEDS):
             check_spelling(tally, program, top, name, read(os.path.join(top, "examples", name)), random.Random(seed))
+    check_damaged(tally, program, top)
+    check_asked(tally, program, top)
     check_words(tally, program, top)
     check_large(tally, program, top)
 
@@ -109,6 +114,59 @@ def respelled(text, dice):
     return re.sub(rb"\n", lambda found: dice.choice([b"\n", b"\r\n", b" # x = \"\n", b"\t\n"]), text)
 
 
+def check_damaged(tally, program, top):
+    """Of a damaged text there is a copy that the program reads, or a refusal. So where the tool has no program to ask."""
+    dice = random.Random(76)
+    texts = [read(os.path.join(top, "examples", it)) for it in PLAIN + (os.path.join("samples", "vgm.backup"),)]
+    for group in re.split(rb"(?m)^== .+ ==\n", read(os.path.join(top, "tests", "kernel", "lvm2", "groups.txt")))[1:]:
+        texts.append(group.split(b"-- ")[1].partition(b"\n")[2])
+    alone = os.path.join(program.room, "alone")
+    shutil.copytree(os.path.join(top, "tools"), os.path.join(alone, "tools"))
+    shutil.copy(os.path.join(top, tool_calls.TOOL), alone)
+    copies = 0
+    for number in range(DAMAGES):
+        text = damaged(dice.choice(texts), dice)
+        got = run([os.path.join(alone, tool_calls.TOOL), "lvm2-text", "text"], folder=os.path.dirname(program.file("lvm2/text", text)),
+                  env={"PATH": os.path.dirname(sys.executable)})
+        said = got.err.decode("utf-8", "replace")
+        if got.status == 0:
+            copies += 1
+            made = program.run(["map", "lvm", program.file("lvm2/copy", got.out)])
+            tally.same("the copy of damaged text %d" % number, made)
+        else:
+            tally.holds("damaged text %d" % number, got.status == 1 and not got.out and "Traceback" not in said, "status %s, %s" % (got.status, said[-300:]))
+    tally.holds("copies of damaged texts", DAMAGES // 5 < copies < DAMAGES, "there are %d" % copies)
+
+
+def damaged(text, dice):
+    """A text of which some bytes, numbers or lines are others, gone, or there twice."""
+    text = bytearray(text)
+    for _ in range(dice.choice((1, 1, 2, 4))):
+        at, kind = dice.randrange(len(text)), dice.randrange(6)
+        if kind == 0:
+            text[at] ^= 1 << dice.randrange(8)
+        elif kind == 1:
+            text[at:at + dice.choice((1, 4, 40))] = dice.choice((b"", b'"', b"{", b"}", b"]", b"#", b"\xff"))
+        elif kind < 4:
+            begin, end = dice.choice([it.span() for it in re.finditer(rb"[0-9]+", bytes(text))])
+            text[begin:end] = dice.choice((b"0", b"1", b"%d" % (int(text[begin:end]) + 1), b"99999999999", b"9223372036854775807"))
+        else:
+            lines = bytes(text).split(b"\n")
+            first, count = dice.randrange(len(lines)), dice.choice((1, 2, 5))
+            lines[first:first + count] = lines[first:first + count] * 2 if kind == 4 else []
+            text = bytearray(b"\n".join(lines)) or bytearray(b"0")
+    return bytes(text)
+
+
+def check_asked(tally, program, top):
+    """Where there is a program, it is asked, too: what it says decides."""
+    path = program.file("lvm2/refuses", '#!/bin/sh\necho "dmremap: source: field at 3" >&2\nexit 1\n')
+    os.chmod(path, 0o755)
+    tally.same("a copy that is asked for", copied(program, top, BARE, ["--program", program.path]), 0, BARE)
+    got = copied(program, top, BARE, ["--program", path])
+    tally.holds("a copy that the program refuses", got.status == 1 and not got.out and b"(dmremap: source: field at 3)" in got.err, got.err)
+
+
 def check_words(tally, program, top):
     """Words, and texts that can't be read."""
     def copy(*words, **how):
@@ -128,6 +186,13 @@ def check_words(tally, program, top):
 
 def check_large(tally, program, top):
     """Sections in each other to any depth, and a long text, are no trouble."""
+    got = tool_calls.call(top, ["lvm2-text", program.file("lvm2/text", BARE + "\r\n" * 400000)], memory=MEMORY)
+    is_so = got.status == 0 and got.out.decode() == BARE + "\n" * 400000
+    tally.holds("a text of many carriage returns", is_so, "status %s, %r" % (got.status, got.err[-200:]))
+    for name, more in (("many lines", "\n" * (1 << 20)), ("many keys", "".join("a%d = 1\n" % it for it in range(150000)))):
+        got = tool_calls.call(top, ["lvm2-text", program.file("lvm2/text", BARE + more)], memory=MEMORY)
+        is_so = got.status == 1 and not got.out and b"more than" in got.err and b"out of memory" not in got.err
+        tally.holds("a text of " + name, is_so, "status %s, %r" % (got.status, got.err[-200:]))
     deep = "a {" * 30000 + "}" * 30000 + "\n"
     got = copied(program, top, BARE + deep)
     tally.same("a text that is nested deeply", got, 0, BARE + "\n",

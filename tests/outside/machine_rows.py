@@ -24,7 +24,7 @@ def machine(tables, output, message="", disks=SDA1, names=NUMBERS, status=FRESH,
 
 
 def no_machine(tables, message, names=NUMBERS, status=FRESH, sizes=SIZES):
-    return "machine", WORDS, [names, status, sizes, tables], "refused\n", message, 1, "refused\n"
+    return "machine", WORDS, [names, status, sizes, tables], "refused\n", message, 1, None
 
 
 def without(why, tables, lower=LOWER_OUT, origin=ORIG_OUT, **how):
@@ -183,9 +183,9 @@ ONLY = [
     machine(ALL.replace("cow: 0 64 linear", "cow: 0 64 thin"), LOWER_OUT[:LOWER_OUT.index("cow")], only=["base"]),
     machine(ALL.replace("cow: 0 64 linear 8:1 16", "cow: 0 64 thin 8:1 16"), LOWER_OUT[:LOWER_OUT.index("cow")] + SNAP_OUT.replace("mapper/cow", "dm-1"),
             "left out: cow (thin), the disk /dev/dm-1\n", SDA1 + "/dev/dm-1 64\n", only=["snap"]),
-    ("machine", WORDS + ["--only", "x"], [NUMBERS, FRESH, SIZES, ALL], "refused\n", "--only: no device x", 1, "refused\n"),
-    ("machine", WORDS + ["--store", "x=cow.img"], [NUMBERS, FRESH, SIZES, ALL], "refused\n", "--store: no snapshot x", 1, "refused\n"),
-    ("machine", WORDS + ["--store", "base=cow.img"], [NUMBERS, FRESH, SIZES, ALL], "refused\n", "--store: no snapshot base", 1, "refused\n"),
+    ("machine", WORDS + ["--only", "x"], [NUMBERS, FRESH, SIZES, ALL], "refused\n", "--only: no device x", 1, None),
+    ("machine", WORDS + ["--store", "x=cow.img"], [NUMBERS, FRESH, SIZES, ALL], "refused\n", "--store: no snapshot x", 1, None),
+    ("machine", WORDS + ["--store", "base=cow.img"], [NUMBERS, FRESH, SIZES, ALL], "refused\n", "--store: no snapshot base", 1, None),
 ]
 
 # Texts with a byte order mark and carriage returns, and such as are no texts.

@@ -1,6 +1,7 @@
 """The commands that make FILE and DISKS of a machine: rows with what they print, say and write beside that, and what
 is made of it by the program."""
 
+import contextlib
 import os
 import re
 import shutil
@@ -70,11 +71,11 @@ def check_samples(tally, program, top):
 
 
 def check_missing(tally, program, top):
-    """A file that isn't there or is a folder is told, and what would have been written is spoiled."""
+    """A file that isn't there or is a folder is told, and what would have been written over stays."""
     for name, why in (("nowhere", "No such file or directory"), (".", "Is a directory")):
         got, written = called(program, top, ["machine", "--disks", "disks", name, "status", "lsblk", "table"], [])
         tally.same("machine of " + name, got, 1, "refused\n", "%s machine: %s: %s\n" % (TOOL, name, why))
-        tally.holds("what machine leaves of DISKS", written == b"refused\n", "it is %r" % written)
+        tally.holds("what machine leaves of DISKS", written == b"", "it is %r" % written)
     got, _ = called(program, top, ["machine", "--disks", "no/where", "1", "2", "3", "4"], [])
     tally.same("DISKS that can't be written", got, 5, "refused\n", TOOL + " machine: no/where: No such file or directory\n")
 
@@ -117,6 +118,8 @@ def check_images(tally, program, top):
             ("8:1", "sda.img?offset=32768", [small], None, "sda.img?offset=32768: lsblk says that 8:1 has 1000 sectors, and there it has 1936"),
             ("8:1", "mbr.img?offset=4096", [], 100, ""), ("8:1", "mbr.img?offset=32768", ["--sector-size", "4096"], 800, "")):
         program.file("machines/paths", "%s %s\n" % (number, image))
+        with contextlib.suppress(FileNotFoundError):
+            os.unlink(os.path.join(folder, "disks"))
         program.file("machines/table", machine_rows.ALL.replace("8:1 ", number + " "))
         if words and words[0].startswith(DEVICES):
             words = [os.path.basename(program.file("machines/lsblk", words[0]))]
@@ -125,8 +128,8 @@ def check_images(tally, program, top):
         wanted = machine_rows.ALL.replace("253:0", "/dev/mapper/base").replace("253:1", "/dev/mapper/cow").replace("8:1 ", disk + " ")
         tally.same("a machine with %s at %s %s" % (number, image, words), got, 1 if said else 0, "refused\n" if said else wanted,
                    "%s machine: %s\n" % (TOOL, said) if said else "")
-        found = read(os.path.join(folder, "disks")).decode()
-        tally.holds("DISKS with %s at %s %s" % (number, image, words), found == ("refused\n" if said else "%s %d\n" % (disk, length)), "it is %r" % found)
+        found = read(os.path.join(folder, "disks"))
+        tally.holds("DISKS with %s at %s %s" % (number, image, words), found == (None if said else b"%s %d\n" % (disk.encode(), length)), "it is %r" % found)
     for size in ("100", "0", str(1 << 31)):
         for command in (["machine", "--paths", "paths", "--disks", "disks", "ls", "status", "table"], ["partitions", "--image", "/dev/sda=sda.img", "table"],
                         ["owner", "table"], ["files", "home", "table", "table"]):
@@ -216,6 +219,19 @@ def check_containers(tally, program, top):
         ("version 1", first, [], line % (8128, 64)),
         ("version 2", second, [], line % (7936, 256)),
         ("version 2 of a fixed size", containers.version_2(size="4096").ljust(disk, b"\0"), [], line % (8, 256)),
+        ("two headers with one number", containers.version_2(second=262144).ljust(disk, b"\0"), [], line % (7936, 256)),
+        ("a second header that is older", containers.version_2(second=262144, sequences=(4, 3)).ljust(disk, b"\0"), [], line % (7936, 256)),
+        ("a newer second header that is damaged", containers.flipped(containers.version_2(second=262144, sequences=(3, 4)), containers.SIZE + 300)
+         .ljust(disk, b"\0"), [], line % (7936, 256)),
+        # What the first of them doesn't name is no second header.
+        ("a header beside two", (containers.version_2() + containers.header(b"SKUL", 1 << 15, containers.text_of(data=262144), 9)).ljust(disk, b"\0"), [],
+         line % (7936, 256)),
+        ("version 1 with keys before its data", containers.version_1(1024, [8, 512]).ljust(disk, b"\0"), [], line % (7168, 1024)),
+        # A header apart from its data says nothing of how long that is.
+        ("version 1 apart from its data", containers.version_1(0, [8, 512]).ljust(disk, b"\0"), ["--length", "4096"], line % (4096, 0)),
+        ("version 1 whose data would lie among its keys", containers.version_1(1011, [8, 512]).ljust(disk, b"\0"), ["--length", "4096"], line % (3085, 1011)),
+        ("version 2 apart from its data", containers.version_2(json=containers.text_of(data=0)).ljust(disk, b"\0"), ["--length", "4096"], line % (4096, 0)),
+        ("version 2 apart from its data, of a fixed size", containers.version_2(json=containers.text_of("4096", data=0)), [], line % (8, 0)),
         ("a second header", bytes(4096) + second[4096:], ["--name", "home"], "home: 0 7936 linear /dev/sda2 256\n"),
         ("a header alone", containers.version_2(), ["--length", "8192"], line % (7936, 256)),
         ("a text of version 1", containers.DUMP_1, ["--length", "8192"], line % (4096, 4096)),
@@ -225,6 +241,9 @@ def check_containers(tally, program, top):
         ("a text of a fixed size", containers.DUMP_2 % "4096 [bytes]", [], line % (8, 32768)),
     ]:
         tally.same("a container of " + name, device("container", content, *words), 0, output)
+    newer = containers.version_2(second=262144, sequences=(3, 4)).ljust(disk, b"\0")
+    tally.same("a container of a newer second header", device("container", newer), 0, line % (7680, 512),
+               os.path.join(program.room, "machines", "container") + ": its second header of LUKS is newer: that is read\n")
     # The partition of a whole disk, of which the image need not have more than the header.
     whole = physical_volumes.gpt((64, 127), (128, 4223)).ljust(128 * 512, b"\0") + containers.version_2()
     two = physical_volumes.gpt((64, 127), (128, 4223)).ljust(64 * 512, b"\0") + containers.version_1(8).ljust(64 * 512, b"\0") + containers.version_2()
@@ -242,6 +261,17 @@ def check_containers(tally, program, top):
         ("nothing", bytes(4096), [], "no header of LUKS, and no text of luksDump"),
         ("a header that is cut off", second[:8000], [], damaged),
         ("two headers that are damaged", containers.flipped(containers.flipped(second, 300), containers.SIZE + 300), [], damaged),
+        ("a header that belongs elsewhere", containers.header(b"LUKS", containers.SIZE, containers.text_of()).ljust(disk, b"\0"), [], damaged),
+        ("a second header that belongs elsewhere", bytes(containers.SIZE) + containers.header(b"SKUL", 1 << 15, containers.text_of()), [],
+         "no header of LUKS, and no text of luksDump"),
+        ("a length of 0", containers.version_2(size="0").ljust(disk, b"\0"), [], "its header of LUKS doesn't say where the data is"),
+        ("version 1 apart from its data", containers.version_1(0, [8, 512]).ljust(disk, b"\0"), [], "how long is the disk? Its data begins at sector 0: give --length"),
+        ("version 1 whose data would lie among its keys", containers.version_1(1011, [8, 512]).ljust(disk, b"\0"), [],
+         "how long is the disk? Its data begins at sector 1011: give --length"),
+        ("version 2 apart from its data", containers.version_2(json=containers.text_of(data=65024)).ljust(disk, b"\0"), [],
+         "how long is the disk? Its data begins at sector 127: give --length"),
+        ("a header in a partition apart from its data", whole[:128 * 512] + containers.version_2(json=containers.text_of(data=0)), ["--length", "8192"],
+         "the header in partition 2 is of a container whose data lies on another disk: cut it out with dd, and give --length"),
         ("a header alone", containers.version_2(), [], "how long is the disk? Its data begins at sector 256: give --length"),
         ("a text alone", containers.DUMP_1, [], "how long is the disk? Its data begins at sector 4096: give --length"),
         ("data after the disk", containers.version_2(size="8388608"), ["--length", "8192"], "the data ends at sector 16640, and the disk at sector 8192"),

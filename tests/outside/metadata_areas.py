@@ -185,6 +185,8 @@ LABELLED = "; the label of one that begins at sector %d is sound: take it with -
 REFUSED = [
     ("zeros", bytes(8192), "there is no label in the first four sectors" + NOT_FOUND + FROM_FIRST),
     ("no group", volume((FIRST, area(b"")), is_used=False), "the physical volume belongs to no group: see what is left of older texts with --list"),
+    # Labels of version 1 don't say whether the volume belongs to a group.
+    ("no text, and a label of version 1", volume((FIRST, area(b"")), is_used=False, version=1), ONE + "it has no text" + LISTED),
     ("no text, of a group", volume((FIRST, area(b""))), ONE + "it has no text" + LISTED),
     ("no area", volume(), "this physical volume keeps no metadata" + OTHER),
     ("an area that is not used", volume((FIRST, area(TEXT, flags=1))), ONE + "lvm2 keeps no text in it" + LISTED),
@@ -320,6 +322,8 @@ def disk_of(head, *parts):
 MBR_DISK = disk_of(mbr((0x83, 64, 8), (0x8E, 128, 256)), (128, ONE_AREA))
 LOGICAL_DISK = disk_of(mbr((0x83, 64, 8), (0x05, 128, 512)), (128, mbr((0x83, 8, 8), (0x05, 64, 200))), (192, mbr((0x8E, 8, 100))),
                        (200, ONE_AREA))
+THIRD_LOGICAL = disk_of(mbr((0x05, 128, 512)), (128, mbr((0x83, 8, 8), (0x05, 64, 64))), (192, mbr((0x83, 8, 8), (0x05, 128, 128))),
+                        (256, mbr((0x8E, 8, 100))), (264, ONE_AREA))
 GPT_DISK = disk_of(gpt((64, 71), None, (128, 255)), (128, ONE_AREA))
 LARGE_SECTORS = disk_of(gpt((16, 31), sector=4096), (128, ONE_AREA))
 BOTH = disk_of(mbr((0x83, 64, 8)), (1, ONE_AREA[SECTOR:]))
@@ -355,6 +359,7 @@ WHOLE = [
 PARTITIONS = [
     ("a partition", MBR_DISK, 2, TEXT),
     ("a logical partition", LOGICAL_DISK, 6, TEXT),
+    ("a third logical partition", THIRD_LOGICAL, 7, TEXT),
     ("a partition of a GPT", GPT_DISK, 3, TEXT),
     ("a partition whose first sector is one of 4096 bytes", LARGE_SECTORS, 1, TEXT),
     ("a partition of a GPT whose first sector is gone", bytes(SECTOR) + GPT_DISK[SECTOR:], 3, TEXT),
@@ -372,6 +377,7 @@ NO_PARTITIONS = [
      "run this again with --area area.img: dd if=DISK of=area.img bs=512 skip=136 count=8"),
     ("a partition without a physical volume", GPT_DISK, 1, "there is no label in the first four sectors" + NOT_FOUND + FROM_FIRST),
     # A sector that is no partition table: the first byte of an entry is neither 0 nor 0x80, or none has sectors.
+    ("a partition of a GPT with a damaged entry", with_flip(GPT_DISK, 2 * SECTOR + 32), 3, DAMAGED_GPT + LABELLED % (128, 128)),
     ("a partition of a boot sector", with_bytes(MBR_DISK, 446, b"\x01"), 2, "there is no partition table: leave --partition out"),
     ("a partition of an empty table", disk_of(mbr((0x83, 64, 0)), (72, b"")), 1, "there is no partition table: leave --partition out"),
 ]
@@ -409,6 +415,11 @@ NO_PLACES = [
     ("a label in the middle of an image", FAR, [], "there is no label in the first four sectors" + NOT_FOUND + LABELLED % (10240, 10240)),
     ("two labels", FAR + FAR, [], "there is no label in the first four sectors" + NOT_FOUND
      + "; labels of some that begin at the sectors 10240, %d are sound: take one with --start SECTOR" % ((len(FAR) + (5 << 20)) // SECTOR)),
+    # Where an area belongs is said of the whole image.
+    ("a start before the volume", bytes(16 * SECTOR) + ONE_AREA, ["--start", "8"], "there is no label in the first four sectors; the metadata area "
+     "at byte 8192 belongs at byte 4096, so a physical volume begins at byte 8192 (sector 16)" + NOT_FOUND + LABELLED % (16, 16)),
+    ("a partition before the volume", disk_of(mbr((0x8E, 64, 256)), (72, ONE_AREA)), ["--partition", "1"], "there is no label in the first four sectors; the "
+     "metadata area at byte 8192 belongs at byte 4096, so a physical volume begins at byte 36864 (sector 72)" + NOT_FOUND + LABELLED % (72, 72)),
     ("a start after the end", ONE_AREA, ["--start", "16"], "it ends before sector 16"),
     ("a GPT whose copies are both damaged", with_flip(with_flip(WITH_BACKUP, SECTOR + 72), len(WITH_BACKUP) - SECTOR + 72), [],
      DAMAGED_GPT + LABELLED % (128, 128)),

@@ -1,7 +1,7 @@
 """What `partitions` makes of tables that end at partitions: its words, its inputs, what it prints, what it says on standard
 error, its status, and DISKS, or None where that isn't written."""
 
-from physical_volumes import gpt, mbr, md_member, volume
+from physical_volumes import gpt, mbr, md_end_member, md_member, volume
 
 LSBLK = "8:0 10485760 sda \n8:1 8388608 sda1 sda\n253:0 4096 dm-0 sda1\n253:7 8192 dm-7 \n"
 WITH_LSBLK = ["--lsblk", "1", "--disks", "disks"]
@@ -37,7 +37,7 @@ def known(tables, output, disks, lsblk=LSBLK, text=PART, words=()):
 
 
 def unknown(message, tables=ON, lsblk=LSBLK, text=PART):
-    return "partitions", WITH_LSBLK, [lsblk, text, tables], "refused\n", message, 1, "refused\n"
+    return "partitions", WITH_LSBLK, [lsblk, text, tables], "refused\n", message, 1, None
 
 
 ROWS = [
@@ -138,7 +138,7 @@ ROWS += [
     not_pictured(b"", "1: it is empty"),
     not_pictured(b"QFI\xfb" + bytes(8188), "1: it is an image of qcow2: convert it with qemu-img convert -O raw"),
     not_pictured(b"\x1f\x8b" + bytes(8190), "1: it is compressed (gzip)"),
-    ("partitions", ["--disks", "disks"], [PART, ON], "refused\n", "--disks: no length of /dev/sda" + NO_LENGTH, 1, "refused\n"),
+    ("partitions", ["--disks", "disks"], [PART, ON], "refused\n", "--disks: no length of /dev/sda" + NO_LENGTH, 1, None),
 ]
 # Images that are bound to the physical volumes of a group by their ids; the images are the files 1 and 2.
 IDS = [it.ljust(32, b"x") for it in (b"first", b"second")]
@@ -153,7 +153,7 @@ BOUND = "a: 0 8 linear /dev/sdb1 4\na: 8 8 linear pv1 4\n"
 def bound(images, group, tables, output, message="", disks=None, words=()):
     """Images with a group: what they are called begins with the number of the file."""
     return ("partitions", [*words, *("--image=" + str(it) for it in range(1, len(images) + 1)), "--group", str(len(images) + 1), "--disks", "disks"],
-            [*images, group, tables], output if disks else "refused\n", message, 0 if disks else 1, disks or "refused\n")
+            [*images, group, tables], output if disks else "refused\n", message, 0 if disks else 1, disks)
 
 
 ROWS += [
@@ -172,6 +172,8 @@ ROWS += [
     bound([gpt((64, 71), (128, 255)).ljust(128 * 512, b"\0") + md_member(FIRST, 16, 4096, 1)], GROUP, BOUND, "",
           "1: no physical volume of the group is in it: none of its labels has such an id; 1p2 is a member of an md array: `md` makes its table, and "
           "`under` puts that below those of the group"),
+    bound([md_end_member(FIRST, 5, count=3)], GROUP, BOUND, "", "1: a member of an md array that isn't raid1, so that no member has all of a physical volume: "
+          "`md` makes a table of the array, and `under` puts it below those of the group"),
     bound([FIRST], "g {\n}\n", BOUND, "", "2: no physical volumes of a group"),
 ]
 # Tables that can't be read: each with its message.

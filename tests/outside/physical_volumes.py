@@ -28,11 +28,11 @@ def text_of_area(group, identity, number):
     return b'vg0 {\nid = "%s"\nseqno = %d\n' % (identity, number) + body + head + TIME + b"\0"
 
 
-def label(areas, place=1, size=64 << 20, is_used=True, identity=b"anidentityof32bytesforthislabel0"):
-    """The sector with the label, which lists metadata areas."""
+def label(areas, place=1, size=64 << 20, is_used=True, identity=b"anidentityof32bytesforthislabel0", version=2):
+    """The sector with the label, which lists metadata areas. What it says of its use counts from this version on of its extension."""
     lists = struct.pack("<4Q", 1 << 20, 0, 0, 0) + b"".join(struct.pack("<QQ", *it) for it in areas) + bytes(16)
     body = struct.pack("<L8s32sQ", 32, b"LVM2 001", identity, size)
-    body = (body + lists + struct.pack("<LL", 2, is_used)).ljust(SECTOR - 20, b"\0")
+    body = (body + lists + struct.pack("<LL", version, is_used)).ljust(SECTOR - 20, b"\0")
     return b"LABELONE" + struct.pack("<QL", place, checksum(body)) + body
 
 
@@ -95,7 +95,44 @@ def with_backup(disk, *entries, sector=SECTOR):
     return disk + table + gpt_header(table, last, 1, end).ljust(sector, b"\0")
 
 
-def md_member(data, start, place=0, level=0):
+def md_member(data, start, place=0, level=0, **fields):
     """A member of an md array of version 1.1 or 1.2, by the place of its superblock, whose data begins in this sector."""
-    superblock = (b"\xfc\x4e\x2b\xa9\x01\0\0\0".ljust(72, b"\0") + struct.pack("<l", level)).ljust(128, b"\0") + struct.pack("<Q", start)
-    return (bytes(place) + superblock).ljust(start * SECTOR, b"\0") + data
+    content = md_superblock(place // SECTOR, level, start=start, length=len(data) // SECTOR, **fields)
+    return (bytes(place) + content).ljust(start * SECTOR, b"\0") + data
+
+
+def md_end_member(data, level=1, **fields):
+    """A member of version 1.0, whose superblock lies in the last sectors, from one with a number that eight divides."""
+    sector = -(-len(data) // SECTOR // 8) * 8 + 8
+    content = md_superblock(sector, level, length=len(data) // SECTOR, **fields)
+    return data.ljust(sector * SECTOR, b"\0") + content.ljust(16 * SECTOR, b"\0")
+
+
+def md_superblock(sector, level, start=0, length=0, count=2, events=7, role=0, features=0, array=b"an array of disks"[:16], roles=(0, 1, 2, 3)):
+    """A superblock of version 1.x that says that it lies in this sector."""
+    size = 256 + 2 * len(roles)
+    content = bytearray(size)
+    struct.pack_into("<LLL4x16s", content, 0, 0xA92B4EFC, 1, features, array)
+    struct.pack_into("<lLQLL", content, 72, level, 0, length, 16, count)
+    struct.pack_into("<QQQ8xL", content, 128, start, length, sector, role)
+    struct.pack_into("<Q8xLL", content, 200, events, 0, len(roles))
+    struct.pack_into("<%dH" % len(roles), content, 256, *roles)
+    return md_summed(content, 216)
+
+
+def md_old_member(data, level=1, count=2, events=7, role=0, state=6, order="<", minor=90):
+    """A member of version 0.90, whose superblock begins the last whole 64 KiB."""
+    words = [0] * 1024
+    words[0], words[2], words[5], words[8], words[10] = 0xA92B4EFC, minor, 77, len(data) // 1024, count
+    words[7] = level & 0xFFFFFFFF
+    words[39 if order == "<" else 40] = events
+    words[65], words[992], words[995], words[996] = 8192, role, role, state
+    content = md_summed(bytearray(struct.pack(order + "1024L", *words)), 38 * 4, order)
+    return data.ljust(-(-len(data) // 65536) * 65536, b"\0") + content.ljust(65536, b"\0")
+
+
+def md_summed(content, at, order="<"):
+    """A superblock with its sum at this byte: that of all its words, with what goes over added."""
+    total = sum(struct.unpack("%s%dL" % (order, len(content) // 4), content[:len(content) // 4 * 4])) + int.from_bytes(content[len(content) // 4 * 4:], "little")
+    struct.pack_into(order + "L", content, at, (total & 0xFFFFFFFF) + (total >> 32) & 0xFFFFFFFF)
+    return bytes(content)

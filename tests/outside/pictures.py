@@ -27,6 +27,7 @@ PICTURES = [
     lost("picture", [], ["a 8 9 b 0 linear\na 0 8 b 0 linear\na 9 9 - - end\n"], "1: the ranges of a aren't sorted"),
 ]
 DISKS = "sda 1500\nsdb 150\n"
+MEMORY = 100 << 20
 PLOTS = [
     lost("plot", [], [DISKS, "1 R sdc 0 8\n"], "2:1: DISKS has no sdc"),
     lost("plot", [], [DISKS, "1 R sdb 0 151\n"], "2:1: past the end of the disk: 1 R sdb 0 151"),
@@ -39,6 +40,7 @@ PLOTS = [
 
 def check(tally, program, top):
     check_rows(tally, program, top, PICTURES + PLOTS)
+    check_costs(tally, program, top)
     if not shutil.which("rsvg-convert"):
         tally.skip("pictures that are drawn", "there is no rsvg-convert")
         return
@@ -148,6 +150,18 @@ def check_plot(tally, program, top):
     tally.holds("a plot over time", "14.9 seconds" in text and hue(pixels.at(at, 26 + 299 - 2 * 50)) == hue(BLUE), "%s" % (pixels.at(at, 225),))
     text, _ = drawn(tally, program, top, ["plot", os.path.join(samples(top), "stack.disks")], "1 copy sda 0 8 sdb 8\n2 fill 8 sda 16\n3 zero 8\n")
     tally.holds("a plot of copies", "sda: sectors" in text and "sdb: sectors" in text, text[:300])
+
+
+def check_costs(tally, program, top):
+    """A picture of many disks takes little memory for each of which little is there, and times far apart take little time."""
+    program.file("disks", "".join("d%d 8\n" % it for it in range(1024)))
+    program.file("pieces", "".join("%d R d%d 0 8\n" % (it + 1, it) for it in range(1024)))
+    got = call(top, ["plot", "disks", "pieces"], folder=program.room, memory=MEMORY)
+    tally.holds("a plot of many disks", got.status == 0 and got.out.count(b"<image ") == 1024, "status %s, %r" % (got.status, got.err))
+    program.file("times", "0\n1\n999999999999999\n")
+    program.file("pieces", "1 R d0 0 8\n2 R d1 0 8\n3 R d2 0 8\n")
+    got = call(top, ["plot", "--times", "times", "disks", "pieces"], folder=program.room)
+    tally.holds("a plot of times far apart", got.status == 0 and b"1e+15 seconds" in got.out, "status %s, %r" % (got.status, got.err))
 
 
 def hue(colour):

@@ -21,8 +21,6 @@ OURS = "a function whose only error is that of a growth"
 # was a refused growth.
 PLACES = {
     ("dm_map/pieces/piece_list", "piece", "self.pieces.push(piece), at Err(_)"): STD,
-    ("dm_map/state/run_taken", "with_places", "count > u32::MAX as usize"):
-        "none: so many places are refused as too much memory (docs/DECISIONS.md); a load allows 4,194,304",
     ("dm_map/state/trie_taken", "with_places", "count > 1 << 23"):
         "none: so many places are refused as too much memory (docs/DECISIONS.md); a load allows 4,194,304",
     ("dm_replay/playback", "play_front", "mapper.request(request, device, &mut halting), at Err(_)"):
@@ -50,12 +48,14 @@ PLACES = {
     ("dm_table/tables/concise_text", "parse_concise", "parts_of(alloc, text), at Err(_)"): OURS,
     ("dm_table/tables/concise_text", "read_parts", "read_devices(alloc, parts), at Err(_)"): OURS,
     ("dm_table/tables/line_body", "read_columns", "columns.push(Column { to, offset }), at Err(_)"): STD,
+    ("dm_store/image_list", "listed_images", "places_in(alloc, stack, paths), at Err(_)"): OURS,
     ("dm_table/load/load_fault", "memory", ""): "the fault itself, for those that answer it",
     ("dm_table/load/part_input", "read_part", "text.extend_from_slice(&chunk[..n]).is_err()"): STD,
-    ("dm_table/load/reading", "read_lines", "read_each::<T>(alloc, part, text), at Err(_)"): OURS,
-    ("dm_table/load/text_checks", "check_text", "cut(alloc, at, text)"): OURS,
+    ("dm_table/load/reading", "read_rows", "read_each::<T>(alloc, part, text), at Err(_)"): OURS,
+    ("dm_table/load/text_checks", "check_pieces", "cut(alloc, at, text)"): OURS,
     ("dmremap/main", "begin", "!has_stack_room(rt)"): "the limit of the stack is lower than what the program may take",
     ("dmremap/map_after", "map_after", "Mapper::<TrieTaken>::new(alloc, stack.looker()), at Err(_)"): OURS,
+    ("dmremap/map_stored", "map_stored", "Mapper::<TrieTaken>::new(alloc, stack.looker()), at Err(_)"): OURS,
     ("dmremap/map_whole", "map_whole", "Mapper::<TrieTaken>::new(alloc, stack.looker()), at Err(_)"): OURS,
     ("dmremap/printing", "print_parts", "spaced_parts(alloc, name), at Err(_)"): OURS,
     ("dmremap/printing", "print_report", "check_report(alloc, stack), at Err(_)"): OURS,

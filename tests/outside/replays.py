@@ -16,6 +16,9 @@ LINES = 40000
 MANY = 300000
 SNAPSHOT = ("s,,,,0 8 snapshot base cow P 8", "base 8\ncow 32\n")
 
+# Kinds, chunks and lengths of snapshots that a store has just enough places for.
+STORES = [("P", 8, 20), ("N", 8, 20), ("K", 8, 20), ("P", 1, 33), ("K", 1, 32), ("N", 2, 7)]
+
 # FILE, DISKS, requests, what is answered, why the replay ended early, if it did, and the status. The answers were
 # worked out sector by sector, by a plain program over the rules.
 ROWS = [
@@ -71,23 +74,31 @@ ROWS = [
 ]
 
 
-def tidy_stack(dice):
+def least_store(kind, chunk, length):
+    """The least store that has a place for each chunk of a snapshot."""
+    last = (length + chunk - 1) // chunk - 1
+    place = last if kind == "N" else 2 + last + last // (32 * chunk)
+    return (place + 1) * chunk
+
+
+def tidy_stack(dice, loses_nothing=False):
     """Snapshots of one origin or of each other, each with a store of its own, stripes beside them, and in
-    half of the stacks the device that the origin is written through."""
+    half of the stacks the device that the origin is written through. One that loses nothing has no `error` line, and
+    stores with just a place for each chunk."""
     disks = {"base": 40, "sda": 40, "sdb": 40}
     length = dice.choice([12, 16, 17, 20])
     table, start = [], 0
     while start < length:
         part = min(length - start, dice.randint(3, 12))
-        kind = dice.choice(["linear", "linear", "linear", "zero", "error"])
+        kind = dice.choice(["linear", "linear", "linear", "zero", "linear" if loses_nothing else "error"])
         table.append((start, part, ("linear", "base", start + 3) if kind == "linear" else (kind,)))
         start += part
     tables = {"o": table, "a": [(0, 16, ("striped", 4, ("sda", 2), ("sdb", 5)))]}
     origins, named = ["/dev/mapper/o"], set()
     for name in ("s", "t", "u")[:dice.randint(0, 3)]:
-        disks[name + "c"] = dice.choice([8, 16, 24, 60])
-        origin, kind = dice.choice(origins), dice.choice("PNK")
-        tables[name] = [(0, length, ("snapshot", origin, name + "c", kind, dice.choice([1, 2, 4, 8])))]
+        store, origin, kind, chunk = dice.choice([8, 16, 24, 60]), dice.choice(origins), dice.choice("PNK"), dice.choice([1, 2, 4, 8])
+        disks[name + "c"] = least_store(kind, chunk, length) if loses_nothing else store
+        tables[name] = [(0, length, ("snapshot", origin, name + "c", kind, chunk))]
         named.add(origin)
         origins.append("/dev/mapper/" + name)
     if dice.random() < 0.5:
@@ -157,8 +168,32 @@ def check(tally, program):
         disks = "".join("%s %d\n" % it for it in stack.disks.items())
         tally.same("the replay of %s" % concise(stack), run(program, concise(stack), disks, given), 0, wanted)
     check_rows(tally, program)
+    check_no_errors(tally, program)
     check_large_stacks(tally, program)
     check_ends(tally, program)
+
+
+def check_no_errors(tally, program):
+    """No read or write of a stack that loses nothing is an error. Without a sector of its store, a snapshot is lost."""
+    for seed in range(ROUNDS):
+        dice = random.Random(seed)
+        stack, tops = tidy_stack(dice, loses_nothing=True)
+        given = ""
+        for name in tops + dice.choices(tops, k=REQUESTS) + tops:
+            whole = stack.length("/dev/mapper/" + name)
+            start = dice.randrange(whole)
+            given += "W %s %d %d\nR %s 0 %d\n" % (name, start, dice.randint(1, whole - start), name, whole)
+        disks = "".join("%s %d\n" % it for it in stack.disks.items())
+        got = run(program, concise(stack), disks, given)
+        errors = [it.decode() for it in got.out.splitlines() if b"error" in it]
+        tally.holds("no errors in a replay of %s" % concise(stack), got.status == 0 and got.out and not errors, str(errors or got.err))
+    for kind, chunk, length in STORES:
+        for less, lost in (0, False), (1, True):
+            disks = "base %d\ncow %d\n" % (length, least_store(kind, chunk, length) - less)
+            source = "o,,,,0 %d snapshot-origin base;s,,,,0 %d snapshot base cow %s %d" % (length, length, kind, chunk)
+            wanted = "1 wrote 1 0 %d\n2 %s %d\n" % (length, "error" if lost else "old base 0", length)
+            got = run(program, source, disks, "W o 0 %d\nR s 0 %d\n" % (length, length))
+            tally.same("the replay of %s with %d sectors less in its store" % (source, less), got, 0, wanted)
 
 
 def check_large_stacks(tally, program):

@@ -5,6 +5,10 @@ import contextlib
 import errno
 import os
 import random
+import signal
+import subprocess
+import sys
+import time
 
 import physical_volumes
 import tool_calls
@@ -16,10 +20,14 @@ def check(tally, program, top):
     check_read_back(tally, program, top)
     check_volumes(tally, program, top)
     check_file(tally, program, top)
+    check_odd_file(tally, program, top)
+    check_edges(tally, program, top)
     check_gaps(tally, program, top)
     check_whole_disks(tally, program, top)
     check_labels(tally, program, top)
     check_refusals(tally, program, top)
+    check_outputs(tally, program, top)
+    check_ends(tally, program, top)
     check_mutations(tally, program, top)
 
 
@@ -37,8 +45,10 @@ def check_read_back(tally, program, top):
         program.file("back/" + name, b"".join(sectors))
 
     def put_together(name, places, pieces, *words):
-        inputs = [program.file("back/places", places), program.file("back/pieces", pieces)]
-        return tool_calls.call(top, ["read-back", *words, *inputs, name], folder=folder)
+        table, disks, requests = mapped_by(pieces)
+        inputs = [program.file("back/places", places), program.file("back/requests", requests)]
+        source = ["table", program.file("back/table", table), program.file("back/disks", disks)]
+        return tool_calls.call(top, ["read-back", "--program", program.path, *words, *inputs, name, *source], folder=folder)
 
     def holds(name, got, status, content, message=""):
         path = os.path.join(folder, name)
@@ -57,8 +67,16 @@ def check_read_back(tally, program, top):
     found = program.file("back/paths", "/dev/sda elsewhere here\n")
     holds("elsewhere", put_together("elsewhere", "size 900\n0 2\n", "1 R /dev/sda 2 2\n", "--paths", found), 0, (sectors[2] + sectors[3])[:900])
     found = program.file("back/paths", "/dev/sda elsewhere here\n/dev/sdb other\n")
-    holds("another", put_together("another", "size 900\n0 2\n", "1 R /dev/sda 2 2\n", "--paths", found), 0, (sectors[2] + sectors[3])[:900],
-          "%s: nothing is read of /dev/sdb\n" % found)
+    holds("another", put_together("another", "size 900\n0 2\n", "1 R /dev/sda 2 2\n", "--paths", found), 1, None,
+          "dmremap-tools read-back: %s: no disk is called /dev/sdb\n" % found)
+    two, path = "1 R it's 3 4\n2 error 8\n", program.file("back/places", "")
+    for places, pieces, why in (
+            ("0 4\n6 8\n", two, path + ":1: not PLACES of filefrag or debugfs"), ("refused\n", two, path + ":1: not PLACES of filefrag or debugfs"),
+            ("", two, path + ": not PLACES of filefrag or debugfs"),
+            ("size 9223372036854775808\n", two, path + ":1: no file is as long: 9223372036854775808"),
+            ("size 9\n18014398509481983 1\n", two, path + ":2: no file is as long: 18014398509481983 1"),
+            ("size 9\n0 4\n", "1 R nowhere 0 4\n", "nowhere: No such file or directory"), ("size 9\n0 4\n", "1 R . 0 4\n", ".: neither a file nor a disk")):
+        holds("none", put_together("none", places, pieces), 1, None, "dmremap-tools read-back: %s\n" % why)
     holds("lost", put_together("lost", "size 1024\n0 2\n", "1 error 1\n1 R it's 1 1\n"), 4, bytes(512) + sectors[1],
           "1 sectors of the file from 0 on can't be read\n")
     holds("gaps", put_together("gaps", "size 3072\n0 3\n3 3\n", "1 R it's 1 1\n1 error 2\n2 error 1\n2 zero 1\n2 error 1\n"), 4,
@@ -71,6 +89,20 @@ def check_read_back(tally, program, top):
     got = put_together("sparse", "size 4294967296\n8388607 1\n", "1 R it's 5 1\n")
     found = os.stat(os.path.join(folder, "sparse"))
     tally.holds("a file with a hole", got.status == 0 and found.st_size == 1 << 32 and found.st_blocks < 1024, "it has %d blocks" % found.st_blocks)
+
+
+def mapped_by(pieces):
+    """A table, its disks, and requests that are answered by these pieces."""
+    lines, disks, counts = [], {}, {}
+    for row in pieces.splitlines():
+        number, what, *place, count = row.split(" ")
+        words = "linear %s %s" % tuple(place) if what == "R" else what
+        lines.append("v: %d %s %s\n" % (sum(counts.values()), count, words))
+        counts[number] = counts.get(number, 0) + int(count)
+        disks.update({place[0]: 1 << 30} if place else {})
+    starts = [sum(list(counts.values())[:it]) for it in range(len(counts))]
+    requests = "".join("R v %d %d\n" % it for it in zip(starts, counts.values()))
+    return "".join(lines), "".join("%s %d\n" % it for it in disks.items()), requests
 
 
 @contextlib.contextmanager
@@ -291,6 +323,45 @@ def check_file(tally, program, top):
     tally.same("two files", disks.save(top, "files", "--extents", two), 1, "", "dmremap-tools save: %s: more than one file\n" % two)
 
 
+def check_odd_file(tally, program, top):
+    """A file of an odd number of bytes, which is saved once without a disk and then with it, by its map."""
+    disks = Disks(program)
+    program.file("save/table", TABLE.replace("error", "zero"))
+    extents = ("Filesystem type is: ef53\nFile size of /f is 5001 (10 blocks of 512 bytes)\n"
+               " ext:     logical_offset:        physical_offset: length:   expected: flags:\n"
+               "   0:        0..       4:          1..         5:      5:            \n"
+               "   1:        5..       9:         42..        46:      5:         30: last,eof\n/f: 2 extents found\n")
+    words = ["odd", "--extents", program.file("save/extents", extents), "--map", disks.target("odd.map")]
+    os.rename(disks.paths["c"], disks.paths["c"] + ".away")
+    tally.same("an odd file without a disk", disks.save(top, *words), 4, "", "missing: c: No such file or directory\n" + LOST % (5, 5))
+    text = "0x%08X  0x%08X  +\n0x%08X  0x%08X  ?\n" % (0, 5 * SECTOR, 5 * SECTOR, 5001 - 5 * SECTOR)
+    tally.holds("its map", read(disks.target("odd.map")).decode() == MAP % (5 * SECTOR, "?") + text, read(disks.target("odd.map")))
+    os.rename(disks.paths["c"] + ".away", disks.paths["c"])
+    for _ in range(2):
+        tally.same("an odd file that goes on", disks.save(top, *words), 0)
+        volume = disks.volume()
+        tally.holds("what it has", read(disks.target("odd")) == (volume[SECTOR:6 * SECTOR] + volume[42 * SECTOR:47 * SECTOR])[:5001], "it is another")
+        text = MAP % (5001, "+") + "0x%08X  0x%08X  +\n" % (0, 5001)
+        tally.holds("its last map", read(disks.target("odd.map")).decode() == text, read(disks.target("odd.map")))
+
+
+def check_edges(tally, program, top):
+    """Sectors that can't be read on both sides of the end of what is read at once."""
+    at_once = 2048
+    content = os.urandom(3 * at_once * SECTOR)
+    program.file("edges/image", content)
+    program.file("edges/table", "v: 0 %d linear a 0\n" % (3 * at_once))
+    folder = os.path.dirname(program.file("edges/disks", "a %d\n" % (3 * at_once)))
+    program.file("edges/paths", "a image\n")
+    for number, bad in enumerate((range(at_once - 1, at_once + 2), range(at_once - 1, at_once), range(at_once, at_once + 1), range(2 * at_once - 3, 2 * at_once + 3))):
+        with unreadable(bad):
+            got = tool_calls.call(top, ["save", "--program", program.path, "--paths", "paths", "--map", "m%d" % number, "v", "out%d" % number, "table", "table", "disks"],
+                                  folder=folder)
+        tally.same("what can't be read at %s" % bad, got, 4, "", LOST % (len(bad), bad.start))
+        wanted = content[:bad.start * SECTOR] + bytes(len(bad) * SECTOR) + content[bad.stop * SECTOR:]
+        tally.holds("what is saved around %s" % bad, read(os.path.join(folder, "out%d" % number)) == wanted, "it is another")
+
+
 def check_refusals(tally, program, top):
     """A target that is there, or can't be made; a map of another file; a command that dmremap refuses."""
     disks = Disks(program)
@@ -344,6 +415,82 @@ def check_refusals(tally, program, top):
     tally.same("saving what doesn't load", got, 1, "", "dmremap: source: unknown at 1\n" + said % "%s: it ends with status 1" % program.path)
 
 
+READ_TOO = "%s: it is read, too: give another file to write"
+
+
+def check_outputs(tally, program, top):
+    """A target or a map that is one of the disks, or both of which are one; and names and links that stand in the way of neither."""
+    disks = Disks(program)
+    program.file("save/table", TABLE.replace("error", "zero"))
+    whole = program.file("save/images", b"")
+    image, said = disks.paths["a"], "dmremap-tools save: %s\n"
+    os.link(image, disks.target("image"))
+    begun = program.file("save/begun map", "0x0 ?\n0x0 0x8000 ?\n")
+    program.file("save/long", "v: 0 64 linear b 0\n")
+    rows = [
+        ("the map as its target", "one", ["--map", disks.target("../save/one")], "%s: two outputs can't be one file" % disks.target("one")),
+        ("the map over a disk", "one", ["--map", image], READ_TOO % image),
+        ("the map over a table", "one", ["--map", disks.source[1]], READ_TOO % disks.source[1]),
+    ]
+    for name, target, words, message in rows:
+        tally.same("saving with " + name, disks.save(top, target, *words), 2, "", said % message)
+        tally.holds("what is left of it", not os.path.exists(disks.target("one")) and read(image) == disks.content["a"], "it is another")
+    for target in "image a", "image":
+        got = tool_calls.call(top, ["save", *disks.words, "v", disks.target(target), "table", disks.target("long"), disks.source[2], "--map", begun])
+        tally.same("saving over %s, of another disk" % target, got, 2, "", said % READ_TOO % disks.target(target))
+        tally.holds("what is left of the disk", read(image) == disks.content["a"], "it is another")
+    os.unlink(whole)
+    # What was named beside the map.
+    precious = program.file("save/precious", "precious\n")
+    os.symlink(precious, disks.target("linked.new"))
+    os.rename(image, disks.target("a disk.new"))
+    program.file("save/paths", "a %s\nb %s\nc %s\n" % (disks.target("a disk.new"), disks.paths["b"], disks.paths["c"]))
+    for name, target, to in (("a target called so", "beside.new", "beside"), ("a disk called so", "two", "a disk"), ("a link called so", "three", "linked")):
+        tally.same("saving with a map, and " + name, disks.save(top, target, "--map", disks.target(to)))
+        is_so = read(disks.target(target)) == disks.volume() and read(disks.target("a disk.new")) == disks.content["a"]
+        tally.holds("what it leaves", is_so and read(precious) == b"precious\n", "something is another")
+    os.symlink("precious", disks.target("read back"))
+    got = tool_calls.call(top, ["read-back", *disks.words, program.file("save/places", "size 512\n0 1\n"), program.file("save/requests", "R v 0 1\n"),
+                               disks.target("read back"), *disks.source])
+    tally.holds("a file that is put together over a link", got.status == 1 and read(precious) == b"precious\n", "%s, %r" % (got.status, got.err))
+
+
+SLOW = """#!/bin/sh
+[ "$1" = map ] || exec %s "$@"
+%s "$@" | { head -n 2; echo >> "$0.begun"; exec sleep 60; }
+"""
+
+
+def check_ends(tally, program, top):
+    """A save that is told to end, or fails: no target is left, nor anything beside it, but with a map both, from which it goes on."""
+    disks = Disks(program)
+    program.file("save/table", TABLE.replace("error", "zero"))
+    slow = program.file("save/slow", SLOW % (program.path, program.path))
+    os.chmod(slow, 0o755)
+    folder = os.path.dirname(disks.target("it"))
+    before = set(os.listdir(folder))
+    for number, status in ((signal.SIGTERM, 143), (signal.SIGHUP, 129), (signal.SIGINT, 130)):
+        for with_map in [], ["--map", disks.target("its map")]:
+            words = ["save", "--program", slow, *disks.words[2:], "v", disks.target("it"), *disks.source, *with_map]
+            ran = subprocess.Popen([sys.executable, os.path.join(top, tool_calls.TOOL), *words], stderr=subprocess.PIPE, start_new_session=True)
+            while not os.path.exists(slow + ".begun") and ran.poll() is None:
+                time.sleep(0.01)
+            ran.send_signal(number)
+            err = ran.communicate()[1]
+            with contextlib.suppress(ProcessLookupError):
+                os.killpg(ran.pid, signal.SIGKILL)
+            name = "a save that gets %s, %s" % (number.name, "with a map" if with_map else "without one")
+            tally.holds(name, (ran.returncode, err) == (status, b""), "%s, %r" % (ran.returncode, err))
+            left = set(os.listdir(folder)) - before - {"slow.begun"}
+            tally.holds("what it leaves", left == ({"it", "its map"} if with_map else set()), "there is %s" % left)
+            os.unlink(slow + ".begun")
+            if with_map:
+                tally.same("going on", disks.save(top, "it", *with_map))
+                tally.holds("what it has then", read(disks.target("it")) == disks.volume(), "it is another")
+                for it in left:
+                    os.unlink(disks.target(it))
+
+
 TRIES = 150
 BITS = [b"0", b"18446744073709551615", b"9" * 40, b"-1", b"\0", b"\xff", b"\n", b" ", b"R", b"error", b"size", b"+", b"0x", b"?"]
 
@@ -351,13 +498,13 @@ BITS = [b"0", b"18446744073709551615", b"9" * 40, b"-1", b"\0", b"\xff", b"\n", 
 def check_mutations(tally, program, top):
     """Inputs with random changes: a file, or a refusal in words after which there is none."""
     disks = Disks(program)
-    texts = {"places": b"size 3000\n0 4\n6 1\n", "pieces": b"1 R a 3 1\n1 zero 1\n1 R b 0 2\n2 error 1\n",
+    texts = {"places": b"size 3000\n0 4\n6 1\n", "requests": b"R v 14 4\nR v 32 1\n",
              "paths": read(os.path.join(program.room, "save/paths")), "map": b"0x0 ?\n0x0 0x2000 +\n0x2000 0x4000 ?\n"}
-    back = ["read-back", "--paths", "paths", "places", "pieces", "out"]
+    back = ["read-back", "--program", program.path, "--paths", "paths", "places", "requests", "out", *disks.source]
     saved = ["save", "--program", program.path, "--paths", "paths", "--map", "map", "v", "out", *disks.source]
     dice = random.Random(1)
     for number in range(TRIES):
-        words, changed = (back, dice.choice(["places", "pieces", "paths"])) if number % 2 else (saved, dice.choice(["paths", "map"]))
+        words, changed = (back, dice.choice(["places", "requests", "paths"])) if number % 2 else (saved, dice.choice(["paths", "map"]))
         for name, text in texts.items():
             program.file("changed/" + name, mutated(text, dice) if name == changed else text)
         out = program.file("changed/out", bytes(0x6000))

@@ -14,6 +14,11 @@ from harness import run
 ODD = ["plain", "sp ace ", "two\nlines", "esc\x1b[2Jape", 'q"uote \\back', b"bad\xff".decode("utf-8", "surrogateescape")]
 
 
+FRESH = ["--fresh", "home"]
+UNREAD = ("%s:%d: nothing says which chunks of %s are in its store: let `owner` read it, by --disks and --paths; --fresh %s insists that there "
+          "are none")
+
+
 def check(tally, program, top):
     lost = [it for it in ("mke2fs", "debugfs") if not found(it)]
     if lost:
@@ -26,6 +31,7 @@ def check(tally, program, top):
     check_whole(tally, program, top)
     check_lost(tally, program, top)
     check_lost_inodes(tally, program, top)
+    check_large_inodes(tally, program, top)
     check_killed(tally, program, top)
     check_xfs(tally, program, top)
 
@@ -47,8 +53,8 @@ def check_sample(tally, program, top):
     across = "home 51 1 /numbers.txt\nhome 52 2 /old\nhome 54 4 /old/copy.txt\nhome 54 4 /old/list.txt\nhome 58 2 /report.odt\nhome 60 3 %s\n"
     ls = program.file("files/ls", "home\t(253:4)\nother\t(253:5)\n")
     rows = [
-        (owned, "home", [], "home 46 1 /numbers.txt\nhome 46 5 /numbers.txt\nhome 0 4 in use\n", others),
-        (owned.replace("home", "pool-x"), "/dev/pool/x", [], "pool-x 46 1 /numbers.txt\npool-x 46 5 /numbers.txt\npool-x 0 4 in use\n",
+        (owned, "home", FRESH, "home 46 1 /numbers.txt\nhome 46 5 /numbers.txt\nhome 0 4 in use\n", others),
+        (owned.replace("home", "pool-x"), "/dev/pool/x", ["--fresh", "pool-x"], "pool-x 46 1 /numbers.txt\npool-x 46 5 /numbers.txt\npool-x 0 4 in use\n",
          others.replace("home", "pool-x")),
         ("d 1 12 = home 51\n", "home", [], across % "unused", ""),
         ("d 1 12 = home 51\n", "home", ["--damaged"], across % "no file", ""),
@@ -58,6 +64,8 @@ def check_sample(tally, program, top):
         ("[ 1.5] I/O error, dev dm-4, sector 58 op 0x0:(READ)\n[ 1.5] I/O error, dev dm-5, sector 5 op 0x0:(READ)\n[ 1.6] x\n", "home",
          ["--ls", ls], "home 58 1 /report.odt\n", "left out: 1 sectors that are not of home\n"),
         ("d 0 4 = home 46, 2 of every 8\n", "home", [], "home 46 2 /numbers.txt\nhome 54 2 /old/copy.txt\nhome 54 2 /old/list.txt\n", ""),
+        ("d 0 = home 46\nd 4 2 = in the store of s\nd 4 2 = in the store of home, its list\nd 6 2 = home 58 until it is copied\n", "home", FRESH,
+         "home 46 1 /numbers.txt\nhome 58 2 /report.odt\n", "left out: 4 sectors that are not of home\n"),
         ("home 119 3\n", "home", [], "home 119 1 unused\nhome 120 2 past its end\n", ""),
     ]
     for asked, volume, words, output, message in rows:
@@ -71,6 +79,10 @@ def check_refusals(tally, program, top):
     rows = [
         ("d 0 = home 46\n", "top2", "%s: no sector of top2" % path),
         ("home 46\nhome\n", "home", path + ":2: neither DISK SECTOR nor DISK SECTOR COUNT: home"),
+        ("d 0 = home 46\nd 1 2 = in the store of home\n", "home", UNREAD % (path, 2, "home", "home")),
+        ("d 1 2 = in the store of s, below home top\n", "home", UNREAD % (path, 1, "s", "s")),
+        ("d 0 4 = home 0 until it is copied = t 1\n", "home", UNREAD % (path, 1, "home", "home")),
+        ("d 0 4 = x 8 = s 0 until it is copied, 2 of every 4 = t 1 = home 1\n", "home", UNREAD % (path, 1, "s", "s")),
         ("d x = home 46\n", "home", path + ":1: not a line of owner: d x = home 46"),
         ("refused\n", "home", path + ":1: neither DISK SECTOR nor DISK SECTOR COUNT: refused"),
         ("d 0 9000000 = home 0\n", "home", path + ": more than 1000000 blocks"),
@@ -90,6 +102,20 @@ def check_refusals(tally, program, top):
     for image, why in ((os.path.join(program.room, "nowhere"), "No such file or directory"), (pipe, "neither a file nor a disk"),
                        (packed, "it is compressed (bzip2)")):
         tally.same("files of " + image, files(program, top, "home 0\n", "home", image), 1, "", "dmremap-tools files: %s: %s\n" % (image, why))
+
+
+def check_large_inodes(tally, program, top):
+    """Inodes of two sectors, of which either one is asked for."""
+    image = made(tally, program, "large inodes", {it: b"x" for it in ("one", "two", "three", "four", "five")}, "-t", "ext4", "-b", "4096", "-I", "1024")
+    if not image:
+        return
+    for name in ("one", "two", "three", "four", "five"):
+        printed = run([found("debugfs"), "-R", "imap /" + name, image]).out.decode()
+        block, offset = re.search(r"located at block (\d+), offset (0x[0-9a-f]+)", printed).groups()
+        sector = 8 * int(block) + int(offset, 16) // 512
+        for at in (sector, sector + 1):
+            got = files(program, top, "v %d 1\n" % at, "v", image)
+            tally.same("sector %d of the inode of %s" % (at - sector, name), got, 0, "v %d 1 inode table: /%s\n" % (at, name))
 
 
 def check_killed(tally, program, top):

@@ -1,5 +1,5 @@
-"""The documents for those who change something: names of code in them are those of sources, each is short, and the
-picture of the crates has the arrows that crates.txt has."""
+"""The documents for those who change something: names of code in them are those of sources, each is short, the number
+of must-fail edits is that of the files, and the picture of the crates has the arrows that crates.txt has."""
 
 import glob
 import os
@@ -8,11 +8,13 @@ import re
 from documents import text_of
 
 # What these documents have at most, so that each is read at one sitting.
-BYTES = {"ARCHITECTURE.md": 17000, "DECISIONS.md": 17000, "DEVELOPING.md": 10300, "PROMISES.md": 18700, "READING.md": 3500}
+BYTES = {"ARCHITECTURE.md": 18200, "DECISIONS.md": 17800, "DEVELOPING.md": 10400, "PROMISES.md": 21500, "READING.md": 3800}
 # And all pages together.
-ALL_BYTES = 215000
+ALL_BYTES = 235500
 SOURCES = ("crates/*/*/**/*.rt", "crates/*/*/**/*.antt", "crates/*/must-fail/*", "crates.txt", "HANDLES", "launch/*",
            "benches/*", "tools/**/*.py", "tests/*/*.py", "[a-z]*")
+# Wrong changes that the gate has to refuse, and how many of them a document says that there are.
+EDITS, SAID = "crates/*/must-fail/*.edit", re.compile(r"at most (\d+) must-fail edits; there are (\d+)\b")
 # A name in marks of code: of one word, or with the type before.
 NAME = re.compile(r"`([\w:]+)`")
 
@@ -28,6 +30,9 @@ def check(tally, top):
     pages = [os.path.join(top, "README.md"), *glob.glob(os.path.join(top, "docs", "*.md")), *glob.glob(os.path.join(top, "docs", "*.1"))]
     size = sum(map(os.path.getsize, pages))
     tally.holds("the size of all pages", size <= ALL_BYTES, "they have %d bytes" % size)
+    edits = len(glob.glob(os.path.join(top, EDITS)))
+    most, said = map(int, SAID.search(text_of(os.path.join(top, "docs", "DEVELOPING.md"))).groups())
+    tally.holds("the number of must-fail edits in docs/DEVELOPING.md", said == edits <= most, "there are %d" % edits)
     drawn, wanted = closed(arrows_in(top)), arrows_of(top)
     tally.holds("the arrows in docs/crates.svg", drawn == wanted, "they differ in %s" % sorted(drawn ^ wanted))
 

@@ -41,17 +41,6 @@ ANSWERED = [
     lost("times", ["1"], ["0.5\n", "1 R a 0 1\n2 R b 0 1\n"], "2:2: no time of the request: 2 R b 0 1", "0.5 R a 0 1\n"),
     lost("times", ["1"], ["0.5\nrefused\n", "1 R a 0 1\n2 R b 0 1\n"], "2:2: no time of the request: 2 R b 0 1", "0.5 R a 0 1\n"),
     lost("times", ["1"], ["0.5\n1.0\n", "2 R a 0 1\n1 R b 0 1\n"], "2:2: out of order: 1 R b 0 1", "1.0 R a 0 1\n"),
-    good("dd", [], ["1 R it's 2 3\n2 zero 4\n"], "set -e\ndd if='it'\\''s' bs=512 skip=2 count=3 status=none\n"
-         "dd if='/dev/zero' bs=512 skip=0 count=4 status=none\n"),
-    good("dd", ["--paths", "1"], ["a /dev/sdx\n", "1 R a 2 3\n2 R b 0 1\n"], "set -e\ndd if='/dev/sdx' bs=512 skip=2 count=3 status=none\n"
-         "dd if='b' bs=512 skip=0 count=1 status=none\n"),
-    good("dd", ["--paths", "1"], ["a /dev/sdx?offset=1024\n", "1 R a 2 3\n"], "set -e\ndd if='/dev/sdx' bs=512 skip=4 count=3 status=none\n"),
-    bad("dd", ["--paths", "1"], ["a /dev/sdx?offset=100\n", "1 R a 2 3\n"], "--paths: a begins at byte 100, within a sector", "set -e\n"),
-    bad("dd", [], ["1 W a 2 3\n"], "1:1: a write, and no --image: 1 W a 2 3", "set -e\n"),
-    ("dd", ["--image", "-"], ["1 R a 0 1\n"], "refused\n", "dmremap-tools dd: '-' is no file to write: give it a name\n", 2),
-    bad("dd", ["--image", "i"], ["1 error 3\n"], "1:1: no sectors: 1 error 3", "set -e\n"),
-    bad("dd", ["--paths", "1"], ["a b\na c\n", "1 R a 2 3\n"], "1:2: named before: a c"),
-    bad("dd", ["--paths", "1"], ["a\n", "1 R a 2 3\n"], "1:1: not NAME PATH: a"),
 ]
 # What is no piece, for all of them.
 NO_PIECES = [REPLAYED, "", "1 R a 0", "1 R a 0 0", "0 R a 0 1", "1 R a 0 x", "1 R a 01 1", "1 R a 18446744073709551615 2",
@@ -61,29 +50,51 @@ NO_PIECES = [REPLAYED, "", "1 R a 0", "1 R a 0 0", "0 R a 0 1", "1 R a 0 x", "1 
 def no_pieces(command, words):
     """Rows of lines that are no pieces, after one that is."""
     before = {"to-fio": "fio version 2 iolog\n/a add\n/a open\n/a read 0 512\n",
-              "json": '{"request":1,"what":"R","disk":"/a","start":0,"len":1}\n',
-              "dd": "set -e\ndd if='/a' bs=512 skip=0 count=1 status=none\n"}
-    row = bad if command in ("to-fio", "dd") else lost
+              "json": '{"request":1,"what":"R","disk":"/a","start":0,"len":1}\n'}
+    row = bad if command == "to-fio" else lost
     return [row(command, words, ["1 R /a 0 1\n" + it + "\n"], "1:2: not a piece of an answer: " + it, before.get(command, "")) for it in NO_PIECES]
 
 
 def check(tally, program, top):
     check_rows(tally, program, top, ANSWERED)
-    for command in ("totals", "histogram", "splits", "seeks", "json", "to-fio", "dd"):
+    for command in ("totals", "histogram", "splits", "seeks", "json", "to-fio"):
         check_rows(tally, program, top, no_pieces(command, []))
     check_dd(tally, program, top)
 
 
+DD_TABLE = ("v: 0 3 linear it's 2\nv: 3 4 zero\nv: 7 3 error\nw: 0 8 linear a 3\nw: 8 8 linear it's 0\nw: 16 4 linear a 11\n")
+DD_DISKS = "it's 64\na 64\n"
+DD = [
+    ([], "R v 0 7\n", 0, "set -e\ndd if='it'\\''s' bs=512 skip=2 count=3 status=none\ndd if='/dev/zero' bs=512 skip=0 count=4 status=none\n", ""),
+    (["--paths", "here"], "R w 0 3\nR v 0 1\n", 0, "set -e\ndd if='/dev/sdx' bs=512 skip=3 count=3 status=none\ndd if='it'\\''s' bs=512 skip=2 count=1 status=none\n", ""),
+    (["--paths", "placed"], "R w 0 3\n", 0, "set -e\ndd if='/dev/sdx' bs=512 skip=5 count=3 status=none\n", ""),
+    (["--paths", "within"], "R w 0 3\n", 1, "set -e\nrefused\n", "--paths: a begins at byte 100, within a sector"),
+    ([], "W w 0 3\n", 1, "set -e\nrefused\n", "PROGRAM:1: a write, and no --image: 1 W a 3 3"),
+    (["--image", "i"], "R v 7 3\n", 1, "set -e\nrefused\n", "PROGRAM:1: no sectors: 1 error 3"),
+    (["--paths", "twice"], "R w 0 1\n", 1, "refused\n", "twice:2: named before: a c"),
+    (["--paths", "half"], "R w 0 1\n", 1, "refused\n", "half:1: not NAME PATH: a"),
+    ([], "R w 0\n", 1, "refused\n", "standard input:1: not a request: R w 0"),
+    (["--image", "-"], "", 2, "refused\n", "'-' is no file to write: give it a name"),
+]
+
+
 def check_dd(tally, program, top):
-    """Through the lines for dd, what is written to a volume is read from it again."""
-    folder = os.path.dirname(program.file("dd/room"))
+    """The lines for dd, and that what is written to a volume through them is read from it again."""
+    folder = os.path.dirname(program.file("dd/table", DD_TABLE))
+    for name, text in (("disks", DD_DISKS), ("here", "a /dev/sdx\n"), ("placed", "a /dev/sdx?offset=1024\n"), ("within", "a /dev/sdx?offset=100\n"),
+                       ("twice", "a b\na c\n"), ("half", "a\n")):
+        program.file("dd/" + name, text)
+    source = ["--program", program.path, "table", "table", "disks"]
+    for words, given, status, out, why in DD:
+        got = call(top, ["dd", *words, *source], given=given, folder=folder)
+        said = "dmremap-tools dd: %s\n" % why.replace("PROGRAM", program.path) if why else ""
+        tally.same("dd %s of %r" % (words, given), got, status, out, said)
     image = b"".join(b"%-511d\n" % it for it in range(20))
     program.file("dd/in", image)
     for name in ("a", "it's"):
         program.file("dd/" + name)
-    pieces = "1 {0} a 3 8\n1 {0} it's 0 8\n1 {0} a 11 4\n"
     for operation, words in (("W", ["--image", "in"]), ("R", ["--image", "out"]), ("R", [])):
-        made = call(top, ["dd", *words], given=pieces.format(operation), folder=folder)
+        made = call(top, ["dd", *words, *source], given="%s w 0 20\n" % operation, folder=folder)
         got = run(["sh"], given=made.out, folder=folder)
         tally.same("the lines of dd %s %s" % (operation, words), got, 0, b"" if words else image)
     tally.holds("what dd read", bytes_of(os.path.join(folder, "out")) == image, "it is something else")

@@ -56,7 +56,8 @@ def check_rows(tally, program, top, rows):
 
 
 def call(top, words, given=b"", folder=None, stdout=None, stderr=None, memory=None):
-    """Runs the tool with these words, perhaps with other outputs, and with so many bytes of memory."""
+    """Runs the tool with these words, perhaps with other outputs, and with so many bytes of memory besides what this process
+    has, which counts for its fork, too."""
     main = _main(top)
     command = main.commands.find(words[0]) if words else None
     if command:
@@ -74,6 +75,12 @@ def call(top, words, given=b"", folder=None, stdout=None, stderr=None, memory=No
         out.seek(0)
         err.seek(0)
         return Outcome(status, out.read(), err.read())
+
+
+def _address_space():
+    """How many bytes of addresses this process has."""
+    with open("/proc/self/statm", encoding="ascii") as figures:
+        return int(figures.read().split()[0]) * resource.getpagesize()
 
 
 def _status(status):
@@ -95,7 +102,8 @@ def _become(main, words, descriptors, folder, memory):
         if folder:
             os.chdir(folder)
         if memory:
-            resource.setrlimit(resource.RLIMIT_AS, (memory, memory))
+            limit = memory + _address_space()
+            resource.setrlimit(resource.RLIMIT_AS, (limit, limit))
         sys.argv[0] = os.path.join(os.path.dirname(os.path.dirname(os.path.dirname(main.__file__))), TOOL)
         signal.signal(signal.SIGALRM, signal.SIG_DFL)
         signal.alarm(SECONDS)

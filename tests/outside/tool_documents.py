@@ -81,6 +81,7 @@ def check_derived(tally, program, top):
     shutil.copytree(os.path.join(top, "tools"), os.path.join(room, "tools"))
     page = os.path.join(room, "docs", TOOL + ".1")
     os.makedirs(os.path.dirname(page))
+    shutil.copy(os.path.join(top, "docs", "dmremap.1"), os.path.dirname(page))
     os.symlink("/dev/full", page)
     script = [os.path.join(room, "tools", "derive")]
     tally.same("tools/derive on a full disk", run(script), 5, "", "derive: %s: No space left on device\n" % page)

@@ -9,6 +9,22 @@ LAST = 1048576
 
 def check(tally, program, top):
     check_rows(tally, program, top, FILEFRAG + DEBUGFS + TRACE + LOGS + OTHERS)
+    check_times(tally, program, top)
+
+
+def check_times(tally, program, top):
+    """Each request has its time, also where a long one is cut into several."""
+    rows = [(0.5, " R 8 + 16"), (0.75, " R 0 + 3145729"), (1.25, " N 0 + 8"), (1.5, "WS 0 + 1048577"), (2.0, " R 8 + 1048576")]
+    lines = "".join((QUEUED % what).replace("0.000000000", "%.9f" % time) for time, what in rows)
+    folder = os.path.dirname(program.file("long-times/ls", LS))
+    program.file("long-times/tables", KEPT)
+    got = call(top, ["trace", "--times", "beside", "ls", "tables"], given=lines, folder=folder)
+    cut = "R vg0-lv0 0 1048576\nR vg0-lv0 1048576 1048576\nR vg0-lv0 2097152 1048576\nR vg0-lv0 3145728 1\n"
+    tally.same("a trace with long requests", got, 0, "R vg0-lv0 8 16\n%sW vg0-lv0 0 1048576\nW vg0-lv0 1048576 1\nR vg0-lv0 8 1048576\n" % cut,
+               "left out: 1 requests that are neither reads nor writes\n")
+    with open(os.path.join(folder, "beside"), encoding="ascii") as it:
+        found = it.read().splitlines()
+    tally.holds("the times of long requests", list(map(float, found)) == [0.5] + 4 * [0.75] + 2 * [1.5] + [2.0], found)
 
 
 # Extents of a file.

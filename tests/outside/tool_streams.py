@@ -40,7 +40,7 @@ CALLS = {
     "times": ["times", "pieces.txt"],
     "json": ["pieces.txt"],
     "to-fio": ["paths.pieces"],
-    "dd": ["--image", "image", "pieces.txt"],
+    "dd": ["--program", "./dmremap", "--image", "image", "--requests", "image.requests", "table", "image.table", "image.disks"],
     "spans": ["stack.disks", "stack.table"],
     "free": ["spans"],
     "clashes": ["spans"],
@@ -49,9 +49,9 @@ CALLS = {
     "files": ["home", "owners", "home.img"],
     "tree": ["stack.table"],
     "dot": ["stack.table"],
-    "extents": ["read.pieces"],
+    "extents": ["--program", "./dmremap", "vol", "table", "image.table", "image.disks"],
     "store-size": ["writes"],
-    "store-full": ["--program", "./dmremap", "writes", "table", "snap.table", "snap.disks"],
+    "store-full": ["--program", "./dmremap", "--fresh", "snap", "writes", "table", "snap.table", "snap.disks"],
     "md": ["--name", "md0", "raid1.txt"],
     "under": ["--disk", "/dev/sda1", "sda1", "vg0.table", "sda1.table"],
     "thin": ["--data", "tdata", "--device", "1", "vg0-thin1", "4000", "thin.xml"],
@@ -71,7 +71,9 @@ MADE = {
     "both.disks": "/dev/sda 1054720\n/dev/sda1 1050624\n8:1 1050624\n/dev/dm-7 2097152\n",
     "times": "0.5\n0.6\n0.75\n1.0\n12.5\n",
     "paths.pieces": "1 R /dev/sda1 10048 16\n2 R /dev/sda1 43008 8\n",
-    "read.pieces": "1 R sda 4096 1048576\n2 zero 8\n",
+    "image.table": "vol: 0 64 linear sda 4096\nvol: 64 8 zero\n",
+    "image.disks": "sda 1052672\n",
+    "image.requests": "W vol 0 16\nR vol 60 12\n",
     "md.pieces": "1 R /dev/md1 100 200\n2 R sda 0 8\n3 zero 8\n",
     "sda1.table": "sda1: 0 1050624 linear /dev/sda 2048\n",
     "places": "size 20001\n0 16\n32 8\n",
@@ -86,14 +88,16 @@ MADE = {
 DERIVED = [("spans", "spans", ["stack.disks", "stack.table"]),
            ("owners", "owner", ["--disk", "sda", "stack.table", "sda.map"]),
            ("machine.tables", "machine", ["--disks", "machine.disks", "ls.txt", "status.txt", "lsblk.txt", "concise.txt"])]
-# Commands that make a file in place of printing, or pass on what dmremap prints. They are tried in `layouts`, `saves` and `used`.
-UNPRINTED = {"read-back", "save", "used"}
+# Commands that make a file in place of printing, pass on what dmremap prints, or have images or files for its words. They are
+# tried in `layouts`, `saves`, `used`, `models` and `explained`.
+UNPRINTED = {"read-back", "save", "used", "scan", "serve", "lost", "tables", "explain"}
 # Words of these calls that name files, but none that a text is put into.
 NO_INPUTS = ("beside", "image", "./dmremap")
 # What a command needs that may not be there.
 NEEDED = {"files": "debugfs"}
 CUTS, MUTATIONS, MEMORY, MANY = 8, 500, 1 << 30, 3000
-FULL, GONE, INTERRUPTED = 5, 141, 130
+FULL, GONE = 5, 141
+ENDS = ((signal.SIGINT, 130), (signal.SIGTERM, 143), (signal.SIGHUP, 129))
 NO_FILE = "'-' is no file to write: give it a name"
 # Words that are too long, and what of them is too much in a message.
 LONG = ["x" * 300, "\x1b" * 300, "a=" + "x" * 300]
@@ -118,6 +122,8 @@ def check(tally, program, top):
     check_live(tally, top, folder)
     check_many(tally, top, folder)
     check_interrupt(tally, top, folder)
+    check_outputs(tally, top, folder)
+    check_locale(tally, program, top, folder)
     check_unsaid(tally, top, folder)
     check_rooms(tally, top, folder)
     check_killed(tally, top, folder)
@@ -338,29 +344,115 @@ def queued_line(dice):
 
 
 def check_interrupt(tally, top, folder):
-    """An interrupt ends a command in silence, and spoils what it had begun to write."""
-    words = ["trace", "--times", "beside", "ls.txt", "vg0.table"]
-    ran = subprocess.Popen(tool(top) + words, stdin=subprocess.PIPE, stdout=subprocess.PIPE, stderr=subprocess.PIPE, cwd=folder)
+    """Who interrupts a command, or tells it to end, has it end in silence. It spoils what it printed, and what it began to write
+    beside is gone. A signal that is passed over, as nohup wants it, does nothing."""
+    words = ["trace", "--times", "times beside", "ls.txt", "vg0.table"]
+    for before in None, b"as before\n":
+        for number, status in ENDS:
+            if before:
+                write(folder, "times beside", before)
+            ran = begun(tool(top) + words, folder)
+            first = ran.stdout.readline()
+            ran.send_signal(number)
+            out, err = ran.communicate()
+            tally.same("an end by " + number.name, Outcome(ran.returncode, first + out, err), status, "R vg0-lv0 8 16\nrefused\n")
+            tally.holds("what it leaves beside", left_beside(folder) == before, "it is %r" % left_beside(folder))
+    ran = begun(["nohup", *tool(top), *words], folder)
+    first = ran.stdout.readline()
+    ran.send_signal(signal.SIGHUP)
+    out, err = ran.communicate()
+    tally.holds("a signal that is passed over", (ran.returncode, first + out) == (0, b"R vg0-lv0 8 16\n"), "%s, %r, %r" % (ran.returncode, out, err))
+    tally.holds("what it leaves beside", left_beside(folder) == b"0.5\n", "it is %r" % left_beside(folder))
+
+
+def begun(words, folder):
+    """A command that has a line of a trace, and waits for more."""
+    ran = subprocess.Popen(words, stdin=subprocess.PIPE, stdout=subprocess.PIPE, stderr=subprocess.PIPE, cwd=folder)
     ran.stdin.write(b"253,0 0 7 0.5 4101 Q R 8 + 16 [fio]\n")
     ran.stdin.flush()
-    first = ran.stdout.readline()
-    ran.send_signal(signal.SIGINT)
-    out, err = ran.communicate()
-    tally.same("an interrupt", Outcome(ran.returncode, first + out, err), INTERRUPTED, "R vg0-lv0 8 16\nrefused\n")
-    found = bytes_of(os.path.join(folder, "beside"))
-    tally.holds("what an interrupt leaves beside", found == b"0.5\nrefused\n", "it is %r" % found)
+    return ran
+
+
+def left_beside(folder):
+    """What is there under the name that was asked, or None, and what is there under a like one."""
+    found = [it for it in os.listdir(folder) if it.startswith("times beside")]
+    if found == ["times beside"]:
+        return bytes_of(os.path.join(folder, found[0]))
+    return found or None
+
+
+def write(folder, name, content):
+    with open(os.path.join(folder, name), "wb") as it:
+        it.write(content)
+
+
+def check_outputs(tally, top, folder):
+    """A file beside is never one that is read, whatever it is called, nor another output; a refusal leaves it as it was, and it
+    is written through the link that was given."""
+    shutil.copy(os.path.join(folder, "extents.txt"), os.path.join(folder, "e"))
+    os.symlink("e", os.path.join(folder, "linked"))
+    os.link(os.path.join(folder, "e"), os.path.join(folder, "another name"))
+    kept = bytes_of(os.path.join(folder, "e"))
+    said = TOOL + " filefrag: %s: it is read, too: give another file to write\n"
+    for name in "e", "./e", "linked", "another name":
+        got = call(top, ["filefrag", "--places", name, "vg0-lv0", "e"], folder=folder)
+        tally.same("an input that is written as " + name, got, 2, "refused\n", said % name)
+        tally.holds("what is left of it", bytes_of(os.path.join(folder, "e")) == kept, "it is another")
+    got = call(top, ["filefrag", "--places", "e", "vg0-lv0", "-"], given=kept, folder=folder)
+    tally.same("places of standard input", got, 0, "R vg0-lv0 8000 16\nR vg0-lv0 40960 8\nR vg0-lv0 40968 8\n")
+    write(folder, "damaged", kept.replace(b"8000", b"x"))
+    write(folder, "precious", b"precious\n")
+    os.chmod(os.path.join(folder, "precious"), 0o640)
+    os.symlink("precious", os.path.join(folder, "to precious"))
+    got = call(top, ["filefrag", "--places", "to precious", "vg0-lv0", "damaged"], folder=folder)
+    tally.holds("a refusal", got.status == REFUSED and bytes_of(os.path.join(folder, "precious")) == b"precious\n", "status %s" % got.status)
+    got = call(top, ["filefrag", "--places", "to precious", "vg0-lv0", "another name"], folder=folder)
+    is_so = os.path.islink(os.path.join(folder, "to precious")) and os.stat(os.path.join(folder, "precious")).st_mode & 0o777 == 0o640
+    tally.holds("a link that was given", is_so and bytes_of(os.path.join(folder, "precious")).startswith(b"size "), "status %s, %r" % (got.status, got.err))
+    with open(os.path.join(folder, "both"), "wb") as both:
+        got = call(top, ["filefrag", "--places", "both", "vg0-lv0", "another name"], folder=folder, stdout=both.fileno())
+    tally.same("a file beside that is standard output", got, 2, "", TOOL + " filefrag: both: standard output goes there, too\n")
+    for name, why in ("", "No such file or directory"), ("none/", "Is a directory"), ("none/it", "No such file or directory"), (".", "Is a directory"):
+        got = call(top, ["filefrag", "--places", name, "vg0-lv0", "another name"], folder=folder)
+        tally.same("a file beside that is %r" % name, got, FULL, "refused\n", "%s filefrag: %s: %s\n" % (TOOL, name, why))
+    os.unlink(os.path.join(folder, "both"))
+    ran = subprocess.Popen([*tool(top), "filefrag", "--places", "both", "vg0-lv0", "another name"], stdout=subprocess.PIPE, cwd=folder)
+    ran.stdout.read()
+    tally.holds("a file beside, once standard output ends", os.path.exists(os.path.join(folder, "both")), "it isn't there yet")
+    ran.communicate()
+    left = [it for it in os.listdir(folder) if it.endswith(".new")]
+    tally.holds("what refusals leave", not left, "there is %s" % left)
 
 
 def check_unsaid(tally, top, folder):
     """Where the message of a refusal can't be written either, what was printed is spoiled all the same."""
     words = ["trace", "--times", "beside", "ls.txt", "vg0.table"]
     for closed, wanted in (2, b"refused\n"), (1, b""):
+        write(folder, "beside", b"as before\n")
         got = run(tool(top) + words, given=b"253,0 0 7 0.5 4101 Q R x + 16 [fio]\n", folder=folder, before=lambda it=closed: os.close(it))
         tally.holds("a refusal without stream %d" % closed, (got.status, got.out) == (FULL, wanted), "%s, %r" % (got.status, got.out))
         found = bytes_of(os.path.join(folder, "beside"))
-        tally.holds("what it leaves beside", found == b"refused\n", "it is %r" % found)
+        tally.holds("what it leaves beside", found == b"as before\n", "it is %r" % found)
     got = run(tool(top) + ["cut"], folder=folder, stdin=subprocess.DEVNULL, before=lambda: os.close(0))
     tally.same("no input", got, REFUSED, "refused\n", TOOL + " cut: standard input: Bad file descriptor\n")
+
+
+def check_locale(tally, program, top, folder):
+    """Names in other letters, where the locale has only those of ASCII."""
+    program.file(os.path.join("streams", "\u00e9", "\u00e9.img"), "image".ljust(4096))
+    program.file("streams/\u00e9.paths", "base \u00e9/\u00e9.img\n")
+    program.file("streams/\u00e9.table", "v: 0 8 linear base 0\n")
+    program.file("streams/\u00e9.disks", "base 8\n")
+    env = dict(os.environ, LC_ALL="C", PYTHONUTF8="0", PYTHONCOERCECLOCALE="0", PYTHONPATH=os.path.join(top, "tools"))
+    for name, start in ("as a file", tool(top)), ("as a module", [sys.executable, "-m", "dmremap_tools"]):
+        words = ["save", "v", "\u00e9.saved", "table", "\u00e9.table", "\u00e9.disks", "--paths", "\u00e9.paths", "--program", "./dmremap"]
+        got = run([*start, *words], folder=folder, env=env)
+        tally.same("saving where the locale isn't UTF-8, " + name, got)
+        path = os.path.join(folder, "\u00e9.saved")
+        if tally.holds("what is saved then", os.path.exists(path), "it isn't there"):
+            os.unlink(path)
+        got = run([*start, "totals", "\u00e9.none"], folder=folder, env=env)
+        tally.same("what is said then", got, 1, "", TOOL + " totals: \u00e9.none: No such file or directory\n")
 
 
 def check_rooms(tally, top, folder):
@@ -380,22 +472,22 @@ def check_killed(tally, top, folder):
         it.write('#!/bin/sh\n[ "$1" = "$DIES_AT" ] && kill -9 $$\nexec ./dmremap "$@"\n')
     os.chmod(os.path.join(folder, "dies"), 0o755)
     stack = ["table", "snap.table", "snap.disks"]
-    for command, at, words in (("store-full", "map", ["writes", *stack]), ("used", "concise", ["--fresh", "snap", "map", *stack]),
+    for command, at, words in (("store-full", "map", ["--fresh", "snap", "writes", *stack]), ("used", "concise", ["--fresh", "snap", "map", *stack]),
                                ("used", "map", ["--fresh", "snap", "map", *stack]), ("used", "map", ["--store", "snap=snap.store", "map", *stack]),
-                               ("save", "table", ["snap", "saved", *stack]), ("save", "map", ["snap", "saved", *stack])):
+                               ("save", "concise", ["--fresh", "snap", "snap", "saved", *stack]), ("save", "map", ["--fresh", "snap", "snap", "saved", *stack])):
         got = run(tool(top) + [command, "--program", "./dies", *words], given="R snap 0 8\n", folder=folder, env=dict(os.environ, DIES_AT=at))
         said = "%s %s: ./dies: it was ended by signal 9\n" % (TOOL, command)
         is_so = (got.status, got.out) == (FULL, b"") and got.err.decode().endswith(said)
         tally.holds("%s by a dmremap that dies at %s, %s" % (command, at, words[0]), is_so, "%s, %r, %r" % (got.status, got.out, got.err))
         tally.holds("what a save leaves", not os.path.exists(os.path.join(folder, "saved")), "it is there")
     for name in ("-", "./-"):
-        got = run(tool(top) + ["save", "--program", "./dmremap", "snap", name, *stack], folder=folder)
+        got = run(tool(top) + ["save", "--program", "./dmremap", "--fresh", "snap", "snap", name, *stack], folder=folder)
         tally.holds("a save to " + name, got.status == (2 if name == "-" else INCOMPLETE) and os.path.exists(os.path.join(folder, "-")) == (name != "-"),
                     "status %s, %r" % (got.status, got.err))
         tally.holds("what is said of it", name != "-" or got.err.decode() == "%s save: %s\n" % (TOOL, NO_FILE), got.err)
     tally.same("requests and tables from one input", call(top, ["used", "--program", "./dmremap", "map", "table", "-", "snap.disks"], folder=folder),
                2, "", TOOL + " used: standard input can't be two files\n")
-    got = call(top, ["read-back", "file.places", "pieces.txt", "-"], given="", folder=folder)
+    got = call(top, ["read-back", "--program", "./dmremap", "file.places", "file.requests", "-", "table", "vg0.table", "both.disks"], given="", folder=folder)
     tally.holds("a file that is put together as -", got.status in (1, 2) and not got.out, "%s, %r" % (got.status, got.err))
 
 

@@ -95,6 +95,16 @@ def check_states(case):
     case.put("many", store(many, chunk=1, chunks=80))
     case.same("three areas", "1 R cow 3 1\n2 R cow 35 1\n3 R cow 73 1\n4 R base 70 10\n", "s: used, with 70 of its chunks in the store\n",
               ["--store", "s=many"], ("table", "many.table", "many.disks"), "R s 0 1\nR s 33 1\nR s 68 1\nR s 70 10\n")
+    # A full area, after which the store ends within the chunk of the next one, or after a chunk of that.
+    case.put("full.table", "s: 0 200 snapshot base cow P 2\n")
+    case.put("full", store([(64 - it, 2 + it + it // 64) for it in range(65)], chunk=2, chunks=70))
+    for length, out, count in ((132, "R base 0 2", 64), (133, "R base 0 2", 64), (136, "R cow 134 2", 65)):
+        case.put("full.disks", "base 200\ncow %d\n" % length)
+        case.same("an area that a store of %d sectors has or hasn't" % length, "1 R cow 130 2\n2 %s\n" % out, "s: used, with %d of its chunks in the store\n" % count,
+                  ["--store", "s=full"], ("table", "full.table", "full.disks"), "R s 2 2\nR s 0 2\n")
+    case.put("full.disks", "base 200\ncow 135\n")
+    case.refused("an area whose chunk is past the end", "the store of s: it has more chunks than fit into it: a kernel loads it, but none writes such a list",
+                 ["--store", "s=full"], ("table", "full.table", "full.disks"))
 
 
 def check_stores_refused(case):
@@ -124,8 +134,9 @@ def check_stores_refused(case):
     case.put("image", store(PAIRS))
     case.put("short.disks", "base 64\ncow 15\n")
     case.refused("a store of less than two chunks", where + "it is shorter than two chunks, which a kernel refuses", source=("table", "table", "short.disks"))
-    case.refused("no image", "nothing: No such file or directory", ["--store", "s=nothing"])
-    case.refused("a store on a disk that isn't here", "cow: No such file or directory", [])
+    told = "%s: No such file or directory: --paths or --store says where it is, and --fresh s that nothing is in it"
+    case.refused("no image", where + told % "nothing", ["--store", "s=nothing"])
+    case.refused("a store on a disk that isn't here", where + told % "cow", [])
     case.refused("another snapshot", "x: FILE has no such snapshot", STORE + ["--store", "x=image"])
     case.refused("a fresh one that isn't there", "o: FILE has no such snapshot", STORE + ["--fresh", "o"])
     case.put("n.table", "n: 0 64 snapshot base cow N 8\n")
@@ -358,6 +369,30 @@ def check_kept(case):
     case.tally.holds("writes of neighbours", before == "W s 16 17\nW s 56 1\nW s 0 1\n", "it is %r" % before)
     got = case.call([*STORE, "--keep", "table/x", "map", "table", "table", "disks"], READ)
     case.tally.same("used: a folder that can't be made", got, 5, "", TOOL + " used: table/x: Not a directory\n")
+    check_kept_over(case)
+
+
+def check_kept_over(case):
+    """What is kept goes over no file that is read, and through no link; where the command is refused, none of it is there."""
+    for name, words in (("FILE", ["--store", "s=image", "map", "table", "over/FILE", "disks"]),
+                        ("DISKS", ["--store", "s=image", "map", "table", "table", "over/DISKS"]),
+                        ("BEFORE", ["--store", "s=over/BEFORE", "map", "table", "table", "disks"])):
+        content = {"FILE": TABLE.encode(), "DISKS": DISKS.encode(), "BEFORE": store(PAIRS)}[name]
+        case.program.file("used/over/" + name, content)
+        got = case.call(["--keep", "over", *words], READ)
+        case.tally.same("keeping over " + name, got, 2, "", TOOL + " used: over/%s: it is read, too: give another file to write\n" % name)
+        with open(os.path.join(case.folder, "over", name), "rb") as it:
+            case.tally.holds("what is left of " + name, it.read() == content, "it is another")
+        case.tally.holds("what else is there", os.listdir(os.path.join(case.folder, "over")) == [name], "there is more")
+        os.unlink(os.path.join(case.folder, "over", name))
+    case.put("precious", "precious\n")
+    os.symlink("../precious", os.path.join(case.folder, "over", "FILE"))
+    case.same("keeping where a link is", ANSWER, TOLD, STORE + ["--keep", "over"])
+    with open(os.path.join(case.folder, "precious"), encoding="ascii") as it:
+        case.tally.holds("what the link leads to", it.read() == "precious\n", "it is another")
+    got = case.call([*STORE, "--keep", "refused", "map", "table", "table", "disks"], "R s 0\n")
+    left = os.listdir(os.path.join(case.folder, "refused"))
+    case.tally.holds("what a refused request leaves of it", got.status == 1 and not left, "status %s, there is %s" % (got.status, left))
 
 
 def check_streams(case):

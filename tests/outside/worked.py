@@ -15,7 +15,7 @@ from harness import run
 ARROW = "→"
 # A refused text, perhaps the disks that it stands over, and the answer.
 REFUSED = re.compile(r"((?:`[^`]+`(?: / )?)+)(?: over ((?:`[^`]+`(?: / )?)+))? %s `([^`]+)`" % ARROW)
-SECTION = re.compile(r"^## (\d+)\. ", re.M)
+SECTION = re.compile(r"^##+ (\d+(?=\. )|Paths$)", re.M)
 # The disks of an example that names none.
 DISKS = "sda 64\nsdb 64\n"
 # A line of one of the repository's examples, which an example of metadata changes.
@@ -72,6 +72,10 @@ def of_disks(program, top, lines, disks):
     return loaded(program, "table", "a: 0 8 zero\n", lines), 1, "disks: "
 
 
+def of_paths(program, top, lines, disks):
+    return loaded(program, "table", "v: 0 8 linear a 0\n", "a 8\n", options=["--paths", program.file("worked/paths", lines)]), 1, "paths: "
+
+
 def of_concise(program, top, lines, disks):
     return loaded(program, "concise", lines, disks), 1, "source: "
 
@@ -94,7 +98,7 @@ def loaded(program, form, lines, disks, requests="", command="map", options=()):
     return run([program.path, command, form, *files, *options], given=requests)
 
 
-FORMS = {"3": of_table, "4": of_disks, "5": of_requests, "6": of_table, "7": of_concise, "14": of_metadata}
+FORMS = {"3": of_table, "4": of_disks, "Paths": of_paths, "5": of_requests, "6": of_table, "7": of_concise, "14": of_metadata}
 
 
 def check_worked(tally, program, words, body):

@@ -10,10 +10,11 @@ PRELUDE = "Rattle.std.specs.Prelude."
 PROMISES = [
     ("map", ["map_whole"], "what `map` reads, writes and tells"),
     ("before", ["map_after", "play_earlier"], "the same after earlier requests"),
+    ("paths", ["map_stored", "listed_images", "check_paths"], "the same from what stores hold"),
     ("other", ["other_whole"], "the same of the other commands"),
     ("words", ["read_words"], "the command line"),
     ("streams", ["Counted", "Gathered", "PartFile"], "real files and streams"),
-    ("texts", ["read_part", "parse_table", "parse_concise", "parse_disks", "parse_request", "front_request",
+    ("texts", ["read_part", "parse_table", "parse_concise", "parse_disks", "parse_paths", "parse_request", "front_request",
                "CheckedName::new", "DeviceNameRule", "DiskNameRule"], "texts that are read"),
     ("written", ["write_all", "close", "close_and_tell", "write_table", "write_concise", "write_runs"],
      "texts that are written"),
@@ -24,9 +25,12 @@ PROMISES = [
     ("check", ["Stack::tidy", "Stack::is_top", "Stack::tops", "check_report"], "whether claims meet"),
     ("mapper", ["Mapper", "levels_are_enough"], "units and state of a request"),
     ("taken", ["PlainTaken", "RunTaken", "TrieTaken"], "chunks that a snapshot took"),
+    ("stores", ["read_stores", "StoreRefusal::message", "stores_fit", "reads_back", "is_spelled", "ReadLog", "MemoryImages"],
+     "the state that stores hold"),
     ("run", ["Lines::next", "handle_requests", "InTurn", "Join", "run"], "lines, pieces, and a run"),
     ("replay", ["Replay"], "answers of a replay"),
-    ("alone", ["tops_are_alone", "play_goes_on", "requests_are_alone"], "each top device alone"),
+    ("alone", ["tops_are_alone", "play_goes_on", "requests_are_alone", "errors_have_causes", "nothing_is_lost"],
+     "each top device alone, and where errors come from"),
     ("power_cut", ["answer_after_cut", "Fault::tell"], "the program `power_cut`"),
 ]
 
