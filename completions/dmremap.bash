@@ -19,7 +19,7 @@ _dmremap() {
             [[ ${#given[@]} -eq 0 || ${given[${#given[@]} - 1]} != [0-9] ]] || unset "given[${#given[@]} - 1]"
         elif [[ $it == -- ]]; then
             options=false
-        elif [[ $it == --status || $it == --before ]] && $options; then
+        elif [[ $it == --status || $it == --before || $it == --paths ]] && $options; then
             # Of all commands they go with this one.
             commands=map
             [[ $it == --status ]] || valued=true
@@ -38,8 +38,8 @@ _dmremap() {
         files=true
     elif $options && [[ $word == -* ]]; then
         case ${given[0]-} in
-            "") offered="--status --before --version --help" ;;
-            map) offered="--status --before --help" ;;
+            "") offered="--status --before --paths --version --help" ;;
+            map) offered="--status --before --paths --help" ;;
             help) ;;
             *) offered="--help" ;;
         esac
