@@ -38,8 +38,7 @@ def table_of(image: Image, sector: int = SECTOR) -> Optional[Table]:
     entries = mbr.entries_of(image.read(0, SECTOR))
     is_protective = any(it.kind == mbr.PROTECTIVE for it in entries)
     if entries and not is_protective:
-        tables = mbr.Tables(image, entries, sector)
-        return Table("MBR", tables.partitions, [(it, it + SECTOR) for it in tables.starts])
+        return mbr_of(image, entries, sector)
     for size in GPT_SECTORS:
         found = gpt_at(image, size, size)
         if found:
@@ -51,6 +50,12 @@ def table_of(image: Image, sector: int = SECTOR) -> Optional[Table]:
                                "gdisk, or cut the partition out with dd")
         return backup
     return None
+
+
+def mbr_of(image: Image, entries: List[mbr.Entry], sector: int) -> Table:
+    """The table of an MBR with these entries, and those inside its extended partitions."""
+    tables = mbr.Tables(image, entries, sector)
+    return Table("MBR", tables.partitions, [(it, it + SECTOR) for it in tables.starts])
 
 
 def backup_of(image: Image) -> Optional[Table]:

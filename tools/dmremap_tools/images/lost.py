@@ -15,11 +15,10 @@ import re
 import tempfile
 from argparse import ArgumentParser, Namespace
 from collections import Counter
-from typing import Dict, List, Optional, Sequence
+from typing import List, Optional, Sequence
 
 from dmremap_tools.base import program, quoting, streams
 from dmremap_tools.base.numbers import SECTOR
-from dmremap_tools.base.refusal import WrongWords
 from dmremap_tools.images.copied import parts_of
 from dmremap_tools.layouts import rescue_map, systems
 from dmremap_tools.layouts.asked_runs import AskedRuns, Run
@@ -35,20 +34,11 @@ FOLDER = re.compile(r"Type: directory")
 TABLE = "inode table: "
 
 
-class LostRuns(AskedRuns):
-    """The runs of sectors that are lost, as file systems are asked about them."""
-
-    def __init__(self, volume: str, runs: Sequence[Run]) -> None:
-        self.volume, self.runs = volume, list(runs)
-        self._source = self  # type: ignore[assignment]
-        self.name = volume
-
-
 def add_words(parser: ArgumentParser) -> None:
     """Adds the arguments."""
     parser.add_argument("volume", metavar="GROUP/VOLUME", help="the volume, by its name")
     parser.add_argument("images", metavar="IMAGE", nargs="+", help="a file or a block device")
-    parser.add_argument("--map", metavar="IMAGE=MAP", action="append", default=[], help="the map of ddrescue of an image")
+    rescue_map.add_words(parser)
     parser.add_argument("--saved", metavar="FILE", help="a copy of the volume that `save` made, for the file system to be read from")
     program.add_words(parser)
 
@@ -56,7 +46,7 @@ def add_words(parser: ArgumentParser) -> None:
 def run(words: Namespace) -> None:
     """Prints what is lost."""
     mapping.use(words.program)
-    pile = Pile(words.images, maps_in(words))
+    pile = Pile(words.images, rescue_map.unread_in(words.map, words.images))
     target = target_of(pile, words.volume)
     runs = list(lost_runs(target.device, target.size))
     if runs:
@@ -65,22 +55,6 @@ def run(words: Namespace) -> None:
             for line in lines_of(path, target.name, runs):
                 streams.out.write(line + "\n")
     streams.out.write(f"{sum(run.count for run in runs)} sectors lost of {target.size // SECTOR}\n")
-
-
-def maps_in(words: Namespace) -> Dict[str, List["tuple[int, int]"]]:
-    """The runs of bytes that maps have as not finished, by the images' paths."""
-    found: Dict[str, List["tuple[int, int]"]] = {}
-    for word in words.map:
-        path, is_given, map_path = word.rpartition("=")
-        if not is_given or path in found or path not in words.images:
-            raise WrongWords(f"--map: not IMAGE=MAP of one of the images, or given twice: {quoting.shown(word)}")
-        source = streams.Lines(map_path)
-        rows = (row for row in source if row and not row.startswith("#"))
-        if not rescue_map.CURRENT.fullmatch(next(rows, "")):
-            source.refuse("not a map of ddrescue")
-        found[path] = [(area.begin // SECTOR * SECTOR, -(-area.end // SECTOR) * SECTOR) for area in rescue_map.areas_in(source, rows)
-                       if area.status != rescue_map.FINISHED]
-    return found
 
 
 def lost_runs(device: Device, size: int) -> "list[Run]":
@@ -122,7 +96,7 @@ def copied(target: Target, path: str) -> str:
 
 def lines_of(path: str, volume: str, runs: Sequence[Run]) -> "list[str]":
     """A line for each file that some of these sectors belong to."""
-    asked = LostRuns(volume, runs)
+    asked = AskedRuns(volume, runs)
     system = systems.system_in(path, asked, False, None)
     counts: "Counter[str]" = Counter()
     for each in runs:

@@ -1,9 +1,11 @@
 """The map in which ddrescue says what it could read: areas of a disk, in bytes, each with a status."""
 
 import re
-from typing import Iterator, NamedTuple
+from argparse import ArgumentParser
+from typing import Dict, Iterator, List, NamedTuple, Sequence, Tuple
 
 from dmremap_tools.base import numbers, quoting, streams
+from dmremap_tools.base.refusal import WrongWords
 
 FINISHED, BAD, UNTRIED = "+", "-", "?"
 # A map says first where ddrescue stands. An area has a position, a size and a status.
@@ -30,3 +32,24 @@ def areas_in(source: streams.Lines, rows: Iterator[str]) -> Iterator[Area]:
             source.refuse("not the area that comes next: " + quoting.shown(row))
         end = begin + size
         yield Area(begin, end, match[3])
+
+
+def add_words(parser: ArgumentParser) -> None:
+    """Adds --map."""
+    parser.add_argument("--map", metavar="IMAGE=MAP", action="append", default=[], help="the map of ddrescue of an image")
+
+
+def unread_in(given: Sequence[str], images: Sequence[str]) -> Dict[str, List[Tuple[int, int]]]:
+    """The runs of bytes that maps of images have as not finished, in whole sectors, by the images' paths."""
+    found: Dict[str, List[Tuple[int, int]]] = {}
+    for word in given:
+        path, is_given, map_path = word.rpartition("=")
+        if not is_given or path in found or path not in images:
+            raise WrongWords(f"--map: not IMAGE=MAP of one of the images, or given twice: {quoting.shown(word)}")
+        source = streams.Lines(map_path)
+        rows = (row for row in source if row and not row.startswith("#"))
+        if not CURRENT.fullmatch(next(rows, "")):
+            source.refuse("not a map of ddrescue")
+        found[path] = [(area.begin // numbers.SECTOR * numbers.SECTOR, -(-area.end // numbers.SECTOR) * numbers.SECTOR)
+                       for area in areas_in(source, rows) if area.status != FINISHED]
+    return found

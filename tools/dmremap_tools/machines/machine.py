@@ -39,8 +39,7 @@ from dmremap_tools.base import disk_image, listings, numbers, paths, quoting, st
 from dmremap_tools.base.refusal import Refusal, WrongWords
 from dmremap_tools.machines.found import NOT_ASKED, Found, leave_others, leave_unknown, read_status, read_tables
 from dmremap_tools.machines.kernel_names import is_disk, is_partition
-from dmremap_tools.machines.pictured import sectors_at
-from dmremap_tools.machines.placed import partitioned
+from dmremap_tools.machines.placed import partitioned, sectors_at
 from dmremap_tools.machines.stack import Stack
 from dmremap_tools.metadata.ways import GIVE
 

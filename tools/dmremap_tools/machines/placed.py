@@ -9,10 +9,12 @@ from dmremap_tools.base.numbers import SECTOR
 from dmremap_tools.base.partition import Partition
 from dmremap_tools.base.paths import Place
 from dmremap_tools.base.refusal import Refusal
-from dmremap_tools.machines.disks import begun_in, names_by_id
-from dmremap_tools.metadata.array_members import check_places
-from dmremap_tools.metadata.chosen_part import table_in
-from dmremap_tools.metadata.ways import GIVE
+from dmremap_tools.machines.disks import names_by_id
+from dmremap_tools.metadata.array_members import check_place, check_places
+from dmremap_tools.metadata.chosen_part import chosen_parts, table_in
+from dmremap_tools.metadata.physical_volume import label_of
+from dmremap_tools.metadata.volumes_within import check_mirrored, taken_from_array
+from dmremap_tools.metadata.ways import GIVE, PLACES
 
 
 def by_ids(text: Optional[str], places: Dict[str, Place], sizes: Dict[str, int], images: Sequence[Place] = ()) -> Dict[str, Place]:
@@ -82,3 +84,25 @@ def volumes_in(path: str, given: List[Place]) -> Dict[bytes, int]:
         if not all(it.is_said for it in given):
             raise
     return {identity: start for it in given for identity, start in begun_in(it).items()}
+
+
+def begun_in(place: paths.Place) -> Dict[bytes, int]:
+    """The ids of the physical volumes in a disk, or of what begins at a place in it, and the bytes at which they begin."""
+    members = chosen_parts(disk_image.image_at(place), 0 if place.is_said else None, PLACES)
+    for each in [] if place.is_said else members:
+        check_mirrored(each)
+    return {label.identity: it.base for it in map(taken_from_array, members) for label in label_of(it)[:1] if label}
+
+
+def sectors_at(place: Place, sector: int = SECTOR) -> int:
+    """The sectors of an image, or of the partition or the physical volume in it that begins at this place."""
+    image = disk_image.raw_image(place.path)
+    if not place.start:
+        return image.size // SECTOR
+    check_place(place)
+    table, label = table_in(image, sector), label_of(image.part(place.start, image.size))[0]
+    sizes = [it.size for it in table.partitions if it.start == place.start] if table else []
+    sizes += [label.size] if label else []
+    if not sizes:
+        raise Refusal(image.path, "neither a partition nor a physical volume begins at byte %d" % place.start)
+    return sizes[0] // SECTOR

@@ -25,6 +25,7 @@ class Array:
     """An array of members with one id. `device` has its bytes, unless `why` says why nobody can say them."""
 
     def __init__(self, members: Sequence[Member]) -> None:
+        self.members = list(members)
         self.best = max(members, key=lambda member: member.superblock.events)
         self.name = self.best.name
         self.level = LEVELS.get(self.best.superblock.level, f"level {self.best.superblock.level}")

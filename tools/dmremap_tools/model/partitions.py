@@ -1,6 +1,6 @@
 """The partitions of an image or of an array."""
 
-from typing import List, NamedTuple, Optional, Sequence
+from typing import List, NamedTuple, Optional, Tuple
 
 from dmremap_tools.base import mbr, partition_table
 from dmremap_tools.base.numbers import SECTOR
@@ -19,12 +19,14 @@ class Partition(NamedTuple):
 
 
 class Partitions(NamedTuple):
-    """A partition table: its kind, which copy was taken of a GPT, and what it has; `fault` says that it is damaged."""
+    """A partition table: its kind, which copy was taken of a GPT, what it has, and what it takes itself, in bytes; `fault` says
+    that it is damaged."""
 
     kind: str
     copy: str
     sector: int
     partitions: List[Partition]
+    taken: List[Tuple[int, int]]
     fault: Optional[str] = None
 
 
@@ -36,25 +38,25 @@ def partitions_of(device: Device, may_use_backup: bool, sector: int = SECTOR) ->
     entries = mbr.entries_of(image.read(0, SECTOR))
     is_protective = any(entry.kind == mbr.PROTECTIVE for entry in entries)
     if entries and not is_protective:
-        return _made(device, "MBR", "", sector, mbr.Tables(image, entries, sector).partitions)  # type: ignore[arg-type]
+        return _made(device, partition_table.mbr_of(image, entries, sector), "", sector)  # type: ignore[arg-type]
     try:
         for size in partition_table.GPT_SECTORS:
             found = partition_table.gpt_at(image, size, size)  # type: ignore[arg-type]
             if found is not None:
-                return _made(device, "GPT", "first", size, found.partitions)
+                return _made(device, found, "first", size)
         is_spoken_of = is_protective or any(image.read(size, 8) == partition_table.GPT for size in partition_table.GPT_SECTORS)
         for size in partition_table.GPT_SECTORS if is_spoken_of or may_use_backup else ():
             place = image.size // size * size - size
             found = partition_table.gpt_at(image, place, size) if place > size else None  # type: ignore[arg-type]
             if found is not None:
-                return _made(device, "GPT", "backup", size, found.partitions)
+                return _made(device, found, "backup", size)
     except Refusal as refusal:
-        return Partitions("GPT", "", SECTOR, [], refusal.why)
+        return Partitions("GPT", "", SECTOR, [], [], refusal.why)
     if is_spoken_of:
-        return Partitions("GPT", "", SECTOR, [], "both copies of its partition table (GPT) are damaged")
+        return Partitions("GPT", "", SECTOR, [], [], "both copies of its partition table (GPT) are damaged")
     return None
 
 
-def _made(device: Device, kind: str, copy: str, sector: int, found: Sequence[partition_table.Partition]) -> Partitions:
-    made = [Partition(each.number, Part(f"{device.name}:{each.number}", device, each.start, each.size)) for each in found]
-    return Partitions(kind, copy, sector, made)
+def _made(device: Device, table: partition_table.Table, copy: str, sector: int) -> Partitions:
+    made = [Partition(each.number, Part(f"{device.name}:{each.number}", device, each.start, each.size)) for each in table.partitions]
+    return Partitions(table.kind, copy, sector, made, table.taken)
