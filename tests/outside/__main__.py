@@ -51,6 +51,7 @@ import manual
 import metadata_areas
 import models
 import origins
+import owners
 import pictures
 import power_cuts
 import printing
@@ -93,7 +94,7 @@ PARTS = (
     ranges, snapshot_rows, snapshots, origins, kinds, replays, streams, limits, hostile, growths, help_texts,
     launcher, building, trying, installs, documents, crate_pages, worked, manual, completions, reading_list, source_names, recipes,
     tool_requests, tool_answers, tool_documents, tool_streams, layouts, layers, explained, used, snapshot_readers, volumes, pictures,
-    trace_parts, sector_files, saves, models, machines, metadata_areas, array_members, lvm2_texts, walks, lookers, refusals, halts,
+    trace_parts, sector_files, saves, models, owners, machines, metadata_areas, array_members, lvm2_texts, walks, lookers, refusals, halts,
     power_cuts,
 )
 

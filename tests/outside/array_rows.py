@@ -253,28 +253,4 @@ UNFOLLOWED = [
     not_followed(FAR, "1 R /dev/md0\n", "2:1: not a piece of an answer: 1 R /dev/md0"),
 ]
 
-GROUP = "v-a: 0 64 linear /dev/md0 8\nv-b: 0 32 striped 2 16 /dev/md0 72 sdc 0\n"
-ARRAY = "m: 0 128 striped 2 16 sda 0 sdb 0\n"
-
-
-def under(upper, lower, output, *disks):
-    return good("under", [word for it in disks for word in ("--disk", *it)], [upper, lower], output)
-
-
-def not_under(upper, lower, message, *disks):
-    return bad("under", [word for it in disks for word in ("--disk", *it)], [upper, lower], message)
-
-
-UNDER = [
-    under(GROUP, ARRAY, ARRAY + "v-a: 0 64 linear /dev/mapper/m 8\nv-b: 0 32 striped 2 16 /dev/mapper/m 72 sdc 0\n", ("/dev/md0", "m")),
-    under(GROUP, ARRAY, ARRAY + "v-a: 0 64 linear /dev/mapper/m 8\nv-b: 0 32 striped 2 16 /dev/mapper/m 72 sdc 0\n", ("md0", "/dev/mapper/m")),
-    under("s,,,ro,0 8 snapshot o c P 8\n", "m: 0 8 linear a 0\nn: 0 64 linear b 0\n",
-          "m,,,,0 8 linear a 0;n,,,,0 64 linear b 0;s,,,ro,0 8 snapshot /dev/mapper/m /dev/mapper/n P 8\n", ("o", "m"), ("c", "n")),
-    not_under(GROUP, ARRAY, "1: it names no disk /dev/md1", ("/dev/md1", "m")),
-    not_under(GROUP, ARRAY, "2: it has no device md0", ("/dev/md0", "md0")),
-    not_under(GROUP, ARRAY, "DEVICE: no name of a device: '/dev/sda'", ("/dev/md0", "/dev/sda")),
-    not_under(GROUP, "v-b: 0 8 zero\n", "2: 1 has a device v-b, too", ("/dev/md0", "v-b")),
-    not_under(GROUP, "m: 0 80 linear sda 0\n", "1: v-b reaches past the 80 sectors of m", ("/dev/md0", "m")),
-    not_under("a b\n", ARRAY, "1:1: not table text: a b", ("/dev/md0", "m")),
-]
-ROWS = TABLES + REFUSED + FOLLOWED + UNFOLLOWED + UNDER
+ROWS = TABLES + REFUSED + FOLLOWED + UNFOLLOWED

@@ -1,4 +1,4 @@
-"""What `elsewhere`, `aliases` and `disks` make of inputs: rows as those of `tool_calls`."""
+"""What `elsewhere` and `aliases` make of inputs: rows as those of `tool_calls`."""
 
 from tool_calls import bad, good, lost
 
@@ -70,30 +70,4 @@ ALIASES += [
          "sda is sda\n"),
 ]
 
-GROUP = """\
-g {
-\tphysical_volumes {
-%s\t}
-}
-"""
-PHYSICAL = "\t\tpv%d {\n\t\t\tdevice = %s\n\t\t\tdev_size = %d\n\t\t}\n"
-
-
-def group(*physicals):
-    """The metadata of physical volumes, each of which is a device and a size."""
-    return GROUP % "".join(PHYSICAL % (number, *it) for number, it in enumerate(physicals))
-
-
-DISKS = [
-    good("disks", [], [group(('"/dev/sda1"', 1050624))], "/dev/sda1 1050624\n"),
-    # Names as dmremap has them: the key where a path is no name of a disk, or of two.
-    good("disks", [], [group(('"/dev/sda"', 8), ('"/dev/mapper/x"', 9), ('"[unknown]"', 10), ('"/dev/a;b"', 11), ('"/dev/sdb"', 12), ('"/dev/sdb"', 13))],
-         "/dev/sda 8\npv1 9\npv2 10\npv3 11\npv4 12\npv5 13\n"),
-    bad("disks", [], [group(('"/dev/sda"', 0))], "1:3: no dev_size of pv0: take the copy that lvm2-text makes"),
-    bad("disks", [], ["g {\n}\n"], "1: no physical volumes of a group"),
-    bad("disks", [], ["x = 1\n"], "1: no physical volumes of a group"),
-    bad("disks", [], ["g {\n"], "1:2: the end is missing: g, line 1, isn't closed"),
-    bad("disks", ["--paths", "1"], ["/dev/sda nowhere\n"], "nowhere: No such file or directory"),
-]
-
-ROWS = ELSEWHERE + ALIASES + DISKS
+ROWS = ELSEWHERE + ALIASES

@@ -82,7 +82,6 @@ READERS = [
     *(good(it, [], [""], "", "no line came\n") for it in ("free", "clashes", "align", "store-size")),
     good("tree", [], [""], "", "no device came\n"),
     good("spans", [], ["", ""], "", "no disk and no device came\n"),
-    good("owner", ["1"], ["", ""], "", "no line came\n"),
     good("free", [], ["d 0 12 g - label+metadata\nd 64 64 - - end\n"], "d 0 12 g - label+metadata\nd 12 64 unnamed\n"),
     good("clashes", [], ["d 0 12 g - label+metadata\nd 8 16 a 0 linear\nd 64 64 - - end\n"], "d 8 11 g a\n"),
     # Snapshots share an origin; a span that ended is met by none, also when it began late.

@@ -2,6 +2,7 @@
 is made of it by the program."""
 
 import contextlib
+import json
 import os
 import re
 import shutil
@@ -10,7 +11,6 @@ import tempfile
 import containers
 import elsewhere_rows
 import machine_rows
-import partition_rows
 import physical_volumes
 import tool_calls
 from harness import run
@@ -21,13 +21,12 @@ SAMPLES = ("ls", "status", "lsblk")
 
 def check(tally, program, top):
     """Each row, the samples, files that aren't there, and large machines."""
-    for row in machine_rows.ROWS + partition_rows.ROWS:
+    for row in machine_rows.ROWS:
         check_row(tally, program, top, *row)
     tool_calls.check_rows(tally, program, top, elsewhere_rows.ROWS)
     check_samples(tally, program, top)
     check_missing(tally, program, top)
     check_images(tally, program, top)
-    check_bound_images(tally, program, top)
     check_containers(tally, program, top)
     check_large(tally, program, top)
 
@@ -86,16 +85,7 @@ DEVICES = "253:0 8192 dm-0 \n253:1 32768 dm-1 \n253:2 8192 dm-2 \n253:3 8192 dm-
 
 def check_images(tally, program, top):
     """Lengths of images, in whole sectors."""
-    for name, size in (("one", 1100), ("two", 512)):
-        program.file("machines/" + name, bytes(size))
-    program.file("machines/paths", "/dev/sda one\nb two\n")
     folder = os.path.join(program.room, "machines")
-    tally.same("DISKS of images", tool_calls.call(top, ["disks", "--paths", "paths"], folder=folder), 0, "/dev/sda 2\nb 1\n")
-    for words in ([], ["text", "--paths", "paths"], ["--paths", "paths", "--image", "one"]):
-        got = tool_calls.call(top, ["disks", *words], folder=folder)
-        tally.same("disks with the words %s" % words, got, 2, "refused\n", TOOL + " disks: give TEXT, TEXT and --image, or --paths PATHS\n")
-
-
     program.file("machines/sda1.img", bytes(2048 * 512))
     program.file("machines/paths", "8:1 sda1.img\n")
     for name, text in (("ls", machine_rows.NUMBERS), ("status", machine_rows.FRESH), ("table", machine_rows.ALL)):
@@ -131,199 +121,65 @@ def check_images(tally, program, top):
         found = read(os.path.join(folder, "disks"))
         tally.holds("DISKS with %s at %s %s" % (number, image, words), found == (None if said else b"%s %d\n" % (disk.encode(), length)), "it is %r" % found)
     for size in ("100", "0", str(1 << 31)):
-        for command in (["machine", "--paths", "paths", "--disks", "disks", "ls", "status", "table"], ["partitions", "--image", "/dev/sda=sda.img", "table"],
-                        ["owner", "table"], ["files", "home", "table", "table"]):
-            got = tool_calls.call(top, [*command, "--sector-size", size], folder=folder)
-            tally.same("%s with sectors of %s bytes" % (command[0], size), got, 2, "refused\n" * (command[0] != "files"),
-                       "%s %s: --sector-size is a multiple of 512, up to 2^30: %s\n" % (TOOL, command[0], size))
-
-
-WHOLE = "%s: the image of a whole disk (GPT), whose %s read\n"
-
-
-def check_bound_images(tally, program, top):
-    """Which physical volume an image is, by the id in its label."""
-    first, second, other = (physical_volumes.volume(identity=it.ljust(32, b"x")) for it in (b"first", b"second", b"other"))
-    images = {"a": first, "b": physical_volumes.md_member(second, 16, level=1), "f": physical_volumes.md_member(second, 16), "c": other, "d": bytes(4096),
-              "e": physical_volumes.gpt((64, 127)).ljust(64 * 512, b"\0") + first,
-              "g": physical_volumes.gpt((8, 8 + len(second) // 4096 - 1), (64, 64 + len(other) // 4096 - 1), sector=4096).ljust(1 << 15, b"\0")
-              + second.ljust(7 << 15, b"\0") + other,
-              "i": physical_volumes.mbr((0x83, 1, 2), (0x8E, 8, 8)).ljust(1 << 15, b"\0") + second,
-              "h": physical_volumes.gpt((64, 127)).ljust(64 * 512, b"\0") + other}
-    for name, image in images.items():
-        program.file("machines/" + name, image)
-    identity = "%s-xxxx-xxxx-xxxx-xxxx-xxxx-xxxxxx"
-    physical = '\t\tpv%d {\n\t\t\tid = "' + identity + '"\n\t\t\tdevice = "%s"\n\t\t}\n'
-    program.file("machines/text", "g {\n\tphysical_volumes {\n%s\t}\n}\n" % (physical % (0, "second", "[unknown]") + physical % (1, "firstx", "/dev/sdb")))
-    folder = os.path.join(program.room, "machines")
-    array = "b: a member of an md array, whose data begins at sector 16: that is read as the physical volume\n"
-    missing = "missing: pv0, with the id " + identity % "second" + "\n"
-    for names, output, message, status in [
-        ("ab", "/dev/sdb a\npv0 b?offset=8192\n", array, 0),
-        ("a", "/dev/sdb a\n", missing, 0),
-        ("ac", "/dev/sdb a\nrefused\n", "c: its id is " + identity % "otherx" + ", which the text has not", 1),
-        ("aa", "/dev/sdb a\nrefused\n", "a: its id is " + identity % "firstx" + ", as that of a", 1),
-        ("ae", "/dev/sdb a\nrefused\n", (WHOLE % ("e", "partition 1 is a physical volume: that is")) + "e: its id is " + identity % "firstx" + ", as that of a", 1),
-        ("eg", "/dev/sdb e?offset=32768\npv0 g?offset=32768\n",
-         WHOLE % ("e", "partition 1 is a physical volume: that is") + WHOLE % ("g", "partitions 1, 2 are physical volumes: these are"), 0),
-        ("ai", "/dev/sdb a\npv0 i?offset=32768\n", "i: the image of a whole disk (MBR), whose partition 2 is a physical volume: that is read\n", 0),
-        ("h", "refused\n", WHOLE % ("h", "partition 1 is a physical volume: that is") + "h: its id is " + identity % "otherx" + ", which the text has not", 1),
-        ("f", "refused\n", "f: a member of an md array that isn't raid1, so that no member has all of a physical volume: `md` makes a table of the "
-         "array, and `under` puts it below those of the group", 1),
-        ("d", "refused\n", "d: there is no label in the first four sectors: it is no physical volume", 1),
-    ]:
-        got = tool_calls.call(top, ["disks", "text", *("--image=" + it for it in names)], folder=folder)
-        told, _, reason = message.rpartition("\n")
-        tally.same("the images " + names, got, status, output, "%s%s disks: %s\n" % (told + "\n" * bool(told), TOOL, reason) if status else message)
-    # A disk with both a partition table and a label.
-    beside = physical_volumes.mbr((0x8E, 64, 8)) + first[512:].ljust(63 * 512, b"\0") + second
-    program.file("machines/j", beside)
-    both = "j: there are both a partition table (MBR) and the label of a physical volume, which lvm2 doesn't take then: IMAGE?offset=BYTES takes a " \
-           "partition, and IMAGE?offset=0 the disk itself"
-    alone = "missing: /dev/sdb, with the id " + identity % "firstx" + "\n"
-    for words, output, message in [
-            (["j"], "", both), (["j?offset=0"], "/dev/sdb j?offset=0\n", ""), (["j?offset=32768"], "pv0 j?offset=32768\n", ""),
-            (["j?offset=0", "j?offset=32768"], "/dev/sdb j?offset=0\npv0 j?offset=32768\n", ""),
-            (["j?offset=512"], "", "j?offset=512: there is no label in the first four sectors: it is no physical volume")]:
-        got = tool_calls.call(top, ["disks", "text", *("--image=" + it for it in words)], folder=folder)
-        told = {"j?offset=0": missing, "j?offset=32768": alone}.get(words[0], "") if len(words) == 1 else ""
-        tally.same("the images %s" % words, got, 1 if message else 0, output or "refused\n", "%s disks: %s\n" % (TOOL, message) if message else told)
-    got = tool_calls.call(top, ["disks", "text", "--image", "-"], folder=folder)
-    tally.same("an image without a name", got, 2, "refused\n", TOOL + " disks: a line names each image, and standard input has no name\n")
-    check_lengths(tally, program, top, folder)
-
-
-def check_lengths(tally, program, top, folder):
-    """Lengths of what begins at a place in an image: a partition by the table, a physical volume in a member of an array by its
-    label, of which nothing else says it."""
-    for listed, output, message in [
-            ("/dev/sda1 e?offset=32768\npv0 b?offset=8192\nsda e\ng1 g?offset=32768\n", "/dev/sda1 64\npv0 131072\nsda 72\ng1 8\n", ""),
-            ("/dev/sda1 e\n", "refused\n", "e: the image of a whole disk (GPT), and /dev/sda1 is a partition: give the partition that it is, as IMAGE?offset=BYTES"),
-            ("8:17 e\n", "refused\n", "e: the image of a whole disk (GPT), and 8:17 is a partition: give the partition that it is, as IMAGE?offset=BYTES"),
-            ("8:16 e\n/dev/sda1 a\n", "8:16 72\n/dev/sda1 8\n", ""),
-            ("/dev/sda1 e?offset=512\n", "refused\n", "e: neither a partition nor a physical volume begins at byte 512")]:
-        program.file("machines/listed", listed)
-        got = tool_calls.call(top, ["disks", "--paths", "listed"], folder=folder)
-        tally.same("the lengths of %r" % listed, got, 1 if message else 0, output, "%s disks: %s\n" % (TOOL, message) if message else "")
+        got = tool_calls.call(top, ["machine", "--paths", "paths", "--disks", "disks", "ls", "status", "table", "--sector-size", size], folder=folder)
+        tally.same("a machine with sectors of %s bytes" % size, got, 2, "refused\n", "%s machine: --sector-size is a multiple of 512, up to 2^30: %s\n" % (TOOL, size))
 
 
 def check_containers(tally, program, top):
-    """Containers of LUKS: by their headers, the second one of version 2, and the text of luksDump."""
-    def device(name, content, *words):
-        return tool_calls.call(top, ["luks", *words, "/dev/sda2", program.file("machines/" + name, content)], folder=os.path.join(program.room, "machines"))
-
+    """Containers of LUKS in images, by their headers: where the data begins and how long it is, or what is wrong."""
     disk = 8192 * 512
     first, second = containers.version_1(64).ljust(disk, b"\0"), containers.version_2().ljust(disk, b"\0")
-    line = "luks-%s: 0 %%d linear /dev/sda2 %%d\n" % containers.UUID
-    for name, content, words, output in [
-        ("version 1", first, [], line % (8128, 64)),
-        ("version 2", second, [], line % (7936, 256)),
-        ("version 2 of a fixed size", containers.version_2(size="4096").ljust(disk, b"\0"), [], line % (8, 256)),
-        ("two headers with one number", containers.version_2(second=262144).ljust(disk, b"\0"), [], line % (7936, 256)),
-        ("a second header that is older", containers.version_2(second=262144, sequences=(4, 3)).ljust(disk, b"\0"), [], line % (7936, 256)),
-        ("a newer second header that is damaged", containers.flipped(containers.version_2(second=262144, sequences=(3, 4)), containers.SIZE + 300)
-         .ljust(disk, b"\0"), [], line % (7936, 256)),
-        # What the first of them doesn't name is no second header.
-        ("a header beside two", (containers.version_2() + containers.header(b"SKUL", 1 << 15, containers.text_of(data=262144), 9)).ljust(disk, b"\0"), [],
-         line % (7936, 256)),
-        ("version 1 with keys before its data", containers.version_1(1024, [8, 512]).ljust(disk, b"\0"), [], line % (7168, 1024)),
-        # A header apart from its data says nothing of how long that is.
-        ("version 1 apart from its data", containers.version_1(0, [8, 512]).ljust(disk, b"\0"), ["--length", "4096"], line % (4096, 0)),
-        ("version 1 whose data would lie among its keys", containers.version_1(1011, [8, 512]).ljust(disk, b"\0"), ["--length", "4096"], line % (3085, 1011)),
-        ("version 2 apart from its data", containers.version_2(json=containers.text_of(data=0)).ljust(disk, b"\0"), ["--length", "4096"], line % (4096, 0)),
-        ("version 2 apart from its data, of a fixed size", containers.version_2(json=containers.text_of("4096", data=0)), [], line % (8, 0)),
-        ("a second header", bytes(4096) + second[4096:], ["--name", "home"], "home: 0 7936 linear /dev/sda2 256\n"),
-        ("a header alone", containers.version_2(), ["--length", "8192"], line % (7936, 256)),
-        ("a text of version 1", containers.DUMP_1, ["--length", "8192"], line % (4096, 4096)),
-        ("a text with a byte order mark", "\ufeff" + containers.DUMP_1, ["--length", "8192"], line % (4096, 4096)),
-        ("a text with carriage returns", (containers.DUMP_2 % "(whole device)").replace("\n", "\r\n"), ["--length", "65536"], line % (32768, 32768)),
-        ("a text of version 2", containers.DUMP_2 % "(whole device)", ["--length", "65536"], line % (32768, 32768)),
-        ("a text of a fixed size", containers.DUMP_2 % "4096 [bytes]", [], line % (8, 32768)),
-    ]:
-        tally.same("a container of " + name, device("container", content, *words), 0, output)
-    newer = containers.version_2(second=262144, sequences=(3, 4)).ljust(disk, b"\0")
-    tally.same("a container of a newer second header", device("container", newer), 0, line % (7680, 512),
-               os.path.join(program.room, "machines", "container") + ": its second header of LUKS is newer: that is read\n")
-    # The partition of a whole disk, of which the image need not have more than the header.
     whole = physical_volumes.gpt((64, 127), (128, 4223)).ljust(128 * 512, b"\0") + containers.version_2()
-    two = physical_volumes.gpt((64, 127), (128, 4223)).ljust(64 * 512, b"\0") + containers.version_1(8).ljust(64 * 512, b"\0") + containers.version_2()
-    for name, content, words, output in [
-        ("a partition", whole, [], line % (3840, 384)),
-        ("a partition that is named", two, ["--partition", "1"], line % (56, 72)),
-        # The disk goes on behind the partition, or ends before that does.
-        ("a partition of a disk of a given length", whole, ["--length", "8192"], line % (3840, 384)),
-        ("a partition of a disk that ends early", whole, ["--length", "2048"], line % (1664, 384)),
-        ("a partition whose first header is damaged", containers.flipped(whole, 128 * 512), ["--partition", "2"], line % (3840, 384)),
+    damaged, unsaid = "its header of LUKS is damaged", "its header of LUKS doesn't say where the data is"
+    for name, content, version, start, sectors, why in [
+        ("version 1", first, 1, 64, None, None),
+        ("version 2", second, 2, 256, None, None),
+        ("version 2 of a fixed size", containers.version_2(size="4096").ljust(disk, b"\0"), 2, 256, 8, None),
+        ("two headers with one number", containers.version_2(second=262144).ljust(disk, b"\0"), 2, 256, None, None),
+        ("a second header that is older", containers.version_2(second=262144, sequences=(4, 3)).ljust(disk, b"\0"), 2, 256, None, None),
+        ("a second header that is newer", containers.version_2(second=262144, sequences=(3, 4)).ljust(disk, b"\0"), 2, 512, None, None),
+        ("a newer second header that is damaged", containers.flipped(containers.version_2(second=262144, sequences=(3, 4)), containers.SIZE + 300)
+         .ljust(disk, b"\0"), 2, 256, None, None),
+        # What the first of them doesn't name is no second header.
+        ("a header beside two", (containers.version_2() + containers.header(b"SKUL", 1 << 15, containers.text_of(data=262144), 9)).ljust(disk, b"\0"), 2, 256, None, None),
+        ("a second header alone", bytes(4096) + second[4096:], 2, 256, None,
+         "its first header is damaged, the second one is sound: repair a copy by cryptsetup repair"),
+        ("a partition", whole.ljust(5000 * 512, b"\0"), 2, 256, None, None),
+        ("a header that is cut off", second[:8192], 2, None, None, damaged),
+        ("two headers that are damaged", containers.flipped(containers.flipped(second, 300), containers.SIZE + 300), 2, None, None, damaged),
+        ("a header that belongs elsewhere", containers.header(b"LUKS", containers.SIZE, containers.text_of()).ljust(disk, b"\0"), 2, None, None, damaged),
+        ("a length of 0", containers.version_2(size="0").ljust(disk, b"\0"), 2, None, None, unsaid),
+        ("one that is encrypted anew", containers.version_2(segments=2), 2, None, None, "it has 2 segments, as while it is being encrypted anew: crypt, crypt"),
+        ("no segments", containers.version_2(json=b"{}"), 2, None, None, unsaid),
+        ("an odd offset", containers.version_2(size="511"), 2, None, None, unsaid),
     ]:
-        tally.same("a container in " + name, device("container", content, *words), 0, output)
-    damaged = "its header of LUKS is damaged"
-    for name, content, words, message in [
-        ("nothing", bytes(4096), [], "no header of LUKS, and no text of luksDump"),
-        ("a header that is cut off", second[:8000], [], damaged),
-        ("two headers that are damaged", containers.flipped(containers.flipped(second, 300), containers.SIZE + 300), [], damaged),
-        ("a header that belongs elsewhere", containers.header(b"LUKS", containers.SIZE, containers.text_of()).ljust(disk, b"\0"), [], damaged),
-        ("a second header that belongs elsewhere", bytes(containers.SIZE) + containers.header(b"SKUL", 1 << 15, containers.text_of()), [],
-         "no header of LUKS, and no text of luksDump"),
-        ("a length of 0", containers.version_2(size="0").ljust(disk, b"\0"), [], "its header of LUKS doesn't say where the data is"),
-        ("version 1 apart from its data", containers.version_1(0, [8, 512]).ljust(disk, b"\0"), [], "how long is the disk? Its data begins at sector 0: give --length"),
-        ("version 1 whose data would lie among its keys", containers.version_1(1011, [8, 512]).ljust(disk, b"\0"), [],
-         "how long is the disk? Its data begins at sector 1011: give --length"),
-        ("version 2 apart from its data", containers.version_2(json=containers.text_of(data=65024)).ljust(disk, b"\0"), [],
-         "how long is the disk? Its data begins at sector 127: give --length"),
-        ("a header in a partition apart from its data", whole[:128 * 512] + containers.version_2(json=containers.text_of(data=0)), ["--length", "8192"],
-         "the header in partition 2 is of a container whose data lies on another disk: cut it out with dd, and give --length"),
-        ("a header alone", containers.version_2(), [], "how long is the disk? Its data begins at sector 256: give --length"),
-        ("a text alone", containers.DUMP_1, [], "how long is the disk? Its data begins at sector 4096: give --length"),
-        ("data after the disk", containers.version_2(size="8388608"), ["--length", "8192"], "the data ends at sector 16640, and the disk at sector 8192"),
-        ("a container that is encrypted anew", containers.version_2(segments=2), [], "it has 2 segments, as while it is being encrypted anew: crypt, crypt"),
-        ("no segments", containers.version_2(json=b"{}"), [], "its header of LUKS doesn't say where the data is"),
-        ("an odd offset", containers.version_2(size="511"), [], "its header of LUKS doesn't say where the data is"),
-        ("a disk without one", whole[:128 * 512], [], "the image of a whole disk (GPT), of which no partition has a header of LUKS: give --partition N"),
-        ("a disk with two", two, [], "the image of a whole disk (GPT), of which the partitions 1, 2 have one: give --partition N"),
-        ("a partition that isn't there", two, ["--partition", "3"], "there is no partition 3: there are 1, 2"),
-        ("a partition after the disk", physical_volumes.gpt((64, 127), (256, 4223)), ["--length", "256", "--partition", "2"],
-         "partition 2 begins after the end of this image: fetch its head, and take that in its place: dd if=DISK of=head.img bs=512 skip=256 count=2048"),
-        ("a partition of no disk", second, ["--partition", "1"], "there is no partition table: leave --partition out"),
-        ("an image that is compressed", b"\x1f\x8b\x08\0", [], "it is compressed (gzip)"),
-        ("an image of another form", b"KDMV" + second[4:], [], "it is an image of VMDK: convert it with qemu-img convert -O raw"),
-        ("a text of something else", b"LUKS header information\n", [], "no text of luksDump that says where the data is"),
-    ]:
-        got = device("container", content, *words)
-        tally.same("a container of " + name, got, 1, "refused\n", "%s luks: %s: %s\n" % (TOOL, os.path.join(program.room, "machines", "container"), message))
-    got = device("container", containers.DUMP_1, "--partition", "1")
-    tally.same("a partition of a text", got, 2, "refused\n", TOOL + " luks: --partition is of an image, and luksDump tells of one container\n")
-    for content, length, why in [
-            (first, "100", "the disk has 100 sectors, and HEADER alone has 8192"), (whole, "128", "the disk has 128 sectors, and HEADER alone has 192"),
-            (containers.DUMP_1, "4096", "the disk has 4096 sectors, and its data begins at sector 4096"),
-            (containers.version_2(), "256", "the disk has 256 sectors, and its data begins at sector 256"),
-            (first, "0", "a device has from 1 to 2^50 sectors, and not 0"), (first, str(1 << 51), "a device has from 1 to 2^50 sectors, and not %d" % (1 << 51))]:
-        got = device("container", content, "--length", length)
-        # No disk is so long, or none with this container is.
-        status = 2 if why.startswith("a device") else 1
-        tally.same("a container on a disk of %s sectors" % length, got, status, "refused\n", "%s luks: --length: %s\n" % (TOOL, why))
-    check_real_containers(tally, device)
-    got = device("container", second, "--name", "a b")
-    tally.same("a container with such a name", got, 1, "refused\n", TOOL + " luks: NAME: no name of a device: 'a b'\n")
-
-
-def check_real_containers(tally, device):
-    """Containers that cryptsetup makes: their headers say what its luksDump does."""
+        found = containers_in(program, top, content)
+        wanted = [(version, start, sectors, why, containers.UUID if start else "")]
+        tally.holds("a container of " + name, found == wanted, "%s and not %s" % (found, wanted))
+    found = containers_in(program, top, bytes(containers.SIZE) + containers.header(b"SKUL", 1 << 15, containers.text_of()))
+    tally.holds("a second header that belongs elsewhere", found == [], found)
     cryptsetup = shutil.which("cryptsetup", path=os.environ["PATH"] + ":/sbin:/usr/sbin")
     if not cryptsetup:
         tally.skip("containers that cryptsetup makes", "it isn't there")
         return
-    for kind in ("luks1", "luks2"):
+    for version in (1, 2):
         with tempfile.NamedTemporaryFile() as disk:
             disk.truncate(40 << 20)
-            made = run([cryptsetup, "luksFormat", "-q", "--type", kind, "--pbkdf", "pbkdf2", "--pbkdf-force-iterations", "1000", disk.name, "-"], given="word")
-            dumped = run([cryptsetup, "luksDump", disk.name])
-            if made.status or dumped.status:
-                tally.skip("a container of %s that cryptsetup makes" % kind, (made.err or dumped.err).decode().strip())
+            made = run([cryptsetup, "luksFormat", "-q", "--type", "luks%d" % version, "--pbkdf", "pbkdf2", "--pbkdf-force-iterations", "1000", disk.name, "-"], given="word")
+            dumped = run([cryptsetup, "luksDump", disk.name]).out.decode()
+            if made.status:
+                tally.skip("a container of version %d that cryptsetup makes" % version, made.err.decode().strip())
                 continue
-            by_header = device("container", disk.read())
-        by_text = device("container", dumped.out, "--length", str((40 << 20) // 512))
-        is_so = by_header.status == 0 and by_header.out == by_text.out and b" linear /dev/sda2 " in by_header.out
-        tally.holds("a container of %s that cryptsetup makes" % kind, is_so, "%r and %r, %r" % (by_header.out, by_text.out, by_header.err))
+            found = containers_in(program, top, disk.read())
+        said = re.search(r"Payload offset:\s+(\d+)|offset: (\d+) \[bytes\]", dumped)
+        start = int(said[1]) if said[1] else int(said[2]) // 512
+        tally.holds("a container of version %d that cryptsetup makes" % version, [it[:4] for it in found] == [(version, start, None, None)], "%s, %s" % (found, dumped))
+
+
+def containers_in(program, top, content):
+    """The containers that `scan` finds in an image."""
+    got = tool_calls.call(top, ["scan", "--json", "--program", program.path, program.file("machines/container", content)])
+    return [tuple(row[key] for key in ("version", "start", "sectors", "why", "id")) for row in json.loads(got.out)["luks"]]
 
 
 def check_large(tally, program, top):

@@ -357,8 +357,8 @@ def node(number, pairs):
     return block(number, 121107, struct.pack("<LQLLLL", 2, 0, len(pairs), most, 8, 0) + keys + struct.pack("<%dQ" % len(pairs), *(value for _, value in pairs)))
 
 
-def check_thin(tally, pile):
-    """Thin volumes and a cached one, and metadata that is damaged."""
+def put_pools(pile):
+    """Puts a disk with a pool and a cache, and returns its data, its text, and what its volumes have."""
     chunk = 16
     def superblock(rest):
         return block(0, 160774, struct.pack("<LQ16sQLLQQ128s128sQQLLQLLL", 0, 0, b"", 27022010, 2, 0, 1, 0, b"", b"", *rest)[:4092])
@@ -383,18 +383,24 @@ def check_thin(tally, pile):
     pooled, hole = extents_of(data, 5, 12), bytes(size)
     def of_pool(number):
         return pooled[number * size:(number + 1) * size]
-    pile.holds(tally, "a thin volume", "vg0/one", of_pool(5) + hole + of_pool(1) + of_pool(2))
-    pile.holds(tally, "another one", "vg0/two", hole + of_pool(1) + hole + hole)
-    pile.refuses(tally, "one that was deleted", "vg0/none", "has no device 3")
     slow, fast = extents_of(data, 40, 8), extents_of(data, 20, 10)[32 * SECTOR:]
-    pile.holds(tally, "a cached volume", "vg0/quick", slow[:size] + fast[:size] + slow[2 * size:3 * size] + fast[2 * size:3 * size])
+    return bytes(data), known, {"vg0/one": of_pool(5) + hole + of_pool(1) + of_pool(2), "vg0/two": hole + of_pool(1) + hole + hole,
+                                "vg0/quick": slow[:size] + fast[:size] + slow[2 * size:3 * size] + fast[2 * size:3 * size]}
+
+
+def check_thin(tally, pile):
+    """Thin volumes and a cached one, and metadata that is damaged."""
+    data, known, contents = put_pools(pile)
+    for name, content in contents.items():
+        pile.holds(tally, "the volume " + name, name, content)
+    pile.refuses(tally, "one that was deleted", "vg0/none", "has no device 3")
     for place, volume_name, why in ((3 * 4096 + 40, "one", "is damaged"), (20, "one", "is damaged"), (20 * EXTENT * SECTOR + 2 * 4096 + 50, "quick", "is damaged")):
         changed = bytearray(data)
         changed[place] ^= 1
         pile.put("disk", disk("a", bytes(changed), known))
         pile.refuses(tally, "metadata with a byte changed at %d" % place, "vg0/" + volume_name, why)
         if place == 3 * 4096 + 40:
-            pile.holds(tally, "the other volume", "vg0/two", hole + of_pool(1) + hole + hole)
+            pile.holds(tally, "the other volume", "vg0/two", contents["vg0/two"])
 
 
 def check_names(tally, pile):

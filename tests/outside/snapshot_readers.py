@@ -96,7 +96,6 @@ def check(tally, program, top):
     check_file(case)
     check_lines(case)
     check_extents(case)
-    check_owners(case)
     check_elsewhere(case)
     check_served(case)
 
@@ -277,37 +276,6 @@ def check_extents(case):
     case.tally.same("extents of other lines", case.call("extents", "v", "table", "lines", "lines.disks"), 0,
                     "0 16 d 0\n16 8 zero\n24 1 d 16\n25 1 e 17\n26 2 error\n28 2097152 f 0\n")
     case.tally.same("extents of no device", case.call("extents", "w", "table", "lines", "lines.disks"), 1, "", TOOL + " extents: lines: no device w\n")
-
-
-def check_owners(case):
-    """Each sector of the disks has a way to a sector of a snapshot exactly where that is read."""
-    read = {}
-    for name in PAIRS:
-        for at, place in enumerate(case.homes[name]):
-            read.setdefault(place, set()).add((name, at))
-    for disk, length in (("d", 3600), ("e", 3400)):
-        got = case.call("owner", "--disks", "disks", *PATHS, "table", given="%s 0 %d\n" % (disk, length))
-        case.tally.holds("who has the sectors of " + disk, got.status == 0 and "until" not in got.out.decode(), "%s, %r" % (got.status, got.err))
-        found = {}
-        for row in got.out.decode().splitlines():
-            (_, first, count), steps = row.split(" = ")[0].split(), row.split(" = ")[1:]
-            for step in steps:
-                words = step.split(", ")[0].split(" ")
-                if words[0] in PAIRS and len(words) == 2:
-                    for it in range(int(count)):
-                        found.setdefault((disk, int(first) + it), set()).add((words[0], int(words[1]) + it))
-        wanted = {place: it for place, it in read.items() if place[0] == disk}
-        case.tally.holds("the snapshots of each sector of " + disk, found == wanted, "%r" % sorted(set(map(str, found.items())) ^ set(map(str, wanted.items())))[:6])
-    rows = "d 64 8 = c1 0 = in the store of s1, its list\nd 24 8 = base 24 = copied to the store of s1\nd 80 8 = c1 16 = s1 24\nd 96 8 = c1 32 = in the store of s1, unused\n"
-    case.put("alone", BELOW + SNAPSHOTS[0])
-    got = case.call("owner", "--disks", "disks", *PATHS, "alone", given="d 64 8\nd 24 8\nd 80 8\nd 96 8\n")
-    case.tally.same("what sectors of a store are", got, 0, rows, TOLD["s1"])
-    case.put("invalid", store(PAIRS["s1"], chunks=10, valid=0))
-    got = case.call("owner", "--disks", "disks", "--store", "s1=invalid", "alone", given="d 80 1\nd 24 1\n")
-    case.tally.same("sectors of one that is invalid", got, 0, "d 80 1 = c1 16 = s1, which is invalid\nd 24 1 = base 24 = s1, which is invalid\n",
-                    "s1: invalid, with 0 of its chunks in the store\n")
-    got = case.call("owner", "--store", "s1=invalid", "alone", given="d 80 1\n")
-    case.tally.same("owner by a store without disks", got, 2, "refused\n", TOOL + " owner: --store and --fresh need --disks DISKS, too\n")
 
 
 def check_elsewhere(case):

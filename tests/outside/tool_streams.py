@@ -26,10 +26,7 @@ CALLS = {
     "cut": ["in-bytes"],
     "whole": ["home", "stack.table"],
     "machine": ["--disks", "beside", "ls.txt", "status.txt", "lsblk.txt", "concise.txt"],
-    "partitions": ["--lsblk", "lsblk.txt", "--disks", "beside", "sfdisk.txt", "machine.tables"],
-    "disks": ["vg0.backup"],
     "elsewhere": ["--paths", "paths.txt", "vg0.concise"],
-    "luks": ["--length", "65536", "/dev/sda2", "luks.txt"],
     "aliases": ["lsblk.txt", "both.disks"],
     "metadata": ["vg0-head.img"],
     "lvm2-text": ["vgm.backup"],
@@ -45,15 +42,12 @@ CALLS = {
     "free": ["spans"],
     "clashes": ["spans"],
     "align": ["--to", "4096", "spans"],
-    "owner": ["--disk", "sda", "stack.table", "sda.map"],
-    "files": ["home", "owners", "home.img"],
     "tree": ["stack.table"],
     "dot": ["stack.table"],
     "extents": ["--program", "./dmremap", "vol", "table", "image.table", "image.disks"],
     "store-size": ["writes"],
     "store-full": ["--program", "./dmremap", "--fresh", "snap", "writes", "table", "snap.table", "snap.disks"],
     "md": ["--name", "md0", "raid1.txt"],
-    "under": ["--disk", "/dev/sda1", "sda1", "vg0.table", "sda1.table"],
     "thin": ["--data", "tdata", "--device", "1", "vg0-thin1", "4000", "thin.xml"],
     "cache": ["--cache", "cdata", "--origin", "corig", "--name", "home", "--sectors", "1000", "cache.xml"],
     "btrfs": ["--name", "fs", "--device", "1", "/dev/sda", "--device", "2", "/dev/sdb", "chunks.txt"],
@@ -67,7 +61,6 @@ MADE = {
     "in-bytes": "R vg0-lv0 1000 3000\nW vg0-lv0 4096 2500000000\n",
     "vg0.table": "vg0-lv0: 0 204800 linear /dev/sda1 2048\nvg0-lv--1: 0 32768 striped 2 128 /dev/sda1 206848 /dev/sda1 223232\n",
     "vg0.concise": "vg0-lv0,,,rw,0 204800 linear /dev/sda1 2048\n",
-    "luks.txt": "LUKS header information for sda2.img\nVersion: 1\nPayload offset: 4096\nUUID: 9f0ddaf8-7f12\n",
     "both.disks": "/dev/sda 1054720\n/dev/sda1 1050624\n8:1 1050624\n/dev/dm-7 2097152\n",
     "times": "0.5\n0.6\n0.75\n1.0\n12.5\n",
     "paths.pieces": "1 R /dev/sda1 10048 16\n2 R /dev/sda1 43008 8\n",
@@ -86,15 +79,12 @@ MADE = {
     "file.requests": "R vg0-lv0 8000 16\nR vg0-lv0 40960 8\nR vg0-lv0 40968 8\n",
 }
 DERIVED = [("spans", "spans", ["stack.disks", "stack.table"]),
-           ("owners", "owner", ["--disk", "sda", "stack.table", "sda.map"]),
            ("machine.tables", "machine", ["--disks", "machine.disks", "ls.txt", "status.txt", "lsblk.txt", "concise.txt"])]
 # Commands that make a file in place of printing, pass on what dmremap prints, or have images or files for its words. They are
 # tried in `layouts`, `saves`, `used`, `models` and `explained`.
-UNPRINTED = {"read-back", "save", "used", "scan", "serve", "lost", "tables", "explain"}
+UNPRINTED = {"read-back", "save", "used", "scan", "serve", "lost", "owner", "tables", "explain"}
 # Words of these calls that name files, but none that a text is put into.
 NO_INPUTS = ("beside", "image", "./dmremap")
-# What a command needs that may not be there.
-NEEDED = {"files": "debugfs"}
 CUTS, MUTATIONS, MEMORY, MANY = 8, 500, 1 << 30, 3000
 FULL, GONE = 5, 141
 ENDS = ((signal.SIGINT, 130), (signal.SIGTERM, 143), (signal.SIGHUP, 129))
@@ -113,7 +103,7 @@ def check(tally, program, top):
     commands = importlib.import_module("dmremap_tools.commands").COMMANDS
     lost = {it.name for it in commands} ^ (set(CALLS) | UNPRINTED)
     tally.holds("commands whose streams are tried", not lost, "others are %s" % sorted(lost))
-    tried = [it for it in commands if it.name in CALLS and shutil.which(NEEDED.get(it.name, "sh"))]
+    tried = [it for it in commands if it.name in CALLS]
     for command in tried:
         check_ends(tally, top, folder, command)
         check_cuts(tally, top, folder, command)
@@ -197,10 +187,6 @@ def check_standard_input(tally, top, folder, command):
         plain = call(top, [command.name, *words], folder=folder)
         words[place] = "-"
         title = "%s of standard input for %s" % (command.name, name)
-        if (command.name, name) == ("files", "home.img"):
-            tally.same(title, call(top, [command.name, *words], given=bytes_of(os.path.join(folder, name)), folder=folder), 2, "",
-                       TOOL + " files: IMAGE is read by another program, and can't be standard input\n")
-            continue
         got = call(top, [command.name, *words], given=bytes_of(os.path.join(folder, name)), folder=folder)
         tally.same(title, got, ANSWERED, plain.out, plain.err.replace(name.encode(), b"standard input"))
         got = call(top, [command.name, *words], given="\1 nonsense\n", folder=folder)

@@ -148,45 +148,12 @@ def check(tally, program, top):
     for name, content in [*made.items(), ("c.map", rescue.encode())]:
         found = read(os.path.join(folder, name))
         tally.holds("the sample " + name, found == content, "it is not what this module makes")
-    check_encrypted(tally, program, top, home)
     missing = [it for it in ("mke2fs", "debugfs") if not shutil.which(it, path=os.environ["PATH"] + ":/sbin:/usr/sbin")]
     if missing:
         tally.skip("a walk from images to files", "there is no " + missing[0])
         return
     for seed in range(2):
         check_walk(tally, program, top, random.Random(seed))
-
-
-def check_encrypted(tally, program, top, home):
-    """A group of which a physical volume lies in a container of LUKS, on a partition: its sectors are followed to the whole disk,
-    and are there what they are in the opened container, encrypted."""
-    payload, secret = 256, 0x5A
-    disk, b, c = images(home)
-    opened = disk[PARTITION * SECTOR:-(TABLE + 1) * SECTOR]
-    count = payload + len(opened) // SECTOR
-    container = containers.version_2().ljust(payload * SECTOR, b"\0") + bytes(it ^ secret for it in opened)
-    whole = gpt((PARTITION, PARTITION + count - 1)).ljust(PARTITION * SECTOR, b"\0") + container
-    folder = os.path.dirname(program.file("luks/whole.img", whole))
-    for name, content in (("opened.img", opened), ("b.img", b), ("c.img", c), ("paths", "".join("%s %s\n" % (it, it) for it in ("whole.img", "b.img", "c.img")))):
-        program.file("luks/" + name, content)
-
-    def tool(*words, to=None):
-        got = tool_calls.call(top, words, folder=folder)
-        tally.holds("the step %s to a container" % words[0], got.status == 0, "status %s, %r" % (got.status, got.err))
-        program.file("luks/" + to, got.out)
-
-    tool("metadata", "opened.img", "b.img", "c.img", to="vg.backup")
-    program.file("luks/vg.table", program.run(["table", "lvm", os.path.join(folder, "vg.backup")]).out)
-    tool("partitions", "--group", "vg.backup", *("--image=%s.img" % it for it in ("opened", "b", "c")), "vg.table", to="tables")
-    tool("luks", "--name", "home", "whole.img", "whole.img", to="luks.table")
-    tool("under", "--disk", "opened.img", "home", "tables", "luks.table", to="stack")
-    tool("disks", "--paths", "paths", to="disks")
-    got = program.run(["map", "table", "stack", "disks"], given="R vg-home 0 %d\n" % (len(home) // SECTOR), folder=folder)
-    found = b""
-    for _, _, name, start, length in map(bytes.split, got.out.splitlines()):
-        part = read(os.path.join(folder, name.decode()))[int(start) * SECTOR:(int(start) + int(length)) * SECTOR]
-        found += bytes(it ^ secret for it in part) if name == b"whole.img" else part
-    tally.holds("a volume through a container", (got.status, found) == (0, home), "status %s, %r" % (got.status, got.err))
 
 
 def read(path):
@@ -221,7 +188,7 @@ def check_walk(tally, program, top, dice):
     program.file("walk/c.map", rescue)
 
     def tool(*words, to=None):
-        got = tool_calls.call(top, [*words, *(["--program", program.path] if words[0] == "save" else [])], folder=folder)
+        got = tool_calls.call(top, [*words, *(["--program", program.path] if words[0] in ("save", "owner", "lost") else [])], folder=folder)
         tally.holds("the step %s of a walk" % words[0], got.status == 0, "status %s, %r" % (got.status, got.err))
         if to:
             program.file("walk/" + to, got.out)
@@ -229,16 +196,7 @@ def check_walk(tally, program, top, dice):
 
     tool("metadata", *NAMES, to="vg.backup")
     tally.holds("the text of the partition", tool("metadata", "--partition", "1", "a.img").encode() == read(os.path.join(folder, "vg.backup")), "it is another")
-    program.file("walk/vg.table", program.run(["table", "lvm", os.path.join(folder, "vg.backup")]).out)
-    tool("partitions", "--group", "vg.backup", "--image", "a.img", "--image", "b.img", "--image", "c.img", "--disks", "disks", "vg.table", to="tables")
-    # What the metadata says of the disks holds for their images, as their labels tell.
-    program.file("walk/images", "".join("%s %s\n" % (it, it) for it in NAMES))
-    tool("spans", "--paths", "images", "disks", "tables", "vg.backup", to="spans")
-    tool("clashes", "spans")
-    spans = read(os.path.join(folder, "spans")).decode().splitlines()
-    taken = ["%s 0 %d vg - label+metadata" % (it, BEFORE) for it in ("/dev/mapper/a.img1", "b.img", "c.img")]
-    tally.holds("what is taken of images", set(taken) < set(spans) and not any("of-LVM" in it for it in spans), "%s" % spans)
-    tool("save", "vg-home", "saved", "table", "tables", "disks")
+    tool("save", "vg/home", "saved", *NAMES)
     wanted = bytearray(content)
     for sector in gone:
         at = (sector - BEFORE + linear) * SECTOR
@@ -274,8 +232,9 @@ def check_walk(tally, program, top, dice):
     program.file("walk/exchanged", "".join("%s %s\n" % it for it in zip(HINTS, NAMES[1:])))
     got = tool_calls.call(top, ["save", "--program", program.path, "--paths", "exchanged", "vg-home", "other", "lvm", "vg.backup"], folder=folder)
     tally.same("a volume out of other images", got, 1, "", "dmremap-tools save: b.img: it isn't /dev/sda1, whose id is %s: its own is %s\n" % (dashed(IDS[0]), dashed(IDS[1])))
-    tool("owner", "--disk", "c.img", "tables", "c.map", to="owners")
-    named = set(tool("files", "vg-home", "owners", "saved").split())
+    owned = tool("owner", *NAMES, "--map", "c.img=c.map").splitlines()
+    tally.holds("who has the sectors that are lost", len(owned) == len(rescue.split("-")) - 1 and all("= vg/home" in line for line in owned), owned)
+    named = set(tool("lost", "vg/home", *NAMES, "--map", "c.img=c.map").replace(": ", " ").split())
     lacking = {"/" + name for name, data in files.items() if dumped(folder, name) != data}
     tally.holds("the files that are lost", lacking and lacking <= named, "%s are not named" % sorted(lacking - named))
     kept = {"/" + name for name in files} - named

@@ -3,8 +3,15 @@
 Has GROUP/VOLUME, and IMAGEs that are searched for it as by `scan`; a name means what it means to `save`. With --map IMAGE=MAP,
 for each image that has one, the areas that a map of ddrescue doesn't have as finished are missing, too. What another member of an
 array or another leg has isn't lost. Gets a line for each file: how many of its sectors are lost, and its path; `folder` stands
-before a folder, in which files may be lost whole. Other words than paths are those of `files`: `inode N`, `inode table`,
-`in use`, `no inode`, `unused`. The last line says how many sectors are lost in all.
+before a folder, in which files may be lost whole. The last line says how many sectors are lost in all. Other words than paths are
+
+    inode N            a file without a name, as the journal, or whose folder is lost; ?/PATH: a folder above may be lost
+    inode table: FILE  the inode of this file lies there; `inode table` alone has inodes of no file
+    in use             the file system's own: its superblocks, descriptors, bitmaps
+    no inode           in use, but by no inode: data of a file whose inode is lost, perhaps
+    unused             nothing has it
+    no file            unused or the file system's own, which isn't known where bitmaps can't be read
+    past its end       what the volume has more than the file system
 
 Needs debugfs of e2fsprogs for ext2, ext3 and ext4, and xfs_db of xfsprogs for XFS. These read the volume where it lies in one
 piece in an image, and else a copy in the folder for temporary files, or the one that --saved names, which `save` made.
@@ -97,7 +104,7 @@ def copied(target: Target, path: str) -> str:
 def lines_of(path: str, volume: str, runs: Sequence[Run]) -> "list[str]":
     """A line for each file that some of these sectors belong to."""
     asked = AskedRuns(volume, runs)
-    system = systems.system_in(path, asked, False, None)
+    system = systems.system_in(path, asked)
     counts: "Counter[str]" = Counter()
     for each in runs:
         for block, first, end in each.parts(system.sectors):

@@ -109,12 +109,8 @@ class ExtSystem:
         return {int(it) for each in answers for it in answer.findall(each)}
 
 
-def tries(is_damaged: bool, superblock: Optional[int]) -> Iterator[List[str]]:
+def tries() -> Iterator[List[str]]:
     """The options that debugfs is tried with: without any, and without bitmaps and sums, with the copies of the superblock."""
-    if superblock is None:
-        yield from [DAMAGED] if is_damaged else [[], DAMAGED]
-        for size, copy in COPIES:
-            yield [*DAMAGED, "-s", str(copy), "-b", str(size)]
-    else:
-        for size in sorted({size for size, copy in COPIES if copy == superblock} or {size for size, _ in COPIES}):
-            yield [*DAMAGED, "-s", str(superblock), "-b", str(size)]
+    yield from ([], DAMAGED)
+    for size, copy in COPIES:
+        yield [*DAMAGED, "-s", str(copy), "-b", str(size)]

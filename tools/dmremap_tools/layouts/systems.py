@@ -14,7 +14,7 @@ XFS_DB = "xfs_db"
 XFS, BTRFS, BTRFS_AT = b"XFSB", b"_BHRfS_M", 65536 + 64
 
 
-def system_in(image: str, asked: AskedRuns, is_damaged: bool, superblock: "int | None") -> "ext_system.ExtSystem | XfsSystem":
+def system_in(image: str, asked: AskedRuns) -> "ext_system.ExtSystem | XfsSystem":
     """The file system in an image, with what is asked for looked up."""
     place = paths.place_of(image)
     check_place(place)
@@ -24,7 +24,7 @@ def system_in(image: str, asked: AskedRuns, is_damaged: bool, superblock: "int |
     if is_btrfs:
         raise Refusal(quoting.shown(image), "it is btrfs, whose files have no places on a device that debugfs or xfs_db tells")
     if not is_xfs:
-        return ext_system.ExtSystem(image, asked, list(ext_system.tries(is_damaged, superblock)))
+        return ext_system.ExtSystem(image, asked, list(ext_system.tries()))
     if program.found(XFS_DB) == XFS_DB:
         raise Refusal(quoting.shown(image), "it is XFS, which xfs_db of xfsprogs reads, and that isn't here")
     if at:

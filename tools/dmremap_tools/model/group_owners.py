@@ -14,6 +14,7 @@ from dmremap_tools.model.device import Device, Source, joined
 from dmremap_tools.model.groups import REMOVED, Group
 from dmremap_tools.model.image import Lenient
 from dmremap_tools.model.layout import identity_of
+from dmremap_tools.model.mapping import NoProgram
 from dmremap_tools.model.owners import Claim, Ground, Run, Step, all_of, chunks, claimed, column, gaps, unknown
 from dmremap_tools.model.parity import Shape
 from dmremap_tools.model.physical_volume import PhysicalVolume
@@ -21,9 +22,11 @@ from dmremap_tools.model.side import LOWER, Side
 
 # Segments that name no physical volume, and that have columns of data.
 BARE = (b"zero", b"error", b"snapshot", b"thin", b"thin-pool", b"cache", b"cache+CACHE_USES_CACHEVOL", b"cache-pool", b"integrity")
+SNAPSHOT = (b"origin", b"cow_store", b"merging_store")
 PARITY = {b"raid5": "left-symmetric", b"raid5_ls": "left-symmetric"}
 # What a volume is to another one whose sectors it doesn't have one by one, by the field that names it.
-ROLES = {b"metadata": "metadata", b"meta_dev": "journal", b"mirror_log": "log", b"pool": "data", b"data": "data", b"cache_pool": "cache", b"cache_vol": "cache"}
+ROLES = {b"metadata": "metadata", b"meta_dev": "journal", b"mirror_log": "log", b"pool": "data", b"data": "data", b"cache_pool": "cache", b"cache_vol": "cache",
+         b"origin": "origin"}
 
 
 class Reading:
@@ -92,7 +95,7 @@ class Stack:
     def _add(self, name: bytes, segment: Segment) -> None:
         count, first = segment.count, segment.node.value(b"start_extent", int)
         if not isinstance(first, int) or first < 0 or not count or count < 0:
-            self.doubt = f"the text doesn't say where {shown(segment.node.key)} of {shown(name)} lies"
+            self.doubt = self.doubt or f"the text doesn't say where {shown(segment.node.key)} of {shown(name)} lies"
         named = False
         for field in LOWER:
             values = segment.node.values(field)
@@ -102,9 +105,9 @@ class Stack:
                     self._above.setdefault(lower, []).append(Above(name, segment, field, place, start))
                     named = True
                 elif step == 2:
-                    self.doubt = f"{shown(segment.node.key)} of {shown(name)} names no place"
+                    self.doubt = self.doubt or f"{shown(segment.node.key)} of {shown(name)} names no place"
         if not named and segment.kind not in BARE:
-            self.doubt = f"nothing is known of the type {shown(segment.kind or b'none')} of {shown(name)}"
+            self.doubt = self.doubt or f"nothing is known of the type {shown(segment.kind or b'none')} of {shown(name)}"
 
     def on(self, name: bytes) -> Ground:
         """Who has sectors of a volume, or of the extents of a physical volume."""
@@ -132,12 +135,12 @@ class Stack:
             yield from self._of_raid(above, first, end, to, length)
         elif above.field == b"stripes" and columns > 1 and not segment.stripe_size:
             yield Run(first, end, unknown(f"the text says no stripes of {self.path(upper)}"))
-        elif above.field in (b"stripes", b"mirrors") or above.field == b"origin" and kind.startswith((b"integrity", b"cache")):
+        elif above.field in (b"stripes", b"mirrors") or above.field == b"origin" and kind == b"integrity":
             first, end = max(first, begin), min(end, until)
             for at, count, sector in column(begin, first, end, segment.stripe_size or 1, columns, above.place) if first < end else ():
                 yield Run(at, at + count, Step(self.path(upper), to + sector), self.on(upper))
-        elif above.field == b"origin":
-            # Of a thin volume or a snapshot: what they read of it is found otherwise.
+        elif above.field in SNAPSHOT and not kind.startswith(b"cache"):
+            # What a snapshot reads of its origin and of its store is found otherwise; a thin one reads its pool.
             return
         else:
             users = self._users(lower, above)
@@ -149,6 +152,8 @@ class Stack:
 
     def _users(self, lower: bytes, above: Above) -> List[bytes]:
         """The thin or cached volumes that may read a volume: the data of their pool, or their cache."""
+        if above.field == b"origin":
+            return [above.volume]
         if above.field not in (b"pool", b"data", b"cache_pool", b"cache_vol"):
             return []
         pool = above.volume if above.field in (b"pool", b"data") else lower
@@ -200,6 +205,8 @@ class Stack:
                     yield Run(sector, sector + size // SECTOR, Step(f"{self.side.text.group}/{shown(upper)}", place // SECTOR), self._over(upper))
                 at += extent.size // SECTOR
             why = reading.lacks
+        except NoProgram:
+            raise
         except Refusal as refusal:
             why = refusal.why
         if why and why != snapshot.INVALID:
