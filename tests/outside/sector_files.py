@@ -43,7 +43,7 @@ def files(program, top, asked, image):
         at = first + count
     rows = "".join("0x%x 0x%x %s\n" % (512 * begin, 512 * (end - begin), status) for begin, end, status in [*areas, (at, size, "+")] if begin < end)
     rescue = program.file("files/map", "0x0 ?\n" + rows)
-    return tool_calls.call(top, ["lost", "--program", program.path, image, image, "--map", "%s=%s" % (image, rescue)])
+    return tool_calls.call(top, ["lost", "--program", program.path, image, image, "--saved", image, "--map", "%s=%s" % (image, rescue)])
 
 
 def said(*rows, sectors, lost):
@@ -89,7 +89,7 @@ def check_killed(tally, program, top):
     """A debugfs that is killed: where it is asked for something besides, that is no answer; and where other options help, it is."""
     sample, real = os.path.join(tool_calls.samples(top), "home.img"), found("debugfs")
     folder = os.path.dirname(program.file("killed/map", "0x0 ?\n0x0 0x8000 -\n"))
-    words = [sys.executable, os.path.join(top, tool_calls.TOOL), "lost", "--program", program.path, sample, sample, "--map", sample + "=" + os.path.join(folder, "map")]
+    words = [sys.executable, os.path.join(top, tool_calls.TOOL), "lost", "--program", program.path, sample, sample, "--saved", sample, "--map", sample + "=" + os.path.join(folder, "map")]
     for at, pattern, status in (("many", '*" -f "*', 5), ("first", '*" -R stats "*', 5), ("plain", '"plain -R"*', 0)):
         script = program.file("killed/debugfs", '#!/bin/sh\ncase "$DIES_AT $*" in %s) kill -9 $$ ;; esac\nexec %s "$@"\n' % (pattern, real))
         os.chmod(script, 0o755)

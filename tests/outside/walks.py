@@ -6,7 +6,6 @@ import os
 import random
 import shutil
 
-import containers
 import tool_calls
 from harness import run
 from physical_volumes import FIRST, SECTOR, TIME, area, gpt, md_member, volume, with_backup

@@ -24,7 +24,7 @@ from argparse import ArgumentParser, Namespace
 from collections import Counter
 from typing import List, Optional, Sequence
 
-from dmremap_tools.base import program, quoting, streams
+from dmremap_tools.base import program, streams
 from dmremap_tools.base.numbers import SECTOR
 from dmremap_tools.images.copied import parts_of
 from dmremap_tools.layouts import rescue_map, systems

@@ -55,7 +55,7 @@ def run(words: Namespace) -> None:
         found = ways(owners.on(device), query.first, min(end, inside)) if query.first < inside else iter(())
         for number, way in enumerate(found):
             if number == MOST_WAYS:
-                raise Refusal(quoting.shown(query.name), f"more than {MOST_WAYS} runs from sector {query.first} on: ask for fewer sectors at a time")
+                raise Refusal(quoting.shown(query.name), f"more than {MOST_WAYS} runs from sector {query.first} on: ask for fewer sectors")
             streams.out.write(line_of(query.name, way.first, way.count, *way.steps))
         if end > inside:
             first = max(inside, query.first)
@@ -71,5 +71,6 @@ def in_maps(words: Namespace) -> Iterator[sectors_asked.Query]:
 
 def line_of(name: str, first: int, count: int, *steps: Step) -> str:
     """The line of a way."""
-    said = [quoting.shown(step.name) + ("" if step.sector is None else f" {step.sector}") for step in steps or (unknown("nothing says who has it"),)]
+    known = steps or (unknown("nothing says who has it"),)
+    said = [quoting.shown(step.name) + ("" if step.sector is None else f" {step.sector}") for step in known]
     return f"{quoting.shown(name)} {first} {count} = {' = '.join(said)}\n"

@@ -86,7 +86,7 @@ def volumes_in(path: str, given: List[Place]) -> Dict[bytes, int]:
     return {identity: start for it in given for identity, start in begun_in(it).items()}
 
 
-def begun_in(place: paths.Place) -> Dict[bytes, int]:
+def begun_in(place: Place) -> Dict[bytes, int]:
     """The ids of the physical volumes in a disk, or of what begins at a place in it, and the bytes at which they begin."""
     members = chosen_parts(disk_image.image_at(place), 0 if place.is_said else None, PLACES)
     for each in [] if place.is_said else members:

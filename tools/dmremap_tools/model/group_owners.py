@@ -25,8 +25,8 @@ BARE = (b"zero", b"error", b"snapshot", b"thin", b"thin-pool", b"cache", b"cache
 SNAPSHOT = (b"origin", b"cow_store", b"merging_store")
 PARITY = {b"raid5": "left-symmetric", b"raid5_ls": "left-symmetric"}
 # What a volume is to another one whose sectors it doesn't have one by one, by the field that names it.
-ROLES = {b"metadata": "metadata", b"meta_dev": "journal", b"mirror_log": "log", b"pool": "data", b"data": "data", b"cache_pool": "cache", b"cache_vol": "cache",
-         b"origin": "origin"}
+ROLES = {b"metadata": "metadata", b"meta_dev": "journal", b"mirror_log": "log", b"pool": "data", b"data": "data", b"cache_pool": "cache",
+         b"cache_vol": "cache", b"origin": "origin"}
 
 
 class Reading:
@@ -101,7 +101,8 @@ class Stack:
             values = segment.node.values(field)
             step = 2 if field in (b"stripes", b"mirrors") else 1
             for place, (lower, start) in enumerate(zip(values[::step], values[1::step] if step == 2 else [0] * len(values))):
-                if isinstance(lower, bytes) and isinstance(start, int) and start >= 0 and (lower in self.group.volumes or lower in self.group.physicals):
+                is_known = isinstance(lower, bytes) and (lower in self.group.volumes or lower in self.group.physicals)
+                if is_known and isinstance(start, int) and start >= 0:
                     self._above.setdefault(lower, []).append(Above(name, segment, field, place, start))
                     named = True
                 elif step == 2:
@@ -194,6 +195,7 @@ class Stack:
 
     def _read(self, upper: bytes, lower: bytes, first: int, end: int) -> Iterator[Run]:
         """The sectors of a volume that another one reads, which its own layer says."""
+        called = f"{self.side.text.group}/{shown(upper)}"
         try:
             layout = self.side.layout()
             if upper not in self._readings:
@@ -202,7 +204,7 @@ class Stack:
             for extent in joined(layout.plain(lower).extents(first * SECTOR, (end - first) * SECTOR)):
                 for begin, size, place in reading.meeting(extent.source, extent.start, extent.size):
                     sector = at + (begin - extent.start) // SECTOR
-                    yield Run(sector, sector + size // SECTOR, Step(f"{self.side.text.group}/{shown(upper)}", place // SECTOR), self._over(upper))
+                    yield Run(sector, sector + size // SECTOR, Step(called, place // SECTOR), self._over(upper))
                 at += extent.size // SECTOR
             why = reading.lacks
         except NoProgram:
@@ -210,7 +212,7 @@ class Stack:
         except Refusal as refusal:
             why = refusal.why
         if why and why != snapshot.INVALID:
-            yield Run(first, end, unknown(f"whether {self.side.text.group}/{shown(upper)} has it: {why}"))
+            yield Run(first, end, unknown(f"whether {called} has it: {why}"))
 
     def _over(self, upper: bytes) -> Optional[Ground]:
         """Who has sectors of what was found to read others. A snapshot's are its own."""
@@ -229,15 +231,16 @@ class Groups:
         """Who has the sectors of a physical volume."""
         label, _ = physical_volume.label_of(Lenient(volume.device))  # type: ignore[arg-type]
         claims = [Claim(label.sector, label.sector + 1, "label of LVM")] if label else []
-        claims += [Claim(start // SECTOR, -(-(start + size) // SECTOR), "metadata area of LVM") for start, size in (label.areas if label else ())]
-        nodes = [(stack, key, node) for stack in self._stacks for key, node in stack.group.physicals.items() if identity_of(node) == volume.identity]
-        grounds = [self._extents(stack, key, volume, node.value(b"pe_start", int), node.value(b"pe_count", int)) for stack, key, node in nodes]
-        grounds = grounds or [self._without_group(volume)]
+        areas = [(start, -(-(start + size) // SECTOR)) for start, size in (label.areas if label else ())]
+        claims += [Claim(start // SECTOR, end, "metadata area of LVM") for start, end in areas]
+        grounds = [self._extents(stack, key, volume) for stack in self._stacks for key, node in stack.group.physicals.items()
+                   if identity_of(node) == volume.identity] or [self._without_group(volume)]
         return claimed(claims, lambda first, end: [run for ground in grounds for run in ground(first, end)])
 
-    def _extents(self, stack: Stack, key: bytes, volume: PhysicalVolume, start: object, count: object) -> Ground:
+    def _extents(self, stack: Stack, key: bytes, volume: PhysicalVolume) -> Ground:
         """Who has the sectors of a physical volume by the text of one group."""
-        group = f"{stack.side.text.group}"
+        group, node = stack.side.text.group, stack.group.physicals[key]
+        start, count = node.value(b"pe_start", int), node.value(b"pe_count", int)
         if not isinstance(start, int) or not isinstance(count, int) or start < 0 or count < 0:
             return all_of(unknown(f"the text of {group} doesn't say where the extents of {shown(key)} are"))
         stop, on = start + count * stack.extent, stack.on(key)
@@ -247,7 +250,8 @@ class Groups:
             for gap in gaps([Run(start, stop)], first, end):
                 yield Run(*gap, Step(f"physical volume of {group}, outside of its extents"))
             first, end = max(first, start), min(end, stop)
-            runs = [Run(run.first + start, run.end + start, run.step, run.above) for run in on(first - start, end - start)] if first < end else []
+            found = on(first - start, end - start) if first < end else ()
+            runs = [run._replace(first=run.first + start, end=run.end + start) for run in found]
             yield from runs
             for gap in gaps(runs, first, end):
                 yield Run(*gap, free)

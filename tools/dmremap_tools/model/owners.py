@@ -56,10 +56,10 @@ def ways(ground: Ground, first: int, end: int, depth: int = 0) -> Iterator[Way]:
 
 
 def gaps(runs: Iterable[Run], first: int, end: int) -> Iterator[Tuple[int, int]]:
-    """The sectors between runs."""
+    """Those of some sectors that no run has."""
     for run in sorted(runs, key=lambda run: run.first):
-        if run.first > first:
-            yield first, run.first
+        if first < min(run.first, end):
+            yield first, min(run.first, end)
         first = max(first, run.end)
     if first < end:
         yield first, end
@@ -146,4 +146,5 @@ def column(start: int, first: int, end: int, chunk: int, columns: int, place: in
     """Sectors of one column of stripes that begins at a start: the first of each run, how many, and where they are in the whole."""
     if columns == 1:
         return [(first, end - first, first - start)]
-    return [(start + at, count, (number * columns + place) * chunk + skipped) for at, count, number, skipped in chunks(first - start, end - start, chunk)]
+    return [(start + at, count, (number * columns + place) * chunk + skipped)
+            for at, count, number, skipped in chunks(first - start, end - start, chunk)]

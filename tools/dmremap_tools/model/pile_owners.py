@@ -1,6 +1,6 @@
 """Who has sectors of the images of a pile: partition tables, partitions, members of arrays, containers, physical volumes."""
 
-from typing import Dict, List
+from typing import Dict
 
 from dmremap_tools.base.numbers import SECTOR
 from dmremap_tools.model.array_owners import member_of
@@ -9,7 +9,7 @@ from dmremap_tools.model.group_owners import Groups
 from dmremap_tools.model.luks import Container
 from dmremap_tools.model.owners import Claim, Ground, Step, all_of, claimed, free, unknown
 from dmremap_tools.model.partitions import Partitions
-from dmremap_tools.model.pile import Found, Pile
+from dmremap_tools.model.pile import Pile
 
 NOT_KNOWN = ("unknown", "foreign")
 
@@ -23,7 +23,7 @@ class Owners:
         self._known: Dict[int, Ground] = {}
         for array in pile.arrays:
             for member in array.members:
-                self._known[id(member.device)] = member_of(array, member, self.on(array.device) if array.device else all_of(unknown("")))
+                self._known[id(member.device)] = member_of(array, member, self.on(array.device or member.device))
         for spot, table in pile.tables:
             self._known[id(spot.device)] = self._of_table(spot.device, table)
         for spot, container in pile.containers:
@@ -46,16 +46,17 @@ class Owners:
             return all_of(unknown(table.fault))
         copies = [table.kind, f"backup of the {table.kind}"] if table.kind == "GPT" else [table.kind] * len(table.taken)
         claims = [Claim(start // SECTOR, end // SECTOR, name) for (start, end), name in zip(table.taken, copies) if start < end]
-        claims += [Claim(part.start // SECTOR, (part.start + part.size) // SECTOR, part.name, 0, self.on(part)) for _, part in table.partitions]
+        parts = [part for _, part in table.partitions]
+        claims += [Claim(part.start // SECTOR, (part.start + part.size) // SECTOR, part.name, 0, self.on(part)) for part in parts]
         return claimed(claims, free(device, "no partition has it"))
 
     def _found(self, device: Device) -> Ground:
         """Who has sectors of a device that is none of these."""
-        within: List[Found] = [found for found in self._pile.found if found.spot.image is device and found.spot.device is not device]
-        if within:
-            starts = [(volume.start // SECTOR, volume) for volume in self._pile.volumes if any(found.spot.device is volume.device for found in within)]
-            claims = [Claim(start, start + volume.size // SECTOR, volume.device.name, 0, self.on(volume.device)) for start, volume in starts]
-            return claimed(claims, all_of(unknown("nothing says what is around the physical volumes that were found by looking through it")))
+        within = [id(found.spot.device) for found in self._pile.found if found.spot.image is device]
+        claims = [Claim(volume.start // SECTOR, (volume.start + volume.size) // SECTOR, volume.device.name, 0, self.on(volume.device))
+                  for volume in self._pile.volumes if id(volume.device) in within]
+        if claims:
+            return claimed(claims, all_of(unknown("nothing says what is around the physical volumes that looking through it found")))
         found = next((found for found in self._pile.found if found.spot.device is device), None)
         if found is None or found.what in NOT_KNOWN:
             return all_of(unknown(found.note if found else "it was looked into no more"))
@@ -68,5 +69,5 @@ def of_container(container: Container) -> Ground:
     if start is None:
         return all_of(Step(f"{name} container: {container.fault}"))
     end = start + container.length if container.length is not None else container.device.size // SECTOR
-    claims = [Claim(0, start, f"{name} header")] if start else []
-    return claimed([*claims, Claim(start, end, f"{name} data, encrypted")], free(container.device, "the container doesn't say that it has it"))
+    claims = [*[Claim(0, start, f"{name} header")] * bool(start), Claim(start, end, f"{name} data, encrypted")]
+    return claimed(claims, free(container.device, "the container doesn't say that it has it"))
