@@ -9,12 +9,41 @@ import tool_calls
 from physical_volumes import SECTOR, md_end_member, md_member, md_old_member
 from tool_calls import TOOL
 
-# The only physical volume of the group here.
-NAME, IDENTITY = "/dev/sda1", b"theonly".ljust(32, b"x")
-TEXT = 'g {\n\tphysical_volumes {\n\t\tpv0 {\n\t\t\tid = "theonl-yxxx-xxxx-xxxx-xxxx-xxxx-xxxxxx"\n\t\t\tdevice = "%s"\n\t\t}\n\t}\n}\n' % NAME
-VOLUME = physical_volumes.volume((4096, physical_volumes.area(b"x {\n}\n\0")), length=1 << 17, identity=IDENTITY)
-PARTS = "a member of an md array that isn't raid1, so that no member has all of a physical volume: `md` makes a table of the array, and `under` puts it " \
-        "below those of the group"
+# The physical volumes of the group here, of which the first has the only volume.
+NAME, OTHER, IDENTITY = "/dev/sda1", "/dev/sdb1", b"theonly".ljust(32, b"x")
+BEGIN, COUNT = 128, 8
+PHYSICAL = 'pv%d {\nid = "%s"\ndevice = "%s"\ndev_size = 256\npe_start = 128\npe_count = 16\n}\n'
+TEXT = """g {
+id = "theone-xxxx-xxxx-xxxx-xxxx-xxxx-xxxxxx"
+seqno = 1
+status = ["RESIZEABLE", "READ", "WRITE"]
+extent_size = 8
+physical_volumes {
+%s%s}
+logical_volumes {
+v {
+id = "thevol-xxxx-xxxx-xxxx-xxxx-xxxx-xxxxxx"
+status = ["READ", "WRITE", "VISIBLE"]
+segment_count = 1
+segment1 {
+start_extent = 0
+extent_count = 1
+type = "striped"
+stripe_count = 1
+stripes = ["pv0", 0]
+}
+}
+}
+}
+contents = "Text Format Volume Group"
+version = 1
+""" % (PHYSICAL % (0, "theonl-yxxx-xxxx-xxxx-xxxx-xxxx-xxxxxx", NAME), PHYSICAL % (1, "theoth-erxx-xxxx-xxxx-xxxx-xxxx-xxxxxx", OTHER))
+CONTENT = b"".join((b"sector %d\n" % number * 512)[:512] for number in range(COUNT))
+VOLUME = bytearray(physical_volumes.volume((4096, physical_volumes.area(b"x {\n}\n\0")), length=1 << 17, identity=IDENTITY))
+VOLUME[BEGIN * SECTOR:(BEGIN + COUNT) * SECTOR] = CONTENT
+VOLUME = bytes(VOLUME)
+PARTS = "a member of an md array that isn't raid1, so that no member has all of a physical volume: give the images of all members to " \
+        "`save GROUP/VOLUME OUT IMAGE..`, which puts it together"
 CHANGING = "a member of an md array that is a spare, or is being filled or reshaped, so that it doesn't have the array's bytes: take another member"
 BAD = "a member of an md array that has bad blocks, which a kernel reads from another one: take that"
 DAMAGED = "the superblock of an md array at byte %d is damaged, so that nothing says whose bytes lie here: take another member, or, if it is no member " \
@@ -48,17 +77,27 @@ class Members:
         self.tally.holds(name, is_so, "%s, %r, %r" % (got.status, got.out, lines))
 
     def found(self, title, wanted, *images):
-        """What `disks --image` finds in images, each with its content, or with which message it refuses them."""
-        for name, content in images:
+        """Whether the volume is saved out of images, each with its content, or with which message they are refused. What was found
+        in a member of an array behind its superblock is told."""
+        self.read(title, wanted, *(name for name, _ in images), made=images)
+
+    def read(self, title, wanted, *places, made=()):
+        """The same of places."""
+        for name, content in made:
             self.program.file("members/" + name, content)
-        got = self.call("disks", "text", *("--image=" + name for name, _ in images))
+        self.program.file("members/paths", "".join("%s %s\n" % it for it in zip((NAME, OTHER), places)))
+        with contextlib.suppress(FileNotFoundError):
+            os.remove(os.path.join(self.folder, "out"))
+        got = self.call("save", "--program", self.program.path, "--paths", "paths", "g-v", "out", "lvm", "text")
         if isinstance(wanted, str):
-            self.refuses(title, got, "%s disks: %s" % (TOOL, wanted))
-        else:
-            place, start = wanted
-            line = "%s %s%s\n" % (NAME, place, "?offset=%d" % (start * SECTOR) if start else "")
-            is_so = got.status == 0 and got.out.decode() == line and ((READ % (place, start)).encode() in got.err) == bool(start)
-            self.tally.holds(title, is_so, "%s, %r, %r" % (got.status, got.out, got.err))
+            self.refuses(title, got, "%s save: %s" % (TOOL, wanted), out="")
+            return
+        place, start = wanted
+        with contextlib.suppress(FileNotFoundError), open(os.path.join(self.folder, "out"), "rb") as out:
+            is_so = got.status == 0 and out.read() == CONTENT and ((READ % (place, start)).encode() in got.err) == bool(start)
+            self.tally.holds(title, is_so, "%s, %r" % (got.status, got.err))
+            return
+        self.tally.holds(title, False, "%s, %r" % (got.status, got.err))
 
     def check(self):
         self.check_levels()
@@ -148,23 +187,14 @@ class Members:
     def check_partitions(self):
         """Members on partitions, of which a disk may end with the superblock of its last one."""
         for version, made, start in VERSIONS:
-            for level, wanted in ((1, ("a", 64 + start)), (5, "a: " + PARTS)):
+            for level, wanted in ((1, ("a", start)), (5, "a: " + PARTS)):
                 part = made(VOLUME, level=level, count=2)
                 disk = physical_volumes.mbr((0x83, 32, 8), (0xFD, 64, len(part) // SECTOR)).ljust(64 * SECTOR, b"\0") + part
-                self.program.file("members/a", disk)
-                got = self.call("disks", "text", "--image", "a")
-                if isinstance(wanted, str):
-                    self.refuses("a member of level 5 on a partition, version " + version, got, "%s disks: %s" % (TOOL, wanted))
-                else:
-                    line = "%s a?offset=%d\n" % (NAME, wanted[1] * SECTOR)
-                    self.tally.holds("a member on a partition, version " + version, (got.status, got.out.decode()) == (0, line), "%r, %r" % (got.out, got.err))
+                self.found("a member of level %d on a partition, version %s" % (level, version), wanted, ("a", disk))
         # The superblock of the last partition is where that of the disk would be, and the volume lies on the first one.
         last = md_old_member(bytes(1 << 16), level=5, count=3)
         disk = physical_volumes.mbr((0x8E, 128, 256), (0xFD, 384, len(last) // SECTOR)).ljust(128 * SECTOR, b"\0") + VOLUME + last
-        self.program.file("members/a", disk)
-        got = self.call("disks", "text", "--image", "a?offset=65536")
-        wanted = "%s a?offset=65536\n" % NAME
-        self.tally.holds("a volume before a partition of an array", (got.status, got.out.decode()) == (0, wanted), "%r, %r" % (got.out, got.err))
+        self.read("a volume before a partition of an array", ("a", 0), "a?offset=65536", made=[("a", disk)])
 
     def check_places(self):
         """Each command that takes places, of a member of raid5 whose first chunk has the label, and of one of raid1."""
@@ -178,7 +208,6 @@ class Members:
             "dd": ["dd", *asked, "--requests", "requests", *source],
             "read-back": ["read-back", *asked, "places", "requests", "out", *source],
             "spans": ["spans", "--paths", "paths", "disks", "table"],
-            "disks": ["disks", "--paths", "paths"],
             "elsewhere": ["elsewhere", "--losetup", "--paths", "paths", "table"],
         }
         for level, start in ((5, 16), (5, 17), (5, 4), (1, 16)):
@@ -194,10 +223,6 @@ class Members:
                     continue
                 is_so = got.status == 1 and PARTS in got.err.decode() and not os.path.exists(os.path.join(self.folder, "out"))
                 self.tally.holds(title, is_so, "%s, %r" % (got.status, got.err))
-        self.program.file("members/a", md_member(VOLUME, 16, level=5, count=3))
-        self.program.file("members/owners", "v 0 8\n")
-        got = self.call("files", "v", "owners", "a?offset=8192")
-        self.refuses("files in a member of level 5", got, "%s files: a: %s" % (TOOL, PARTS), out="")
 
     def check_tables(self):
         """Tables that name members by their own paths, as those of `md`, read them; those that name an array read the data alone."""

@@ -7,8 +7,6 @@ beginning of a line. A change is bytes of the text and what stands there in the 
 import os
 import random
 import re
-import shutil
-import sys
 
 import tool_calls
 from harness import run
@@ -28,7 +26,7 @@ def check(tally, program, top):
         tally.same("the text of " + name, copied(program, top, text), 1, "", refused(message))
     for names, text, changes, messages, table in ONLY:
         check_row(tally, program, top, "only " + " ".join(names), text, changes, messages, table, ["--only=" + it for it in names])
-    got = tool_calls.call(top, ["lvm2-text", "--only", "x", program.file("lvm2/text", BARE)])
+    got = tool_calls.call(top, ["lvm2-text", "--program", program.path, "--only", "x", program.file("lvm2/text", BARE)])
     tally.same("only a volume that isn't there", got, 1, "", "dmremap-tools lvm2-text: %s: no volume x\n" % program.file("lvm2/text", BARE))
     for name in PLAIN:
         check_same(tally, program, top, name, read(os.path.join(top, "examples", name)))
@@ -47,7 +45,7 @@ def read(path):
 
 def copied(program, top, text, words=()):
     """What is made of a text, which is the file `text` of the folder that the command is called in."""
-    return tool_calls.call(top, ["lvm2-text", *words, "text"], folder=os.path.dirname(program.file("lvm2/text", text)))
+    return tool_calls.call(top, ["lvm2-text", "--program", program.path, *words, "text"], folder=os.path.dirname(program.file("lvm2/text", text)))
 
 
 def refused(message):
@@ -115,19 +113,15 @@ def respelled(text, dice):
 
 
 def check_damaged(tally, program, top):
-    """Of a damaged text there is a copy that the program reads, or a refusal. So where the tool has no program to ask."""
+    """Of a damaged text there is a copy that the program reads, or a refusal."""
     dice = random.Random(76)
     texts = [read(os.path.join(top, "examples", it)) for it in PLAIN + (os.path.join("samples", "vgm.backup"),)]
     for group in re.split(rb"(?m)^== .+ ==\n", read(os.path.join(top, "tests", "kernel", "lvm2", "groups.txt")))[1:]:
         texts.append(group.split(b"-- ")[1].partition(b"\n")[2])
-    alone = os.path.join(program.room, "alone")
-    shutil.copytree(os.path.join(top, "tools"), os.path.join(alone, "tools"))
-    shutil.copy(os.path.join(top, tool_calls.TOOL), alone)
     copies = 0
     for number in range(DAMAGES):
         text = damaged(dice.choice(texts), dice)
-        got = run([os.path.join(alone, tool_calls.TOOL), "lvm2-text", "text"], folder=os.path.dirname(program.file("lvm2/text", text)),
-                  env={"PATH": os.path.dirname(sys.executable)})
+        got = copied(program, top, text)
         said = got.err.decode("utf-8", "replace")
         if got.status == 0:
             copies += 1
@@ -159,10 +153,11 @@ def damaged(text, dice):
 
 
 def check_asked(tally, program, top):
-    """Where there is a program, it is asked, too: what it says decides."""
+    """The program is asked: what it says decides, and there is no copy where it can't be."""
     path = program.file("lvm2/refuses", '#!/bin/sh\necho "dmremap: source: field at 3" >&2\nexit 1\n')
     os.chmod(path, 0o755)
-    tally.same("a copy that is asked for", copied(program, top, BARE, ["--program", program.path]), 0, BARE)
+    tally.same("a copy of no program", copied(program, top, BARE, ["--program", "nowhere/dmremap"]), 1, "",
+               "dmremap-tools lvm2-text: nowhere/dmremap: No such file or directory\n")
     got = copied(program, top, BARE, ["--program", path])
     tally.holds("a copy that the program refuses", got.status == 1 and not got.out and b"(dmremap: source: field at 3)" in got.err, got.err)
 
@@ -170,7 +165,7 @@ def check_asked(tally, program, top):
 def check_words(tally, program, top):
     """Words, and texts that can't be read."""
     def copy(*words, **how):
-        return run([os.path.join(top, tool_calls.TOOL), "lvm2-text", *words], **how)
+        return run([os.path.join(top, tool_calls.TOOL), "lvm2-text", "--program", program.path, *words], **how)
 
     for words in ([], ["text", "text"], ["-x"]):
         got = copy(*words)
@@ -186,11 +181,11 @@ def check_words(tally, program, top):
 
 def check_large(tally, program, top):
     """Sections in each other to any depth, and a long text, are no trouble."""
-    got = tool_calls.call(top, ["lvm2-text", program.file("lvm2/text", BARE + "\r\n" * 400000)], memory=MEMORY)
+    got = tool_calls.call(top, ["lvm2-text", "--program", program.path, program.file("lvm2/text", BARE + "\r\n" * 400000)], memory=MEMORY)
     is_so = got.status == 0 and got.out.decode() == BARE + "\n" * 400000
     tally.holds("a text of many carriage returns", is_so, "status %s, %r" % (got.status, got.err[-200:]))
     for name, more in (("many lines", "\n" * (1 << 20)), ("many keys", "".join("a%d = 1\n" % it for it in range(150000)))):
-        got = tool_calls.call(top, ["lvm2-text", program.file("lvm2/text", BARE + more)], memory=MEMORY)
+        got = tool_calls.call(top, ["lvm2-text", "--program", program.path, program.file("lvm2/text", BARE + more)], memory=MEMORY)
         is_so = got.status == 1 and not got.out and b"more than" in got.err and b"out of memory" not in got.err
         tally.holds("a text of " + name, is_so, "status %s, %r" % (got.status, got.err[-200:]))
     deep = "a {" * 30000 + "}" * 30000 + "\n"

@@ -29,7 +29,7 @@ CALLS = {
     "elsewhere": ["--paths", "paths.txt", "vg0.concise"],
     "aliases": ["lsblk.txt", "both.disks"],
     "metadata": ["vg0-head.img"],
-    "lvm2-text": ["vgm.backup"],
+    "lvm2-text": ["--program", "./dmremap", "vgm.backup"],
     "totals": ["pieces.txt"],
     "histogram": ["pieces.txt"],
     "splits": ["pieces.txt"],

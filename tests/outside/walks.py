@@ -208,7 +208,7 @@ def check_walk(tally, program, top, dice):
     # Nor will a member of an array, unless it has all of it.
     for level, status, told in ((1, 0, "member: a member of an md array, whose data begins at sector 16: that is read as the physical volume\n"),
                                 (5, 1, "dmremap-tools save: member: a member of an md array that isn't raid1, so that no member has all of a physical volume: "
-                                       "`md` makes a table of the array, and `under` puts it below those of the group\n")):
+                                       "give the images of all members to `save GROUP/VOLUME OUT IMAGE..`, which puts it together\n")):
         program.file("walk/member", md_member(b, 16, 4096, level))
         program.file("walk/members", "".join("%s %s\n" % it for it in zip(HINTS[1:], ("member", "c.img"))) + "%s %s\n" % (HINTS[0], "a.part"))
         program.file("walk/a.part", a[PARTITION * SECTOR:])

@@ -31,15 +31,6 @@ def dmremap(given: Optional[str]) -> str:
     return shutil.which("dmremap") or "dmremap"
 
 
-def at_hand(given: Optional[str]) -> Optional[str]:
-    """The same, if it is there and hasn't to be built first, as in a repository; else None."""
-    found = dmremap(given)
-    folder = os.path.dirname(os.path.realpath(found))
-    if given is None and os.path.exists(os.path.join(folder, "crates.txt")):
-        found = os.path.join(folder, "crates", "dmremap", "out", "dmremap")
-    return found if given is not None or os.access(found, os.X_OK) else None
-
-
 def ask(words: Sequence[str], most: int = streams.MOST_TEXT, given: Optional[int] = None, said: Optional[IO[bytes]] = None) -> str:
     """What a program prints, at most so many bytes; `given` is a descriptor for its standard input. Its messages are
     passed on, or go into the file `said`. Where it fails, so does this."""

@@ -1,14 +1,13 @@
 """What a disk, a partition or a device says is taken of it, though no line names it: superblocks of md, a partition table, a header
 of LUKS, a label of LVM."""
 
-from typing import Iterable, Iterator, NamedTuple, Optional
+from typing import Iterator, NamedTuple
 
-from dmremap_tools.base import md_superblock, partition_table
+from dmremap_tools.base import luks_header, md_superblock, partition_table
 from dmremap_tools.base.disk_image import Image
 from dmremap_tools.base.md_superblock import Superblock
 from dmremap_tools.base.numbers import SECTOR
 from dmremap_tools.base.refusal import Refusal
-from dmremap_tools.machines import luks_header
 from dmremap_tools.metadata import chosen_part, physical_volume
 from dmremap_tools.metadata.volumes_within import volume_label
 
@@ -31,26 +30,19 @@ class Head(NamedTuple):
         """Whether it holds something else, which may be named as well."""
         return self.what.startswith((PARTITION, MEMBER, CONTAINER))
 
-    def is_damaged(self) -> bool:
-        """Whether it isn't sound, so that it doesn't say what else is taken."""
-        return self.what.startswith(DAMAGED)
-
-
-def heads_of(image: Image, size: Optional[int] = None, is_deep: bool = False) -> Iterator[Head]:
-    """What is taken of an image, or of the first so many bytes of a disk that it is of; what lies in its partitions and in the data of a
-    mirror as well, if it is to be deep. What is damaged is told as that."""
-    length = image.size if size is None else size
-    found = list(contents_of(image, length, is_deep)) or list(table_heads(image, is_deep))
+def heads_of(image: Image) -> Iterator[Head]:
+    """What is taken of an image. What is damaged is told as that."""
+    found = list(contents_of(image)) or list(table_heads(image))
     # What would begin after the end of an image that is cut isn't there.
     yield from (it for it in found if it.first < it.end)
 
 
-def contents_of(image: Image, size: int, is_deep: bool) -> Iterator[Head]:
+def contents_of(image: Image) -> Iterator[Head]:
     """The same without a partition table, and nothing where there may be one."""
-    members = md_superblock.superblocks(image, size)
+    members = md_superblock.superblocks(image)
     for member in members:
-        yield from member_heads(image, member, size, is_deep)
-    for at in md_superblock.damaged(image, size):
+        yield from member_heads(image, member)
+    for at in md_superblock.damaged(image):
         yield Head(at // SECTOR, at // SECTOR + SUPERBLOCK_SECTORS, DAMAGED + "superblock" + OF_MD)
     if any(it.start == 0 for it in members):
         return
@@ -58,22 +50,22 @@ def contents_of(image: Image, size: int, is_deep: bool) -> Iterator[Head]:
     if label:
         yield from label_heads(label)
     else:
-        yield from container_heads(image, size)
+        yield from container_heads(image, image.size)
 
 
-def member_heads(image: Image, member: Superblock, size: int, is_deep: bool) -> Iterator[Head]:
+def member_heads(image: Image, member: Superblock) -> Iterator[Head]:
     """A member of an array: its data, what that holds if it is all of the array's, and the rest, which is the array's own."""
-    end, last = member.start + member.length, size // SECTOR
+    end, last = member.start + member.length, image.size // SECTOR
     if member.start:
         yield Head(0, member.start, "superblock" + OF_MD)
     if end < last:
         yield Head(end, last, "superblock" + OF_MD)
     yield Head(member.start, end, MEMBER + member.level_name().replace(" ", "-"))
-    if member.has_all() and (is_deep or not member.start):
-        data = image.part(member.start * SECTOR, member.length * SECTOR)
+    if member.has_all() and not member.start:
+        data = image.part(0, member.length * SECTOR)
         label = physical_volume.label_of(data)[0]
         within = label_heads(label) if label else container_heads(data, member.length * SECTOR)
-        yield from moved(list(within) or list(table_heads(data, is_deep)), member.start)
+        yield from list(within) or table_heads(data)
 
 
 def label_heads(label: physical_volume.Label) -> Iterator[Head]:
@@ -102,7 +94,7 @@ def container_heads(image: Image, size: int) -> Iterator[Head]:
         yield Head(container.start, end, CONTAINER)
 
 
-def table_heads(image: Image, is_deep: bool) -> Iterator[Head]:
+def table_heads(image: Image) -> Iterator[Head]:
     """A partition table, with the tables of extended partitions or the second copy of a GPT, and the partitions."""
     try:
         table = chosen_part.found_table(image)
@@ -120,10 +112,3 @@ def table_heads(image: Image, is_deep: bool) -> Iterator[Head]:
             yield Head(start // SECTOR, min(end, image.size) // SECTOR, table.kind)
     for number, start, size in table.partitions:
         yield Head(start // SECTOR, (start + size) // SECTOR, "%s%d" % (PARTITION, number))
-        if is_deep and start < image.size:
-            yield from moved(contents_of(image.part(start, size), size, True), start // SECTOR)
-
-
-def moved(heads: Iterable[Head], by: int) -> Iterator[Head]:
-    """The same of what begins so many sectors further on."""
-    return (Head(it.first + by, it.end + by, it.what) for it in heads)

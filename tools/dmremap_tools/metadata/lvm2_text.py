@@ -25,8 +25,7 @@ With --only, which may be given several times, the copy has that volume, its ori
 they lie on.
 
 Refuses a text of which no volume would be left, one that is no metadata of a group, and forms that lvm2 never writes; one
-that is damaged, so that dmremap would refuse the copy: by the rules of that, and where it is at hand it is asked; and one of
-more than 8 MiB, or of more than 150,000 keys and values.
+that is damaged, so that dmremap, which is asked, refuses the copy; and one of more than 8 MiB, or of more than 150,000 keys and values.
 Nothing about the copy is proved. The text can't say whether it is the newest, and a machine's devices are those of the text
 only if `dmsetup table` says so.
 """
@@ -39,15 +38,15 @@ from typing import Dict, List, Optional
 from dmremap_tools.base import program, quoting, streams
 from dmremap_tools.base.config_text import Document, Node, shown
 from dmremap_tools.base.refusal import Refusal
-from dmremap_tools.metadata import loads
 from dmremap_tools.metadata.followed import NOT_ASKED, judge, leave_others
 from dmremap_tools.metadata.mending import LIST, ONE, Mending, mend_section
 from dmremap_tools.metadata.volume_group import LINEAR, STRIPED, Group, Volume
 from dmremap_tools.metadata.white_space import MARK, mend_bytes
 
 EXAMPLE = "dmremap-tools lvm2-text vgm.backup > copy.backup && dmremap table lvm copy.backup"
-# How many bytes of a text are taken.
-MOST_TEXT = 8 << 20
+# How many bytes of a text are taken, and dmremap takes of the copy.
+MOST_TEXT, MOST_COPY = 8 << 20, 1 << 20
+ADVICE = "take an older text, from /etc/lvm/archive or by `metadata --list`, or leave this out by --only"
 
 # The fields that dmremap reads, and what each has. Others it passes over.
 TOP = {b"contents": ONE, b"version": ONE}
@@ -70,8 +69,8 @@ def run(words: argparse.Namespace) -> None:
     """Prints the copy."""
     content = streams.read_bytes(words.text, MOST_TEXT)
     name = streams.name_of(words.text)
-    if content.count(b"\n") > loads.MOST_BYTES:
-        raise Refusal(name, "it has more than %d lines, all of which the copy would have, and dmremap takes as many bytes" % loads.MOST_BYTES)
+    if content.count(b"\n") > MOST_COPY:
+        raise Refusal(name, "it has more than %d lines, all of which the copy would have, and dmremap takes as many bytes" % MOST_COPY)
     copy = Mending(Document(name, content[len(MARK):] if content.startswith(MARK) else content))
     drop_twice(copy)
     group = Group(group_of(copy))
@@ -87,22 +86,18 @@ def run(words: argparse.Namespace) -> None:
     mend_bytes(copy, content)
     copy.tell()
     made = copy.content()
-    check_copy(words.program, copy.document.path, made)
+    check_copy(program.dmremap(words.program), copy.document.path, made)
     streams.out.write(made.decode("utf-8", "surrogateescape"))
 
 
-def check_copy(given: Optional[str], path: str, content: bytes) -> None:
-    """Refuses a copy that dmremap would refuse, by its rules, and by itself where it is at hand."""
-    loads.check(Document(path, content))
-    asked = program.at_hand(given)
-    if asked is None:
-        return
+def check_copy(asked: str, path: str, content: bytes) -> None:
+    """Refuses a copy that dmremap refuses: a text that lvm2 wrote passes, so what doesn't is damaged."""
     with tempfile.NamedTemporaryFile(prefix="dmremap-tools-") as file:
         file.write(content)
         file.flush()
         _, said = program.ask_quietly([asked, "map", "lvm", file.name])
     if said:
-        raise Refusal(path, "dmremap refuses the copy, whose lines have the same numbers (%s): %s" % (quoting.shown(said.strip()), loads.ADVICE))
+        raise Refusal(path, "dmremap refuses the copy, whose lines have the same numbers (%s): %s" % (quoting.shown(said.strip()), ADVICE))
 
 
 def drop_twice(copy: Mending) -> None:

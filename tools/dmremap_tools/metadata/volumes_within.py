@@ -19,8 +19,8 @@ HARMLESS = BITMAP | LAYOUT_SAID | BAD_BLOCKS
 # The last byte at which a superblock begins that lies before its data.
 LAST_BEFORE_DATA = 4096
 # What is said of a member that doesn't have all of a physical volume, and of what may be no member any more.
-PARTS = ("a member of an md array that isn't raid1, so that no member has all of a physical volume: `md` makes a table of the array, and `under` puts "
-         "it below those of the group")
+PARTS = ("a member of an md array that isn't raid1, so that no member has all of a physical volume: give the images of all members to "
+         "`save GROUP/VOLUME OUT IMAGE..`, which puts it together")
 CHANGING = "a member of an md array that is a spare, or is being filled or reshaped, so that it doesn't have the array's bytes: take another member"
 BAD = "a member of an md array that has bad blocks, which a kernel reads from another one: take that"
 DAMAGED = ("the superblock of an md array at byte %d is damaged, so that nothing says whose bytes lie here: take another member, or, if it is no member "

@@ -3,14 +3,15 @@
 import shlex
 from typing import List, NamedTuple, Optional
 
+from dmremap_tools.base import luks_header
 from dmremap_tools.base.refusal import Refusal
-from dmremap_tools.machines import luks_header
 from dmremap_tools.model.device import Device
 from dmremap_tools.model.image import Lenient
 
 
 class Container(NamedTuple):
-    """A container: its version and id, where its data begins and how long that is, in sectors, as far as its header says so."""
+    """A container: its version and id, where its data begins and how long that is, and what its headers and keys take, in sectors,
+    as far as its header says so."""
 
     device: Device
     version: int
@@ -18,6 +19,7 @@ class Container(NamedTuple):
     start: Optional[int]
     length: Optional[int]
     fault: Optional[str]
+    header: int = 0
 
 
 def container_in(device: Device) -> Optional[Container]:
@@ -34,7 +36,7 @@ def container_in(device: Device) -> Optional[Container]:
     except Refusal as refusal:
         return Container(device, version, "", None, None, refusal.why) if is_first else None
     fault = None if is_first else "its first header is damaged, the second one is sound: repair a copy by cryptsetup repair"
-    return Container(device, version, found.uuid, found.start, found.length, fault)
+    return Container(device, version, found.uuid, found.start, found.length, fault, found.header)
 
 
 def ways_in(container: Container, name: str, image: Optional[str], partition: int) -> List[str]:

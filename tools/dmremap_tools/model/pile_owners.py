@@ -69,5 +69,7 @@ def of_container(container: Container) -> Ground:
     if start is None:
         return all_of(Step(f"{name} container: {container.fault}"))
     end = start + container.length if container.length is not None else container.device.size // SECTOR
-    claims = [*[Claim(0, start, f"{name} header")] * bool(start), Claim(start, end, f"{name} data, encrypted")]
+    claims = [Claim(0, max(start, container.header), f"{name} header")]
+    # A header whose data would lie within it is of a container on another disk.
+    claims += [Claim(start, end, f"{name} data, encrypted")] * (start >= container.header)
     return claimed(claims, free(container.device, "the container doesn't say that it has it"))

@@ -1,27 +1,23 @@
-"""The header of a LUKS container: where its data lies. Version 1 and 2, as cryptsetup documents them, and what its
-luksDump prints."""
+"""The header of a LUKS container: where its data lies. Version 1 and 2, as cryptsetup documents them."""
 
 import hashlib
 import itertools
 import json
-import re
 import struct
 from typing import List, NamedTuple, Optional
 
-from dmremap_tools.base import numbers, plain_text, streams
+from dmremap_tools.base import numbers, streams
 from dmremap_tools.base.disk_image import Image
 from dmremap_tools.base.numbers import SECTOR
 from dmremap_tools.base.refusal import Refusal
 
-MAGIC, SECOND_MAGIC, DUMP = b"LUKS\xba\xbe", b"SKUL\xba\xbe", b"LUKS header information"
+MAGIC, SECOND_MAGIC = b"LUKS\xba\xbe", b"SKUL\xba\xbe"
 # Where the second header of version 2 may lie: the sizes that the first may have.
 SIZES = [1 << it for it in range(14, 23)]
 BINARY, SUM_AT, SUM_BYTES = 4096, 448, 64
 # The bytes of a header of version 1.
 FIRST_BYTES = 592
 SUMS = ("sha1", "sha224", "sha256", "sha384", "sha512")
-FIELDS = {"uuid": re.compile(r"^UUID:\s+([-0-9a-fA-F]{1,64})$", re.M), "payload": re.compile(r"^Payload offset:\s+(\d{1,20})$", re.M),
-          "segments": re.compile(r"^  \d+: (\w+)\n\toffset: (\d{1,20}) \[bytes\]\n\tlength: (?:\(whole device\)|(\d{1,20}) \[bytes\])$", re.M)}
 
 
 class Container(NamedTuple):
@@ -49,16 +45,14 @@ class Header(NamedTuple):
 
 
 def container_in(image: Image) -> Container:
-    """The container whose header, or the text of luksDump, is at the beginning of an image."""
+    """The container whose header is at the beginning of an image."""
     head = image.read(0, BINARY)
-    if is_text(image):
-        return _dumped(image)
     if head.startswith(MAGIC) and version_of(head) == 1 and len(head) >= FIRST_BYTES:
         start, = struct.unpack_from(">L", head, 104)
         return Container(_text(head[168:208]), start, None, _end_of_keys(head))
     headers = headers_in(image)
     if not headers:
-        raise Refusal(image.path, "no header of LUKS, and no text of luksDump" if not is_container(image) else "its header of LUKS is damaged")
+        raise Refusal(image.path, "its header of LUKS is damaged")
     newest = max(headers, key=lambda it: it.sequence)
     if newest is not headers[0]:
         streams.tell("%s: its second header of LUKS is newer: that is read" % image.path)
@@ -75,22 +69,6 @@ def headers_in(image: Image) -> List[Header]:
 def is_container(image: Image) -> bool:
     """Whether a header begins an image."""
     return image.read(0, len(MAGIC)) == MAGIC
-
-
-def is_text(image: Image) -> bool:
-    """Whether an image is the text of luksDump."""
-    return image.read(0, len(plain_text.MARK + DUMP)).replace(plain_text.MARK, b"", 1).startswith(DUMP)
-
-
-def _dumped(image: Image) -> Container:
-    """The container that luksDump tells of."""
-    text = plain_text.with_plain_ends(image.read(0, 1 << 20)).decode("utf-8", "replace")
-    uuid, payload, segments = FIELDS["uuid"].search(text), FIELDS["payload"].search(text), FIELDS["segments"].findall(text)
-    if uuid and payload and int(payload[1]) < numbers.LIMIT:
-        return Container(uuid[1], int(payload[1]), None)
-    if not uuid or not segments:
-        raise Refusal(image.path, "no text of luksDump that says where the data is")
-    return _one_segment(image, uuid[1], [(kind, start, length or "dynamic") for kind, start, length in segments])
 
 
 def version_of(head: bytes) -> int:
