@@ -23,7 +23,7 @@ NEWER = TEXT.replace(b"7", b"10")
 SEARCHED = "metadata areas were looked for in the first and last 4 MiB\n"
 NOT_FOUND = ", and no metadata area is in the first or last 4 MiB"
 FROM_FIRST = ": take the physical volume from its first byte on, or " + OTHER[2:]
-USAGE = "usage: dmremap-tools metadata [-h] [--partition N | --start SECTOR]\n"
+USAGE = "usage: dmremap-tools metadata [-h] [--list | --seqno N | --at BYTE]"
 SAID = "dmremap-tools metadata: "
 
 
@@ -39,7 +39,6 @@ def check(tally, program, top):
         command.refuses(name, head, message, told="".join(told))
     for name, head, text, message in TAKEN:
         command.takes(name, head, text, message)
-    check_second(command)
     check_disks(command)
     check_places(command)
     check_heads(command)
@@ -129,11 +128,11 @@ def flipped(head, place, bit):
 
 def text_in(head):
     """The text of a head, or None where it is refused."""
-    disk_image, chosen_part, valid_text, refusal, ways = (importlib.import_module("dmremap_tools." + it) for it in (
-        "base.disk_image", "metadata.chosen_part", "metadata.valid_text", "base.refusal", "metadata.ways"))
+    disk_image, chosen_part, valid_text, refusal = (importlib.import_module("dmremap_tools." + it) for it in (
+        "base.disk_image", "metadata.chosen_part", "metadata.valid_text", "base.refusal"))
     try:
         with unsaid():
-            image, = chosen_part.chosen_parts(disk_image.Image(io.BytesIO(head), "head"), None, ways.OPTIONS)
+            image, = chosen_part.chosen_parts(disk_image.Image(io.BytesIO(head), "head"))
             return valid_text.valid_text(image, valid_text.areas_of(image))
     except refusal.Refusal:
         return None
@@ -180,7 +179,7 @@ OTHER_GROUP = TEXT.replace(b"AAAAAA", b"BBBBBB")
 SUMMARY = "vg0 seqno %d, volumes: none\n"
 OLDER = (ONE + "its text is older: " + SUMMARY % 7).join(["passed over: ", "head: taken: the metadata area at byte 65536: " + SUMMARY % 10])
 BOTH_TOLD = "head: " + ONE + SUMMARY % 7 + "head: the metadata area at byte 65536: " + SUMMARY % 7
-LABELLED = "; the label of one that begins at sector %d is sound: take it with --start %d"
+LABELLED = "; the label of one that begins at byte %d is sound: give it as IMAGE?offset=%d"
 
 REFUSED = [
     ("zeros", bytes(8192), "there is no label in the first four sectors" + NOT_FOUND + FROM_FIRST),
@@ -206,11 +205,9 @@ REFUSED = [
     ("an area larger than the label says", with_bytes(ONE_AREA, SECTOR, label([(FIRST, SIZE - SECTOR)])),
      ONE + "its header says that it has 4096 bytes, of which there are 3584" + LISTED),
     ("an image that ends in the text", ONE_AREA[:FIRST + SECTOR + 10],
-     ONE + "the image ends before it does: fetch it, and run this again with --area area.img: "
-     "dd if=DISK of=area.img bs=512 skip=8 count=8"),
+     ONE + "the image ends before it does: take more of the disk"),
     ("an image that ends in the header", ONE_AREA[:FIRST + 10],
-     ONE + "the image ends before it does: fetch it, and run this again with --area area.img: "
-     "dd if=DISK of=area.img bs=512 skip=8 count=8"),
+     ONE + "the image ends before it does: take more of the disk"),
     ("an image that ends in the label", ONE_AREA[:SECTOR + 100], "the label in sector 1 is cut off" + NOT_FOUND + FROM_FIRST),
     ("two areas of different groups", volume((FIRST, area(TEXT)), (SECOND, area(OTHER_GROUP, start=SECOND))), BOTH_TOLD,
      "the metadata areas at byte 4096 and 65536 have texts of different groups" + OTHER),
@@ -223,7 +220,7 @@ REFUSED = [
     ("a volume without its first sector", ONE_AREA[SECTOR:], "the label in sector 0 says that it belongs in sector 1; "
      "the metadata area at byte 3584 belongs at byte 4096, so the image lacks its first 512 bytes" + NOT_FOUND + FROM_FIRST),
     ("a volume behind other sectors", bytes(8 * SECTOR) + ONE_AREA, "there is no label in the first four sectors; the metadata area "
-     "at byte 8192 belongs at byte 4096, so a physical volume begins at byte 4096 (sector 8)" + NOT_FOUND + LABELLED % (8, 8)),
+     "at byte 8192 belongs at byte 4096, so a physical volume begins at byte 4096 (sector 8)" + NOT_FOUND + LABELLED % (4096, 4096)),
     ("five areas without a label", b"".join([bytes(SIZE)] + [area(TEXT, start=(1 + it) * SIZE) for it in range(5)]),
      "more than 4 metadata areas are where they say that they begin" + OTHER),
     ("many areas that are damaged", (bytes(4) + MAGIC).ljust(SECTOR, b"\0") * 20, "there is no label in the first four sectors; "
@@ -270,45 +267,17 @@ TAKEN = [
 ]
 
 
-def check_second(command):
-    """The second area where HEAD ends before it, fetched as the message says."""
-    head = with_flip(TWO_AREAS, FIRST + SECTOR)[:SECOND]
-    fetch = "dd if=DISK of=area.img bs=512 skip=128 count=8"
-    command.refuses("a second area that HEAD lacks", head, ONE + "the sum of its text is wrong; the metadata area at byte 65536: "
-                   "the image ends before it does: fetch it, and run this again with --area area.img: " + fetch)
-    with_area = ("--area", "area.img", "head")
-    command.program.file("disk", TWO_AREAS)
-    fetched = run(["sh", "-c", fetch.replace("DISK", "disk") + " status=none"], folder=command.folder)
-    command.tally.same("the command that fetches it", fetched)
-    command.takes("that second area", head, NEWER, "passed over: the metadata area at byte 4096: the sum of its text is wrong\n", with_area)
-    command.refuses("an area that isn't missing", TWO_AREAS, "no metadata area is missing in head: leave --area out", with_area, "area.img")
-    command.takes("one of two areas that are missing", TWO_AREAS[:FIRST], NEWER,
-                 "passed over: the metadata area at byte 4096: the image ends before it does\n", with_area)
-    command.program.file("area.img", with_flip(area(NEWER, start=SECOND), 40))
-    command.refuses("a fetched area that is damaged", head, ONE + "the sum of its text is wrong; the metadata area at byte 65536: "
-                   "the sum of its header is wrong" + LISTED, with_area)
-    command.refuses("one of two areas, which doesn't tell", TWO_AREAS[:FIRST],
-                   "it isn't known which metadata area this is, as its header isn't sound" + OTHER, with_area, "area.img")
-    command.program.file("area.img", area(NEWER, start=SECOND)[:SECTOR + 5])
-    command.refuses("a fetched area that is cut off", head, ONE + "the sum of its text is wrong; the metadata area at byte 65536: "
-                   "the image ends before it does: fetch it, and run this again with --area area.img: " + fetch, with_area)
-    command.program.file("area.img", "")
-    command.refuses("a fetched area that is empty", head, "it is empty", with_area, "area.img")
-
-
 def check_disks(command):
     """Images of whole disks, whose partitions have the physical volume."""
     for name, disk, message in DISKS:
         command.refuses(name, disk, message)
-    for name, disk, number, text in PARTITIONS:
-        command.takes(name, disk, text, "", ("--partition", str(number), "head"))
+    for name, disk, start, text in PARTITIONS:
+        command.takes(name, disk, text, "", ("head?offset=%d" % (start * SECTOR),))
     for name, disk, told in WHOLE:
         command.takes(name, disk, TEXT, "the image of a whole disk (%s read\n" % told)
-    for words in ("--list",), ("--seqno", "7"), ("--at", "4608"), ("--area", "head"):
-        command.refuses("one of two volumes", TWO_VOLUMES, "it has several physical volumes: take one with --partition N", (*words, "head"),
+    for words in ("--list",), ("--seqno", "7"), ("--at", "4608"):
+        command.refuses("one of two volumes", TWO_VOLUMES, "it has several physical volumes: take one, as HEAD?offset=BYTES", (*words, "head"),
                         told="head: the image of a whole disk (GPT), whose partitions 1, 2 are physical volumes: these are read\n")
-    for name, disk, number, message in NO_PARTITIONS:
-        command.refuses(name, disk, message, ("--partition", str(number), "head"))
 
 
 def disk_of(head, *parts):
@@ -328,21 +297,20 @@ GPT_DISK = disk_of(gpt((64, 71), None, (128, 255)), (128, ONE_AREA))
 LARGE_SECTORS = disk_of(gpt((16, 31), sector=4096), (128, ONE_AREA))
 BOTH = disk_of(mbr((0x83, 64, 8)), (1, ONE_AREA[SECTOR:]))
 DAMAGED_GPT = "the image of a whole disk, whose partition table (GPT) is damaged: repair it in a copy with gdisk, or cut the partition out with dd"
-LACKS = "the image of a whole disk (%s), which ends before its partitions do (%s): fetch the head of the one that you want, and take that " \
-        "as HEAD; for %d it is dd if=DISK of=head.img bs=512 skip=%d count=2048"
+LACKS = "the image of a whole disk (%s), which ends before its partitions do (%s): take more of the disk"
 
 DISKS = [
     ("a disk without a physical volume", disk_of(mbr((0x83, 64, 8)), (72, b"")),
-     "the image of a whole disk (MBR), none of whose partitions (1) has a sound label: take --partition N for one, or cut it out"),
-    ("the beginning of a disk", MBR_DISK[:100 * SECTOR], LACKS % ("MBR", "1 from sector 64 on, 2 from sector 128 on", 2, 128)),
-    ("the beginning of a disk with a GPT", GPT_DISK[:50 * SECTOR], LACKS % ("GPT", "1 from sector 64 on, 3 from sector 128 on", 1, 64)),
+     "the image of a whole disk (MBR), none of whose partitions (1) has a sound label: give the partition that it is, as IMAGE?offset=BYTES"),
+    ("the beginning of a disk", MBR_DISK[:100 * SECTOR], LACKS % ("MBR", "1 from sector 64 on, 2 from sector 128 on")),
+    ("the beginning of a disk with a GPT", GPT_DISK[:50 * SECTOR], LACKS % ("GPT", "1 from sector 64 on, 3 from sector 128 on")),
     ("a disk whose GPT isn't all there", GPT_DISK[:20 * SECTOR],
      "the image of a whole disk, which ends before its partition table (GPT) does: take more of the disk"),
-    ("a GPT with a damaged header", with_flip(GPT_DISK, SECTOR + 72), DAMAGED_GPT + LABELLED % (128, 128)),
-    ("a GPT with a damaged entry", with_flip(GPT_DISK, 2 * SECTOR + 32), DAMAGED_GPT + LABELLED % (128, 128)),
-    ("a GPT whose header is gone", with_bytes(GPT_DISK, SECTOR, bytes(SECTOR)), DAMAGED_GPT + LABELLED % (128, 128)),
+    ("a GPT with a damaged header", with_flip(GPT_DISK, SECTOR + 72), DAMAGED_GPT + LABELLED % (65536, 65536)),
+    ("a GPT with a damaged entry", with_flip(GPT_DISK, 2 * SECTOR + 32), DAMAGED_GPT + LABELLED % (65536, 65536)),
+    ("a GPT whose header is gone", with_bytes(GPT_DISK, SECTOR, bytes(SECTOR)), DAMAGED_GPT + LABELLED % (65536, 65536)),
     ("a partition table beside a label", BOTH, "there are both a partition table (MBR) and the label of a physical volume, which lvm2 "
-     "doesn't take then: --partition N takes a partition, and --partition 0 the disk itself"),
+     "doesn't take then: IMAGE?offset=BYTES takes a partition, and IMAGE?offset=0 the disk itself"),
 ]
 
 IS_ONE, ARE_SEVERAL = "%s), whose partition %d is a physical volume: that is", "%s), whose partitions %s are physical volumes: these are"
@@ -357,29 +325,12 @@ WHOLE = [
 ]
 
 PARTITIONS = [
-    ("a partition", MBR_DISK, 2, TEXT),
-    ("a logical partition", LOGICAL_DISK, 6, TEXT),
-    ("a third logical partition", THIRD_LOGICAL, 7, TEXT),
-    ("a partition of a GPT", GPT_DISK, 3, TEXT),
-    ("a partition whose first sector is one of 4096 bytes", LARGE_SECTORS, 1, TEXT),
-    ("a partition of a GPT whose first sector is gone", bytes(SECTOR) + GPT_DISK[SECTOR:], 3, TEXT),
-    ("a partition beside what is left of a GPT", disk_of(mbr((0x8E, 128, 256)) + GPT_DISK[SECTOR:], (128, ONE_AREA)), 1, TEXT),
+    ("a partition", MBR_DISK, 128, TEXT),
+    ("a logical partition", LOGICAL_DISK, 200, TEXT),
+    ("a partition of a GPT", GPT_DISK, 128, TEXT),
+    ("a partition whose first sector is one of 4096 bytes", LARGE_SECTORS, 128, TEXT),
     ("the disk itself", BOTH, 0, TEXT),
     ("the image of a partition", ONE_AREA, 0, TEXT),
-]
-
-NO_PARTITIONS = [
-    ("a partition that isn't there", GPT_DISK, 2, "there is no partition 2: there are 1, 3"),
-    ("a partition of a physical volume", ONE_AREA, 1, "there is no partition table: leave --partition out"),
-    ("a partition after the image", MBR_DISK[:100 * SECTOR], 2, "partition 2 begins after the end of this image: fetch its head, "
-     "and take that in its place: dd if=DISK of=head.img bs=512 skip=128 count=2048"),
-    ("a partition that the image has in part", MBR_DISK[:136 * SECTOR + 100], 2, ONE + "the image ends before it does: fetch it, and "
-     "run this again with --area area.img: dd if=DISK of=area.img bs=512 skip=136 count=8"),
-    ("a partition without a physical volume", GPT_DISK, 1, "there is no label in the first four sectors" + NOT_FOUND + FROM_FIRST),
-    # A sector that is no partition table: the first byte of an entry is neither 0 nor 0x80, or none has sectors.
-    ("a partition of a GPT with a damaged entry", with_flip(GPT_DISK, 2 * SECTOR + 32), 3, DAMAGED_GPT + LABELLED % (128, 128)),
-    ("a partition of a boot sector", with_bytes(MBR_DISK, 446, b"\x01"), 2, "there is no partition table: leave --partition out"),
-    ("a partition of an empty table", disk_of(mbr((0x83, 64, 0)), (72, b"")), 1, "there is no partition table: leave --partition out"),
 ]
 
 
@@ -387,9 +338,9 @@ def check_places(command):
     """Volumes that begin elsewhere, by a label, a partition table's second copy, or an array's superblock."""
     for name, disk, words, told in PLACES:
         command.program.file("head", disk)
-        command.tally.same("the text of " + name, command.answer([*words, "head"]), 0, TEXT[:-1], told)
+        command.tally.same("the text of " + name, command.answer(words or ["head"]), 0, TEXT[:-1], told)
     for name, disk, words, message in NO_PLACES:
-        command.refuses(name, disk, message, [*words, "head"])
+        command.refuses(name, disk, message, words or ["head"])
 
 
 BACKUP = "head: the first copy of the partition table (GPT) is damaged: its backup at the end is read\n"
@@ -398,33 +349,31 @@ LARGE_WITH_BACKUP = with_backup(LARGE_SECTORS.ljust(256 * SECTOR, b"\0"), (16, 3
 ARRAY = "head: a member of an md array, whose data begins at sector %d: that is read as the physical volume\n"
 FAR = bytes(5 << 20) + ONE_AREA + bytes(5 << 20)
 PLACES = [
-    ("a volume that begins elsewhere", FAR, ["--start", str((5 << 20) // SECTOR)], ""),
-    ("a GPT whose header is damaged", with_flip(WITH_BACKUP, SECTOR + 72), ["--partition", "3"], BACKUP),
-    ("a GPT whose entries are damaged", with_flip(WITH_BACKUP, 2 * SECTOR + 32), ["--partition", "3"], BACKUP),
-    ("a GPT whose beginning is gone", bytes(34 * SECTOR) + WITH_BACKUP[34 * SECTOR:], ["--partition", "3"], BACKUP),
-    ("a GPT of large sectors whose beginning is gone", bytes(34 * SECTOR) + LARGE_WITH_BACKUP[34 * SECTOR:], ["--partition", "1"], BACKUP),
+    ("a volume that begins elsewhere", FAR, ["head?offset=%d" % (5 << 20)], ""),
+    ("a GPT whose header is damaged", with_flip(WITH_BACKUP, SECTOR + 72), [], BACKUP + "head: the image of a whole disk (%s read\n" % (IS_ONE % ("GPT", 3))),
+    ("a GPT whose entries are damaged", with_flip(WITH_BACKUP, 2 * SECTOR + 32), [], BACKUP + "head: the image of a whole disk (%s read\n" % (IS_ONE % ("GPT", 3))),
+    ("a GPT whose beginning is gone", bytes(34 * SECTOR) + WITH_BACKUP[34 * SECTOR:], [], BACKUP + "head: the image of a whole disk (%s read\n" % (IS_ONE % ("GPT", 3))),
+    ("a GPT of large sectors whose beginning is gone", bytes(34 * SECTOR) + LARGE_WITH_BACKUP[34 * SECTOR:], [], BACKUP + "head: the image of a whole disk (%s read\n" % (IS_ONE % ("GPT", 1))),
     # A volume on the whole disk goes before what is left of a table.
     ("a volume before a GPT that was", with_backup(ONE_AREA.ljust(256 * SECTOR, b"\0"), (128, 255)), [], ""),
     ("a member of an array, version 1.1", md_member(ONE_AREA, 16), [], ARRAY % 16),
     ("a member of an array, version 1.2", md_member(ONE_AREA, 2048, 4096), [], ARRAY % 2048),
-    ("a member of an array in a partition", disk_of(mbr((0xFD, 128, 256)), (128, md_member(ONE_AREA, 16))), ["--partition", "1"], ARRAY % 16),
+    ("a member of an array in a partition", disk_of(mbr((0xFD, 128, 256)), (128, md_member(ONE_AREA, 16))), ["head?offset=65536"], ARRAY % 16),
     ("a member of an array on a whole disk", disk_of(mbr((0xFD, 128, 256)), (128, md_member(ONE_AREA, 16))), [],
      "head: the image of a whole disk (%s read\n" % (IS_ONE % ("MBR", 1)) + ARRAY % 16),
 ]
 NO_PLACES = [
-    ("a label in the middle of an image", FAR, [], "there is no label in the first four sectors" + NOT_FOUND + LABELLED % (10240, 10240)),
+    ("a label in the middle of an image", FAR, [], "there is no label in the first four sectors" + NOT_FOUND + LABELLED % (5 << 20, 5 << 20)),
     ("two labels", FAR + FAR, [], "there is no label in the first four sectors" + NOT_FOUND
-     + "; labels of some that begin at the sectors 10240, %d are sound: take one with --start SECTOR" % ((len(FAR) + (5 << 20)) // SECTOR)),
+     + "; labels of some that begin at the bytes %d, %d are sound: give one as IMAGE?offset=BYTES" % (5 << 20, len(FAR) + (5 << 20))),
     # Where an area belongs is said of the whole image.
-    ("a start before the volume", bytes(16 * SECTOR) + ONE_AREA, ["--start", "8"], "there is no label in the first four sectors; the metadata area "
-     "at byte 8192 belongs at byte 4096, so a physical volume begins at byte 8192 (sector 16)" + NOT_FOUND + LABELLED % (16, 16)),
-    ("a partition before the volume", disk_of(mbr((0x8E, 64, 256)), (72, ONE_AREA)), ["--partition", "1"], "there is no label in the first four sectors; the "
-     "metadata area at byte 8192 belongs at byte 4096, so a physical volume begins at byte 36864 (sector 72)" + NOT_FOUND + LABELLED % (72, 72)),
-    ("a start after the end", ONE_AREA, ["--start", "16"], "it ends before sector 16"),
+    ("a start before the volume", bytes(16 * SECTOR) + ONE_AREA, ["head?offset=4096"], "there is no label in the first four sectors; the metadata area "
+     "at byte 8192 belongs at byte 4096, so a physical volume begins at byte 8192 (sector 16)" + NOT_FOUND + LABELLED % (8192, 8192)),
+    ("a partition before the volume", disk_of(mbr((0x8E, 64, 256)), (72, ONE_AREA)), ["head?offset=32768"], "there is no label in the first four sectors; the "
+     "metadata area at byte 8192 belongs at byte 4096, so a physical volume begins at byte 36864 (sector 72)" + NOT_FOUND + LABELLED % (36864, 36864)),
+    ("a start after the end", ONE_AREA, ["head?offset=1048576"], "it ends before byte 1048576"),
     ("a GPT whose copies are both damaged", with_flip(with_flip(WITH_BACKUP, SECTOR + 72), len(WITH_BACKUP) - SECTOR + 72), [],
-     DAMAGED_GPT + LABELLED % (128, 128)),
-    ("a GPT whose copies are both gone", bytes(34 * SECTOR) + WITH_BACKUP[34 * SECTOR:-SECTOR], ["--partition", "3"],
-     "there is no partition table: leave --partition out"),
+     DAMAGED_GPT + LABELLED % (65536, 65536)),
     ("a member of an array without a volume", md_member(bytes(8192), 16), [], "there is no label in the first four sectors" + NOT_FOUND + FROM_FIRST),
 ]
 
@@ -465,18 +414,17 @@ def check_files(tally, program, command):
                SAID + "standard input: no file or disk, of which each byte can be read: a pipe, maybe\n")
     with open(command.path, "rb") as given:
         tally.same("the text of standard input", command.run("-", stdin=given), 0, TEXT[:-1])
-    tally.same("an area in a file that isn't there", command.run("--area", "nowhere", "head"), 1, "", SAID + "nowhere: No such file or directory\n")
     with open("/dev/full", "wb") as full:
         got = command.run("head", stdout=full)
     tally.same("the text on a full disk", got, 5, "", SAID + "standard output: No space left on device\n")
-    for words in ([], ["--partition", "x", "head"], ["--part"], ["--list", "--seqno", "3", "head"]):
+    for words in ([], ["--seqno", "x", "head"], ["--part"], ["--list", "--seqno", "3", "head"]):
         got = command.run(*words)
         tally.holds("the words %s" % words, got.status == 2 and got.out == b"" and got.err.decode().startswith(USAGE),
                     "status %s, %r" % (got.status, got.err))
 
 
     got = command.run("--list", "head", "head")
-    tally.same("the list of two heads", got, 2, "", SAID + "--area, --list, --seqno and --at take one HEAD\n")
+    tally.same("the list of two heads", got, 2, "", SAID + "--list, --seqno and --at take one HEAD\n")
 
 
 def refusal_of(path):

@@ -194,7 +194,8 @@ def check_walk(tally, program, top, dice):
         return got.out.decode()
 
     tool("metadata", *NAMES, to="vg.backup")
-    tally.holds("the text of the partition", tool("metadata", "--partition", "1", "a.img").encode() == read(os.path.join(folder, "vg.backup")), "it is another")
+    text = tool("metadata", "a.img?offset=%d" % (PARTITION * SECTOR))
+    tally.holds("the text of the partition", text.encode() == read(os.path.join(folder, "vg.backup")), "it is another")
     tool("save", "vg/home", "saved", *NAMES)
     wanted = bytearray(content)
     for sector in gone:

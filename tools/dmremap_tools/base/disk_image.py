@@ -4,7 +4,7 @@ import contextlib
 import errno
 import os
 import stat
-from typing import BinaryIO, Optional, Tuple
+from typing import BinaryIO, Optional
 
 from dmremap_tools.base import plain_text, streams, written
 from dmremap_tools.base.numbers import SECTOR
@@ -21,21 +21,16 @@ class Unreadable(Refusal):
 
 
 class Image:
-    """A file or a disk from a byte `base` on, up to its end or for `size` bytes.
-
-    The bytes of a part that the image lacks can be put beside it: `extra` is where they begin, and their image."""
+    """A file or a disk from a byte `base` on, up to its end or for `size` bytes."""
 
     def __init__(self, file: BinaryIO, path: str, base: int = 0, size: Optional[int] = None) -> None:
         self.file, self.path, self.base = file, path, base
-        self.extra: "Optional[Tuple[int, Image]]" = None
         self.size = max(0, length_of(file, path) - base)
         if size is not None:
             self.size = min(self.size, size)
 
     def read(self, at: int, count: int) -> bytes:
         """The bytes from `at` on, fewer where the image ends. Whoever asks sees to it that they aren't too many."""
-        if at + count > self.size and self.extra and at >= self.extra[0]:
-            return self.extra[1].read(at - self.extra[0], count)
         left, parts = min(count, self.size - at), []
         try:
             self.file.seek(self.base + at if left > 0 else 0)
@@ -129,10 +124,3 @@ def other_form(beginning: bytes) -> str:
 def _open(path: str, flags: int) -> int:
     """Opens without waiting, as for one who writes to a pipe of this name."""
     return os.open(path, flags | os.O_NONBLOCK)
-
-
-def dd(image: Image, output: str, start: int, size: int) -> str:
-    """The command that fetches these bytes from the disk that an image is of."""
-    first = image.base + start
-    count = (first % SECTOR + size + SECTOR - 1) // SECTOR
-    return "dd if=DISK of=%s bs=%d skip=%d count=%d" % (output, SECTOR, first // SECTOR, count)

@@ -41,7 +41,7 @@ from dmremap_tools.machines.found import NOT_ASKED, Found, leave_others, leave_u
 from dmremap_tools.machines.kernel_names import is_disk, is_partition
 from dmremap_tools.machines.placed import partitioned, sectors_at
 from dmremap_tools.machines.stack import Stack
-from dmremap_tools.metadata.ways import GIVE
+from dmremap_tools.metadata.chosen_part import GIVE
 
 EXAMPLE = "dmremap-tools machine --disks disks ls.txt status.txt lsblk.txt concise.txt > tables"
 

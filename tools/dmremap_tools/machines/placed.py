@@ -11,10 +11,9 @@ from dmremap_tools.base.paths import Place
 from dmremap_tools.base.refusal import Refusal
 from dmremap_tools.machines.disks import names_by_id
 from dmremap_tools.metadata.array_members import check_place, check_places
-from dmremap_tools.metadata.chosen_part import chosen_parts, table_in
+from dmremap_tools.metadata.chosen_part import GIVE, chosen_parts, table_in
 from dmremap_tools.metadata.physical_volume import label_of
 from dmremap_tools.metadata.volumes_within import check_mirrored, taken_from_array
-from dmremap_tools.metadata.ways import GIVE, PLACES
 
 
 def by_ids(text: Optional[str], places: Dict[str, Place], sizes: Dict[str, int], images: Sequence[Place] = ()) -> Dict[str, Place]:
@@ -88,7 +87,8 @@ def volumes_in(path: str, given: List[Place]) -> Dict[bytes, int]:
 
 def begun_in(place: Place) -> Dict[bytes, int]:
     """The ids of the physical volumes in a disk, or of what begins at a place in it, and the bytes at which they begin."""
-    members = chosen_parts(disk_image.image_at(place), 0 if place.is_said else None, PLACES)
+    image = disk_image.image_at(place)
+    members = [image] if place.is_said else chosen_parts(image)
     for each in [] if place.is_said else members:
         check_mirrored(each)
     return {label.identity: it.base for it in map(taken_from_array, members) for label in label_of(it)[:1] if label}

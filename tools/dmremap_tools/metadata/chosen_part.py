@@ -3,45 +3,27 @@
 from typing import List, Optional
 
 from dmremap_tools.base import quoting, streams
-from dmremap_tools.base.disk_image import Image, dd
+from dmremap_tools.base.disk_image import Image
 from dmremap_tools.base.numbers import SECTOR
 from dmremap_tools.base.partition import Partition
 from dmremap_tools.base.partition_table import DamagedTable, Table, backup_of, table_of
 from dmremap_tools.base.refusal import Refusal
 from dmremap_tools.metadata.physical_volume import label_of
 from dmremap_tools.metadata.volumes_within import array_data, where_volumes_begin
-from dmremap_tools.metadata.ways import Ways
 
-# How much of a partition is to be fetched: its label, and most areas.
-HEAD = 1 << 20
+# What is said where the image of a whole disk is given for a partition.
+GIVE = "give the partition that it is, as IMAGE?offset=BYTES"
 # What a sector has on disks that don't have 512 bytes in it.
 LARGE_SECTOR = 4096
 
 
-def chosen_parts(disk: Image, number: Optional[int], ways: Ways) -> List[Image]:
-    """The physical volumes: the image itself, for 0, or the partition of it with this number, or each that is one."""
-    if number == 0:
-        return [disk]
+def chosen_parts(disk: Image) -> List[Image]:
+    """The physical volumes: the image itself, or each partition that is one."""
     try:
         table = table_in(disk)
     except DamagedTable as damaged:
-        raise Refusal(disk.path, damaged.why + where_volumes_begin(disk, ways))
-    if number is not None:
-        return [part_of(disk, partition_of(disk, table, number))]
-    return [disk] if table is None else volumes_of(disk, table, ways)
-
-
-def partition_of(disk: Image, table: Optional[Table], number: int) -> Partition:
-    """The partition of this number."""
-    if table is None:
-        raise Refusal(disk.path, "there is no partition table: leave --partition out")
-    chosen = [it for it in table.partitions if it.number == number]
-    if not chosen:
-        raise Refusal(disk.path, "there is no partition %d: there are %s" % (number, numbers_of(table.partitions)))
-    if chosen[0].start >= disk.size:
-        raise Refusal(disk.path, "partition %d begins after the end of this image: fetch its head, and take that in its place: %s"
-                      % (number, dd(disk, "head.img", chosen[0].start, HEAD)))
-    return chosen[0]
+        raise Refusal(disk.path, damaged.why + where_volumes_begin(disk))
+    return [disk] if table is None else volumes_of(disk, table)
 
 
 def part_of(disk: Image, partition: Partition) -> Image:
@@ -49,11 +31,11 @@ def part_of(disk: Image, partition: Partition) -> Image:
     return disk.part(partition.start, partition.size)
 
 
-def volumes_of(disk: Image, table: Table, ways: Ways) -> List[Image]:
+def volumes_of(disk: Image, table: Table) -> List[Image]:
     """The partitions of a whole disk that are physical volumes, which is told, or why there is none."""
     if label_of(disk)[0]:
-        raise Refusal(disk.path, "there are both a partition table (%s) and the label of a physical volume, which lvm2 doesn't take then: %s"
-                      % (table.kind, ways.both))
+        raise Refusal(disk.path, "there are both a partition table (%s) and the label of a physical volume, which lvm2 doesn't take then: "
+                      "IMAGE?offset=BYTES takes a partition, and IMAGE?offset=0 the disk itself" % table.kind)
     there = [it for it in table.partitions if it.start < disk.size]
     volumes = with_volumes(disk, there)
     if not volumes and table.kind == "MBR":
@@ -61,7 +43,7 @@ def volumes_of(disk: Image, table: Table, ways: Ways) -> List[Image]:
         larger = table_of(disk, LARGE_SECTOR)
         volumes = with_volumes(disk, larger.partitions if larger else [])
     if not volumes:
-        raise Refusal(disk.path, no_volume(disk, table, len(there), ways))
+        raise Refusal(disk.path, no_volume(disk, table, len(there)))
     which = "partitions %s are physical volumes: these are" if len(volumes) > 1 else "partition %s is a physical volume: that is"
     streams.tell("%s: the image of a whole disk (%s), whose %s read" % (disk.path, table.kind, which % numbers_of(volumes)))
     return [part_of(disk, it) for it in volumes]
@@ -81,16 +63,14 @@ def found_table(disk: Image, sector: int = SECTOR) -> Optional[Table]:
     return table_of(disk, sector) or (backup_of(disk) if label_of(disk)[0] is None else None)
 
 
-def no_volume(disk: Image, table: Table, there: int, ways: Ways) -> str:
+def no_volume(disk: Image, table: Table, there: int) -> str:
     """Why no partition is a physical volume, of which so many are there, and what to try."""
     found = "the image of a whole disk (%s)" % table.kind
     if there < len(table.partitions):
-        first = next(it for it in table.partitions if it.start >= disk.size)
         others = ["%d from sector %d on" % (it.number, it.start // SECTOR) for it in table.partitions]
-        fetched = ways.beyond % {"number": first.number, "dd": dd(disk, "head.img", first.start, HEAD)}
-        return "%s, which ends before its partitions do (%s): %s" % (found, quoting.some(others), fetched)
+        return "%s, which ends before its partitions do (%s): take more of the disk" % (found, quoting.some(others))
     return ("%s, none of whose partitions (%s) has a sound label: %s%s"
-            % (found, numbers_of(table.partitions) or "-", ways.unlabelled, where_volumes_begin(disk, ways)))
+            % (found, numbers_of(table.partitions) or "-", GIVE, where_volumes_begin(disk)))
 
 
 def with_volumes(disk: Image, partitions: List[Partition]) -> List[Partition]:

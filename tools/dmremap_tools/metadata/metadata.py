@@ -1,8 +1,7 @@
 """The metadata text of the group that a physical volume of LVM2 belongs to.
 
 Have: HEAD, the physical volume, or an image of its beginning, such as its first MiB, or of the whole disk, of which each
-partition with a sound label is taken, or the one that --partition names. A volume that begins elsewhere is taken with
---start. In a member of an md array it is found behind the superblock (1.1 or 1.2), unless a newer member is given as well.
+partition with a sound label is taken. HEAD?offset=BYTES is what begins there: a partition, or a volume that begins elsewhere. In a member of an md array it is found behind the superblock (1.1 or 1.2), unless a newer member is given as well.
 Several physical volumes have to agree.
 `dd if=/dev/sda1 of=head.img bs=1M count=1` makes an image of the beginning; where there is lvm2, `pvck --dump metadata -f
 TEXT head.img` does the same.
@@ -24,30 +23,26 @@ No sum tells whether another physical volume has a later text, or whether the di
 """
 
 import argparse
-from typing import List, Optional
+from typing import List
 
 from dmremap_tools.base import numbers, streams
 from dmremap_tools.base.disk_image import Image, open_image
 from dmremap_tools.base.numbers import SECTOR
+from dmremap_tools.base.paths import Place, place_of
 from dmremap_tools.base.refusal import Refusal, WrongWords
 from dmremap_tools.metadata.array_members import check_newest
 from dmremap_tools.metadata.chosen_part import chosen_parts
 from dmremap_tools.metadata.group_text import summary, without_time
 from dmremap_tools.metadata.older_texts import text_at, text_with, texts_in
-from dmremap_tools.metadata.valid_text import areas_of, valid_text, with_fetched
+from dmremap_tools.metadata.valid_text import areas_of, valid_text
 from dmremap_tools.metadata.volumes_within import taken_from_array
-from dmremap_tools.metadata.ways import OPTIONS
 
 EXAMPLE = "dmremap-tools metadata vg0-head.img > vg0.backup && dmremap table lvm vg0.backup"
 
 
 def add_words(parser: argparse.ArgumentParser) -> None:
     """Adds HEAD, and what is to be had of it."""
-    where = parser.add_mutually_exclusive_group()
-    where.add_argument("--partition", type=numbers.word, metavar="N", help="the partition of a whole disk, or 0 for the disk itself")
-    where.add_argument("--start", type=numbers.word, metavar="SECTOR", help="where the physical volume begins, in sectors of 512 bytes")
     which = parser.add_mutually_exclusive_group()
-    which.add_argument("--area", metavar="FILE", help="a metadata area that HEAD lacks, fetched as a message said")
     which.add_argument("--list", action="store_true", help="list the texts that are left in the metadata areas")
     which.add_argument("--seqno", type=numbers.word, metavar="N", help="print the text with this number, which is one of the list")
     which.add_argument("--at", type=numbers.word, metavar="BYTE", help="print the text at this place, which is one of the list")
@@ -56,13 +51,14 @@ def add_words(parser: argparse.ArgumentParser) -> None:
 
 def run(words: argparse.Namespace) -> None:
     """Prints what is asked for."""
-    is_of_one = words.list or any(it is not None for it in (words.area, words.seqno, words.at))
+    is_of_one = words.list or words.seqno is not None or words.at is not None
     if len(words.heads) > 1 and is_of_one:
-        raise WrongWords("--area, --list, --seqno and --at take one HEAD")
-    check_newest(words.heads)
-    images = [it for path in words.heads for it in volumes_in(path, words)]
+        raise WrongWords("--list, --seqno and --at take one HEAD")
+    places = [place_of(path) for path in words.heads]
+    check_newest(place.path for place in places)
+    images = [it for place in places for it in volumes_in(place)]
     if len(images) > 1 and is_of_one:
-        raise Refusal(images[0].path, "it has several physical volumes: take one with --partition N")
+        raise Refusal(images[0].path, "it has several physical volumes: take one, as HEAD?offset=BYTES")
     if words.list:
         for text in texts_in(images[0]):
             streams.out.write(text.line())
@@ -72,24 +68,17 @@ def run(words: argparse.Namespace) -> None:
     elif words.at is not None:
         content = text_at(images[0], words.at)
     else:
-        content = first_if_equal(images, [text_of(it, words.area) for it in images])
+        content = first_if_equal(images, [valid_text(it, areas_of(it)) for it in images])
     streams.out.write(content.decode("utf-8", "surrogateescape"))
 
 
-def volumes_in(path: str, words: argparse.Namespace) -> List[Image]:
-    """The physical volumes in a HEAD."""
-    disk = open_image(path)
-    if words.start is None:
-        return [taken_from_array(it) for it in chosen_parts(disk, words.partition, OPTIONS)]
-    if words.start * SECTOR >= disk.size:
-        raise Refusal(disk.path, "it ends before sector %d" % words.start)
-    return [taken_from_array(disk.part(words.start * SECTOR, disk.size))]
-
-
-def text_of(image: Image, area: Optional[str]) -> bytes:
-    """The valid text of a physical volume, with an area that was fetched."""
-    areas = areas_of(image)
-    return valid_text(image, with_fetched(image, areas, open_image(area)) if area is not None else areas)
+def volumes_in(place: Place) -> List[Image]:
+    """The physical volumes in a HEAD, or the one that begins at a place in it."""
+    disk = open_image(place.path)
+    if place.start >= disk.size:
+        raise Refusal(disk.path, "it ends before byte %d" % place.start)
+    parts = [disk.part(place.start, disk.size)] if place.is_said else chosen_parts(disk)
+    return [taken_from_array(it) for it in parts]
 
 
 def first_if_equal(images: List[Image], texts: List[bytes]) -> bytes:

@@ -3,7 +3,7 @@
 from typing import List
 
 from dmremap_tools.base import quoting, streams
-from dmremap_tools.base.disk_image import Image, dd, other_form
+from dmremap_tools.base.disk_image import Image, other_form
 from dmremap_tools.base.numbers import SECTOR
 from dmremap_tools.base.refusal import Refusal
 from dmremap_tools.metadata import physical_volume
@@ -11,7 +11,6 @@ from dmremap_tools.metadata.group_text import beginning_of, summary, without_tim
 from dmremap_tools.metadata.physical_volume import (EMPTY, MISSING, MOST_AREAS, SEARCHED, Area, area_at, header_fault, label_of,
                                                     listed_area)
 from dmremap_tools.metadata.volumes_within import where_volumes_begin
-from dmremap_tools.metadata.ways import OPTIONS
 
 OTHER = "try another physical volume of the group, or a file in /etc/lvm/backup"
 LUKS, ENCRYPTED = b"LUKS\xba\xbe", "it is encrypted with LUKS: open it with cryptsetup, and take what is opened"
@@ -48,7 +47,7 @@ def searched_areas(image: Image, faults: List[str]) -> List[Area]:
     said = quoting.some(why, "; ")
     if not areas:
         raise Refusal(image.path, "%s, and no metadata area is in the first or last %d MiB%s"
-                      % (said, SEARCHED >> 20, where_volumes_begin(image, OPTIONS) or ": " + what_else(image)))
+                      % (said, SEARCHED >> 20, where_volumes_begin(image) or ": " + what_else(image)))
     streams.tell("%s: %s: metadata areas were looked for in the first and last %d MiB" % (image.path, said, SEARCHED >> 20))
     return areas
 
@@ -66,20 +65,6 @@ def what_else(image: Image) -> str:
     first = image.read(0, SECTOR)
     known = ENCRYPTED if first.startswith(LUKS) else other_form(first)
     return known or "take the physical volume from its first byte on, or " + OTHER
-
-
-def with_fetched(image: Image, areas: List[Area], fetched: Image) -> List[Area]:
-    """The areas, with the bytes of the one that was fetched."""
-    lacking = [it for it in areas if it.fault == MISSING]
-    if not lacking:
-        raise Refusal(fetched.path, "no metadata area is missing in %s: leave --area out" % image.path)
-    header = fetched.read(0, SECTOR)
-    told = [it for it in lacking if len(header) == SECTOR and not header_fault(header, it.start)]
-    if not told and len(lacking) > 1:
-        raise Refusal(fetched.path, "it isn't known which metadata area this is, as its header isn't sound: %s" % OTHER)
-    area = (told or lacking)[0]
-    image.extra = area.start, fetched
-    return [area_at(image, it.start, it.size) if it is area else it for it in areas]
 
 
 def valid_text(image: Image, areas: List[Area]) -> bytes:
@@ -128,7 +113,6 @@ def places(areas: List[Area]) -> str:
 def none_sound(image: Image, areas: List[Area]) -> str:
     """Why there is no text, and what to try."""
     why = "; ".join("%s: %s" % (places([it]), it.fault) for it in areas)
-    lacking = [it for it in areas if it.fault == MISSING]
-    if lacking:
-        return "%s: fetch it, and run this again with --area area.img: %s" % (why, dd(image, "area.img", lacking[0].start, lacking[0].size))
+    if any(it.fault == MISSING for it in areas):
+        return "%s: take more of the disk" % why
     return "%s: %s, or see what is left of older texts with --list" % (why, OTHER)

@@ -10,7 +10,6 @@ from dmremap_tools.base.md_superblock import BAD_BLOCKS, BITMAP, LAYOUT_SAID, Su
 from dmremap_tools.base.numbers import SECTOR
 from dmremap_tools.base.refusal import Refusal
 from dmremap_tools.metadata.physical_volume import LABEL, LABEL_SECTORS, Label, label_fault, label_of
-from dmremap_tools.metadata.ways import Ways
 
 WINDOW = 4 << 20
 PROGRESS = 64
@@ -93,12 +92,11 @@ def volumes_in(image: Image) -> Iterator[int]:
             streams.show_progress("labels are searched: MiB %d of %d" % (at >> 20, image.size >> 20))
 
 
-def where_volumes_begin(image: Image, ways: Ways) -> str:
+def where_volumes_begin(image: Image) -> str:
     """What is said of the physical volumes that are found by their labels, or nothing."""
-    found = [(image.base + it) // SECTOR for it in itertools.islice(volumes_in(image), quoting.MOST_NAMED + 1)]
+    found = [image.base + it for it in itertools.islice(volumes_in(image), quoting.MOST_NAMED + 1)]
     if not found:
         return ""
     if len(found) == 1:
-        one = ways.one % {"sector": found[0], "byte": found[0] * SECTOR}
-        return "; the label of one that begins at sector %d is sound: %s" % (found[0], one)
-    return "; labels of some that begin at the sectors %s are sound: %s" % (quoting.some(list(map(str, found))), ways.several)
+        return "; the label of one that begins at byte %d is sound: give it as IMAGE?offset=%d" % (found[0], found[0])
+    return "; labels of some that begin at the bytes %s are sound: give one as IMAGE?offset=BYTES" % quoting.some(list(map(str, found)))

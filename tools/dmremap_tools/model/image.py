@@ -99,7 +99,6 @@ class Lenient:
     def __init__(self, device: Device) -> None:
         self._device = device
         self.path, self.size, self.base = device.name, device.size, 0
-        self.extra: Optional[object] = None
 
     def read(self, start: int, size: int) -> bytes:
         """The bytes that are there, up to the first that isn't."""
