@@ -85,8 +85,7 @@ def copied(file: Text) -> Tuple[bytes, List[str], Dict[str, str]]:
     if kept:
         lvm2_text.drop_volumes(copy, group)
         lvm2_text.mend_group(copy, group)
-        lvm2_text.mend_bytes(copy, file.content)
-    return copy.content(), kept, left
+    return lvm2_text.mended(copy, file.content), kept, left
 
 
 def _reasons(left: Dict[str, str]) -> List[str]:

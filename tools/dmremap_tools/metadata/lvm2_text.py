@@ -33,7 +33,7 @@ only if `dmsetup table` says so.
 import argparse
 import os
 import tempfile
-from typing import Dict, List, Optional
+from typing import Dict, List
 
 from dmremap_tools.base import program, quoting, streams
 from dmremap_tools.base.config_text import Document, Node, shown
@@ -41,7 +41,7 @@ from dmremap_tools.base.refusal import Refusal
 from dmremap_tools.metadata.followed import NOT_ASKED, judge, leave_others
 from dmremap_tools.metadata.mending import LIST, ONE, Mending, mend_section
 from dmremap_tools.metadata.volume_group import LINEAR, STRIPED, Group, Volume
-from dmremap_tools.metadata.white_space import MARK, mend_bytes
+from dmremap_tools.metadata.white_space import MARK, mended
 
 EXAMPLE = "dmremap-tools lvm2-text vgm.backup > copy.backup && dmremap table lvm copy.backup"
 # How many bytes of a text are taken, and dmremap takes of the copy.
@@ -83,9 +83,8 @@ def run(words: argparse.Namespace) -> None:
     if words.only:
         leave_physicals(copy, group)
     mend_group(copy, group)
-    mend_bytes(copy, content)
+    made = mended(copy, content)
     copy.tell()
-    made = copy.content()
     check_copy(program.dmremap(words.program), copy.document.path, made)
     streams.out.write(made.decode("utf-8", "surrogateescape"))
 

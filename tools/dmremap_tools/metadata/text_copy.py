@@ -64,7 +64,7 @@ class Copy:
             if start >= end:
                 pieces += [self.document.content[end:start], new]
                 end = following
-        return readable(joined(pieces + [self.document.content[end:]]))
+        return joined(pieces + [self.document.content[end:]])
 
 
 def joined(pieces: List[bytes]) -> bytes:
