@@ -109,7 +109,7 @@ HELD = [
     ("an MBR", laid(200, (0, mbr((5, 20, 90), (0x8E, 120, 64))), (20, mbr((0x83, 4, 4), (5, 16, 20))), (36, mbr((0x83, 4, 8))), (120, LABELLED)),
      ["disk 0 1 = MBR", "disk 1 19 = nobody", "disk 20 1 = MBR", "disk 24 4 = disk:5 0 = unknown: nothing is found in it", "disk 36 1 = MBR",
       "disk 121 1 = disk:2 1 = label of LVM", "disk 184 16 = nobody"]),
-    ("a GPT that is damaged", laid(100, (0, gpt((64, 71), damage=512 + 60))), ["disk 0 100 = unknown: both copies of its partition table (GPT) are damaged"]),
+    ("a GPT that is damaged", laid(100, (0, gpt((64, 71), damage=512 + 60))), ["disk 0 100 = unknown: both copies of its partition table (GPT) are damaged: repair it in a copy with gdisk, or cut the partition out with dd"]),
     ("a member of an array with parity", PARITY, ["disk 0 16 = superblock of md:%s, with what it keeps free" % ARRAY, "disk 17 1 = md:%s 1 = label of LVM" % ARRAY,
                                                   "disk 48 16 = parity of md:" + ARRAY]),
     ("a container", KEYED[:64 << 9], ["disk 0 32 = LUKS1 header", "disk 32 32 = LUKS1 data, encrypted"]),

@@ -7,7 +7,6 @@ import stat
 from typing import BinaryIO, Optional
 
 from dmremap_tools.base import plain_text, streams, written
-from dmremap_tools.base.numbers import SECTOR
 from dmremap_tools.base.paths import Place
 from dmremap_tools.base.refusal import Refusal
 
@@ -83,16 +82,6 @@ def raw_image(path: str) -> Image:
     image = open_image(path)
     check_form(image.file.fileno(), image.path)
     return image
-
-
-def is_image(path: str) -> bool:
-    """Whether a file or a disk begins as no text does. What can be read only once, as a pipe, isn't looked at."""
-    with contextlib.suppress(OSError):
-        kind = os.stat(path).st_mode
-        if path != "-" and (stat.S_ISREG(kind) or stat.S_ISBLK(kind)):
-            with open(path, "rb", buffering=0) as file:
-                return plain_text.is_binary(file.read(plain_text.LOOKED_AT))
-    return False
 
 
 def image_at(place: Place) -> Image:

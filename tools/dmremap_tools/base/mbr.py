@@ -5,13 +5,20 @@ from typing import List, NamedTuple, Set
 
 from dmremap_tools.base.disk_image import Image
 from dmremap_tools.base.numbers import SECTOR
-from dmremap_tools.base.partition import Partition
 
 # A table has four entries of 16 bytes from here on, and these two bytes after them.
 ENTRIES, MAGIC = 446, b"\x55\xaa"
 EXTENDED, PROTECTIVE = (0x05, 0x0F, 0x85), 0xEE
 # The numbers of partitions inside extended ones, and how many tables without any may follow each other.
 FIRST_LOGICAL, LAST_LOGICAL, MOST_EMPTY = 5, 255, 100
+
+
+class Partition(NamedTuple):
+    """The number that Linux gives a partition, and where its bytes are on the disk."""
+
+    number: int
+    start: int
+    size: int
 
 
 class Entry(NamedTuple):

@@ -7,15 +7,16 @@ from typing import List, NamedTuple, Optional, Tuple
 from dmremap_tools.base import mbr
 from dmremap_tools.base.disk_image import Image
 from dmremap_tools.base.numbers import SECTOR
-from dmremap_tools.base.partition import Partition
+from dmremap_tools.base.mbr import Partition
 from dmremap_tools.base.refusal import Refusal
 
 
 class Table(NamedTuple):
-    """A partition table: what it is called, the partitions that it has, and what it takes itself: starts and ends in bytes. It may be
-    the second copy, where the first isn't sound."""
+    """A partition table: what it is called, the bytes of the sectors that it counts in, the partitions that it has, and what it takes
+    itself: starts and ends in bytes. It may be the second copy, where the first isn't sound."""
 
     kind: str
+    sector: int
     partitions: List[Partition]
     taken: List[Tuple[int, int]]
     is_backup: bool = False
@@ -38,7 +39,8 @@ def table_of(image: Image, sector: int = SECTOR) -> Optional[Table]:
     entries = mbr.entries_of(image.read(0, SECTOR))
     is_protective = any(it.kind == mbr.PROTECTIVE for it in entries)
     if entries and not is_protective:
-        return mbr_of(image, entries, sector)
+        tables = mbr.Tables(image, entries, sector)
+        return Table("MBR", sector, tables.partitions, [(it, it + SECTOR) for it in tables.starts])
     for size in GPT_SECTORS:
         found = gpt_at(image, size, size)
         if found:
@@ -46,16 +48,10 @@ def table_of(image: Image, sector: int = SECTOR) -> Optional[Table]:
     if is_protective or any(image.read(it, len(GPT)) == GPT for it in GPT_SECTORS):
         backup = backup_of(image)
         if backup is None:
-            raise DamagedTable(image.path, "the image of a whole disk, whose partition table (GPT) is damaged: repair it in a copy with "
-                               "gdisk, or cut the partition out with dd")
+            raise DamagedTable(image.path, "both copies of its partition table (GPT) are damaged: repair it in a copy with gdisk, or cut the "
+                               "partition out with dd")
         return backup
     return None
-
-
-def mbr_of(image: Image, entries: List[mbr.Entry], sector: int) -> Table:
-    """The table of an MBR with these entries, and those inside its extended partitions."""
-    tables = mbr.Tables(image, entries, sector)
-    return Table("MBR", tables.partitions, [(it, it + SECTOR) for it in tables.starts])
 
 
 def backup_of(image: Image) -> Optional[Table]:
@@ -92,7 +88,7 @@ def gpt_at(image: Image, place: int, sector: int) -> Optional[Table]:
         first, last = struct.unpack_from("<QQ", entries, at + 32)
         if any(entries[at:at + 16]) and first <= last:
             found.append(Partition(at // length + 1, first * sector, (last - first + 1) * sector))
-    return Table("GPT", found, [(0, first_usable * sector), ((last_usable + 1) * sector, image.size)])
+    return Table("GPT", sector, found, [(0, first_usable * sector), ((last_usable + 1) * sector, image.size)])
 
 
 def cut_off(image: Image) -> Refusal:

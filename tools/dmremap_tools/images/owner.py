@@ -72,5 +72,5 @@ def in_maps(words: Namespace) -> Iterator[sectors_asked.Query]:
 def line_of(name: str, first: int, count: int, *steps: Step) -> str:
     """The line of a way."""
     known = steps or (unknown("nothing says who has it"),)
-    said = [quoting.shown(step.name) + ("" if step.sector is None else f" {step.sector}") for step in known]
-    return f"{quoting.shown(name)} {first} {count} = {' = '.join(said)}\n"
+    said = [quoting.escaped(step.name) + ("" if step.sector is None else f" {step.sector}") for step in known]
+    return f"{quoting.escaped(name)} {first} {count} = {' = '.join(said)}\n"

@@ -28,10 +28,6 @@ class Beginnings:
             return self._known[physical.identity]
         return next((it for it in names_of(physical) if it in known and it not in self.labels), None)
 
-    def are_others(self, physical: PhysicalVolume) -> bool:
-        """Whether a disk of its name has the label of another one."""
-        return physical.identity not in self._known and any(it in self.labels for it in names_of(physical))
-
 
 def names_of(physical: PhysicalVolume) -> List[str]:
     """What the disk of a physical volume may be called."""

@@ -8,7 +8,6 @@ from dmremap_tools.base.refusal import Refusal
 from dmremap_tools.layouts import ext_system
 from dmremap_tools.layouts.asked_runs import AskedRuns
 from dmremap_tools.layouts.xfs_system import XfsSystem
-from dmremap_tools.metadata.array_members import check_place
 
 XFS_DB = "xfs_db"
 XFS, BTRFS, BTRFS_AT = b"XFSB", b"_BHRfS_M", 65536 + 64
@@ -17,7 +16,6 @@ XFS, BTRFS, BTRFS_AT = b"XFSB", b"_BHRfS_M", 65536 + 64
 def system_in(image: str, asked: AskedRuns) -> "ext_system.ExtSystem | XfsSystem":
     """The file system in an image, with what is asked for looked up."""
     place = paths.place_of(image)
-    check_place(place)
     descriptor, at = opened(place.path), place.start
     is_btrfs, is_xfs = read_at(descriptor, at + BTRFS_AT, len(BTRFS)) == BTRFS, read_at(descriptor, at, len(XFS)) == XFS
     os.close(descriptor)
