@@ -225,7 +225,10 @@ class Groups:
     def __init__(self, groups: Sequence[Group]) -> None:
         sides = {id(group.side): group.side for group in groups if group.state != REMOVED}
         self._stacks = [Stack(side) for side in sides.values()]
-        self._removed = [volume for group in groups for volume in group.volumes if volume.is_removed]
+        self._removed: Dict[str, List[Claim]] = {}
+        for volume in (volume for group in groups for volume in group.volumes if volume.is_removed):
+            for identity, first, end in volume.side.uses(volume.key):
+                self._removed.setdefault(identity, []).append(Claim(first, end, f"{volume.path}, removed"))
 
     def of(self, volume: PhysicalVolume) -> Ground:
         """Who has the sectors of a physical volume."""
@@ -273,7 +276,5 @@ class Groups:
 
     def _once(self, volume: PhysicalVolume, first: int, end: int) -> Iterator[Run]:
         """The volumes that were removed, and had some of these sectors."""
-        for removed in self._removed:
-            for identity, begin, stop in removed.side.uses(removed.key):
-                if identity == volume.identity and begin < end and first < stop:
-                    yield Run(max(first, begin), min(end, stop), Step(f"{removed.path}, removed"))
+        claims = self._removed.get(volume.identity, ())
+        return (claim.run(first, end) for claim in claims if claim.first < end and first < claim.end)

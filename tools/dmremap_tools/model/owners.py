@@ -7,8 +7,8 @@ from dmremap_tools.model.device import Device, Gap
 
 # How many things may lie on each other.
 DEEPEST = 40
-# Bytes that are read at once of what nothing claims.
-WINDOW = 1 << 20
+# Bytes that are read at once of what nothing claims, and sectors that are asked for at once.
+WINDOW, MOST_SECTORS = 1 << 20, 1 << 18
 NOBODY = "nobody"
 
 
@@ -41,8 +41,32 @@ class Way(NamedTuple):
     steps: Tuple[Step, ...]
 
 
-def ways(ground: Ground, first: int, end: int, depth: int = 0) -> Iterator[Way]:
+    def goes_on(self, other: "Way") -> bool:
+        """Whether another way is the same of the sectors after these."""
+        moved = [step._replace(sector=None if step.sector is None else step.sector + self.count) for step in self.steps]
+        return self.first + self.count == other.first and moved == list(other.steps)
+
+
+def ways(ground: Ground, first: int, end: int) -> Iterator[Way]:
     """Each way up from these sectors; all of them have one."""
+    waiting: List[Way] = []
+    for start in range(first, end, MOST_SECTORS):
+        stop, before, waiting = min(end, start + MOST_SECTORS), waiting, []
+        for way in ways_at_once(ground, start, stop):
+            known = next((other for other in before if other.goes_on(way)), None)
+            if known:
+                before.remove(known)
+                way = Way(known.first, known.count + way.count, known.steps)
+            if way.first + way.count == stop:
+                waiting.append(way)
+            else:
+                yield way
+        yield from before
+    yield from waiting
+
+
+def ways_at_once(ground: Ground, first: int, end: int, depth: int = 0) -> Iterator[Way]:
+    """The same of so few sectors that their runs can be listed."""
     runs = list(ground(first, end)) if depth < DEEPEST else [Run(first, end, unknown("it lies on itself"))]
     for run in sorted(runs + [Run(*gap) for gap in gaps(runs, first, end)], key=lambda run: run.first):
         if run.step is None:
@@ -51,7 +75,7 @@ def ways(ground: Ground, first: int, end: int, depth: int = 0) -> Iterator[Way]:
             yield Way(run.first, run.end - run.first, (run.step,))
         else:
             start = run.step.sector
-            for way in ways(run.above, start, start + run.end - run.first, depth + 1):
+            for way in ways_at_once(run.above, start, start + run.end - run.first, depth + 1):
                 yield Way(run.first + way.first - start, way.count, (Step(run.step.name, way.first), *way.steps))
 
 
