@@ -1,7 +1,8 @@
 """The metadata text of the group that a physical volume of LVM2 belongs to.
 
 Have: HEAD, the physical volume, or an image of its beginning, such as its first MiB, or of the whole disk, of which each
-partition with a sound label is taken. HEAD?offset=BYTES is what begins there: a partition, or a volume that begins elsewhere. In a member of an md array it is found behind the superblock (1.1 or 1.2), unless a newer member is given as well.
+partition with a sound label is taken. HEAD?offset=BYTES is what begins there in it: a partition, or a volume that begins
+elsewhere. In a member of an md array it is found behind the superblock (1.1 or 1.2), unless a newer member is given as well.
 Several physical volumes have to agree.
 `dd if=/dev/sda1 of=head.img bs=1M count=1` makes an image of the beginning; where there is lvm2, `pvck --dump metadata -f
 TEXT head.img` does the same.
@@ -13,8 +14,8 @@ volume of the group, or a text in /etc/lvm/backup. With --list, what is left of 
 group, the group's id, the seqno and the time; `cut` is a text that isn't there to its end. --seqno and --at print one of
 these.
 
-Without a sound label, areas are looked for in the first and the last 4 MiB, and then labels in the whole image. A GPT
-whose first copy is damaged is read by its second one.
+Without a sound label, areas are looked for in the first and the last 4 MiB; `scan` looks through the whole image for labels. A
+GPT whose first copy is damaged is read by its second one.
 
 Refuses whatever no sum confirms, and a volume that belongs to no group. Of texts that differ each is told with its
 volumes. A text that lvm2 was about to make the valid one isn't taken; nor does lvm2 take it. Older texts have no sum:

@@ -80,11 +80,10 @@ def numbers_of(laid: Laid, role: int, row: int) -> "list[int]":
         data = shape.row(row).data
         return [row * len(data) + data.index(role)] if role in data else []
     near, far, is_offset = laid.copies
-    stride = 1 if is_offset else max(1, laid.chunks // far)
-    found = []
+    stride, end, found = 1 if is_offset else max(1, laid.chunks // far), laid.sectors // laid.chunk, []
     for turn in range(far):
         base = (row - turn * stride) // (far if is_offset else 1)
         about = (base * laid.count + (role - turn * near) % laid.count) // near
-        copies = ((number, copy) for number in range(max(0, about - near), about + near + 1) for copy in range(near * far))
+        copies = ((number, copy) for number in range(max(0, about - near), min(end, about + near + 1)) for copy in range(near * far))
         found += [number for number, copy in copies if arrays.place(laid, number, copy) == (role, row)]
     return sorted(set(found))

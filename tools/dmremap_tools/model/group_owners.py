@@ -148,7 +148,8 @@ class Stack:
             runs = [run for user in users for run in self._read(user, lower, first, end)]
             yield from runs
             role = ROLES.get(above.field, "part")
-            for gap in gaps(runs, first, end):
+            # Where nobody can be sure of a volume, it is told as well what is sure.
+            for gap in gaps([run for run in runs if run.above], first, end):
                 yield Run(*gap, Step(f"{role} of {self.path(upper)}{self._tops(upper)}"))
 
     def _users(self, lower: bytes, above: Above) -> List[bytes]:
