@@ -67,3 +67,10 @@ def write_bytes(source: streams.Lines, operation: str, name: str, begin: int, co
     if count == 0:
         source.refuse_line("no bytes")
     write(source, operation, name, *numbers.sectors_touched(begin, count))
+
+
+def sectors_of(source: streams.Lines, block: int) -> int:
+    """How many sectors a block of so many bytes has."""
+    if block % numbers.SECTOR or not block:
+        source.refuse(f"blocks of {block} bytes, which are no whole sectors")
+    return block // numbers.SECTOR

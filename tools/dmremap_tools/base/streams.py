@@ -95,38 +95,44 @@ class Lines:
         self._lines: List[str] = []
 
     def __iter__(self) -> Iterator[str]:
-        for block in self._blocks():
+        for block in self.blocks():
             for line in block[:-1].split("\n"):
                 self.number += 1
                 yield line
 
-    def blocks(self, *forms: Pattern[str]) -> "Iterator[Tuple[List[Tuple[str, ...]], Optional[Pattern[str]]]]":
-        """Many lines at once: what the groups of a form have of each, and which of some forms it is; none where not all lines
-        are of one, which `each` reads then. A form has several groups, is compiled with re.M, and begins with ^ and ends
-        with $. `number` is that of the line before them."""
-        form = forms[0]
-        for block in self._blocks():
-            count = block.count("\n")
-            # The form of the lines before is tried first.
-            for form in dict.fromkeys((form, *forms)):
-                found = form.findall(block)
-                if len(found) == count:
-                    yield found, form
-                    break
+    def blocks(self) -> Iterator[str]:
+        """Many whole lines at once. `number` is that of the line before them, and afterwards that of their last."""
+        rest, is_begun = b"", False
+        for chunk in iter(lambda: _read_some(self._descriptor, self.name), b""):
+            if not is_begun:
+                chunk, is_begun = plain_text.begun(self.name, chunk), True
+            end = chunk.rfind(b"\n") + 1
+            if end:
+                lines = plain_text.with_plain_ends(rest + chunk[:end])
+                self._block, self._before, self._lines = lines.decode("utf-8", "surrogateescape"), self.number, []
+                rest = chunk[end:]
+                yield self._block
+                self.number = self._before + self._block.count("\n")
             else:
-                yield [], None
-            self.number = self._before + count
+                rest += chunk
+            if len(rest) > LONGEST_LINE:
+                self.number += 1
+                self.refuse(f"a line of more than {LONGEST_LINE} bytes")
+        if rest:
+            self.number += 1
+            self.refuse(UNENDED + quoting.shown(rest.decode("utf-8", "surrogateescape")))
 
     def each(self, form: Pattern[str]) -> "Iterator[Tuple[str, ...] | str]":
-        """For each line of a block what the groups of a form have, or the line itself where it is of another form."""
+        """For each line of the block what the groups of a form have, or the line itself where it is of another form."""
         for self.number, line in enumerate(self._block[:-1].split("\n"), self._before + 1):
             match = form.match(line)
             yield match.groups("") if match else line
 
     def rows(self, form: Pattern[str]) -> "Iterator[Tuple[str, ...] | str]":
-        """The same for all lines, as they come."""
-        for found, known in self.blocks(form):
-            if known:
+        """The same for all lines, as they come. A form has several groups, is compiled with re.M, and begins with ^ and ends with $."""
+        for block in self.blocks():
+            found = form.findall(block)
+            if len(found) == block.count("\n"):
                 for self.number, fields in enumerate(found, self._before + 1):
                     yield fields
             else:
@@ -136,8 +142,14 @@ class Lines:
                 take: "Callable[[Tuple[str, ...] | str], None]") -> None:
         """Hands lines on as they come: many at once to what `takes` has for their form, if it takes them, which it says;
         otherwise one by one what `rows` has for the last of the forms."""
-        for found, form in self.blocks(*takes):
-            if not form or not takes[form](found):
+        form = next(iter(takes))
+        for block in self.blocks():
+            # The form of the lines before is tried first.
+            for form in dict.fromkeys((form, *takes)):
+                found = form.findall(block)
+                if len(found) == block.count("\n"):
+                    break
+            if len(found) < block.count("\n") or not takes[form](found):
                 for fields in self.each(list(takes)[-1]):
                     take(fields)
 
@@ -168,27 +180,6 @@ class Lines:
             self.refuse(NO_NUMBER % quoting.shown(text))
         return value
 
-    def _blocks(self) -> Iterator[str]:
-        """The text in pieces of whole lines. What was written goes out before more of it is waited for."""
-        rest, is_begun = b"", False
-        for chunk in iter(lambda: _read_some(self._descriptor, self.name), b""):
-            if not is_begun:
-                chunk, is_begun = plain_text.begun(self.name, chunk), True
-            end = chunk.rfind(b"\n") + 1
-            if end:
-                lines = plain_text.with_plain_ends(rest + chunk[:end])
-                self._block, self._before, self._lines = lines.decode("utf-8", "surrogateescape"), self.number, []
-                rest = chunk[end:]
-                yield self._block
-            else:
-                rest += chunk
-            if len(rest) > LONGEST_LINE:
-                self.number += 1
-                self.refuse("a line of more than %d bytes" % LONGEST_LINE)
-        if rest:
-            self.number += 1
-            self.refuse(UNENDED + quoting.shown(rest.decode("utf-8", "surrogateescape")))
-
 
 def name_of(path: str) -> str:
     """What an input is called in messages."""
@@ -201,6 +192,15 @@ def whole(option: str, text: str) -> int:
     if value is None:
         raise WrongWords("%s: %s" % (option, NO_NUMBER % quoting.shown(text)))
     return value
+
+
+def chunks(path: str) -> Iterator[bytes]:
+    """The bytes of a text, as they come."""
+    name, descriptor = name_of(path), _open(path)
+    chunk = plain_text.begun(name, _read_some(descriptor, name))
+    while chunk:
+        yield chunk
+        chunk = _read_some(descriptor, name)
 
 
 def read_bytes(path: str, most: int = MOST_TEXT) -> bytes:

@@ -1,37 +1,15 @@
-"""Requests from a log that fio wrote (`write_iolog=FILE`), of version 2 or 3.
-
-Has tables (table text or concise text) and the log. Gets requests to the devices of the tables for all sectors that the
-log's bytes touch. The files of the log are devices. Trims, and requests to what the tables have not, are left out and
-counted. Refuses what is no such log.
-"""
+"""Requests from a log that fio wrote (`write_iolog=FILE`), of version 2 or 3."""
 
 import re
-from argparse import ArgumentParser, Namespace
 from collections import Counter
 from typing import Dict, List, NoReturn, Tuple, Union
 
 from dmremap_tools.base import names, numbers, requests, streams
 from dmremap_tools.requests.kept import Kept
 
-EXAMPLE = "dmremap-tools fio vg0.table fio.log | dmremap map lvm vg0.backup"
-
 FIRST = re.compile(r"fio version ([23]) iolog")
 LINE = re.compile(r"^([0-9]+ )?(\S+ (?:read|write)) %s %s$" % (numbers.SHORT, numbers.SHORT), re.M)
 OPERATIONS = {"read": "R", "write": "W"}
-
-
-def add_words(parser: ArgumentParser) -> None:
-    """Adds the arguments."""
-    parser.add_argument("tables", metavar="TABLES", help="table or concise text")
-    parser.add_argument("file", metavar="LOG", nargs="?", default="-", help="the log; else standard input")
-    names.add_words(parser)
-
-
-def run(words: Namespace) -> None:
-    """Prints the requests as they come."""
-    reader = Reader(streams.Lines(words.file), Kept(words.tables), names.Names(words.ls))
-    reader.source.hand_on({LINE: reader.take_all}, reader.take_line)
-    reader.end()
 
 
 class Reader:
@@ -42,6 +20,11 @@ class Reader:
         self.version = self.trims = self.made = 0
         # What requests begin with, by what lines ask for: R or W, and a device, or nothing where they are left out.
         self._beginnings: Dict[str, str] = {}
+
+    def read(self) -> None:
+        """Prints the requests as they come."""
+        self.source.hand_on({LINE: self.take_all}, self.take_line)
+        self.end()
 
     def take_all(self, lines: List[Tuple[str, ...]]) -> bool:
         """Takes many reads and writes of the usual form, if none can be refused or cut."""
@@ -87,7 +70,7 @@ class Reader:
         return self._beginnings[asked]
 
     def _leave(self, asked: str, count: int) -> None:
-        self.kept.leave("%s, which the tables have not" % asked.rpartition(" ")[0], count)
+        self.kept.leave(asked.rpartition(" ")[0], count=count)
 
     def take_other(self, line: str) -> None:
         """Takes another line."""

@@ -3,10 +3,14 @@
 Has what `dmsetup ls` prints (LS), the tables that will be asked (TABLES, table text or concise text), and a trace: that
 of `blkparse` or `btrace`, or the event block_bio_queue as trace_pipe, `trace-cmd report` and `perf script` print it. Gets
 the reads and writes, as they come, and with --times the time of each. Discards, flushes, requests to devices that the tables
-have not, and lines that tell of no request, are left out and counted. Refuses a trace that says that events were lost, and zone appends and other
-requests whose sectors are not the trace's.
+have not, and lines that tell of no request, are left out and counted. Refuses a trace that says that events were lost, and zone
+appends and other requests whose sectors are not the trace's.
 
-Trace top devices only: a request to a device on another one shows up at both, and would count twice.
+Trace top devices only: a request to a device on another one shows up at both, and would count twice. With --lower the trace is one of
+the disks below them: LS is what `lsblk -brno MAJ:MIN,SIZE,KNAME,PKNAME` prints, and TABLES is DISKS. `report --compare` takes that.
+
+With --fio, TRACE is a log that fio wrote (`write_iolog=FILE`), of version 2 or 3: gets requests for all sectors that its bytes touch.
+The files of the log are devices; LS is read only where they are given as /dev/dm-N. Trims are left out and counted.
 """
 
 import re
@@ -17,10 +21,12 @@ from itertools import compress
 from operator import not_
 from typing import Dict, List, Optional, Sequence, Tuple, Union
 
-from dmremap_tools.base import listings, numbers, requests, streams
+from dmremap_tools.base import listings, names, numbers, requests, streams
+from dmremap_tools.base.refusal import WrongWords
+from dmremap_tools.requests import fio
 from dmremap_tools.requests.kept import Kept
 
-EXAMPLE = "btrace /dev/dm-0 | dmremap-tools trace ls.txt vg0.table | dmremap map lvm vg0.backup | dmremap-tools totals"
+EXAMPLE = "btrace /dev/dm-0 | dmremap-tools trace ls.txt vg0.table | dmremap map lvm vg0.backup | dmremap-tools report"
 
 Column = Sequence[str]
 EVENT = "block_bio_queue:"
@@ -50,13 +56,22 @@ def add_words(parser: ArgumentParser) -> None:
     parser.add_argument("tables", metavar="TABLES", help="table or concise text")
     parser.add_argument("file", metavar="TRACE", nargs="?", default="-", help="the trace; else standard input")
     parser.add_argument("--times", metavar="TIMES", help="a file to write: line N is the time of request N")
+    kinds = parser.add_mutually_exclusive_group()
+    kinds.add_argument("--lower", action="store_true", help="a trace of disks; LS is what lsblk prints, and TABLES is DISKS")
+    kinds.add_argument("--fio", action="store_true", help="TRACE is a log that fio wrote")
 
 
 def run(words: Namespace) -> None:
     """Prints the requests as they come."""
+    if words.fio:
+        if words.times is not None:
+            raise WrongWords("--times isn't for the logs of fio")
+        fio.Reader(streams.Lines(words.file), Kept(words.tables), names.Names(words.ls)).read()
+        return
     times = streams.beside(words.times) if words.times is not None else None
-    names = {number.replace(":", ","): name for name, number in listings.read_ls(words.ls)}
-    reader = RequestMaker(streams.Lines(words.file), names, Kept(words.tables), times)
+    known = listings.read_lsblk(words.ls)[1] if words.lower else {number: name for name, number in listings.read_ls(words.ls)}
+    by_number = {number.replace(":", ","): name for number, name in known.items()}
+    reader = RequestMaker(streams.Lines(words.file), by_number, Kept(words.tables, words.lower), times)
     reader.source.hand_on({EVENTS: reader.take_events, LINE: reader.take_lines}, reader.take_line)
     reader.end()
 
@@ -122,9 +137,9 @@ class Reader:
 class RequestMaker(Reader):
     """Makes requests of the events of a trace."""
 
-    def __init__(self, source: streams.Lines, names: Dict[str, str], kept: Kept, times: Optional[streams.Output]) -> None:
+    def __init__(self, source: streams.Lines, known: Dict[str, str], kept: Kept, times: Optional[streams.Output]) -> None:
         super().__init__(source)
-        self.names, self.kept, self.times = names, kept, times
+        self.names, self.kept, self.times = known, kept, times
         self.dropped = self.made = 0
         self._beginning = lru_cache(maxsize=1024)(self._beginning_of)
 
@@ -182,9 +197,9 @@ class RequestMaker(Reader):
         """Counts requests that are left out."""
         name = self.names.get(number)
         if name is None:
-            self.kept.leave("%s, which dmsetup ls has not" % number, count)
+            self.kept.leave(number, False, count)
         elif name not in self.kept.names:
-            self.kept.leave("%s (%s), which the tables have not" % (name, number), count)
+            self.kept.leave(f"{name} ({number})", True, count)
         else:
             self.dropped += count
 
@@ -195,7 +210,8 @@ class RequestMaker(Reader):
         if self.dropped:
             streams.tell("left out: %d requests that are neither reads nor writes" % self.dropped)
         if not self.made:
-            streams.tell("no request came to a device of the tables: what a trace of the disks below has, `owner --trace` says")
+            streams.tell("no request came to a disk of DISKS" if self.kept.are_disks else
+                         "no request came to a device of the tables: a trace of the disks below them takes --lower")
 
 
 def _operation_of(what: str) -> Optional[str]:
