@@ -12,22 +12,20 @@ chunks a snapshot of it takes, how many sectors of the store are used, and how m
 Writes to the snapshot and to its origin take the same chunks. Refuses what dmremap refuses, and a FILE without snapshots.
 """
 
-import os
-import stat
+import re
 import tempfile
 from argparse import ArgumentParser, Namespace
-from typing import BinaryIO, Dict, Iterator, List, Optional, Tuple
+from typing import Dict, Iterator, List, Tuple
 
-from dmremap_tools.base import given, numbers, plain_text, program, store_places, streams
+from dmremap_tools.answers.mapped import Mapped
+from dmremap_tools.base import given, numbers, program, store_places, streams
 from dmremap_tools.base.refusal import Refusal, WrongWords
 from dmremap_tools.layers import stack, started
 from dmremap_tools.layouts import store_sizes
-from dmremap_tools.layouts.statuses import statuses_after
 
 EXAMPLE = "dmremap-tools store table snaps.table snaps.disks"
-INVALID = "Invalid"
-# More bytes than a request has.
-LONGEST = 8192
+STATUS = re.compile(r"^([^ \n]+): 0 [0-9]+ snapshot (.*)$", re.M)
+INVALID, CHUNK = "Invalid", 1 << 16
 
 
 def add_words(parser: ArgumentParser) -> None:
@@ -52,7 +50,7 @@ def run(words: Namespace) -> None:
         return
     if words.file is None:
         raise WrongWords("give FORMAT, FILE and DISKS, or --size REQUESTS")
-    requests = opened(words.requests) if words.requests is not None else None
+    requests = streams.plain_bytes(words.requests) if words.requests is not None else None
     source = given.given_in(words, "FORMAT FILE [DISKS] [--requests REQUESTS]")
     with tempfile.TemporaryDirectory(prefix="dmremap-tools-") as room:
         if requests is None:
@@ -97,70 +95,33 @@ def ends_of(runs: "Runs", renamed: Dict[str, str]) -> Iterator[str]:
             yield f"{told}: valid to the end, {status}\n"
 
 
-def opened(path: str) -> BinaryIO:
-    """A file of requests, or a copy of what is no such file, or has a byte order mark or carriage returns."""
-    file = None if path == "-" else _plain_file(path)
-    if file:
-        return file
-    copy = tempfile.NamedTemporaryFile()
-    for line in streams.Lines(path):
-        copy.write(line.encode("utf-8", "surrogateescape") + b"\n")
-    copy.flush()
-    return copy  # type: ignore
-
-
-def _plain_file(path: str) -> Optional[BinaryIO]:
-    """A file of requests, or None where it has to be copied."""
-    name = streams.name_of(path)
-    try:
-        if not stat.S_ISREG(os.stat(path).st_mode):
-            return None
-        file = open(path, "rb")
-    except OSError as fault:
-        raise Refusal(name, streams.why(fault))
-    beginning = file.read(LONGEST)
-    return file if plain_text.with_plain_ends(plain_text.begun(name, beginning)) == beginning else None
-
-
 class Runs:
-    """dmremap over the beginnings of a file, in bytes. Each run is made once."""
+    """dmremap over the beginnings of a text of requests, in bytes. Each run is made once."""
 
-    def __init__(self, file: BinaryIO, command: List[str]) -> None:
-        self._file, self._command = file, command
-        self.size = os.fstat(file.fileno()).st_size
+    def __init__(self, text: bytes, command: List[str]) -> None:
+        self.size = len(text)
+        self._text, self._command = text, command
         self._known: Dict[int, Dict[str, str]] = {}
 
     def statuses(self, size: int) -> Dict[str, str]:
         """The status of each snapshot after the requests in so many bytes."""
         if size not in self._known:
-            streams.show_progress("run %d, over %d of %d bytes" % (len(self._known) + 1, size, self.size))
-            self._known[size] = statuses_after(self._command, self._file, size)
+            streams.show_progress(f"run {len(self._known) + 1}, over {size} of {self.size} bytes")
+            parts = (self._text[at:min(at + CHUNK, size)].decode("utf-8", "surrogateescape") for at in range(0, size, CHUNK))
+            with Mapped(self._command, parts) as mapped:
+                found = [it for block in mapped.answers.blocks() for it in STATUS.findall(block)]
+            self._known[size] = dict(found)
         return self._known[size]
 
     def last_valid(self, name: str) -> Tuple[int, int]:
         """The end of the last request after which the snapshot is valid, and that of the next one."""
         low, high = 0, self.size
-        middle = self._between(low, high)
-        while middle is not None:
+        while self._text.find(b"\n", low) + 1 < high:
+            middle = self._text.rfind(b"\n", low, (low + high) // 2) + 1
+            middle = middle if middle > low else self._text.find(b"\n", low) + 1
             low, high = (middle, high) if self.statuses(middle)[name] != INVALID else (low, middle)
-            middle = self._between(low, high)
         return low, high
 
     def requests(self, size: int) -> int:
         """How many requests there are in so many bytes."""
-        count = 0
-        self._file.seek(0)
-        for at in range(0, size, 1 << 20):
-            count += self._file.read(min(1 << 20, size - at)).count(b"\n")
-        return count
-
-    def _between(self, low: int, high: int) -> Optional[int]:
-        """The end of a request about halfway between the ends of two others, or None if there is none."""
-        middle = (low + high) // 2
-        self._file.seek(middle)
-        end = middle + len(self._file.readline(LONGEST))
-        if end == high:
-            begin = max(low, middle - LONGEST)
-            self._file.seek(begin)
-            end = begin + self._file.read(middle - begin).rfind(b"\n") + 1
-        return end if low < end < high else None
+        return self._text.count(b"\n", 0, size)

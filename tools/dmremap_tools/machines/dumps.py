@@ -1,5 +1,6 @@
 """What thin_dump and cache_dump print: XML, of which nothing is kept but what is asked for."""
 
+import itertools
 from typing import Dict, Iterator, List, NamedTuple, NoReturn
 from xml.etree import ElementTree
 
@@ -76,7 +77,7 @@ def elements(path: str, tool: str) -> Iterator[Element]:
     name, between = streams.name_of(path), 0
     gathered = Gathered(name, tool)
     parser = ElementTree.XMLParser(target=gathered, encoding="utf-8")
-    for chunk in (*streams.chunks(path), b""):
+    for chunk in itertools.chain(streams.chunks(path), [b""]):
         try:
             parser.feed(chunk) if chunk else parser.close()
         except ElementTree.ParseError as fault:

@@ -31,58 +31,53 @@ class Runs:
     """The runs of a device or of a shared list: the first block of each, where it begins in the data, and how many blocks follow.
     What follows each other is one. `lists` are those that a list refers to, which may be shared by many."""
 
-    def __init__(self, most_blocks: int) -> None:
-        self._most, self.blocks = most_blocks, 0
-        self._firsts, self._places, self._counts = array.array("Q"), array.array("Q"), array.array("Q")
+    def __init__(self) -> None:
+        self.blocks = 0
+        self._figures = array.array("Q")
         self.lists: List["Runs"] = []
-        self.is_empty = True
 
     def __len__(self) -> int:
-        return len(self._firsts) + len(self.lists)
+        return len(self._figures) // 3 + len(self.lists)
 
     def add(self, element: dumps.Element, first: int, place: int, count: int) -> None:
         """Adds a run."""
-        if place + count > self._most or not count:
-            element.refuse(f"past the end of the data, of {self._most} blocks")
         self.blocks += count
-        self.is_empty = False
-        if self._firsts and self._firsts[-1] + self._counts[-1] == first and self._places[-1] + self._counts[-1] == place:
-            self._counts[-1] += count
-        elif len(self) < MOST_RUNS:
-            self._firsts.append(first)
-            self._places.append(place)
-            self._counts.append(count)
+        figures = self._figures
+        if figures and figures[-3] + figures[-1] == first and figures[-2] + figures[-1] == place:
+            figures[-1] += count
         else:
-            element.refuse(f"more than {MOST_RUNS} runs of blocks")
+            figures.extend((first, place, count))
+            self._check(element)
 
     def add_list(self, element: dumps.Element, other: "Runs") -> None:
         """Adds what a list has, once it is asked for."""
-        if not other.is_empty:
-            if len(self) == MOST_RUNS:
-                element.refuse(f"more than {MOST_RUNS} runs of blocks")
+        if len(other):
             self.lists.append(other)
-            self.is_empty = False
+            self._check(element)
 
     def take_lists(self, element: dumps.Element) -> None:
         """Adds the runs of all lists that it refers to, by way of others as well, none of which a device can have twice."""
-        seen, waiting = set(), self.lists[::-1]
+        seen, waiting, self.lists = set(), self.lists[::-1], []
         while waiting:
             each = waiting.pop()
             if id(each) in seen:
                 element.refuse("a list of blocks is in a device twice")
             seen.add(id(each))
             waiting += each.lists[::-1]
-            for run in each.runs(range(len(each._firsts))):
+            for run in each.runs(range(0, len(each._figures), 3)):
                 self.add(element, *run)
-        self.lists = []
 
     def in_order(self) -> Iterator[Tuple[int, int, int]]:
         """The runs by their first blocks."""
-        return self.runs(sorted(range(len(self._firsts)), key=self._firsts.__getitem__))
+        return self.runs(sorted(range(0, len(self._figures), 3), key=self._figures.__getitem__))
 
     def runs(self, places: Iterable[int]) -> Iterator[Tuple[int, int, int]]:
         """The runs at these places."""
-        return ((self._firsts[it], self._places[it], self._counts[it]) for it in places)
+        return (tuple(self._figures[place:place + 3]) for place in places)  # type: ignore
+
+    def _check(self, element: dumps.Element) -> None:
+        if len(self) > MOST_RUNS:
+            element.refuse(f"more than {MOST_RUNS} runs of blocks")
 
 
 def add_words(parser: ArgumentParser) -> None:
@@ -157,7 +152,7 @@ class Pool:
 
     def _begin_device(self, element: dumps.Element) -> None:
         number, self._count = element.number("dev_id"), element.number("mapped_blocks")
-        self._into = self.devices.setdefault(number, Runs(self._most)) if number in self._wanted else None
+        self._into = self.devices.setdefault(number, Runs()) if number in self._wanted else None
 
     def _end_device(self, element: dumps.Element) -> None:
         if self._into is not None:
@@ -169,7 +164,7 @@ class Pool:
         self._into = None
 
     def _begin_list(self, element: dumps.Element) -> None:
-        self._into, self._name = Runs(self._most), element.said.get("name", "")
+        self._into, self._name = Runs(), element.said.get("name", "")
         if self._name in self._lists:
             element.refuse("a list of this name is there already")
 
@@ -191,6 +186,8 @@ class Pool:
         keys = ("origin_block", "data_block", "") if element.tag == "single_mapping" else ("origin_begin", "data_begin", "length")
         first, place, count = (element.number(key) if key else 1 for key in keys)
         if self._into is not None:
+            if place + count > self._most or not count:
+                element.refuse(f"past the end of the data, of {self._most} blocks")
             self._into.add(element, first, place, count)
 
     def _use(self, element: dumps.Element, count: int) -> None:

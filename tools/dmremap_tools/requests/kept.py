@@ -16,11 +16,11 @@ class Kept:
         if not self.names:
             raise Refusal(streams.name_of(path), "no %s in it" % ("disk" if are_disks else "device"))
 
-    def leave(self, to: str, is_known: bool = True, count: int = 1) -> None:
-        """Counts requests that are left out, as the list of numbers or else the tables lack what they go to."""
+    def leave(self, to: str, is_known: bool = True) -> None:
+        """Counts a request that is left out, as the list of numbers or else the tables lack what it goes to."""
         lacking = ("DISKS has" if is_known else "lsblk has") if self.are_disks else "the tables have" if is_known else "dmsetup ls has"
         text = f"{to}, which {lacking} not"
-        self._left[text] = self._left.get(text, 0) + count
+        self._left[text] = self._left.get(text, 0) + 1
 
     def tell(self) -> None:
         """Tells them, in the order in which they came first."""

@@ -15,11 +15,7 @@ The files of the log are devices; LS is read only where they are given as /dev/d
 
 import re
 from argparse import ArgumentParser, Namespace
-from collections import Counter
-from functools import lru_cache
-from itertools import compress
-from operator import not_
-from typing import Dict, List, Optional, Sequence, Tuple, Union
+from typing import Dict, Optional, Tuple, Union
 
 from dmremap_tools.base import listings, names, numbers, requests, streams
 from dmremap_tools.base.refusal import WrongWords
@@ -28,7 +24,6 @@ from dmremap_tools.requests.kept import Kept
 
 EXAMPLE = "btrace /dev/dm-0 | dmremap-tools trace ls.txt vg0.table | dmremap map lvm vg0.backup | dmremap-tools report"
 
-Column = Sequence[str]
 EVENT = "block_bio_queue:"
 # A line of blkparse, up to the action. Those of the action Q, a request that comes, are read whole where they are of the
 # usual form; of other actions there is nothing to read. A process may have a name that looks like such a line.
@@ -72,7 +67,8 @@ def run(words: Namespace) -> None:
     known = listings.read_lsblk(words.ls)[1] if words.lower else {number: name for name, number in listings.read_ls(words.ls)}
     by_number = {number.replace(":", ","): name for number, name in known.items()}
     reader = RequestMaker(streams.Lines(words.file), by_number, Kept(words.tables, words.lower), times)
-    reader.source.hand_on({EVENTS: reader.take_events, LINE: reader.take_lines}, reader.take_line)
+    for fields in reader.source.rows(LINE, EVENTS):
+        reader.take_line(fields)
     reader.end()
 
 
@@ -93,6 +89,9 @@ class Reader:
             return
         self.events += 1
         number, time, what, first, count = fields
+        if "," not in number:
+            # An event has its time first; one of no sectors is none.
+            number, time, what = time, number, what if count != "0" else ""
         if what:
             self.take(number, what, int(first), int(count), time)
 
@@ -139,83 +138,30 @@ class RequestMaker(Reader):
 
     def __init__(self, source: streams.Lines, known: Dict[str, str], kept: Kept, times: Optional[streams.Output]) -> None:
         super().__init__(source)
-        self.names, self.kept, self.times = known, kept, times
-        self.dropped = self.made = 0
-        self._beginning = lru_cache(maxsize=1024)(self._beginning_of)
-
-    def take_lines(self, lines: List[Tuple[str, ...]]) -> bool:
-        """Takes many lines of blkparse, unless a request has to be refused or cut."""
-        return self._take_all(len(lines), list(zip(*(it for it in lines if it[2]))))
-
-    def take_events(self, lines: List[Tuple[str, ...]]) -> bool:
-        """Takes many events, unless a request has to be refused or cut."""
-        columns = list(zip(*(it for it in lines if it[4] != "0")))
-        return self._take_all(len(lines), columns[1:2] + columns[:1] + columns[2:])
-
-    def _take_all(self, events: int, columns: List[Column]) -> bool:
-        if columns and not self._print_all(*columns):
-            return False
-        self.events += events
-        return True
-
-    def _print_all(self, devices: Column, times: Column, whats: Column, firsts: Column, counts: Column) -> bool:
-        begun = list(map(self._beginning, devices, whats))
-        if not requests.are_short(counts) or not all(begun) and None in begun:
-            return False
-        if not all(begun):
-            for device, count in Counter(compress(devices, map(not_, begun))).items():
-                self._leave(device, count)
-        made = [f"{beginning} {first} {count}\n" for beginning, first, count in zip(begun, firsts, counts) if beginning]
-        self.made += len(made)
-        streams.out.write("".join(made))
-        if self.times:
-            self.times.write("".join([time + "\n" for time in compress(times, begun)]))
-        return True
+        self._names, self._kept, self._times = known, kept, times
+        self._dropped = self._made = 0
 
     def take(self, number: str, what: str, first: int, count: int, time: str) -> None:
         """Prints a request, or leaves it out."""
-        beginning = self._beginning(number, what)
-        if beginning is None:
-            self.source.refuse_line("neither a read nor a write")
-        if not beginning:
-            self._leave(number, 1)
-            return
-        made = requests.write(self.source, beginning[0], beginning[2:], first, count)
-        self.made += made
-        if self.times:
-            self.times.write((time + "\n") * made)
-
-    def _beginning_of(self, number: str, what: str) -> Optional[str]:
-        """What a request begins with: R or W, and the device. Nothing if it is left out, None if it isn't known what it does."""
-        name = self.names.get(number)
-        if name not in self.kept.names:
-            return ""
-        operation = _operation_of(what)
-        return operation and operation + " " + name
-
-    def _leave(self, number: str, count: int) -> None:
-        """Counts requests that are left out."""
-        name = self.names.get(number)
-        if name is None:
-            self.kept.leave(number, False, count)
-        elif name not in self.kept.names:
-            self.kept.leave(f"{name} ({number})", True, count)
+        name = self._names.get(number)
+        if name not in self._kept.names:
+            self._kept.leave(number if name is None else f"{name} ({number})", name is not None)
+        elif EITHER.fullmatch(what):
+            made = requests.write(self.source, "W" if "W" in what else "R", name, first, count)
+            self._made += made
+            if self._times:
+                self._times.write((time + "\n") * made)
+        elif NEITHER.fullmatch(what):
+            self._dropped += 1
         else:
-            self.dropped += count
+            self.source.refuse_line("neither a read nor a write")
 
     def end(self) -> None:
         """The same, and tells what else was left out."""
         super().end()
-        self.kept.tell()
-        if self.dropped:
-            streams.tell("left out: %d requests that are neither reads nor writes" % self.dropped)
-        if not self.made:
-            streams.tell("no request came to a disk of DISKS" if self.kept.are_disks else
+        self._kept.tell()
+        if self._dropped:
+            streams.tell("left out: %d requests that are neither reads nor writes" % self._dropped)
+        if not self._made:
+            streams.tell("no request came to a disk of DISKS" if self._kept.are_disks else
                          "no request came to a device of the tables: a trace of the disks below them takes --lower")
-
-
-def _operation_of(what: str) -> Optional[str]:
-    """R or W by what a kernel calls an operation, nothing for what is left out, and None for what isn't known."""
-    if EITHER.fullmatch(what):
-        return "W" if "W" in what else "R"
-    return "" if NEITHER.fullmatch(what) else None
