@@ -1,15 +1,13 @@
 #!/usr/bin/env python3
 """Time and memory of the commands of dmremap-tools, for a number of lines and for a tenth of them.
 
-Usage: benches/tools.py [--before FOLDER] [MOST [COMMAND ..]]
+Usage: benches/tools.py [MOST [COMMAND ..]]
 
 Each line tells a command and its input of MOST lines (1000000 if not said), the least seconds of processor time of five
 runs, how much longer they are than those of a tenth, and the greatest memory in MiB of a tenth and of all. Time that is linear
-grows by a factor of up to 10. With --before, FOLDER has the scripts of awk that did the same before there was one tool, which
-mawk runs in turn with ours: their least seconds stand last. `physicals` has a physical volume, and `chain` two volumes, for as
-many lines as the generator says. The lines after these are of single inputs, where no COMMAND is named: 3,000 devices of which
-each stands on the one before, 400 devices on two each, half a MiB of what looks like the beginning of a text, and a volume of
-128 MiB, on two images in turn, that is saved.
+grows by a factor of up to 10. `physicals` has a physical volume, and `chain` two volumes, for as many lines as the generator says.
+The lines after these are of single inputs, where no COMMAND is named: 3,000 devices of which each stands on the one before, half a
+MiB of what looks like the beginning of a text, and a volume of 128 MiB, on two images in turn, that is saved.
 """
 
 import argparse
@@ -71,17 +69,12 @@ def extents(count, dice):
 
 def spans(count, _):
     for it in range(count):
-        yield "d %d %d a 0 linear\n" % (8 * it, 8 * it + 8)
+        yield "a: %d 8 linear d %d\n" % (8 * it, 8 * it)
 
 
 def places(count, dice):
     for _ in range(count):
         yield "sda %d 8\n" % dice.randrange(1 << 20)
-
-
-def origins(count, _):
-    for it in range(count):
-        yield "d 0 1000000 s%d 0 origin\n" % it
 
 
 def writes(count, dice):
@@ -119,30 +112,23 @@ def wide():
     yield "s: 0 960000 snapshot base sda P 8\n"
 
 
-SMALL = {"ls": ["a\t(253:0)\n"], "table": ["a: 0 1048576 linear sda 0\n"], "wide": wide()}
+SMALL = {"disks": ["%s %d\n" % (it, 1 << 31) for it in ("/dev/sda", "/dev/sdb", "/dev/sdc", "/dev/sdd", "d")], "ls": ["a\t(253:0)\n"], "table": ["a: 0 1048576 linear sda 0\n"], "wide": wide()}
+PLOT = ["--disks", "disks", "--plot", "plot.svg"]
 ROWS = [
-    (["bytes"], in_bytes), (["cut"], in_bytes), (["trace", "ls", "table"], queued), (["trace", "ls", "table"], traced),
-    (["trace", "--times", "beside", "ls", "table"], queued), (["fio", "table"], logged), (["filefrag", "a"], extents),
-    (["totals"], pieces), (["totals"], snapshot_pieces), (["histogram"], pieces), (["splits"], pieces), (["times", "moments"], pieces),
-    (["seeks"], pieces), (["json"], pieces), (["to-fio"], pieces),
-    (["free"], spans), (["clashes"], spans), (["clashes"], origins), (["owner", "table", "-"], places),
-    (["owner", "wide", "-"], places), (["store-size"], writes),
+    (["cut", "--bytes"], in_bytes), (["cut"], in_bytes), (["trace", "ls", "table"], queued), (["trace", "ls", "table"], traced),
+    (["trace", "--times", "beside", "ls", "table"], queued), (["trace", "--fio", "ls", "table"], logged), (["filefrag", "a"], extents),
+    (["report"], pieces), (["report"], snapshot_pieces), (["report", *PLOT], pieces), (["report", "--times", "moments"], pieces),
+    (["spans", "--free", "disks", "-"], spans), (["spans", "--clashes", "disks", "-"], spans), (["owner", "table", "-"], places),
+    (["owner", "wide", "-"], places), (["store", "--size", "-"], writes),
     (["lvm2-text", "-"], physicals), (["lvm2-text", "-"], chain),
 ]
-# The commands that were scripts of this name, and what these had for words of ours.
-SCRIPTS = ("bytes", "cut", "trace", "fio", "filefrag", "totals", "histogram", "to-fio")
-BEFORE = {"--times": ["-v"], "beside": ["times=beside"], "a": ["-v", "volume=a"]}
 # Single inputs: what a command is called, its words, and its files.
-DEVICES, LEVELS = 3000, 200
+DEVICES = 3000
 SINGLE = [
     ("%d devices" % DEVICES, ["machine", "--disks", "disks", "names", "state", "sizes", "lines"], {
         "names": "".join("d%d\t(253:%d)\n" % (it, it) for it in range(DEVICES)), "state": "d0: 0 8 linear \n",
         "sizes": "8:1 4096 sda1 \n" + "".join("253:%d 4096 dm-%d \n" % (it, it) for it in range(DEVICES)),
         "lines": "".join("d%d: 0 8 linear %s 0\n" % (it, "253:%d" % (it - 1) if it else "8:1") for it in range(DEVICES))}),
-    ("%d devices" % (2 * LEVELS), ["aliases", "lattice", "listed"], {
-        "lattice": "".join("%d:%d 8 d%d.%d d%d.%d\n" % (at + 1, it, at + 1, it, at, below) for at in range(LEVELS) for it in range(2)
-                           for below in range(2)) + "0:0 8 d0.0 \n0:1 8 d0.1 \n",
-        "listed": "d%d.0 8\nd0.0 8\n" % LEVELS}),
     ("braces", ["metadata", "--list", "head"], {
         "head": 'a {\nid = "x"\nseqno = 1\n}\n' + 'aaaa {\nid = "' * (1 << 15)}),
 ]
@@ -152,7 +138,6 @@ CHUNKS, CHUNK = 2048, 1 << 16
 
 def main():
     parser = argparse.ArgumentParser()
-    parser.add_argument("--before", metavar="FOLDER")
     parser.add_argument("most", metavar="MOST", type=int, nargs="?", default=1000000)
     parser.add_argument("commands", metavar="COMMAND", nargs="*")
     asked = parser.parse_args()
@@ -162,17 +147,16 @@ def main():
         write(os.path.join(room, "moments"), ("%d.%06d\n" % divmod(it, 1000000) for it in range(asked.most)))
         for words, lines in ROWS:
             if not asked.commands or words[0] in asked.commands:
-                show(words, lines, asked.most, asked.before, room)
+                show(words, lines, asked.most, room)
         if not asked.commands:
             show_single(room)
 
 
-def show(words, lines, most, before, room):
+def show(words, lines, most, room):
     """Prints the line of a command."""
-    tenth, memory_of_tenth, _ = least(words, lines, most // 10, None, room)
-    seconds, memory, seconds_before = least(words, lines, most, before, room)
-    print("%-22s %-16s %6.2f s %5.1f %5d %5d MiB%s" % (" ".join(words), lines.__name__, seconds, seconds / tenth, memory_of_tenth, memory,
-                                                       "  %6.2f s" % seconds_before if seconds_before else ""), flush=True)
+    tenth, memory_of_tenth = least(words, lines, most // 10, room)
+    seconds, memory = least(words, lines, most, room)
+    print("%-38s %-16s %6.2f s %5.1f %5d %5d MiB" % (" ".join(words), lines.__name__, seconds, seconds / tenth, memory_of_tenth, memory), flush=True)
 
 
 def show_single(room):
@@ -181,9 +165,9 @@ def show_single(room):
         for file, text in files.items():
             write(os.path.join(room, file), [text])
         ran = [measured(TOOL + words, os.devnull, room) for _ in range(RUNS)]
-        print("%-22s %-16s %6.2f s       %5d MiB" % (" ".join(words[:2]), name, min(it[0] for it in ran), max(it[1] for it in ran)), flush=True)
+        print("%-38s %-16s %6.2f s       %5d MiB" % (" ".join(words[:2]), name, min(it[0] for it in ran), max(it[1] for it in ran)), flush=True)
     seconds, memory = least_of_saves(room)
-    print("%-22s %-16s %6.2f s       %5d MiB" % ("save", "%d pieces" % CHUNKS, seconds, memory))
+    print("%-38s %-16s %6.2f s       %5d MiB" % ("save", "%d pieces" % CHUNKS, seconds, memory))
 
 
 def least_of_saves(room):
@@ -201,23 +185,12 @@ def least_of_saves(room):
     return min(it[0] for it in ran), max(it[1] for it in ran)
 
 
-def least(words, lines, count, before, room):
-    """The least seconds of some runs, the greatest memory, and the least seconds of the script that did it before, or none."""
+def least(words, lines, count, room):
+    """The least seconds of some runs, and the greatest memory."""
     path = os.path.join(room, "input")
     write(path, lines(count, random.Random(1)))
-    ran, ran_before = [], []
-    for _ in range(RUNS):
-        ran.append(measured(TOOL + words, path, room))
-        if before and words[0] in SCRIPTS:
-            ran_before.append(measured(scripted(os.path.abspath(before), words), path, room))
-    return min(it[0] for it in ran), max(it[1] for it in ran), min((it[0] for it in ran_before), default=None)
-
-
-def scripted(folder, words):
-    """The words by which mawk runs a script of that folder."""
-    variables = [part for it in words for part in BEFORE.get(it, [])]
-    scripts = [part for it in ("base", words[0].replace("-", "_")) for part in ("-f", os.path.join(folder, it + ".awk"))]
-    return ["mawk", *variables, *scripts, *(it for it in words[1:] if it not in BEFORE), "input"]
+    ran = [measured(TOOL + words, path, room) for _ in range(RUNS)]
+    return min(it[0] for it in ran), max(it[1] for it in ran)
 
 
 def write(path, parts):

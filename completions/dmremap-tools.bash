@@ -5,7 +5,7 @@
 _dmremap_tools() {
     local word=${COMP_WORDS[COMP_CWORD]} offered=""
     if [ "$COMP_CWORD" -eq 1 ]; then
-        offered="scan save serve lost owner tables filefrag debugfs bytes trace fio cut whole machine elsewhere aliases metadata lvm2-text totals histogram splits seeks times json to-fio dd read-back spans free clashes align tree dot extents store-full store-size used md thin cache btrfs file-device nbd-plugin picture plot explain --help"
+        offered="scan save serve lost owner tables filefrag trace cut machine elsewhere thin btrfs metadata lvm2-text report dd read-back spans tree extents store picture used md nbd-plugin explain --help"
     elif [[ $word == -* ]]; then
         case ${COMP_WORDS[1]} in
             scan) offered="--help --json --program" ;;
@@ -14,45 +14,26 @@ _dmremap_tools() {
             lost) offered="--help --map --saved --program" ;;
             owner) offered="--help --map --bytes --sector-size --program" ;;
             tables) offered="--help --to --program" ;;
-            filefrag) offered="--help --places --addresses --ls" ;;
-            debugfs) offered="--help --places --size --ls" ;;
-            bytes) offered="--help --ls" ;;
-            trace) offered="--help --times" ;;
-            fio) offered="--help --ls" ;;
-            cut) offered="--help --ls" ;;
-            whole) offered="--help --ls" ;;
+            filefrag) offered="--help --addresses --debugfs --device --on --size --part --ls" ;;
+            trace) offered="--help --times --lower --fio" ;;
+            cut) offered="--help --bytes --ls" ;;
             machine) offered="--help --disks --only --store --paths --sector-size" ;;
             elsewhere) offered="--help --paths --prefix --missing --losetup" ;;
-            aliases) offered="--help" ;;
+            thin) offered="--help --data --device --external --cache --origin --name --sectors --all --part" ;;
+            btrfs) offered="--help --name --device --copy --part" ;;
             metadata) offered="--help --list --seqno --at" ;;
             lvm2-text) offered="--help --only --program" ;;
-            totals) offered="--help" ;;
-            histogram) offered="--help" ;;
-            splits) offered="--help" ;;
-            seeks) offered="--help" ;;
-            times) offered="--help" ;;
-            json) offered="--help" ;;
-            to-fio) offered="--help" ;;
+            report) offered="--help --disks --plot --times --compare" ;;
             dd) offered="--help --requests --image --program --paths --store --fresh" ;;
             read-back) offered="--help --program --paths --store --fresh" ;;
-            spans) offered="--help --paths" ;;
-            free) offered="--help" ;;
-            clashes) offered="--help" ;;
-            align) offered="--help --to --stripes" ;;
-            tree) offered="--help" ;;
-            dot) offered="--help" ;;
+            spans) offered="--help --free --clashes --align --to --paths" ;;
+            tree) offered="--help --dot" ;;
             extents) offered="--help --ls --program --paths --store --fresh" ;;
-            store-full) offered="--help --program --paths --store --fresh" ;;
-            store-size) offered="--help --chunk --kind" ;;
+            store) offered="--help --requests --size --chunk --kind --program --paths --store --fresh" ;;
+            picture) offered="--help --scale" ;;
             used) offered="--help --program --paths --store --fresh --keep --status" ;;
             md) offered="--help --name --follow --copy --path --size" ;;
-            thin) offered="--help --data --device --external --part" ;;
-            cache) offered="--help --cache --origin --name --sectors --all --part" ;;
-            btrfs) offered="--help --name --device --copy --part" ;;
-            file-device) offered="--help --name --on --part" ;;
             nbd-plugin) offered="--help" ;;
-            picture) offered="--help --scale" ;;
-            plot) offered="--help --times" ;;
             explain) offered="--help --program --paths --store --fresh --json --before --status" ;;
         esac
     fi

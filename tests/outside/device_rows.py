@@ -1,4 +1,4 @@
-"""Devices that are made of what other tools print: rows of the commands `thin`, `cache`, `btrfs` and `file-device`."""
+"""Devices that are made of what other tools print: rows of the commands `thin` and `btrfs`."""
 
 import tool_calls
 
@@ -64,16 +64,27 @@ POOLS = [
     wrong("thin", THIN + ["4000", "--part", "0", "0"], pool(), "--part: a device has from 1 to 2^50 sectors, and not 0"),
     no_thin(["--data", "d,e", "--device", "1", "t", "8"], "--data: no name of a disk: 'd,e'"),
     no_thin(["--data", "d", "--device", "1", "a b", "8"], "NAME: no name of a device: 'a b'"),
-    no_thin(THIN + ["8"], "1:9: it has 14 blocks and not 13, as it says", pool(mapped="13")),
-    no_thin(THIN + ["8"], "1:7: past the end of the data, of 110 blocks:     <range_mapping origin_begin=\"9\" data_begin=\"109\" length=\"4\" time=\"1\"/>", pool("110")),
-    no_thin(THIN + ["8"], "1:13: its end is missing", pool().replace("</superblock>\n", "")),
-    no_thin(THIN + ["8"], "1:1: not what thin_dump prints: <x>", "<x>\n"),
-    no_thin(THIN + ["8"], "1:1: not what thin_dump prints:   <device dev_id=\"1\">", "  <device dev_id=\"1\">\n"),
-    no_thin(THIN + ["8"], "1:15: not what thin_dump prints: <superblock>", pool() + "<superblock>\n"),
-    no_thin(THIN + ["8"], "1:2: an element that isn't known: <snapshot>", pool().replace("<def name=\"3\">", "<snapshot>").replace("  <snapshot>", "<snapshot>")),
-    no_thin(THIN + ["8"], "1:8: not a whole number below 2^64: '-1'", pool().replace('data_block="12"', 'data_block="-1"')),
-    no_thin(THIN + ["8"], "1:8: `single_mapping` doesn't say data_block", pool().replace('data_block="12" ', "")),
+    no_thin(THIN + ["8"], "1: it has 14 blocks and not 13, as it says: </device>", pool(mapped="13")),
+    no_thin(THIN + ["8"], "1: past the end of the data, of 110 blocks: <range_mapping origin_begin=\"9\" data_begin=\"109\" length=\"4\" time=\"1\">", pool("110")),
+    no_thin(THIN + ["8"], "1:14: not what thin_dump prints, or its end is missing: no element found: line 14, column 0", pool().replace("</superblock>\n", "")),
+    no_thin(THIN + ["8"], "1: not what thin_dump prints: <x>", "<x>\n"),
+    no_thin(THIN + ["8"], "1: not what thin_dump prints: <device>", "  <device dev_id=\"1\">\n"),
+    no_thin(THIN + ["8"], "1:15: not what thin_dump prints, or its end is missing: junk after document element: line 15, column 0", pool() + "<superblock>\n"),
+    no_thin(THIN + ["8"], "1: an element that isn't known: <snapshot>", pool().replace("  <def name=\"3\">", "<snapshot/><def name=\"3\">")),
+    no_thin(THIN + ["8"], "1: not a whole number below 2^64: '-1': <single_mapping origin_block=\"20\" data_block=\"-1\" time=\"0\">", pool().replace('data_block="12"', 'data_block="-1"')),
+    no_thin(THIN + ["8"], "1: it doesn't say data_block: <single_mapping origin_block=\"20\" time=\"0\">", pool().replace('data_block="12" ', "")),
     no_thin(THIN + ["4000"], "t: block 12 of a device is there twice", pool().replace('"20" data_block="12"', '"12" data_block="12"')),
+]
+# In any layout; and what no dump has.
+POOLS += [
+    thin(THIN + ["2700"], "t,,,ro,0 1664 linear d 12800,1664 896 zero,2560 128 linear d 1536,2688 12 zero\n",
+         '<?xml version="1.0"?>\n<!-- a pool -->' + pool().replace("\n", "").replace("/>", "\n\n />").replace('data_block="12"', "data_block='&#49;2'")),
+    no_thin(THIN + ["8"], "1: not what thin_dump prints: <!DOCTYPE>", '<!DOCTYPE a [<!ENTITY b "bb"><!ENTITY c "&b;&b;">]>\n' + pool()),
+    no_thin(THIN + ["8"], "1: not what thin_dump prints: 5 blocks", pool().replace("  <def", "  5 blocks <def")),
+    no_thin(THIN + ["8"], "1:1: not what thin_dump prints, or its end is missing: syntax error: line 1, column 0", "no such file\n"),
+    bad("thin", THIN + ["8"], [""], "1:1: not what thin_dump prints, or its end is missing: no element found: line 1, column 0"),
+    wrong("thin", THIN + ["8", "--cache", "c"], pool(), "give --data and --device, or --cache, --origin, --name and --sectors"),
+    wrong("thin", ["--data", "d"], pool(), "give --data and --device, or --cache, --origin, --name and --sectors"),
 ]
 # Lists of blocks that refer to others.
 FIRST_LIST = '<def name="3">\n    <range_mapping origin_begin="30" data_begin="40" length="2" time="0"/>\n  </def>\n'
@@ -83,11 +94,11 @@ POOLS += [
     thin(["--data", "d"] + TWO, "u,,,ro,0 2560 zero,2560 256 linear d 1664,2816 1024 zero,3840 60 linear d 5120\n",
          WITH_NESTED.replace('3"/>\n    <single_mapping origin_block="20" data_block="13"', '4"/>\n    <ref name="5"/>\n    <ref name="5"/>\n'
                              '    <single_mapping origin_block="20" data_block="13"').replace('mapped_blocks="3"', 'mapped_blocks="4"')),
-    no_thin(["--data", "d"] + TWO, "1:20: a list of blocks is in a device twice",
+    no_thin(["--data", "d"] + TWO, "1: a list of blocks is in a device twice: </device>",
             WITH_NESTED.replace('<ref name="3"/>\n    <single_mapping origin_block="20"', '<ref name="3"/>\n    <ref name="4"/>\n    <single_mapping origin_block="20"')),
-    no_thin(THIN + ["8"], "1:11: no list of this name comes before it:     <ref name=\"6\"/>", pool().replace('<ref name="3"/>', '<ref name="6"/>')),
-    no_thin(THIN + ["8"], "1:3: no list of this name comes before it:     <ref name=\"4\"/>", WITH_NESTED.replace('    <range_mapping origin_begin="30"', '    <ref name="4"/>\n    <range_mapping origin_begin="30"')),
-    no_thin(THIN + ["8"], "1:5: a list of this name is there already:   <def name=\"3\">", WITH_NESTED.replace('<def name="4">', '<def name="3">')),
+    no_thin(THIN + ["8"], "1: no list of this name comes before it: <ref name=\"6\">", pool().replace('<ref name="3"/>', '<ref name="6"/>')),
+    no_thin(THIN + ["8"], "1: no list of this name comes before it: <ref name=\"4\">", WITH_NESTED.replace('    <range_mapping origin_begin="30"', '    <ref name="4"/>\n    <range_mapping origin_begin="30"')),
+    no_thin(THIN + ["8"], "1: a list of this name is there already: <def name=\"3\">", WITH_NESTED.replace('<def name="4">', '<def name="3">')),
 ]
 
 CACHE = """\
@@ -105,24 +116,25 @@ CACHE = """\
 """
 CACHED = ["--cache", "c", "--origin", "o", "--name", "d", "--sectors"]
 CACHES = [
-    good("cache", CACHED + ["1000"], [CACHE % 64], "d,,,ro,0 128 linear c 1152,128 256 linear o 128,384 256 linear c 0,640 360 linear o 640\n"),
-    good("cache", CACHED + ["700", "--all"], [CACHE % 64], "d,,,ro,0 128 linear c 1152,128 256 linear o 128,384 316 linear c 0\n"),
-    wrong("cache", CACHED + ["1125899906842625"], CACHE % 64, "--sectors: a device has from 1 to 2^50 sectors, and not 1125899906842625"),
-    good("cache", CACHED + ["400", "--part", "0", "1"], [CACHE % 64], "d,,,ro,0 128 linear c 1152,128 272 error\n"),
-    bad("cache", CACHED + ["1000"], [CACHE % 9], "1:6: past the end of the cache, of 9 blocks:     <mapping cache_block=\"9\" origin_block=\"0\" dirty=\"true\"/>"),
-    bad("cache", CACHED + ["1000"], [(CACHE % 64).replace('origin_block="4"', 'origin_block="3"')], "1: block 3 of the origin is there twice"),
-    bad("cache", CACHED + ["1000"], [(CACHE % 64).replace('cache_block="1"', 'cache_block="0"')], "1: block 0 of the cache is there twice"),
-    bad("cache", CACHED + ["1000"], [(CACHE % 64).replace('cache_block="2"', 'cache_block="0"')], "1: block 0 of the cache is there twice"),
-    bad("cache", CACHED + ["1000"], [(CACHE % 64).replace('origin_block="5"', 'origin_block="4"')], "1: block 4 of the origin is there twice"),
-    bad("cache", CACHED + ["1000"], [(CACHE % 64).replace('dirty="false"', 'dirty="True"')],
-        "1:5: `dirty` is neither true nor false:     <mapping cache_block=\"2\" origin_block=\"5\" dirty=\"True\"/>"),
-    bad("cache", CACHED + ["1000", "--all"], [(CACHE % 64).replace(' dirty="false"', '')],
-        "1:5: `dirty` is neither true nor false:     <mapping cache_block=\"2\" origin_block=\"5\"/>"),
-    bad("cache", CACHED + ["1000"], ["<superblock block_size=\"0\" nr_cache_blocks=\"1\">\n"],
-        "1:1: blocks of no sectors: <superblock block_size=\"0\" nr_cache_blocks=\"1\">"),
-    bad("cache", CACHED + ["1000"], ["<superblock block_size=\"1\" nr_cache_blocks=\"1\">\n"], "1:1: its end is missing"),
-    bad("cache", CACHED + ["1000"], [(CACHE % 64).replace("hints", "nothing")], "1:8: an element that isn't known:   <nothing>"),
-    bad("cache", ["--cache", "c", "--origin", "o;", "--name", "d", "--sectors", "8"], [CACHE % 64], "--origin: no name of a disk: 'o;'"),
+    good("thin", CACHED + ["1000"], [CACHE % 64], "d,,,ro,0 128 linear c 1152,128 256 linear o 128,384 256 linear c 0,640 360 linear o 640\n"),
+    good("thin", CACHED + ["700", "--all"], [CACHE % 64], "d,,,ro,0 128 linear c 1152,128 256 linear o 128,384 316 linear c 0\n"),
+    wrong("thin", CACHED + ["1125899906842625"], CACHE % 64, "--sectors: a device has from 1 to 2^50 sectors, and not 1125899906842625"),
+    good("thin", CACHED + ["400", "--part", "0", "1"], [CACHE % 64], "d,,,ro,0 128 linear c 1152,128 272 error\n"),
+    bad("thin", CACHED + ["1000"], [CACHE % 9], "1: past the end of the cache, of 9 blocks: <mapping cache_block=\"9\" origin_block=\"0\" dirty=\"true\">"),
+    bad("thin", CACHED + ["1000"], [(CACHE % 64).replace('origin_block="4"', 'origin_block="3"')], "1: block 3 of the origin is there twice"),
+    bad("thin", CACHED + ["1000"], [(CACHE % 64).replace('cache_block="1"', 'cache_block="0"')], "1: block 0 of the cache is there twice"),
+    bad("thin", CACHED + ["1000"], [(CACHE % 64).replace('cache_block="2"', 'cache_block="0"')], "1: block 0 of the cache is there twice"),
+    bad("thin", CACHED + ["1000"], [(CACHE % 64).replace('origin_block="5"', 'origin_block="4"')], "1: block 4 of the origin is there twice"),
+    bad("thin", CACHED + ["1000"], [(CACHE % 64).replace('dirty="false"', 'dirty="True"')],
+        "1: `dirty` is neither true nor false: <mapping cache_block=\"2\" origin_block=\"5\" dirty=\"True\">"),
+    bad("thin", CACHED + ["1000", "--all"], [(CACHE % 64).replace(' dirty="false"', '')],
+        "1: `dirty` is neither true nor false: <mapping cache_block=\"2\" origin_block=\"5\">"),
+    bad("thin", CACHED + ["1000"], ["<superblock block_size=\"0\" nr_cache_blocks=\"1\">\n"],
+        "1: blocks of no sectors: <superblock block_size=\"0\" nr_cache_blocks=\"1\">"),
+    bad("thin", CACHED + ["1000"], ["<superblock block_size=\"1\" nr_cache_blocks=\"1\">\n"], "1:2: not what cache_dump prints, or its end is missing: no element found: line 2, column 0"),
+    bad("thin", CACHED + ["1000"], [(CACHE % 64).replace("hints", "nothing")], "1: an element that isn't known: <nothing>"),
+    wrong("thin", ["--cache", "c", "--origin", "o", "--name", "d"], CACHE % 64, "give --data and --device, or --cache, --origin, --name and --sectors"),
+    bad("thin", ["--cache", "c", "--origin", "o;", "--name", "d", "--sectors", "8"], [CACHE % 64], "--origin: no name of a disk: 'o;'"),
 ]
 
 CHUNKS = """\
@@ -200,25 +212,4 @@ ADDRESSES = [
     bad("filefrag", ["--addresses", "b"], [FOUND % "ef53"], "1:1: not btrfs: Filesystem type is: ef53"),
 ]
 
-ASKED = "R v-home 1000 8\nR v-home 5000 16\n"
-FILES = [
-    good("file-device", ["--name", "i"], ["size 10000\n0 8\n8 16\n", ASKED], "i: 0 8 linear /dev/mapper/v-home 1000\ni: 8 16 linear /dev/mapper/v-home 5000\n"),
-    good("file-device", ["--name", "i", "--on", "sda"], ["size 20001\n8 8\n20 16\n", ASKED],
-         "i: 0 8 zero\ni: 8 8 linear sda 1000\ni: 16 4 zero\ni: 20 16 linear sda 5000\ni: 36 4 zero\n"),
-    good("file-device", ["--name", "i"], ["size 512\n", ""], "i: 0 1 zero\n"),
-    good("file-device", ["--name", "i", "--part", "12", "2"], ["size 10000\n0 8\n8 16\n", ASKED], "i: 0 8 error\ni: 8 16 linear /dev/mapper/v-home 5000\n"),
-    bad("file-device", ["--name", "i"], ["", ASKED], "1: it is empty"),
-    bad("file-device", ["--name", "i"], ["0 8\n8 16\n", ASKED], "1:1: not a line of PLACES"),
-    bad("file-device", ["--name", "i"], ["size 9\n0 8 1\n", ASKED], "1:2: not a line of PLACES"),
-    bad("file-device", ["--name", "i"], ["size 9\n0 7\n", ASKED], "2:1: not the request of line 2 of PLACES"),
-    bad("file-device", ["--name", "i"], ["size 9\n0 8\n4 16\n", ASKED], "1:3: it lies before the end of the line above: 4 16"),
-    bad("file-device", ["--name", "i"], ["size 9\n0 8\n", ASKED], "2:2: more requests than lines of PLACES"),
-    bad("file-device", ["--name", "i"], ["size 9\n0 8\n8 16\n9 1\n", ASKED], "2:2: not the request of line 4 of PLACES"),
-    bad("file-device", ["--name", "i"], ["size 9\n0 8\n", "W v 0 8\n"], "2:1: not the request of line 2 of PLACES"),
-    bad("file-device", ["--name", "i"], ["size 9\n0 8\n", "R v 0\n"], "2:1: not the request of a file: R v 0"),
-    bad("file-device", ["--name", "i"], ["size 0\n", ""], "i: it has no sectors"),
-    # A line for every second sector is more than dmremap takes.
-    bad("file-device", ["--name", "i", "--on", "d"], ["size 0\n" + "".join("%d 1\n" % (2 * it) for it in range(40000)), "R v 0 1\n" * 40000],
-        "i: it has more than 65536 lines, or 1048576 bytes of them, which is all that dmremap takes: ask for a part, with --part START SECTORS"),
-]
-ROWS = POOLS + CACHES + TREES + ADDRESSES + FILES
+ROWS = POOLS + CACHES + TREES + ADDRESSES

@@ -76,25 +76,30 @@ SPANS += [
             "e 88 88 - - end\n"),
 ]
 
+# Snapshots of one disk, two devices that serve it, and two that lie on it beside them.
+SHARED = ("s: 0 64 snapshot d x P 8\nt: 0 64 snapshot d y P 8\no: 0 64 snapshot-origin d\np: 0 64 snapshot-origin d\na: 0 1 linear d 2\n"
+          "b: 0 1 linear d 3\n")
 READERS = [
-    good("free", [], ["d 4 8 a 0 linear\nd 6 7 b 0 linear\nd 9 9 - - end\ne 5 5 - - end\n"],
+    good("spans", ["--free"], ["d 9\ne 5\n", "a: 0 4 linear d 4\nb: 0 1 linear d 6\n"],
          "d 0 4 unnamed\nd 4 8 a 0 linear\nd 6 7 b 0 linear\nd 8 9 unnamed\ne 0 5 unnamed\n"),
-    *(good(it, [], [""], "", "no line came\n") for it in ("free", "clashes", "align", "store-size")),
+    *(good("spans", it, ["", ""], "", "no disk and no device came\n") for it in ([], ["--free"], ["--clashes"], ["--align"])),
+    good("store", ["--size", "1"], [""], "", "no line came\n"),
     good("tree", [], [""], "", "no device came\n"),
-    good("spans", [], ["", ""], "", "no disk and no device came\n"),
-    good("free", [], ["d 0 12 g - label+metadata\nd 64 64 - - end\n"], "d 0 12 g - label+metadata\nd 12 64 unnamed\n"),
-    good("clashes", [], ["d 0 12 g - label+metadata\nd 8 16 a 0 linear\nd 64 64 - - end\n"], "d 8 11 g a\n"),
+    good("spans", ["--free"], ["pv1 64\n", "", METADATA], "pv1 0 12 g - label+metadata\npv1 12 64 unnamed\n",
+         "left out: the physical volume pv0 (/dev/mapper/c), which is neither a disk nor a device here\n"
+         "left out: the physical volume pv2 (/dev/sdz), which is neither a disk nor a device here\n"),
+    good("spans", ["--clashes"], ["d 64\n", "a: 0 8 linear d 8\n", "g { physical_volumes { d { pe_start = 12 } } }\n"], "d 8 11 g a\n"),
     # Snapshots share an origin; a span that ended is met by none, also when it began late.
-    good("clashes", [], ["d 0 64 s 0 origin\nd 0 64 t 0 origin\nd 0 64 o 0 snapshot-origin\nd 0 64 p 0 snapshot-origin\nd 2 3 a 0 linear\n"
-                         "d 3 4 b 0 store\nd 9 9 c 0 linear\ne 0 9 a 1 linear\n"],
-         "d 0 63 o p\nd 2 2 s a\nd 2 2 t a\nd 2 2 o a\nd 2 2 p a\nd 3 3 s b\nd 3 3 t b\nd 3 3 o b\nd 3 3 p b\n"),
-    good("align", [], ["d 2047 9000 a 0 linear\nd 2048 4000 b 0 linear\nd 9999 9999 - - end\n"], "a begins at sector 2047 of d\n"),
-    good("align", ["--to", "8"], ["d 0 8 a 0 linear\nd 12 20 b 8 linear\n"], "b begins at sector 12 of d\n"),
-    good("align", ["--stripes", "3", "128", "1000000"], [], "999936\n"),
-    lost("free", [], ["d 4 8 a\n"], "1:1: not a line of spans: d 4 8 a"),
-    lost("free", [], ["refused\n"], "1:1: not a line of spans: refused"),
-    lost("clashes", [], ["d 8 4 a 0 linear\n"], "1:1: not a line of spans: d 8 4 a 0 linear"),
-    lost("align", [], ["d 8 4x a 0 linear\n"], "1:1: not a whole number below 2^64: '4x'"),
+    good("spans", ["--clashes"], ["d 64\nx 99\ny 99\n", SHARED],
+         "d 0 63 o p\nd 2 2 o a\nd 2 2 p a\nd 2 2 s a\nd 2 2 t a\nd 3 3 o b\nd 3 3 p b\nd 3 3 s b\nd 3 3 t b\n"),
+    good("spans", ["--align"], ["d 9999\n", "a: 0 6953 linear d 2047\nb: 0 1952 linear d 2048\n"], "a begins at sector 2047 of d\n"),
+    good("spans", ["--align", "--to", "8"], ["d 99\n", "a: 0 8 linear d 0\nb: 0 8 zero\nb: 8 8 linear d 12\n"], "b begins at sector 12 of d\n"),
+    ("spans", ["--align", "--to", "0"], ["d 9\n", ""], "refused\n", "dmremap-tools spans: --to: a multiple of no sectors\n", 2),
+    lost("picture", [], ["d 4 8 a\n"], "1:1: not a line of spans: d 4 8 a"),
+    lost("picture", [], ["refused\n"], "1:1: not a line of spans: refused"),
+    lost("picture", [], ["d 8 4 a 0 linear\n"], "1:1: not a line of spans: d 8 4 a 0 linear"),
+    lost("picture", [], ["d 8 4x a 0 linear\n"], "1:1: not a whole number below 2^64: '4x'"),
+    lost("picture", [], ["a b\n"], "1:1: not a line of spans: a b"),
 ]
 
 CHAIN = "".join("c%d: 0 8 linear /dev/mapper/c%d 0\n" % (it, it + 1) for it in range(40)) + "c40: 0 8 zero\n"
@@ -107,23 +112,23 @@ PICTURES = [
     lost("tree", [], ["t: 0 8 zero\na: 0 8 linear /dev/mapper/a 0\n"], "1: devices stand on themselves, or on too many others: a"),
     lost("tree", [], [CHAIN], "1: devices stand on themselves, or on too many others: c0"),
     lost("tree", [], ["\n".join(CHAIN.split("\n")[::-1][1:]) + "\n"], "1: devices stand on themselves, or on too many others: c8"),
-    bad("dot", [], ["a: 0 8 linear /dev/mapper/b 0\nb: 0 8 linear /dev/mapper/a 0\n"], "1: devices stand on themselves, or on too many others: a"),
+    lost("tree", ["--dot"], ["a: 0 8 linear /dev/mapper/b 0\nb: 0 8 linear /dev/mapper/a 0\n"], "1: devices stand on themselves, or on too many others: a"),
     bad("spans", [], ["d 8\n", "a: 0 8 linear d 0\nb: 0 8 linear /dev/mapper/b 0\n"], "2: devices stand on themselves, or on too many others: b"),
     good("tree", [], ["".join(CHAIN.splitlines(True)[9:])], "".join(
         "%sc%d\n%s+- 0 8 %s\n" % ("|    " * it, it + 9, "|    " * it, "linear /dev/mapper/c%d 0" % (it + 10) if it < 31 else "zero")
         for it in range(32))),
-    good("dot", [], ["s: 0 8 snapshot a\"b P P 8\nz: 0 8 zero\nt: 0 8 striped 2 4 d 0 d 4\n"],
+    good("tree", ["--dot"], ["s: 0 8 snapshot a\"b P P 8\nz: 0 8 zero\nt: 0 8 striped 2 4 d 0 d 4\n"],
          'digraph stack {\n  "disk a\\"b" [shape=box]\n  "s" -> "disk a\\"b" [label="origin 0+8"]\n  "disk P" [shape=box]\n'
          '  "s" -> "disk P" [label="store 0+8"]\n  "s"\n  "z"\n  "disk d" [shape=box]\n  "t" -> "disk d" [label="striped 0+8"]\n  "t"\n}\n'),
     lost("tree", [], ["a 0 8 zero\n"], "1:1: not table text: a 0 8 zero"),
-    bad("dot", [], ["a 0 8 zero\n"], "1:1: not table text: a 0 8 zero"),
+    lost("tree", ["--dot"], ["a 0 8 zero\n"], "1:1: not table text: a 0 8 zero"),
 ]
 
 STORES = [
-    good("store-size", [], ["R a 0 800\nW a 0 9\nW b 8 8\nW a 16 8\n"], "a 3 40 16\nb 1 24 16\n"),
-    good("store-size", ["--kind", "N", "--chunk", "4"], ["W a 3 2\n"], "a 2 8 0\n"),
-    lost("store-size", [], ["W a 0 8\nx\n"], "1:2: not a request: x"),
-    lost("store-size", [], ["W a 0 18446744073709551615\n"], "1:1: the chunks lie too far apart to be counted in 256 MiB"),
+    good("store", ["--size", "1"], ["R a 0 800\nW a 0 9\nW b 8 8\nW a 16 8\n"], "a 3 40 16\nb 1 24 16\n"),
+    good("store", ["--kind", "N", "--chunk", "4", "--size", "1"], ["W a 3 2\n"], "a 2 8 0\n"),
+    lost("store", ["--size", "1"], ["W a 0 8\nx\n"], "1:2: not a request: x"),
+    lost("store", ["--size", "1"], ["W a 0 18446744073709551615\n"], "1:1: the chunks lie too far apart to be counted in 256 MiB"),
 ]
 
 ROWS = SPANS + READERS + PICTURES + STORES

@@ -1,5 +1,6 @@
 """The commands about layouts: rows, random stacks, and when stores are full."""
 
+import itertools
 import os
 import random
 import re
@@ -18,6 +19,7 @@ def check(tally, program, top):
     tool_calls.check_rows(tally, program, top, layout_rows.ROWS)
     check_taken(tally, program, top)
     check_full(tally, program, top)
+    check_places(tally, program, top)
     check_sizes(tally, program, top)
     check_many_clashes(tally, program, top)
     for seed in range(STACKS):
@@ -26,11 +28,10 @@ def check(tally, program, top):
 
 def check_many_clashes(tally, program, top):
     """Of ranges within each other all have clashes with all: a million are printed."""
-    nested = "".join("sda %d %d v%d 0 linear\n" % (it, 10000 - it, it) for it in range(3000))
-    path = program.file("clashes/spans", nested)
-    got = tool_calls.call(top, ["clashes", path])
-    said = "dmremap-tools clashes: %s: there are more than 1000000 clashes: take the lines of one disk, or of fewer devices\n" % path
-    tally.holds("clashes of nested ranges", (got.status, got.out.count(b"\n"), got.err.decode()) == (1, 1000000, said),
+    path = program.file("clashes/table", "".join("v%d: 0 %d linear sda %d\n" % (it, 10000 - 2 * it, it) for it in range(3000)))
+    got = tool_calls.call(top, ["spans", "--clashes", program.file("clashes/disks", "sda 10000\n"), path])
+    said = "dmremap-tools spans: %s: there are more than 1000000 clashes: take the lines of one disk, or of fewer devices\n" % path
+    tally.holds("clashes of nested ranges", (got.status, got.out.count(b"\n"), got.err.decode()) == (1, 1000001, said),
                 "status %s, %d lines, %r" % (got.status, got.out.count(b"\n"), got.err))
 
 
@@ -66,24 +67,26 @@ def check_taken(tally, program, top):
 def check_full(tally, program, top):
     """When stores are full: as the status after each number of requests says it."""
     def full(requests, table, disks):
-        files = [program.file("full/requests", requests), "table", program.file("full/table", table), program.file("full/disks", disks)]
+        files = ["--requests", program.file("full/requests", requests), "table", program.file("full/table", table), program.file("full/disks", disks)]
         fresh = [word for name in re.findall(r"^(\w+): 0 \d+ snapshot ", table, re.M) for word in ("--fresh", name)]
-        return tool_calls.call(top, ["store-full", "--program", program.path, *fresh, *files])
+        return tool_calls.call(top, ["store", "--program", program.path, *fresh, *files])
 
     for seed in range(5):
         dice = random.Random(seed)
         kinds = [(dice.choice("PNK"), 1 << dice.randrange(4)) for _ in range(2)]
         table = "o: 0 256 snapshot-origin base\n" + "".join("s%d: 0 256 snapshot base cow%d %s %d\n" % (2 * (it,) + kinds[it]) for it in range(2))
-        disks = "base 256\n" + "".join("cow%d %d\n" % (it, dice.randrange(1, 200)) for it in range(2))
+        lengths = [dice.randrange(1, 200) for _ in range(2)]
+        disks = "base 256\n" + "".join("cow%d %d\n" % it for it in enumerate(lengths))
         requests = ["%s %s %d %d\n" % (dice.choice("RWW"), dice.choice(["o", "s0", "s1"]), dice.randrange(10 ** dice.randrange(1, 6)),
                                        dice.randrange(1, 20)) for _ in range(dice.randrange(40))]
         statuses = [statuses_after(program, table, disks, requests[:it]) for it in range(len(requests) + 1)]
-        wanted = "".join(line_of(name, [it[name] for it in statuses]) for name in ("s0", "s1"))
+        wanted = "".join(places_line("s%d" % it, 256, *kinds[it], lengths[it], True) for it in range(2))
+        wanted += "".join(line_of(name, [it[name] for it in statuses]) for name in ("s0", "s1"))
         tally.same("when the stores of %r are full" % table, full("".join(requests), table, disks), 0, wanted)
         odd = ["\ufeff" + it.replace("\n", "\r\n") for it in ("".join(requests) or "R o 0 1\n", table, disks)]
         tally.same("the same with carriage returns", full(*odd), 0, wanted if requests else full("R o 0 1\n", table, disks).out)
     table, disks = "s: 0 8 snapshot base cow P 8\n", "base 8\ncow 24\n"
-    ended = "dmremap-tools store-full: %s: it ends with status 3\n" % program.path
+    ended = "dmremap-tools store: %s: it ends with status 3\n" % program.path
     got = full("W s 0 1\nW s 0\n", table, disks)
     tally.same("a store and a bad request", got, 1, "", "dmremap: request 2: form\n" + ended)
     got = full("W s 0 1\nW s 0 1", table, disks)
@@ -92,15 +95,46 @@ def check_full(tally, program, top):
         given = ["W s 0 1\n", table, disks]
         given[place] = "BZh"
         path = os.path.join(program.room, "full", name)
-        tally.same("stores by a compressed %s" % name, full(*given), 1, "", "dmremap-tools store-full: %s: it is compressed (bzip2)\n" % path)
+        tally.same("stores by a compressed %s" % name, full(*given), 1, "", "dmremap-tools store: %s: it is compressed (bzip2)\n" % path)
     got = full("W a 0 1\n", "a: 0 8 zero\n", "")
-    tally.same("no store", got, 1, "", "dmremap-tools store-full: %s: the command knows no snapshot\n" % program.file("full/requests", ""))
-    got = tool_calls.call(top, ["store-full", "/dev/null", "table", "none", "none", "--program", os.path.join(program.room, "none")])
-    tally.same("stores of no table", got, 1, "", "dmremap-tools store-full: none: No such file or directory\n")
-    got = tool_calls.call(top, ["store-full", program.file("full/requests", ""), "lvm", "none", "none"])
-    tally.same("stores with words too many", got, 2, "", "usage: REQUESTS FORMAT FILE [DISKS]\ndmremap-tools store-full: give DISKS, or leave it out with lvm\n")
-    got = tool_calls.call(top, ["store-full", program.file("full/requests", ""), "table", program.file("full/table", table), program.file("full/disks", disks), "--program", "no/where"])
-    tally.same("stores by no program", got, 1, "", "dmremap-tools store-full: no/where: No such file or directory\n")
+    tally.same("no store", got, 1, "", "dmremap-tools store: %s: it has no snapshot\n" % program.file("full/table", ""))
+    got = tool_calls.call(top, ["store", "table", "none", "none", "--program", os.path.join(program.room, "none")])
+    tally.same("stores of no table", got, 1, "", "dmremap-tools store: none: No such file or directory\n")
+    for words, usage, why in (
+            (["lvm", "none", "none"], "usage: FORMAT FILE [DISKS] [--requests REQUESTS]\n", "give DISKS, or leave it out with lvm"),
+            ([], "", "give FORMAT, FILE and DISKS, or --size REQUESTS"), (["--size", "none", "lvm", "none"], "", "--size needs no FORMAT, FILE and DISKS")):
+        tally.same("stores by %s" % words, tool_calls.call(top, ["store", *words]), 2, "", "%sdmremap-tools store: %s\n" % (usage, why))
+    got = tool_calls.call(top, ["store", "table", program.file("full/table", table), program.file("full/disks", disks), "--program", "no/where"])
+    tally.same("stores by no program", got, 1, "", "dmremap-tools store: no/where: No such file or directory\n")
+
+
+def check_places(tally, program, top):
+    """Whether a store can be full: as a store that takes all chunks of its snapshot says it."""
+    for seed in range(12):
+        dice = random.Random(seed)
+        kind, chunk, length = dice.choice("PNK"), 1 << dice.randrange(4), dice.randrange(1, 300)
+        store = dice.choice([dice.randrange(1, 400), length + 2 * chunk, length + 3 * chunk, 9999])
+        table, disks = "s: 0 %d snapshot base cow %s %d\n" % (length, kind, chunk), "base %d\ncow %d\n" % (length, store)
+        if seed % 2:
+            table += "o: 0 %d snapshot-origin base\n" % length
+        files = [program.file("places/table", table), program.file("places/disks", disks)]
+        got = tool_calls.call(top, ["store", "--program", program.path, "table", *files])
+        tally.same("whether the store of %r is ever full" % table, got, 0, places_line("s", length, kind, chunk, store, seed % 2))
+        status = statuses_after(program, table, disks, ["W s 0 %d\n" % length])["s"]
+        is_full = status == "Invalid" or kind == "K" and b"error" in program.run(["map", "table", *files], given="W s 0 %d\n" % length).out
+        tally.holds("a store that takes all chunks", is_full == (b"never" not in got.out), "%s, %r" % (status, got.out))
+
+
+def places_line(name, length, kind, chunk, store, is_served):
+    """The line of `store` for a snapshot, whose places are counted one by one."""
+    entries = 32 * chunk
+    placed = (it if kind == "N" else 2 + it + it // entries for it in itertools.count())
+    places = sum(1 for _ in itertools.takewhile(lambda it: (it + 1) * chunk <= store, placed))
+    chunks = -(-length // chunk)
+    said = ("it is never full" + ", unless a kernel has one place less" * (places == chunks and kind != "N") if places >= chunks
+            else "it can be full, which makes the snapshot invalid" if kind != "K"
+            else "it can be full; writes to the snapshot fail then" + ", and only one to the origin makes it invalid" * bool(is_served))
+    return "%s: %d chunks, %d places in its store: %s\n" % (name, chunks, places, said)
 
 
 def statuses_after(program, table, disks, requests):
@@ -110,7 +144,7 @@ def statuses_after(program, table, disks, requests):
 
 
 def line_of(name, statuses):
-    """The line of store-full for a snapshot that has these statuses, after each number of requests."""
+    """The line of `store` for a snapshot that has these statuses, after each number of requests."""
     if "Invalid" not in statuses:
         return "%s: valid to the end, %s\n" % (name, statuses[-1])
     number = statuses.index("Invalid")
@@ -127,7 +161,7 @@ def check_sizes(tally, program, top):
         status = statuses_after(program, "s: 0 4096 snapshot base cow %s %d\n" % (kind, chunk), "base 4096\ncow 9999\n", requests)["s"]
         used, own = re.fullmatch(r"(\d+)/9999 (\d+)", status).groups()
         chunks = {at // chunk for it in requests if it[0] == "W" for first, count in [map(int, it.split()[2:])] for at in range(first, first + count)}
-        got = tool_calls.call(top, ["store-size", "--kind", kind, "--chunk", str(chunk)], given="".join(requests))
+        got = tool_calls.call(top, ["store", "--size", "-", "--kind", kind, "--chunk", str(chunk)], given="".join(requests))
         tally.same("the store that %d writes in chunks of %d fill" % (len(requests), chunk), got, 0, "s %d %s %s\n" % (len(chunks), used, own))
 
 
@@ -140,16 +174,13 @@ def check_stack(tally, program, top, dice):
     def tool(*words, given=""):
         return tool_calls.call(top, words, given=given)
 
-    spans = program.file("stack/spans", tool("spans", disks, dice.choice([tables, source])).out)
-    got = tool("clashes", spans)
+    got = tool("spans", "--clashes", disks, dice.choice([tables, source]))
     wanted = clashes(stack)
     found = sorted(got.out.decode().splitlines())
     tally.holds("all clashes of " + concise(stack), got.status == 0 and found == wanted, "%r and not %r" % (found, wanted))
     said = "clash" if wanted else "tidy"
     tally.holds("whether there are any", tidiness(stack).startswith(said), "the rules say %s" % tidiness(stack))
     for name in stack.tables:
-        asked = tool("whole", name, tables).out.decode()
-        tally.holds("the whole of %s" % name, asked == "R %s 0 %d\n" % (name, stack.length("/dev/mapper/" + name)), asked)
         fresh = [word for it, table in stack.tables.items() if table[0][2][0] == "snapshot" for word in ("--fresh", it)]
         found = tool("extents", "--program", program.path, *fresh, name, "concise", source, disks).out.decode()
         wanted = extents([stack.read("/dev/mapper/" + name, at) for at in range(stack.length("/dev/mapper/" + name))])

@@ -194,10 +194,3 @@ def check_large(tally, program, top):
         found = {int(it) for it in re.findall(r"left out: d(\d+) \(it stands on itself, or on too many others\), the disk", got.err.decode())}
         is_so = got.status == 0 and found == left and got.out.count(b"\n") == count - len(left)
         tally.holds("a thousand devices on each other", is_so, "status %s, %s" % (got.status, sorted(found ^ left)[:5]))
-    # Each device lies on two of the level below, so that there are more ways down than can be counted.
-    levels = 200
-    rows = "".join("%d:%d 8 d%d.%d d%d.%d\n" % (level, it, level, it, level - 1, below) if level else "0:%d 8 d0.%d \n" % (it, it)
-                   for level in range(levels) for it in range(2) for below in range(2))
-    disks = "d%d.0 8\nd0.0 8\n" % (levels - 1)
-    got = tool_calls.call(top, ["aliases", program.file("machines/lsblk", rows), program.file("machines/listed", disks)])
-    tally.same("a lattice of devices", got, 0, "d%d.0 lies on d0.0\n" % (levels - 1))

@@ -21,25 +21,17 @@ sda 1000 1000 - - end
 """
 ORIGINS = "o 0 10 s 0 origin\no 0 10 t 0 origin\no 0 10 u 0 snapshot-origin\no 10 10 - - end\n"
 PICTURES = [
-    lost("picture", [], ["a b\n"], "1:1: not a line of spans: a b"),
     lost("picture", [], ["a 0 8 b 0 linear\n"], "1: a has no end, or a range past it"),
     lost("picture", [], ["a 0 8 b 0 linear\na 4 4 - - end\n"], "1: a has no end, or a range past it"),
     lost("picture", [], ["a 8 9 b 0 linear\na 0 8 b 0 linear\na 9 9 - - end\n"], "1: the ranges of a aren't sorted"),
 ]
 DISKS = "sda 1500\nsdb 150\n"
 MEMORY = 100 << 20
-PLOTS = [
-    lost("plot", [], [DISKS, "1 R sdc 0 8\n"], "2:1: DISKS has no sdc"),
-    lost("plot", [], [DISKS, "1 R sdb 0 151\n"], "2:1: past the end of the disk: 1 R sdb 0 151"),
-    lost("plot", [], [DISKS, "1 R sdb\n"], "2:1: not a piece of an answer: 1 R sdb"),
-    lost("plot", ["--times", "3", "1", "2"], [DISKS, "2 R sdb 0 1\n", "1.0\n"], "2:1: no time of the request: 2 R sdb 0 1"),
-    lost("plot", ["--times", "3", "1", "2"], [DISKS, "1 R sdb 0 1\n", "now\n"], "2:1: no time of the request: 1 R sdb 0 1"),
-    lost("plot", ["--times", "3", "1", "2"], [DISKS, "2 R sdb 0 1\n1 R sdb 0 1\n", "1\n2\n"], "2:2: out of order: 1 R sdb 0 1"),
-]
+PLOT = ["--plot", "plot.svg", "--disks"]
 
 
 def check(tally, program, top):
-    check_rows(tally, program, top, PICTURES + PLOTS)
+    check_rows(tally, program, top, PICTURES)
     check_costs(tally, program, top)
     if not shutil.which("rsvg-convert"):
         tally.skip("pictures that are drawn", "there is no rsvg-convert")
@@ -54,11 +46,17 @@ def drawn(tally, program, top, words, given):
     got = call(top, words, given, program.room)
     if not tally.holds(" ".join(words), got.status == 0 and got.err == b"", "status %s, %r" % (got.status, got.err)):
         return "", None
-    path = program.file("drawn.svg", got.out)
+    path = os.path.join(program.room, "plot.svg") if words[0] == "report" else program.file("drawn.svg", got.out)
     made = run(["rsvg-convert", "-f", "png", path])
     tally.holds("drawing " + " ".join(words), made.status == 0 and made.err == b"", made.err)
-    tree.fromstring(got.out)
-    return got.out.decode(), Pixels(made.out)
+    text = picture_in(path)
+    tree.fromstring(text)
+    return text, Pixels(made.out)
+
+
+def picture_in(path):
+    with open(path, encoding="utf-8") as it:
+        return it.read()
 
 
 class Pixels:
@@ -134,34 +132,41 @@ def check_plot(tally, program, top):
     """What is read is blue, what is written red, each where it belongs. The size doesn't grow with the answers."""
     program.file("disks", DISKS)
     few = "".join("%d R sda %d 10\n" % (it + 1, 10 * it) for it in range(100)) + "".join("%d W sdb 0 10\n" % (it + 101) for it in range(50))
-    text, pixels = drawn(tally, program, top, ["plot", "disks"], few)
+    text, pixels = drawn(tally, program, top, ["report", *PLOT, "disks"], few)
     # A field is 900 wide for 150 requests, and 300 high for 1500 sectors, the first of which are below.
     rows = [("read", 26 + 299 - 2 * 50, BLUE, 50), ("nothing", 26 + 10, WHITE, 50), ("nothing after it", 26 + 299 - 2 * 50, WHITE, 120)]
     for name, y, colour, request in rows + [("written", 26 + 340 + 298, WRITTEN, 125), ("nothing before it", 26 + 340 + 298, WHITE, 60)]:
         x = 20 + 900 * (request + 0.5) / 150
         tally.holds("a plot of what is " + name, hue(pixels.at(x, y)) == hue(colour), "%s at %d, %d" % (pixels.at(x, y), x, y))
     many = "".join("%d R sda %d 1\n" % (it + 1, it * 7 % 1500) for it in range(200000))
-    text, pixels = drawn(tally, program, top, ["plot", "disks"], many)
+    text, pixels = drawn(tally, program, top, ["report", *PLOT, "disks"], many)
     tally.holds("a plot of many pieces", len(text) < 200000 and "requests 1 to 200000" in text, "%d bytes" % len(text))
     tally.holds("a plot that is full", all(hue(pixels.at(x, y)) == hue(BLUE) for x in (25, 400, 900) for y in (30, 200, 320)), "it has gaps")
     program.file("times", "".join("%.3f\n" % (5 + it / 100 if it < 100 else 5 + it / 10) for it in range(150)))
-    text, pixels = drawn(tally, program, top, ["plot", "--times", "times", "disks"], few)
+    text, pixels = drawn(tally, program, top, ["report", "--times", "times", *PLOT, "disks"], few)
     at = 20 + 900 * 0.5 / 14.9
     tally.holds("a plot over time", "14.9 seconds" in text and hue(pixels.at(at, 26 + 299 - 2 * 50)) == hue(BLUE), "%s" % (pixels.at(at, 225),))
-    text, _ = drawn(tally, program, top, ["plot", os.path.join(samples(top), "stack.disks")], "1 copy sda 0 8 sdb 8\n2 fill 8 sda 16\n3 zero 8\n")
-    tally.holds("a plot of copies", "sda: sectors" in text and "sdb: sectors" in text, text[:300])
+    text, _ = drawn(tally, program, top, ["report", *PLOT, os.path.join(samples(top), "stack.disks")], "1 copy sda 0 8 sdb 8\n2 fill 8 sda 16\n3 zero 8\n")
+    tally.holds("a plot of copies", 0 < text.find("sda: sectors") < text.find("sdb: sectors"), text[:300])
+    text, _ = drawn(tally, program, top, ["report", *PLOT, "disks"], "1 R sdb 0 8\n2 R sda 0 8\n")
+    tally.holds("disks in the order of DISKS", 0 < text.find("sda: sectors") < text.find("sdb: sectors"), text[:300])
 
 
 def check_costs(tally, program, top):
     """A picture of many disks takes little memory for each of which little is there, and times far apart take little time."""
-    program.file("disks", "".join("d%d 8\n" % it for it in range(1024)))
-    program.file("pieces", "".join("%d R d%d 0 8\n" % (it + 1, it) for it in range(1024)))
-    got = call(top, ["plot", "disks", "pieces"], folder=program.room, memory=MEMORY)
-    tally.holds("a plot of many disks", got.status == 0 and got.out.count(b"<image ") == 1024, "status %s, %r" % (got.status, got.err))
+    program.file("disks", "".join("d%d 8\n" % it for it in range(1025)))
+    rows = ["%d R d%d 0 8\n" % (it + 1, it) for it in range(1025)]
+    program.file("pieces", "".join(rows[:1024]))
+    path = os.path.join(program.room, "plot.svg")
+    got = call(top, ["report", *PLOT, "disks", "pieces"], folder=program.room, memory=MEMORY)
+    tally.holds("a plot of many disks", got.status == 0 and picture_in(path).count("<image ") == 1024, "status %s, %r" % (got.status, got.err))
+    program.file("pieces", "".join(rows))
+    got = call(top, ["report", *PLOT, "disks", "pieces"], folder=program.room, memory=MEMORY)
+    tally.same("a plot of too many disks", got, 1, "", "dmremap-tools report: pieces: pieces on more than 1024 disks, which is too many for a picture\n")
     program.file("times", "0\n1\n999999999999999\n")
     program.file("pieces", "1 R d0 0 8\n2 R d1 0 8\n3 R d2 0 8\n")
-    got = call(top, ["plot", "--times", "times", "disks", "pieces"], folder=program.room)
-    tally.holds("a plot of times far apart", got.status == 0 and b"1e+15 seconds" in got.out, "status %s, %r" % (got.status, got.err))
+    got = call(top, ["report", "--times", "times", *PLOT, "disks", "pieces"], folder=program.room)
+    tally.holds("a plot of times far apart", got.status == 0 and "1e+15 seconds" in picture_in(path), "status %s, %r" % (got.status, got.err))
 
 
 def hue(colour):

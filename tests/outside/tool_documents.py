@@ -100,10 +100,10 @@ def check_packed(tally, program, top):
         tally.same("tools/pack", run([os.path.join(top, "tools", "pack"), path]))
     with open(packed[0], "rb") as one, open(packed[1], "rb") as other:
         tally.holds("two runs of tools/pack", one.read() == other.read(), "their bytes differ")
-    words = ["totals", os.path.join(samples(top), "pieces.txt")]
+    words = ["report", os.path.join(samples(top), "pieces.txt")]
     wanted = run([os.path.join(top, TOOL), *words])
-    tally.holds("totals", wanted.status == 0 and wanted.out, wanted.err)
-    tally.same("totals by the packed file", run([packed[0], *words], folder="/"), 0, wanted.out)
+    tally.holds("report", wanted.status == 0 and wanted.out, wanted.err)
+    tally.same("report by the packed file", run([packed[0], *words], folder="/"), 0, wanted.out)
     for it in (run([os.path.join(top, "tools", "pack")]), run([os.path.join(top, "tools", "pack"), "a", "b"])):
         tally.same("tools/pack with wrong words", it, 1, "", "usage: pack OUT\n")
     for path, why in (("/dev/full", "No space left on device"), ("no/wh\x1bere", "No such file or directory")):

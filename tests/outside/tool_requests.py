@@ -2,13 +2,13 @@
 
 import os
 
-from tool_calls import bad, call, check_rows, good, samples
+from tool_calls import bad, call, check_rows, good, lost
 
 LAST = 1048576
 
 
 def check(tally, program, top):
-    check_rows(tally, program, top, FILEFRAG + DEBUGFS + TRACE + LOGS + OTHERS)
+    check_rows(tally, program, top, FILEFRAG + DEBUGFS + DEVICES + TRACE + LOGS + TABLES)
     check_times(tally, program, top)
 
 
@@ -67,8 +67,6 @@ FILEFRAG = [
     good("filefrag", V, ["Filesystem type is: ef53\nFilesystem cylinder groups approximately 3\n" +
                          "File size of a b (3 blocks of 7 bytes) is 9 is 5 (2 block of 512 bytes)\n" + LIST + "a: 0 extents found\n"], ""),
     good("filefrag", V, [frag(WHOLE, 1024) + frag(WHOLE, 8192, 4096)], "R v 8 2\nR v 64 16\n"),
-    bad("filefrag", ["v", "--places", "places"], [frag(WHOLE, 1024) + frag(WHOLE, 1024)],
-        "1:7: PLACES is of one file", "R v 8 2\n"),
     good("filefrag", ["/dev/vg-0/lv"], [frag(WHOLE, 1024)], "R vg--0-lv 8 2\n"),
     bad("filefrag", [""], [frag(WHOLE, 1024)], "VOLUME: no name of a device: ''"),
     bad("filefrag", ["v w"], [frag(WHOLE, 1024)], "VOLUME: no name of a device: 'v w'"),
@@ -123,14 +121,15 @@ FILEFRAG = [
 
 SUPER = "Filesystem volume name:   <none>\nBlock size:               %s\nFragment size:            4096\n"
 TREE = "Level Entries       Logical      Physical Length Flags\n"
+BY_DEBUGFS = ["--debugfs", "1"]
 LEAF = " 0/ 0   1/  1     0 -  2197  2070 -  4267   2198 \n"
 
 
 def ex(lines, message=None, output="", block=4096, variables=V, said=""):
     inputs = [SUPER % block, TREE + lines]
     if message is None:
-        return good("debugfs", variables, inputs, output, said)
-    return bad("debugfs", variables, inputs, "2:" + message, output)
+        return good("filefrag", BY_DEBUGFS + variables, inputs, output, said)
+    return bad("filefrag", BY_DEBUGFS + variables, inputs, message, output)
 
 
 DEBUGFS = [
@@ -141,17 +140,56 @@ DEBUGFS = [
     ex(" 0/ 1   1/  2     0 -  9  16            10\n 1/ 1   1/  1     0 -  9  20 -  29   10 \n"
        " 0/ 1   2/  2    10 -  19  17            10\n 1/ 1   1/  1    10 -  19  50 -  59   10 Uninit\n",
        output="R v 160 80\n", said="unwritten, so that it reads as zeros: 1/ 1   1/  1    10 -  19  50 -  59   10 Uninit\n"),
-    ex(LEAF.replace("1/  1", "1/  2"), "2: entries are missing at the end", "R v 16560 17584\n"),
-    ex(LEAF.replace("1/  1", "2/  2"), "2: an entry is missing: 0/ 0   2/  2     0 -  2197  2070 -  4267   2198"),
-    ex(LEAF.replace("   2198", "   2197"), "2: ends and length differ: 0/ 0   1/  1     0 -  2197  2070 -  4267   2197"),
-    ex(LEAF.replace("2198", "2198 Strange"), "2: not a line of ex: 0/ 0   1/  1     0 -  2197  2070 -  4267   2198 Strange"),
-    ex("/a: does not uses extent block maps\n", "2: not a line of ex: /a: does not uses extent block maps"),
-    ex(LEAF, "2: blocks of 100 bytes, which are no whole sectors", block=100),
-    bad("debugfs", V, [SUPER % 4096, ""], "2: no list of extents: only files with extents have one"),
-    bad("debugfs", V, ["Fragment size:  4096\n", TREE + LEAF], "1:1: no line 'Block size' of dumpe2fs"),
-    bad("debugfs", V, [SUPER % 4096, TREE + LEAF + TREE + LEAF], "2:3: more than one file", "R v 16560 17584\n"),
-    ("debugfs", V + ["--places", "places", "--size", ""], [SUPER % 4096, TREE + LEAF], "refused\n",
-     "dmremap-tools debugfs: --size: not a whole number below 2^64: ''\n", 2),
+    ex(LEAF.replace("1/  1", "1/  2"), "2:2: entries are missing at the end", "R v 16560 17584\n"),
+    ex(LEAF.replace("1/  1", "2/  2"), "2:2: an entry is missing: 0/ 0   2/  2     0 -  2197  2070 -  4267   2198"),
+    ex(LEAF.replace("   2198", "   2197"), "2:2: ends and length differ: 0/ 0   1/  1     0 -  2197  2070 -  4267   2197"),
+    ex(LEAF.replace("2198", "2198 Strange"), "2:2: not a line of ex: 0/ 0   1/  1     0 -  2197  2070 -  4267   2198 Strange"),
+    ex("/a: does not uses extent block maps\n", "2:2: not a line of ex: /a: does not uses extent block maps"),
+    ex(LEAF, "2:2: blocks of 100 bytes, which are no whole sectors", block=100),
+    bad("filefrag", BY_DEBUGFS + V, [SUPER % 4096, ""], "2: no list of extents: only files with extents have one"),
+    bad("filefrag", BY_DEBUGFS + V, ["Fragment size:  4096\n", TREE + LEAF], "1:1: no line 'Block size' of dumpe2fs"),
+    bad("filefrag", BY_DEBUGFS + V, [SUPER % 4096, TREE + LEAF + TREE + LEAF], "2:3: more than one file", "R v 16560 17584\n"),
+    ("filefrag", BY_DEBUGFS + V + ["--device", "i", "--size", ""], [SUPER % 4096, TREE + LEAF], "refused\n",
+     "dmremap-tools filefrag: --size: not a whole number below 2^64: ''\n", 2),
+]
+
+# A file as a device.
+
+FILE = ["--device", "i"]
+HOLES = ("   0:        8..      15:       1000..      1007:      8:             \n"
+         "   1:       20..      35:       5000..      5015:     16:       1008: last,eof\n")
+UNWRITTEN = ("   0:        0..       7:       1000..      1007:      8:             unwritten\n"
+             "   1:        8..      15:       5000..      5007:      8:       1008: last,eof\n")
+TOLD = "unwritten, so that it reads as zeros: " + UNWRITTEN.split("\n")[0].lstrip() + "\n"
+
+
+def filed(words, text, output, message=""):
+    return good("filefrag", V + FILE + words, [text], output, message)
+
+
+def no_file(words, message):
+    return "filefrag", V + words, [frag(TWO, 12288)], "refused\n", "dmremap-tools filefrag: %s\n" % message, 2
+
+
+DEVICES = [
+    filed([], frag(TWO, 12288), "i: 0 16 linear /dev/mapper/v 8000\ni: 16 8 linear /dev/mapper/v 40960\n"),
+    filed(["--on", "sda"], frag(HOLES, 20001 - 4000), "i: 0 8 zero\ni: 8 8 linear sda 1000\ni: 16 4 zero\ni: 20 16 linear sda 5000\n"),
+    filed(["--on", "sda"], frag(UNWRITTEN, 8192), "i: 0 8 zero\ni: 8 8 linear sda 5000\n", TOLD),
+    filed([], frag("", 10241, found=0), "i: 0 21 zero\n"),
+    filed(["--part", "17", "2"], frag(TWO, 12288), "i: 0 16 error\ni: 16 8 linear /dev/mapper/v 40960\n"),
+    good("filefrag", BY_DEBUGFS + V + FILE + ["--size", "9000001"], [SUPER % 4096, TREE + LEAF], "i: 0 17584 linear /dev/mapper/v 16560\n"),
+    good("filefrag", BY_DEBUGFS + V + FILE + ["--size", "9003009", "--on", "sda"], [SUPER % 4096, TREE + LEAF], "i: 0 17584 linear sda 16560\ni: 17584 1 zero\n"),
+    bad("filefrag", V + FILE, [frag(WHOLE, 1024) + frag("", 0, found=0)], "1:9: more than one file: give the extents of one"),
+    bad("filefrag", V + FILE, [frag("", 0, found=0)], "i: it has no sectors"),
+    bad("filefrag", V + FILE, [frag(TWO, 12288).rpartition("/f")[0]], "1:5: the end is missing of: File size of /f is 12288 (24 blocks of 512 bytes)"),
+    bad("filefrag", V + FILE + ["--on", "d,e"], [frag(TWO, 12288)], "--on: no name of a disk: 'd,e'"),
+    # A line for every second sector is more than dmremap takes.
+    bad("filefrag", V + FILE, [frag("".join("%d: %d.. %d: 5.. 5: 1:\n" % (it, 2 * it, 2 * it) for it in range(40000)), 80000 * 512)],
+        "i: it has more than 65536 lines, or 1048576 bytes of them, which is all that dmremap takes: ask for a part, with --part START SECTORS"),
+    no_file(["--on", "sda"], "--on, --size and --part are for --device"),
+    no_file(FILE + ["--size", "8"], "--device needs --size with --debugfs, and has the size without it"),
+    ("filefrag", BY_DEBUGFS + V + FILE, [SUPER % 4096, TREE + LEAF], "refused\n",
+     "dmremap-tools filefrag: --device needs --size with --debugfs, and has the size without it\n", 2),
 ]
 
 # Requests of traces, logs and bytes.
@@ -161,7 +199,7 @@ KEPT = "vg0-lv0: 0 8 zero\nvg0-lv0: 8 8 error\nvg0-lv--1: 0 8 zero\n"
 QUEUED = "253,0    0        7     0.000000000  4101  Q %s [fio]\n"
 
 
-NO_REQUEST = "no request came to a device of the tables: what a trace of the disks below has, `owner --trace` says\n"
+NO_REQUEST = "no request came to a device of the tables: a trace of the disks below them takes --lower\n"
 
 
 def traced(lines, output="", message="", names=LS, tables=KEPT):
@@ -224,16 +262,30 @@ TRACE = [
     traced(QUEUED % "  R 8 + 16", "", "left out: 1 requests to a\\x20b (253,0), which the tables have not\n", names="a\\x20b\t(253:0)\n"),
 ]
 
+# Traces of the disks below.
+LSBLK = "  8:0 512 sda \n8:1 512 sda1 sda\n8:16 512 sdb \n".lstrip()
+LOWER = (QUEUED % "  R 8 + 16").replace("253,0 ", "  8,0 ") + (QUEUED % " WS 8 + 8").replace("253,0 ", " 8,16 ")
+TRACE += [
+    good("trace", ["--lower"], [LSBLK, "/dev/sda 99\n/dev/sdb 99\n", LOWER], "R /dev/sda 8 16\nW /dev/sdb 8 8\n"),
+    good("trace", ["--lower"], [LSBLK, "/dev/sdb 99\n", LOWER + QUEUED % "  R 8 + 16"], "W /dev/sdb 8 8\n",
+         "left out: 1 requests to /dev/sda (8,0), which DISKS has not\nleft out: 1 requests to 253,0, which lsblk has not\n"),
+    good("trace", ["--lower"], [LSBLK, "/dev/sdc 99\n", QUEUED % "  D 8 + 16"], "",
+         "left out: 1 requests to 253,0, which lsblk has not\nno request came to a disk of DISKS\n"),
+    bad("trace", ["--lower"], [LSBLK, "", LOWER], "2: no disk in it"),
+    bad("trace", ["--lower"], [LS, "/dev/sda 99\n", LOWER], "1: not what `lsblk -brno MAJ:MIN,SIZE,KNAME,PKNAME` prints of devices"),
+    ("trace", ["--fio", "--times", "times"], [LS, KEPT, ""], "refused\n", "dmremap-tools trace: --times isn't for the logs of fio\n", 2),
+]
+
 FIO = "fio version 2 iolog\n/dev/mapper/a add\n/dev/mapper/a open\n"
 
 
-def logged(log, output, message="", variables=(), before=()):
+def logged(log, output, message="", ls="nothing is read\n"):
     message += "" if output else "no request came to a device of the tables\n"
-    return good("fio", list(variables), list(before) + ["a: 0 8 zero\nb--c-d: 0 8 zero\n", log], output, message)
+    return good("trace", ["--fio"], [ls, "a: 0 8 zero\nb--c-d: 0 8 zero\n", log], output, message)
 
 
-def no_log(log, message, output=""):
-    return bad("fio", [], ["a: 0 8 zero\n", log], message, output)
+def no_log(log, message, output="", tables="a: 0 8 zero\n"):
+    return bad("trace", ["--fio"], ["", tables, log], message, output)
 
 
 LOGS = [
@@ -245,62 +297,53 @@ LOGS = [
            "left out: 1 requests to /mnt/file, which the tables have not\n"),
     logged(FIO + "/dev/dm-5 read 0 512\n/dev/dm-7 read 0 512\n/dev/dm-6 read 0 512\n", "R a 0 1\n",
            "left out: 1 requests to /dev/dm-7, which the tables have not\nleft out: 1 requests to /dev/dm-6, which the tables have not\n",
-           ["--ls", "1"], ["a\t(253:5)\nz\t(253:6)\n"]),
-    no_log(FIO + "/dev/dm-5 read 0 512\n", "2:4: which device is /dev/dm-5? Give --ls LS"),
+           "a\t(253:5)\nz\t(253:6)\n"),
+    no_log(FIO + "/dev/dm-5 read 0 512\n", "1: not what `dmsetup ls` prints of devices"),
     logged("fio version 3 iolog\n", ""),
-    no_log(FIO + "/dev/mapper/a read 0 512\n/dev/mapper/a read 0 0\n/dev/mapper/a read 0 512\n", "2:5: no bytes: /dev/mapper/a read 0 0", "R a 0 1\n"),
-    no_log("fio version 1 iolog\n", "2:1: not the first line of a log: fio version 1 iolog"),
-    no_log(FIO + "1 /dev/mapper/a read 0 512\n", "2:4: not a line of a log: 1 /dev/mapper/a read 0 512"),
-    no_log(FIO.replace("2", "3"), "2:2: not a line of a log: /dev/mapper/a add"),
-    no_log(FIO + "/dev/mapper/a read 0\n", "2:4: not a line of a log: /dev/mapper/a read 0"),
-    no_log(FIO + "/dev/mapper/a read 0 4k\n", "2:4: not a whole number below 2^64: '4k'"),
+    no_log(FIO + "/dev/mapper/a read 0 512\n/dev/mapper/a read 0 0\n/dev/mapper/a read 0 512\n", "3:5: no bytes: /dev/mapper/a read 0 0", "R a 0 1\n"),
+    no_log("fio version 1 iolog\n", "3:1: not the first line of a log: fio version 1 iolog"),
+    no_log(FIO + "1 /dev/mapper/a read 0 512\n", "3:4: not a line of a log: 1 /dev/mapper/a read 0 512"),
+    no_log(FIO.replace("2", "3"), "3:2: not a line of a log: /dev/mapper/a add"),
+    no_log(FIO + "/dev/mapper/a read 0\n", "3:4: not a line of a log: /dev/mapper/a read 0"),
+    no_log(FIO + "/dev/mapper/a read 0 4k\n", "3:4: not a whole number below 2^64: '4k'"),
     logged(FIO + "/dev/mapper/a write 18446744073709551615 1\n", "W a 36028797018963967 1\n"),
-    no_log(FIO + "/dev/mapper/a write 18446744073709551616 1\n", "2:4: not a whole number below 2^64: '18446744073709551616'"),
-    no_log("fio version 3 iolog\n/dev/mapper/a read 0 512\n", "2:2: not a line of a log: /dev/mapper/a read 0 512"),
-    no_log("/dev/mapper/a read 0 512\n", "2:1: not the first line of a log: /dev/mapper/a read 0 512"),
-    bad("fio", [], [FIO], "1:1: not table text: fio version 2 iolog"),
-    bad("fio", [], ["", FIO], "1: no device in it"),
-    bad("fio", [], ["a: 0 8 zero\n", ""], "2: the log is empty"),
+    no_log(FIO + "/dev/mapper/a write 18446744073709551616 1\n", "3:4: not a whole number below 2^64: '18446744073709551616'"),
+    no_log("fio version 3 iolog\n/dev/mapper/a read 0 512\n", "3:2: not a line of a log: /dev/mapper/a read 0 512"),
+    no_log("/dev/mapper/a read 0 512\n", "3:1: not the first line of a log: /dev/mapper/a read 0 512"),
+    no_log("", "2:1: not table text: fio version 2 iolog", tables=FIO),
+    no_log(FIO, "2: no device in it", tables=""),
+    no_log("", "3: the log is empty"),
     # Names of devices as paths.
-    good("bytes", [], ["R /dev/mapper/a 0 1\nW /dev/b-c/d-e 511 2\n"], "R a 0 1\nW b--c-d--e 0 2\n"),
-    good("bytes", ["--ls", "1"], ["x\t(253:0)\ny\t(253:12)\n", "R /dev/dm-12 0 1\nR /dev/dm-0 0 1\n"], "R y 0 1\nR x 0 1\n"),
-    bad("bytes", ["--ls", "1"], ["x\t(253:0)\n", "R /dev/dm-12 0 1\n"], "2:1: no name of a device: '/dev/dm-12'"),
-    bad("bytes", ["--ls", "nowhere"], ["R /dev/dm-12 0 1\n"], "nowhere: No such file or directory"),
-    bad("bytes", [], ["R /dev/dm-12 0 1\n"], "1:1: which device is /dev/dm-12? Give --ls LS"),
-    bad("bytes", [], ["R /dev/sda 0 1\n"], "1:1: no name of a device: '/dev/sda'"),
-    bad("bytes", [], ["R /dev/disk/by-id/x 0 1\n"], "1:1: no name of a device: '/dev/disk/by-id/x'"),
+    good("cut", ["--bytes"], ["R /dev/mapper/a 0 1\nW /dev/b-c/d-e 511 2\n"], "R a 0 1\nW b--c-d--e 0 2\n"),
+    good("cut", ["--bytes", "--ls", "1"], ["x\t(253:0)\ny\t(253:12)\n", "R /dev/dm-12 0 1\nR /dev/dm-0 0 1\n"], "R y 0 1\nR x 0 1\n"),
+    bad("cut", ["--bytes", "--ls", "1"], ["x\t(253:0)\n", "R /dev/dm-12 0 1\n"], "2:1: no name of a device: '/dev/dm-12'"),
+    bad("cut", ["--bytes", "--ls", "nowhere"], ["R /dev/dm-12 0 1\n"], "nowhere: No such file or directory"),
+    bad("cut", ["--bytes"], ["R /dev/dm-12 0 1\n"], "1:1: which device is /dev/dm-12? Give --ls LS"),
+    bad("cut", ["--bytes"], ["R /dev/sda 0 1\n"], "1:1: no name of a device: '/dev/sda'"),
+    bad("cut", ["--bytes"], ["R /dev/disk/by-id/x 0 1\n"], "1:1: no name of a device: '/dev/disk/by-id/x'"),
     good("cut", [], ["R /dev/mapper/a 0 1\n"], "R a 0 1\n"),
-    good("bytes", [], ["R a 0 1\nW a 511 2\nR a 1024 512\n"], "R a 0 1\nW a 0 2\nR a 2 1\n"),
-    good("bytes", [], ["R a 4503599627370496 1024\n"], "R a 8796093022208 2\n"),
-    bad("bytes", [], ["R a 0 0\n"], "1:1: no bytes: R a 0 0"),
-    bad("bytes", [], ["R a -1 8\n"], "1:1: not a whole number below 2^64: '-1'"),
-    bad("bytes", [], ["R a 1e3 8\n"], "1:1: not a whole number below 2^64: '1e3'"),
-    bad("bytes", [], ["R a 0x10 8\n"], "1:1: not a whole number below 2^64: '0x10'"),
-    bad("bytes", [], ["R a 010 8\n"], "1:1: not a whole number below 2^64: '010'"),
-    bad("bytes", [], ["R a 8\n"], "1:1: not R or W, a device, an offset and a length: R a 8"),
+    good("cut", ["--bytes"], ["R a 0 1\nW a 511 2\nR a 1024 512\n"], "R a 0 1\nW a 0 2\nR a 2 1\n"),
+    good("cut", ["--bytes"], ["R a 4503599627370496 1024\n"], "R a 8796093022208 2\n"),
+    bad("cut", ["--bytes"], ["R a 0 0\n"], "1:1: no bytes: R a 0 0"),
+    bad("cut", ["--bytes"], ["R a -1 8\n"], "1:1: not a whole number below 2^64: '-1'"),
+    bad("cut", ["--bytes"], ["R a 1e3 8\n"], "1:1: not a whole number below 2^64: '1e3'"),
+    bad("cut", ["--bytes"], ["R a 0x10 8\n"], "1:1: not a whole number below 2^64: '0x10'"),
+    bad("cut", ["--bytes"], ["R a 010 8\n"], "1:1: not a whole number below 2^64: '010'"),
+    bad("cut", ["--bytes"], ["R a 8\n"], "1:1: not R or W, a device, an offset and a length: R a 8"),
     good("cut", [], ["R a 0 1048576\nW b 5 1048577\n"], "R a 0 1048576\nW b 5 1048576\nW b 1048581 1\n"),
     bad("cut", [], ["R a 0 4398046511105\n"], "1:1: longer than 2 PiB: R a 0 4398046511105"),
     bad("cut", [], ["R a 0 1\nR a 0 0\n"], "1:2: no sectors: R a 0 0", "R a 0 1\n"),
     good("cut", [], [""], "", "no line came\n"),
-    good("bytes", [], [""], "", "no line came\n"),
+    good("cut", ["--bytes"], [""], "", "no line came\n"),
     bad("cut", [], ["r a 0 1\n"], "1:1: not a request: r a 0 1"),
     # Letters at which some would begin a line anew.
     bad("cut", [], ["R a\x85b\u2028 0 1\n"], "1:1: not a request: R a\\x85b\\u2028 0 1"),
     bad("cut", [], ["R a,b 0 1\n"], "1:1: no name of a device: 'a,b'"),
 ]
 
+# Texts of tables that are none.
 
-# Whole devices.
-
-OTHERS = [
-    good("whole", ["/dev/mapper/a"], ["b: 0 8 zero\na: 0 8 zero\n"], "R a 0 8\n"),
-    good("whole", ["a"], ["b,,,rw,0 8 zero;a,,,ro,0 9 zero\n"], "R a 0 9\n"),
-    good("whole", ["a"], ["a: 0 8 zero\nb: 0 9 zero\na: 8 2000000 zero\n"], "R a 0 1048576\nR a 1048576 951432\n"),
-    bad("whole", ["c"], ["a: 0 8 zero\n"], "1: no device c"),
-    bad("whole", ["a"], ["a: 0 4398046511105 zero\n"], "1: a is longer than 2 PiB"),
-    bad("whole", ["/dev/sda"], ["a: 0 8 zero\n"], "VOLUME: no name of a device: '/dev/sda'"),
-    # A text that is cut off within a number.
-    bad("whole", ["a"], ["a: 0 8 linear sda 12"], "1:1: the text ends within a line: a: 0 8 linear sda 12"),
-    bad("whole", ["a"], ["a,,,rw,0 8 linear sda 12"], "1:1: the text ends within a line: a,,,rw,0 8 linear sda 12"),
-    bad("whole", ["a"], ["a 0 8 zero\n"], "1:1: not table text: a 0 8 zero"),
+TABLES = [
+    lost("tree", [], ["a: 0 8 linear sda 12"], "1:1: the text ends within a line: a: 0 8 linear sda 12"),
+    lost("tree", [], ["a,,,rw,0 8 linear sda 12"], "1:1: the text ends within a line: a,,,rw,0 8 linear sda 12"),
 ]

@@ -18,44 +18,39 @@ from tool_calls import TOOL, call, samples
 # For each command the words of a call that has an answer, in a folder with the samples and what is made of them here. Words
 # that end in `<` are given as standard input.
 CALLS = {
-    "filefrag": ["--places", "beside", "vg0-lv0", "extents.txt"],
-    "debugfs": ["--places", "beside", "--size", "31981568", "vg0-lv0", "super.txt", "ex.txt"],
-    "bytes": ["in-bytes"],
+    "filefrag": ["vg0-lv0", "extents.txt"],
     "trace": ["--times", "beside", "ls.txt", "vg0.table", "blkparse.txt"],
-    "fio": ["vg0.table", "fio.log"],
     "cut": ["in-bytes"],
-    "whole": ["home", "stack.table"],
     "machine": ["--disks", "beside", "ls.txt", "status.txt", "lsblk.txt", "concise.txt"],
     "elsewhere": ["--paths", "paths.txt", "vg0.concise"],
-    "aliases": ["lsblk.txt", "both.disks"],
     "metadata": ["vg0-head.img"],
     "lvm2-text": ["--program", "./dmremap", "vgm.backup"],
-    "totals": ["pieces.txt"],
-    "histogram": ["pieces.txt"],
-    "splits": ["pieces.txt"],
-    "seeks": ["pieces.txt"],
-    "times": ["times", "pieces.txt"],
-    "json": ["pieces.txt"],
-    "to-fio": ["paths.pieces"],
+    "report": ["--times", "times", "--disks", "stack.disks", "--plot", "beside", "pieces.txt"],
     "dd": ["--program", "./dmremap", "--image", "image", "--requests", "image.requests", "table", "image.table", "image.disks"],
     "spans": ["stack.disks", "stack.table"],
-    "free": ["spans"],
-    "clashes": ["spans"],
-    "align": ["--to", "4096", "spans"],
     "tree": ["stack.table"],
-    "dot": ["stack.table"],
     "extents": ["--program", "./dmremap", "vol", "table", "image.table", "image.disks"],
-    "store-size": ["writes"],
-    "store-full": ["--program", "./dmremap", "--fresh", "snap", "writes", "table", "snap.table", "snap.disks"],
+    "store": ["--program", "./dmremap", "--fresh", "snap", "--requests", "writes", "table", "snap.table", "snap.disks"],
     "md": ["--name", "md0", "raid1.txt"],
     "thin": ["--data", "tdata", "--device", "1", "vg0-thin1", "4000", "thin.xml"],
-    "cache": ["--cache", "cdata", "--origin", "corig", "--name", "home", "--sectors", "1000", "cache.xml"],
     "btrfs": ["--name", "fs", "--device", "1", "/dev/sda", "--device", "2", "/dev/sdb", "chunks.txt"],
-    "file-device": ["--name", "disk.img", "file.places", "file.requests"],
     "nbd-plugin": [],
     "picture": ["spans"],
-    "plot": ["--times", "times", "stack.disks", "pieces.txt"],
 }
+# Other ways to call a command, in which it reads other inputs.
+WAYS = [
+    ("filefrag", ["--debugfs", "super.txt", "--device", "i", "--size", "31981568", "vg0-lv0", "ex.txt"]),
+    ("cut", ["--bytes", "in-bytes"]),
+    ("trace", ["--fio", "ls.txt", "vg0.table", "fio.log"]),
+    ("trace", ["--lower", "--times", "beside", "lower.lsblk", "lower.disks", "lower.txt"]),
+    ("report", ["--compare", "lower.requests", "lower.pieces"]),
+    ("spans", ["--free", "stack.disks", "stack.table"]),
+    ("spans", ["--clashes", "clashes.disks", "clashes.table"]),
+    ("spans", ["--align", "--to", "4096", "stack.disks", "stack.table"]),
+    ("tree", ["--dot", "stack.table"]),
+    ("store", ["--size", "writes"]),
+    ("thin", ["--cache", "cdata", "--origin", "corig", "--name", "home", "--sectors", "1000", "cache.xml"]),
+]
 # What is made beside the samples.
 MADE = {
     "in-bytes": "R vg0-lv0 1000 3000\nW vg0-lv0 4096 2500000000\n",
@@ -63,7 +58,13 @@ MADE = {
     "vg0.concise": "vg0-lv0,,,rw,0 204800 linear /dev/sda1 2048\n",
     "both.disks": "/dev/sda 1054720\n/dev/sda1 1050624\n8:1 1050624\n/dev/dm-7 2097152\n",
     "times": "0.5\n0.6\n0.75\n1.0\n12.5\n",
-    "paths.pieces": "1 R /dev/sda1 10048 16\n2 R /dev/sda1 43008 8\n",
+    "lower.lsblk": "8:0 1048576 sda \n8:1 524288 sda1 sda\n",
+    "lower.disks": "/dev/sda 2048\n",
+    "lower.txt": "8,0 0 7 0.5 4101 Q R 8 + 16 [fio]\n8,0 0 8 0.6 4101 C R 8 + 16 [0]\n8,0 0 9 0.7 4101 Q WS 100 + 8 [fio]\n",
+    "lower.requests": "W /dev/sda 100 8\nR /dev/sda 8 8\nR /dev/sda 16 8\n",
+    "lower.pieces": "1 R /dev/sda 8 16\n2 W /dev/sda 100 8\n",
+    "clashes.disks": "sda 100\n",
+    "clashes.table": "a: 0 8 linear sda 4\nb: 0 8 linear sda 8\n",
     "image.table": "vol: 0 64 linear sda 4096\nvol: 64 8 zero\n",
     "image.disks": "sda 1052672\n",
     "image.requests": "W vol 0 16\nR vol 60 12\n",
@@ -103,11 +104,12 @@ def check(tally, program, top):
     commands = importlib.import_module("dmremap_tools.commands").COMMANDS
     lost = {it.name for it in commands} ^ (set(CALLS) | UNPRINTED)
     tally.holds("commands whose streams are tried", not lost, "others are %s" % sorted(lost))
-    tried = [it for it in commands if it.name in CALLS]
-    for command in tried:
-        check_ends(tally, top, folder, command)
-        check_cuts(tally, top, folder, command)
-        check_standard_input(tally, top, folder, command)
+    tried = [(it, CALLS[it.name]) for it in commands if it.name in CALLS]
+    tried += [(it, words) for it in commands for name, words in WAYS if name == it.name]
+    for call_tried in tried:
+        check_ends(tally, top, folder, *call_tried)
+        check_cuts(tally, top, folder, *call_tried)
+        check_standard_input(tally, top, folder, *call_tried)
     check_terminal(tally, top, folder)
     check_live(tally, top, folder)
     check_many(tally, top, folder)
@@ -140,9 +142,9 @@ def tool(top):
     return [sys.executable, os.path.join(top, TOOL)]
 
 
-def check_ends(tally, top, folder, command):
+def check_ends(tally, top, folder, command, given):
     """Outputs that don't take what is printed."""
-    words = [command.name, *CALLS[command.name]]
+    words = [command.name, *given]
     plain = call(top, words, folder=folder)
     told = plain.err.decode()
     if not tally.holds("%s has an answer" % words, plain.status == ANSWERED and plain.out, "status %s, %r" % (plain.status, plain.err)):
@@ -169,21 +171,21 @@ def check_ends(tally, top, folder, command):
         tally.holds("%s with a full file beside" % command.name, got.status == FULL and is_told, "status %s, %r" % (got.status, got.err))
 
 
-def check_cuts(tally, top, folder, command):
+def check_cuts(tally, top, folder, command, words):
     """Inputs that end anywhere: an answer, or a refusal in words."""
     dice = random.Random(command.name)
-    for place, name in inputs_of(command.name, folder):
+    for place, name in inputs_of(words, folder):
         content = bytes_of(os.path.join(folder, name))
         for length in sorted({0, *(dice.randrange(len(content)) for _ in range(CUTS))}):
-            got = with_input(top, folder, command, place, content[:length])
+            got = with_input(top, folder, [command.name, *words], place + 1, content[:length])
             why = fault_of(command, got)
             tally.holds("%s with %s cut at %d" % (command.name, name, length), not why, why)
 
 
-def check_standard_input(tally, top, folder, command):
+def check_standard_input(tally, top, folder, command, called):
     """Each input from standard input gives the same, and what is said of it calls it that."""
-    for place, name in inputs_of(command.name, folder):
-        words = list(CALLS[command.name])
+    for place, name in inputs_of(called, folder):
+        words = list(called)
         plain = call(top, [command.name, *words], folder=folder)
         words[place] = "-"
         title = "%s of standard input for %s" % (command.name, name)
@@ -192,24 +194,21 @@ def check_standard_input(tally, top, folder, command):
         got = call(top, [command.name, *words], given="\1 nonsense\n", folder=folder)
         is_told = b" -: " not in got.err and b" -:1: " not in got.err
         tally.holds(title + " that makes no sense", is_told and got.status in (ANSWERED, REFUSED), "status %s, %r" % (got.status, got.err))
-    if "beside" in CALLS[command.name]:
-        got = call(top, [command.name, *(it if it != "beside" else "-" for it in CALLS[command.name])], folder=folder)
-        tally.same("%s with standard output beside" % command.name, got, 2, "refused\n", "%s %s: %s\n" % (TOOL, command.name, NO_FILE))
+    if "beside" in called:
+        got = call(top, [command.name, *(it if it != "beside" else "-" for it in called)], folder=folder)
+        tally.same("%s with standard output beside" % command.name, got, 2, "refused\n" * command.is_fed, "%s %s: %s\n" % (TOOL, command.name, NO_FILE))
 
 
-def inputs_of(name, folder):
+def inputs_of(words, folder):
     """Which words of a call are files that are read."""
-    words = CALLS[name]
     return [(at, it) for at, it in enumerate(words) if it not in NO_INPUTS and os.path.isfile(os.path.join(folder, it))]
 
 
-def with_input(top, folder, command, place, content):
-    """What a command says where one of its inputs is another."""
-    words = list(CALLS[command.name])
-    words[place] = "changed"
+def with_input(top, folder, words, place, content):
+    """What a call says where one of its inputs is another."""
     with open(os.path.join(folder, "changed"), "wb") as it:
         it.write(content)
-    return call(top, [command.name, *words], folder=folder, memory=MEMORY)
+    return call(top, [*words[:place], "changed", *words[place + 1:]], folder=folder, memory=MEMORY)
 
 
 def fault_of(command, got):
@@ -229,12 +228,12 @@ def fault_of(command, got):
 def check_mutations(tally, top, folder, commands, count, seed=0):
     """Random changes of all inputs."""
     dice = random.Random(seed)
-    choices = [(command, *it) for command in commands for it in inputs_of(command.name, folder)]
-    kept = {name: bytes_of(os.path.join(folder, name)) for _, _, name in choices}
+    choices = [(command, words, *it) for command, words in commands for it in inputs_of(words, folder)]
+    kept = {name: bytes_of(os.path.join(folder, name)) for _, _, _, name in choices}
     for number in range(count):
-        command, place, name = dice.choice(choices)
+        command, words, place, name = dice.choice(choices)
         content = mutated(kept[name], dice)
-        got = with_input(top, folder, command, place, content)
+        got = with_input(top, folder, [command.name, *words], place + 1, content)
         why = fault_of(command, got)
         tally.holds("%s with change %d of %s" % (command.name, number, name), not why, why)
 
@@ -268,23 +267,23 @@ def check_terminal(tally, top, folder):
     """What a foreign text holds reaches no terminal as it is."""
     with open(os.path.join(folder, "foreign"), "wb") as it:
         it.write(b"1 R \x1b[2Jsda\xff\xe2\x80\xae 4096 256\n")
-    words = ["totals", "foreign"]
+    words = ["report", "foreign"]
+    lines = b"total %s R 1 256 131072\nlength %s R 256 1 " + b"#" * 40 + b"\nsplit 1 1\n"
     plain = call(top, words, folder=folder)
-    tally.same("a foreign name to a file", plain, 0, b"\x1b[2Jsda\xff\xe2\x80\xae R 1 256 131072\n")
+    tally.same("a foreign name to a file", plain, 0, lines % ((b"\x1b[2Jsda\xff\xe2\x80\xae",) * 2))
     here, there = pty.openpty()
     got = call(top, words, folder=folder, stdout=there)
     os.close(there)
     shown = os.read(here, 65536)
     os.close(here)
     tally.same("a foreign name", got)
-    tally.holds("a foreign name on a terminal", shown == b"\\x1b[2Jsda\\xff\\u202e R 1 256 131072\r\n", "it shows %r" % shown)
+    tally.holds("a foreign name on a terminal", shown == (lines % ((b"\\x1b[2Jsda\\xff\\u202e",) * 2)).replace(b"\n", b"\r\n"), "it shows %r" % shown)
 
 
 def check_live(tally, top, folder):
     """A command in a pipe answers what it was given before it waits for more."""
     for words, given, wanted in ((["cut"], b"R a 0 1\n", b"R a 0 1\n"),
-                                 (["trace", "ls.txt", "vg0.table"], b"253,0 0 7 0.5 4101 Q R 8 + 16 [fio]\n", b"R vg0-lv0 8 16\n"),
-                                 (["json"], b"1 zero 8\n", b'{"request":1,"what":"zero","len":8}\n')):
+                                 (["trace", "ls.txt", "vg0.table"], b"253,0 0 7 0.5 4101 Q R 8 + 16 [fio]\n", b"R vg0-lv0 8 16\n")):
         ran = subprocess.Popen(tool(top) + words, stdin=subprocess.PIPE, stdout=subprocess.PIPE, cwd=folder)
         for _ in range(2):
             ran.stdin.write(given)
@@ -310,12 +309,13 @@ def check_many(tally, top, folder):
     with open(os.path.join(folder, "moments"), "w") as it:
         it.writelines("%d.25\n" % number for number in range(MANY))
     traced = [(["trace", "--times", "beside", "ls.txt", "vg0.table"], lines, "hello\n") for lines in (queued, events)]
-    made = [(words, answers, "s: 0 8 snapshot 16/64 16\n") for words in (["totals"], ["histogram"], ["splits"], ["to-fio"], ["json"], ["times", "moments", "-"])]
-    for words, lines, other in [*traced, (["fio", "vg0.table"], ["fio version 2 iolog\n"] + logged, "/dev/mapper/vg0-lv0 sync\n"), *made]:
+    made = [(words, answers, "s: 0 8 snapshot 16/64 16\n") for words in (["report"], ["report", "--times", "moments"])]
+    fio = ["trace", "--fio", "ls.txt", "vg0.table"]
+    for words, lines, other in [*traced, (fio, ["fio version 2 iolog\n"] + logged, "/dev/mapper/vg0-lv0 sync\n"), *made]:
         many = call(top, words, given="".join(lines), folder=folder)
         beside = bytes_of(os.path.join(folder, "beside")) if "beside" in words else b""
         single = call(top, words, given=other.join(lines), folder=folder)
-        passed = b"left out: %d lines that tell of no request\n" % (len(lines) - 1) if words[0] == "trace" else b""
+        passed = b"left out: %d lines that tell of no request\n" % (len(lines) - 1) if other == "hello\n" else b""
         tally.same("%s of many lines, and of each by itself" % words[0], single, 0, many.out, passed + many.err)
         tally.holds("%s of many lines" % words[0], many.out, "nothing is printed")
         if "beside" in words:
@@ -375,34 +375,34 @@ def write(folder, name, content):
 def check_outputs(tally, top, folder):
     """A file beside is never one that is read, whatever it is called, nor another output; a refusal leaves it as it was, and it
     is written through the link that was given."""
-    shutil.copy(os.path.join(folder, "extents.txt"), os.path.join(folder, "e"))
+    shutil.copy(os.path.join(folder, "blkparse.txt"), os.path.join(folder, "e"))
     os.symlink("e", os.path.join(folder, "linked"))
     os.link(os.path.join(folder, "e"), os.path.join(folder, "another name"))
     kept = bytes_of(os.path.join(folder, "e"))
-    said = TOOL + " filefrag: %s: it is read, too: give another file to write\n"
+    said = TOOL + " trace: %s: it is read, too: give another file to write\n"
     for name in "e", "./e", "linked", "another name":
-        got = call(top, ["filefrag", "--places", name, "vg0-lv0", "e"], folder=folder)
+        got = call(top, ["trace", "--times", name, "ls.txt", "vg0.table", "e"], folder=folder)
         tally.same("an input that is written as " + name, got, 2, "refused\n", said % name)
         tally.holds("what is left of it", bytes_of(os.path.join(folder, "e")) == kept, "it is another")
-    got = call(top, ["filefrag", "--places", "e", "vg0-lv0", "-"], given=kept, folder=folder)
-    tally.same("places of standard input", got, 0, "R vg0-lv0 8000 16\nR vg0-lv0 40960 8\nR vg0-lv0 40968 8\n")
-    write(folder, "damaged", kept.replace(b"8000", b"x"))
+    got = call(top, ["trace", "--times", "e", "ls.txt", "vg0.table", "-"], given=kept, folder=folder)
+    tally.holds("times of standard input", got.status == 0 and got.out.startswith(b"R vg0-lv0 "), "status %s, %r" % (got.status, got.err))
+    write(folder, "damaged", kept.replace(b" + 8 ", b" x 8 "))
     write(folder, "precious", b"precious\n")
     os.chmod(os.path.join(folder, "precious"), 0o640)
     os.symlink("precious", os.path.join(folder, "to precious"))
-    got = call(top, ["filefrag", "--places", "to precious", "vg0-lv0", "damaged"], folder=folder)
+    got = call(top, ["trace", "--times", "to precious", "ls.txt", "vg0.table", "damaged"], folder=folder)
     tally.holds("a refusal", got.status == REFUSED and bytes_of(os.path.join(folder, "precious")) == b"precious\n", "status %s" % got.status)
-    got = call(top, ["filefrag", "--places", "to precious", "vg0-lv0", "another name"], folder=folder)
+    got = call(top, ["trace", "--times", "to precious", "ls.txt", "vg0.table", "another name"], folder=folder)
     is_so = os.path.islink(os.path.join(folder, "to precious")) and os.stat(os.path.join(folder, "precious")).st_mode & 0o777 == 0o640
-    tally.holds("a link that was given", is_so and bytes_of(os.path.join(folder, "precious")).startswith(b"size "), "status %s, %r" % (got.status, got.err))
+    tally.holds("a link that was given", is_so and bytes_of(os.path.join(folder, "precious")).count(b"."), "status %s, %r" % (got.status, got.err))
     with open(os.path.join(folder, "both"), "wb") as both:
-        got = call(top, ["filefrag", "--places", "both", "vg0-lv0", "another name"], folder=folder, stdout=both.fileno())
-    tally.same("a file beside that is standard output", got, 2, "", TOOL + " filefrag: both: standard output goes there, too\n")
+        got = call(top, ["trace", "--times", "both", "ls.txt", "vg0.table", "another name"], folder=folder, stdout=both.fileno())
+    tally.same("a file beside that is standard output", got, 2, "", TOOL + " trace: both: standard output goes there, too\n")
     for name, why in ("", "No such file or directory"), ("none/", "Is a directory"), ("none/it", "No such file or directory"), (".", "Is a directory"):
-        got = call(top, ["filefrag", "--places", name, "vg0-lv0", "another name"], folder=folder)
-        tally.same("a file beside that is %r" % name, got, FULL, "refused\n", "%s filefrag: %s: %s\n" % (TOOL, name, why))
+        got = call(top, ["trace", "--times", name, "ls.txt", "vg0.table", "another name"], folder=folder)
+        tally.same("a file beside that is %r" % name, got, FULL, "refused\n", "%s trace: %s: %s\n" % (TOOL, name, why))
     os.unlink(os.path.join(folder, "both"))
-    ran = subprocess.Popen([*tool(top), "filefrag", "--places", "both", "vg0-lv0", "another name"], stdout=subprocess.PIPE, cwd=folder)
+    ran = subprocess.Popen([*tool(top), "trace", "--times", "both", "ls.txt", "vg0.table", "another name"], stdout=subprocess.PIPE, cwd=folder)
     ran.stdout.read()
     tally.holds("a file beside, once standard output ends", os.path.exists(os.path.join(folder, "both")), "it isn't there yet")
     ran.communicate()
@@ -437,15 +437,15 @@ def check_locale(tally, program, top, folder):
         path = os.path.join(folder, "\u00e9.saved")
         if tally.holds("what is saved then", os.path.exists(path), "it isn't there"):
             os.unlink(path)
-        got = run([*start, "totals", "\u00e9.none"], folder=folder, env=env)
-        tally.same("what is said then", got, 1, "", TOOL + " totals: \u00e9.none: No such file or directory\n")
+        got = run([*start, "report", "\u00e9.none"], folder=folder, env=env)
+        tally.same("what is said then", got, 1, "", TOOL + " report: \u00e9.none: No such file or directory\n")
 
 
 def check_rooms(tally, top, folder):
     """No room for what is kept in files meanwhile."""
     none = lambda: resource.setrlimit(resource.RLIMIT_FSIZE, (0, 0))
     stack = ["table", "snap.table", "snap.disks"]
-    for command, words in (("store-full", ["writes", *stack]), ("used", ["--fresh", "snap", "map", *stack]), ("save", ["snap", "saved", *stack])):
+    for command, words in (("store", ["--requests", "writes", *stack]), ("used", ["--fresh", "snap", "map", *stack]), ("save", ["snap", "saved", *stack])):
         got = run(tool(top) + [command, "--program", "./dmremap", *words], folder=folder, before=none)
         said = "%s %s: a temporary file: " % (TOOL, command)
         is_so = got.status == FULL and got.err.startswith(said.encode()) and got.err.count(b"\n") == 1
@@ -458,7 +458,7 @@ def check_killed(tally, top, folder):
         it.write('#!/bin/sh\n[ "$1" = "$DIES_AT" ] && kill -9 $$\nexec ./dmremap "$@"\n')
     os.chmod(os.path.join(folder, "dies"), 0o755)
     stack = ["table", "snap.table", "snap.disks"]
-    for command, at, words in (("store-full", "map", ["--fresh", "snap", "writes", *stack]), ("used", "concise", ["--fresh", "snap", "map", *stack]),
+    for command, at, words in (("store", "map", ["--fresh", "snap", "--requests", "writes", *stack]), ("used", "concise", ["--fresh", "snap", "map", *stack]),
                                ("used", "map", ["--fresh", "snap", "map", *stack]), ("used", "map", ["--store", "snap=snap.store", "map", *stack]),
                                ("save", "concise", ["--fresh", "snap", "snap", "saved", *stack]), ("save", "map", ["--fresh", "snap", "snap", "saved", *stack])):
         got = run(tool(top) + [command, "--program", "./dies", *words], given="R snap 0 8\n", folder=folder, env=dict(os.environ, DIES_AT=at))
@@ -480,9 +480,9 @@ def check_killed(tally, top, folder):
 def check_long(tally, top, folder, commands):
     """Of a word of the command line a message shows at most 100 characters, and nothing that a terminal obeys."""
     main = importlib.import_module("dmremap_tools.main")
-    for command in commands:
+    for command, plain in commands:
         parser = main.parser_of(command, importlib.import_module("dmremap_tools." + command.module), command.name)
-        plain, options = CALLS[command.name], [it for it in parser._actions if it.option_strings]
+        options = [it for it in parser._actions if it.option_strings]
         tried = [[*plain[:place], LONG[place % 3], *plain[place + 1:]] for place in range(len(plain)) if not plain[place].startswith("-")]
         tried += [[it.option_strings[-1], *LONG[:it.nargs], *plain] if isinstance(it.nargs, int) and it.nargs else
                   [it.option_strings[-1] + "=" + LONG[place % 3], *plain] for place, it in enumerate(options)]
@@ -503,12 +503,11 @@ def check_words(tally, top):
     for words, reason in ((["cut", "--nothing"], "unrecognized arguments: --nothing"),
                           (["cut", "a", "b"], "unrecognized arguments: b"),
                           (["cut", "a", *"bcdefghijklmnopqrs"], "unrecognized arguments: b c d e f g h i j k l m n o p q .."),
-                          (["whole"], "the following arguments are required: VOLUME")):
+                          (["tree"], "the following arguments are required: FILE")):
         got = call(top, words)
-        is_so = (got.status, got.out) == (2, b"refused\n") and got.err.decode().endswith("\n%s %s: %s\n" % (TOOL, words[0], reason))
+        is_so = (got.status, got.out) == (2, b"refused\n" * (words[0] == "cut")) and got.err.decode().endswith("\n%s %s: %s\n" % (TOOL, words[0], reason))
         tally.holds(" ".join(words), is_so, "%s, %r, %r" % (got.status, got.out, got.err))
-    tally.same("tables that are given", call(top, ["whole", "a"], given="b: 0 8 zero\n"), REFUSED, "refused\n", TOOL + " whole: standard input: no device a\n")
-    tally.same("two files from one input", call(top, ["times", "-", "-"]), 2, "", TOOL + " times: standard input can't be two files\n")
+    tally.same("two files from one input", call(top, ["report", "--times", "-", "-"]), 2, "", TOOL + " report: standard input can't be two files\n")
     got = run(tool(top) + ["--help"])
     tally.holds("--help", got.status == 0 and b"\nanswers:\n" in got.out and got.err == b"", "%s, %r" % (got.status, got.err))
 

@@ -23,7 +23,7 @@ def check(tally, program, top):
     blocks = [(kind, smaller(text)) for kind, text in BLOCK.findall(found[1])]
     folder = make_room(program, top)
     pieces = run(["./dmremap", "map", "lvm", "vg0.backup"], given=bytes_of(folder, "requests"), folder=folder)
-    totals = run(["sh", "-c", "./dmremap map lvm vg0.backup < requests | ./dmremap-tools totals | sort"], folder=folder)
+    totals = run(["sh", "-c", "./dmremap map lvm vg0.backup < requests | ./dmremap-tools report | grep ^total | sort"], folder=folder)
     tally.holds("one run over a long trace", pieces.status == totals.status == 0 and totals.out.count(b"\n") == 2, totals.err)
     commands = [text.replace("$ ", "", 1) for kind, text in blocks if kind == "console"]
     if shutil.which("parallel"):

@@ -53,7 +53,7 @@ class Mapped:
         pipe = self._child.stdin
         try:
             for request in requests:
-                pipe.write(request.encode())
+                pipe.write(request.encode("utf-8", "surrogateescape"))
             pipe.close()
         except BrokenPipeError:
             pass

@@ -57,7 +57,7 @@ def save(words: Namespace, source: given.Given, room: str) -> Gaps:
     volume = names.Names(words.ls).device(words.volume, names.Word("VOLUME"))
     begun = started.start(words, source, [volume], room)
     begun.check_valid()
-    size, extents = extents_of(words.extents, volume) if words.extents is not None else whole(begun.loaded, volume, words.file)
+    size, extents = extents_of(words.extents) if words.extents is not None else whole(begun.loaded, volume, words.file)
     sources = Sources(begun.places)
     sources.note(begun.loaded.sizes)
     areas = [(it.at * numbers.SECTOR, (it.at + it.count) * numbers.SECTOR) for it in extents]
@@ -109,25 +109,13 @@ def whole(loaded: Stack, volume: str, name: str) -> Tuple[int, List[Extent]]:
     return device.end() * numbers.SECTOR, [Extent(0, 0, device.end())]
 
 
-def extents_of(path: str, volume: str) -> Tuple[int, List[Extent]]:
+def extents_of(path: str) -> Tuple[int, List[Extent]]:
     """The length of a file in bytes, and its extents, of what filefrag printed."""
-    reader = Gathered(streams.Lines(path), volume)
-    reader.read()
+    reader = filefrag.Reader(streams.Lines(path))
+    extents = [Extent(*it) for it in reader.extents()]
     if reader.files > 1:
         raise Refusal(reader.source.name, "more than one file")
-    return reader.size, reader.extents
-
-
-class Gathered(filefrag.Reader):
-    """Keeps the extents of a file, in its order."""
-
-    def __init__(self, source: streams.Lines, name: str) -> None:
-        super().__init__(source, name, None, filefrag.KNOWN)
-        self.extents: List[Extent] = []
-
-    def add(self, at: int, first: int, count: int) -> None:
-        """Keeps an extent."""
-        self.extents.append(Extent(at, first, count))
+    return reader.size, extents
 
 
 def left(extents: List[Extent], saved: SavedMap) -> Iterator[Extent]:

@@ -2,28 +2,22 @@
 
 import re
 from argparse import ArgumentParser
-from collections import Counter
-from itertools import repeat
 from typing import Callable, Iterator, List, NamedTuple, Optional, Tuple
 
 from dmremap_tools.base import numbers, streams
 
 # Most pieces are of one form, and their numbers are short enough to be below 2^64 in any case.
-_COUNT = "[1-9][0-9]{0,17}"
-_START = "(?:0|%s)" % _COUNT
-_MOST = re.compile(r"^(%s) ([RW]) (\S+) %s (%s)$" % (_COUNT, numbers.SHORT, _COUNT), re.M)
-# What `uses` needs of those, and of all pieces with such numbers.
-_MOVE_USE = r"^{0} (?:([RW] \S+) {1} ({0})".format(_COUNT, _START)
-_MOST_USES = re.compile(_MOVE_USE + ")$", re.M)
-_ALL_USES = re.compile(_MOVE_USE + r"|(?:copy (\S+) {1}|fill) ({0}) (\S+) {1}|(zero|drop|error) ({0}))$".format(_COUNT, _START), re.M)
-# The request of a piece, and all that its line has after that.
-_LINES = re.compile(r"^({0}) ([RW] \S+ {1} {0}|copy \S+ {1} {0} \S+ {1}|fill {0} \S+ {1}|(?:zero|drop|error) {0})$"
-                    .format(_COUNT, _START), re.M)
+_COUNT = "([1-9][0-9]{0,17})"
+_MOVE = re.compile(fr"^{_COUNT} ([RW]) (\S+) {numbers.SHORT} {_COUNT}$", re.M)
+_SHORT_COPY = re.compile(fr"^{_COUNT} copy (\S+) {numbers.SHORT} {_COUNT} (\S+) {numbers.SHORT}$", re.M)
+_SHORT_FILL = re.compile(fr"^{_COUNT} fill {_COUNT} (\S+) {numbers.SHORT}$", re.M)
+_SHORT_OTHER = re.compile(fr"^{_COUNT} (zero|drop|error) {_COUNT}$", re.M)
+_REQUEST = re.compile("^[0-9]+", re.M)
 _N = "(0|[1-9][0-9]{0,19})"
-_MOVED = re.compile(r"%s ([RW]) (\S+) %s %s" % (_N, _N, _N))
-_COPY = re.compile(r"%s copy (\S+) %s %s (\S+) %s" % (_N, _N, _N, _N))
-_FILL = re.compile(r"%s fill %s (\S+) %s" % (_N, _N, _N))
-_OTHER = re.compile(r"%s (zero|drop|error) %s" % (_N, _N))
+_MOVED = re.compile(fr"{_N} ([RW]) (\S+) {_N} {_N}")
+_COPY = re.compile(fr"{_N} copy (\S+) {_N} {_N} (\S+) {_N}")
+_FILL = re.compile(fr"{_N} fill {_N} (\S+) {_N}")
+_OTHER = re.compile(fr"{_N} (zero|drop|error) {_N}")
 _STATUS = re.compile(r"\S+: \S+ \S+ snapshot .*")
 
 
@@ -45,9 +39,18 @@ class Piece(NamedTuple):
     to_start: int = 0
 
 
-_make = tuple.__new__
-# The words of a piece that is R or W: its request, what, the disk, the start and how many sectors.
+# The words of what is read or written: the request, R or W, the disk, the start and how many sectors.
 Move = Tuple[str, str, str, str, str]
+
+
+class Block(NamedTuple):
+    """Many pieces at once: the requests of all, those that are R or W, what copies and fills do as such, and what else is done, with
+    how many sectors."""
+
+    requests: List[int]
+    moves: List[Move]
+    copied: List[Move]
+    others: List[Tuple[str, str]]
 
 
 class Answers(streams.Lines):
@@ -56,61 +59,55 @@ class Answers(streams.Lines):
     statuses = 0
 
     def __iter__(self) -> Iterator[Piece]:
-        return filter(None, map(self._piece, self.rows(_MOST)))
+        return filter(None, map(self._piece, self.rows(_MOVE)))
 
-    def hand_on_moves(self, take_all: Callable[[List[Move]], bool], take: Callable[[Piece], None]) -> None:
-        """Hands the pieces on: many at once where all are R or W and `take_all` takes them, which it says; else one by one."""
-        for found, form in self.blocks(_MOST):
-            if not form or not take_all(found):
-                for piece in filter(None, map(self._piece, self.each(_MOST))):
-                    take(piece)
+    def by_blocks(self) -> Iterator[Block]:
+        """The pieces, many at once. Refuses those that are out of order."""
+        last = 0
+        for text in self.blocks():
+            count = text.count("\n")
+            moves: List[Move] = _MOVE.findall(text)
+            block = Block([int(it[0]) for it in moves], moves, [], []) if len(moves) == count else self._mixed(text, count, moves)
+            if block.requests != sorted(block.requests) or block.requests and block.requests[0] < last:
+                self._refuse_order(last)
+            last = block.requests[-1] if block.requests else last
+            yield block
+
+    def refuse_where(self, reason: str, is_bad: Callable[[Piece], bool]) -> None:
+        """Refuses the first line of the block whose piece is one that is bad."""
+        for piece in filter(None, map(self._piece, self.each(_MOVE))):
+            if is_bad(piece):
+                self.refuse_line(reason)
+
+    def tell_if_none(self) -> None:
+        """Tells at the end if there was no piece."""
+        if self.number == self.statuses:
+            streams.tell("no piece came")
+
+    def _mixed(self, text: str, count: int, moves: List[Move]) -> Block:
+        """A block with other pieces than R and W, or with lines that are none."""
+        copies, fills, others = _SHORT_COPY.findall(text), _SHORT_FILL.findall(text), _SHORT_OTHER.findall(text)
+        if len(moves) + len(copies) + len(fills) + len(others) < count:
+            return _block_of(list(filter(None, map(self._piece, self.each(_MOVE)))))
+        copied = [(request, "R", disk, start, length) for request, disk, start, length, _, _ in copies]
+        copied += [(request, "W", to, start, length) for request, _, _, length, to, start in copies]
+        copied += [(request, "W", to, start, length) for request, length, to, start in fills]
+        return Block(list(map(int, _REQUEST.findall(text))), moves, copied, [(what, length) for _, what, length in others])
+
+    def _refuse_order(self, last: int) -> None:
+        """Refuses the first piece of the block whose request comes before that of the piece above."""
+        def is_early(piece: Piece) -> bool:
+            nonlocal last
+            before, last = last, piece.request
+            return piece.request < before
+        self.refuse_where("out of order", is_early)
 
     def _piece(self, fields: "Tuple[str, ...] | str") -> Optional[Piece]:
         """The piece that a line is, or None for a status."""
         if isinstance(fields, str):
             return self._read(fields)
         request, what, disk, start, count = fields
-        return _make(Piece, (int(request), what, int(count), disk, int(start), "", 0))
-
-    def by_request(self) -> Iterator[Tuple[int, str]]:
-        """For each piece the number of its request, and the rest of its line. Refuses pieces out of order."""
-        last = 0
-        for fields in self.rows(_LINES):
-            if isinstance(fields, str):
-                piece = self._read(fields)
-                if not piece:
-                    continue
-                request, rest = piece.request, fields.partition(" ")[2]
-            else:
-                request, rest = int(fields[0]), fields[1]
-            if request < last:
-                self.refuse_line("out of order")
-            last = request
-            yield request, rest
-
-    def uses(self) -> Iterator[Tuple[str, str, int, int]]:
-        """What pieces do, though not in which order: the disk, what is done with it, the number of sectors, and how many
-        pieces do this. It is R or W, for a copy both. There is no disk where it is `zero`, `drop` or `error`."""
-        for found, form in self.blocks(_MOST_USES, _ALL_USES):
-            for fields, times in Counter(found).items() if form else zip(self.each(_ALL_USES), repeat(1)):
-                for use in self._uses_of(fields):
-                    yield (*use, times)
-
-    def _uses_of(self, fields: "Tuple[str, ...] | str") -> Iterator[Tuple[str, str, int]]:
-        if isinstance(fields, str):
-            piece = self._read(fields)
-            if piece:
-                yield from _uses(piece.what, piece.disk, piece.count, piece.to)
-        elif fields[0]:
-            yield fields[0][2:], fields[0][0], int(fields[1])
-        else:
-            _, _, disk, moved, to, what, count = fields
-            yield from _uses(what, disk, int(moved or count), to)
-
-    def tell_if_none(self) -> None:
-        """Tells at the end if there was no piece."""
-        if self.number == self.statuses:
-            streams.tell("no piece came")
+        return Piece(int(request), what, int(count), disk, int(start))
 
     def _read(self, line: str) -> Optional[Piece]:
         """The same of a line of any form."""
@@ -123,14 +120,17 @@ class Answers(streams.Lines):
         return piece
 
 
-def _uses(what: str, disk: str, count: int, to: str) -> Iterator[Tuple[str, str, int]]:
-    """What a piece reads and writes: from a disk, to a disk, or as `what` says."""
-    if disk:
-        yield disk, what if not to else "R", count
-    if to:
-        yield to, "W", count
-    if not disk and not to:
-        yield "", what, count
+def _block_of(pieces: List[Piece]) -> Block:
+    """Pieces of any form as a block."""
+    block = Block([it.request for it in pieces], [], [], [])
+    for it in pieces:
+        if it.disk:
+            (block.copied if it.to else block.moves).append((str(it.request), "R" if it.to else it.what, it.disk, str(it.start), str(it.count)))
+        if it.to:
+            block.copied.append((str(it.request), "W", it.to, str(it.to_start), str(it.count)))
+        if not it.disk and not it.to:
+            block.others.append((it.what, str(it.count)))
+    return block
 
 
 def _piece_of(line: str) -> Optional[Piece]:

@@ -1,7 +1,7 @@
 """Requests, as dmremap reads them."""
 
 import re
-from typing import Collection, Iterable, Iterator, List, Tuple
+from typing import Iterator, Tuple
 
 from dmremap_tools.base import names, numbers, streams
 
@@ -34,18 +34,6 @@ def parts(first: int, count: int) -> Iterator[Tuple[int, int]]:
         yield at, min(MOST, first + count - at)
 
 
-def of_bytes(begun: Iterable[str], begins: Iterable[str], counts: Iterable[str]) -> List[str]:
-    """The lines of requests for all sectors that bytes touch, which are not too many. Of those that begin with nothing there is
-    none."""
-    touched = map(numbers.sectors_touched, map(int, begins), map(int, counts))
-    return [f"{beginning} {first} {count}\n" for beginning, (first, count) in zip(begun, touched) if beginning]
-
-
-def are_short(counts: Collection[str], most: int = MOST) -> bool:
-    """Whether numbers of sectors, or of what else a request may have so many of, are not 0 and surely not too large."""
-    return max(map(len, counts)) < len(str(most)) and "0" not in counts
-
-
 def write(source: streams.Lines, operation: str, name: str, first: int, count: int) -> int:
     """Prints a request of a line for these sectors, or several where one would be too long; returns how many."""
     if 0 < count <= MOST and first + count <= _LIMIT:
@@ -67,3 +55,10 @@ def write_bytes(source: streams.Lines, operation: str, name: str, begin: int, co
     if count == 0:
         source.refuse_line("no bytes")
     write(source, operation, name, *numbers.sectors_touched(begin, count))
+
+
+def sectors_of(source: streams.Lines, block: int) -> int:
+    """How many sectors a block of so many bytes has."""
+    if block % numbers.SECTOR or not block:
+        source.refuse(f"blocks of {block} bytes, which are no whole sectors")
+    return block // numbers.SECTOR

@@ -5,8 +5,9 @@ grows. Whatever an output doesn't take ends the command: see `main.py`.
 """
 
 import os
+import select
 import stat
-from typing import Callable, Dict, Iterator, List, NoReturn, Optional, Pattern, Tuple
+from typing import Iterator, List, NoReturn, Optional, Pattern, Tuple
 
 from dmremap_tools.base import numbers, plain_text, quoting, written
 from dmremap_tools.base.refusal import OutputFailed, Refusal, WrongWords
@@ -19,6 +20,8 @@ MOST_TEXT = 64 << 20
 SPOILED = "refused\n"
 UNENDED = "the text ends within a line: "
 NO_NUMBER = "not a whole number below 2^64: '%s'"
+# What takes the line of progress away on a terminal.
+CLEARED = "\r\033[K"
 
 
 class ReaderGone(Exception):
@@ -44,26 +47,24 @@ class Output:
         """Writes what was gathered."""
         if not self._parts:
             return
-        text = "".join(self._parts)
-        self._parts = []
+        text, self._parts = "".join(self._parts), []
         if os.isatty(self._descriptor):
             text = quoting.on_terminal(text)
         left = memoryview(text.encode("utf-8", "surrogateescape"))
-        try:
-            while left:
-                left = left[_write_some(self._descriptor, left):]
-        except OSError as fault:
-            self._fail(fault)
+        while left:
+            try:
+                left = left[os.write(self._descriptor, left):]
+            except BlockingIOError:
+                select.select([], [self._descriptor], [])
+            except OSError as fault:
+                self._fail(fault)
 
     def close(self) -> None:
         """Flushes, and closes it, as some file systems say only then that they are full."""
         self.flush()
         self._is_open = False
-        if self.place:
-            self.place.close()
-            return
         try:
-            os.close(self._descriptor)
+            self.place.close() if self.place else os.close(self._descriptor)
         except OSError as fault:
             self._fail(fault)
 
@@ -78,7 +79,7 @@ class Output:
         self._parts = []
         if isinstance(fault, BrokenPipeError):
             raise ReaderGone
-        raise OutputFailed("%s: %s" % (self._name, why(fault)))
+        raise OutputFailed(f"{self._name}: {why(fault)}")
 
 
 class Lines:
@@ -89,63 +90,62 @@ class Lines:
     def __init__(self, path: str, is_written: bool = False) -> None:
         self.name = name_of(path)
         self.number = 0
-        self._descriptor = _open(path, is_written)
-        self._block, self._before = "", 0
-        # Those of the block, once one of them is asked for.
-        self._lines: List[str] = []
+        self._chunks = _chunks_of(_open(path, is_written), self.name)
+        # The lines of the block, once one of them is asked for.
+        self._block, self._before, self._lines = "", 0, [""]
 
     def __iter__(self) -> Iterator[str]:
-        for block in self._blocks():
-            for line in block[:-1].split("\n"):
-                self.number += 1
+        for block in self.blocks():
+            for self.number, line in enumerate(block[:-1].split("\n"), self._before + 1):
                 yield line
 
-    def blocks(self, *forms: Pattern[str]) -> "Iterator[Tuple[List[Tuple[str, ...]], Optional[Pattern[str]]]]":
-        """Many lines at once: what the groups of a form have of each, and which of some forms it is; none where not all lines
-        are of one, which `each` reads then. A form has several groups, is compiled with re.M, and begins with ^ and ends
-        with $. `number` is that of the line before them."""
-        form = forms[0]
-        for block in self._blocks():
-            count = block.count("\n")
-            # The form of the lines before is tried first.
-            for form in dict.fromkeys((form, *forms)):
-                found = form.findall(block)
-                if len(found) == count:
-                    yield found, form
-                    break
+    def blocks(self) -> Iterator[str]:
+        """Many whole lines at once. `number` is that of the line before them, and afterwards that of their last."""
+        rest, is_begun = b"", False
+        for chunk in self._chunks:
+            if not is_begun:
+                chunk, is_begun = plain_text.begun(self.name, chunk), True
+            before, end, after = chunk.rpartition(b"\n")
+            if end:
+                lines = plain_text.with_plain_ends(rest + before + end)
+                self._block, self._before, self._lines = lines.decode("utf-8", "surrogateescape"), self.number, []
+                rest = after
+                yield self._block
+                self.number = self._before + self._block.count("\n")
             else:
-                yield [], None
-            self.number = self._before + count
+                rest += chunk
+            if len(rest) > LONGEST_LINE:
+                self.number += 1
+                self.refuse(f"a line of more than {LONGEST_LINE} bytes")
+        if rest:
+            self.number += 1
+            self.refuse(UNENDED + quoting.shown(rest.decode("utf-8", "surrogateescape")))
 
     def each(self, form: Pattern[str]) -> "Iterator[Tuple[str, ...] | str]":
-        """For each line of a block what the groups of a form have, or the line itself where it is of another form."""
+        """For each line of the block what the groups of a form have, or the line itself where it is of another form."""
         for self.number, line in enumerate(self._block[:-1].split("\n"), self._before + 1):
             match = form.match(line)
             yield match.groups("") if match else line
 
-    def rows(self, form: Pattern[str]) -> "Iterator[Tuple[str, ...] | str]":
-        """The same for all lines, as they come."""
-        for found, known in self.blocks(form):
-            if known:
-                for self.number, fields in enumerate(found, self._before + 1):
-                    yield fields
+    def rows(self, *forms: Pattern[str]) -> "Iterator[Tuple[str, ...] | str]":
+        """For each line, as they come, what the groups of one of some forms have, or the line itself. A form has several groups, is
+        compiled with re.M, and begins with ^ and ends with $. Others than the first are seen where many lines are of them."""
+        form = forms[0]
+        for block in self.blocks():
+            # That of the lines before is tried first.
+            for form in dict.fromkeys((form, *forms)):
+                found = form.findall(block)
+                if len(found) == block.count("\n"):
+                    for self.number, fields in enumerate(found, self._before + 1):
+                        yield fields
+                    break
             else:
-                yield from self.each(form)
-
-    def hand_on(self, takes: "Dict[Pattern[str], Callable[[List[Tuple[str, ...]]], bool]]",
-                take: "Callable[[Tuple[str, ...] | str], None]") -> None:
-        """Hands lines on as they come: many at once to what `takes` has for their form, if it takes them, which it says;
-        otherwise one by one what `rows` has for the last of the forms."""
-        for found, form in self.blocks(*takes):
-            if not form or not takes[form](found):
-                for fields in self.each(list(takes)[-1]):
-                    take(fields)
+                yield from self.each(forms[0])
 
     @property
     def line(self) -> str:
         """The line that was read last."""
-        if not self._lines:
-            self._lines = self._block.split("\n")
+        self._lines = self._lines or self._block.split("\n")
         return self._lines[self.number - self._before - 1]
 
     def tell_if_none(self) -> None:
@@ -155,11 +155,11 @@ class Lines:
 
     def refuse(self, reason: str) -> NoReturn:
         """Refuses the line that was read last, or an input without lines."""
-        raise Refusal("%s:%d" % (self.name, self.number) if self.number else self.name, reason)
+        raise Refusal(f"{self.name}:{self.number}" if self.number else self.name, reason)
 
     def refuse_line(self, reason: str) -> NoReturn:
         """The same, with what stands there."""
-        self.refuse("%s: %s" % (reason, quoting.shown(self.line)))
+        self.refuse(f"{reason}: {quoting.shown(self.line)}")
 
     def whole(self, text: str) -> int:
         """The whole number below 2^64 that a word of the line is."""
@@ -167,27 +167,6 @@ class Lines:
         if value is None:
             self.refuse(NO_NUMBER % quoting.shown(text))
         return value
-
-    def _blocks(self) -> Iterator[str]:
-        """The text in pieces of whole lines. What was written goes out before more of it is waited for."""
-        rest, is_begun = b"", False
-        for chunk in iter(lambda: _read_some(self._descriptor, self.name), b""):
-            if not is_begun:
-                chunk, is_begun = plain_text.begun(self.name, chunk), True
-            end = chunk.rfind(b"\n") + 1
-            if end:
-                lines = plain_text.with_plain_ends(rest + chunk[:end])
-                self._block, self._before, self._lines = lines.decode("utf-8", "surrogateescape"), self.number, []
-                rest = chunk[end:]
-                yield self._block
-            else:
-                rest += chunk
-            if len(rest) > LONGEST_LINE:
-                self.number += 1
-                self.refuse("a line of more than %d bytes" % LONGEST_LINE)
-        if rest:
-            self.number += 1
-            self.refuse(UNENDED + quoting.shown(rest.decode("utf-8", "surrogateescape")))
 
 
 def name_of(path: str) -> str:
@@ -199,48 +178,51 @@ def whole(option: str, text: str) -> int:
     """The whole number below 2^64 that a word of an option is."""
     value = numbers.read(text)
     if value is None:
-        raise WrongWords("%s: %s" % (option, NO_NUMBER % quoting.shown(text)))
+        raise WrongWords(f"{option}: {NO_NUMBER % quoting.shown(text)}")
     return value
 
 
+def chunks(path: str) -> Iterator[bytes]:
+    """The bytes of a file, or of standard input for `-`, as they come."""
+    return _chunks_of(_open(path), name_of(path))
+
+
 def read_bytes(path: str, most: int = MOST_TEXT) -> bytes:
-    """The bytes of a file, or of standard input for `-`, which has at most so many."""
-    name, descriptor, chunks, size = name_of(path), _open(path), [], 0
-    while True:
-        chunk = _read_some(descriptor, name)
-        if not chunk:
-            break
-        chunks.append(chunk)
+    """The same at once, if there are at most so many."""
+    found, size = [], 0
+    for chunk in chunks(path):
+        if not found:
+            plain_text.check_kind(name_of(path), chunk)
+        found.append(chunk)
         size += len(chunk)
         if size > most:
-            raise Refusal(name, "it has more than %d bytes" % most)
-    if descriptor:
-        os.close(descriptor)
-    plain_text.check_kind(name, chunks[0] if chunks else b"")
-    return b"".join(chunks)
+            raise Refusal(name_of(path), f"it has more than {most} bytes")
+    return b"".join(found)
+
+
+def plain_bytes(path: str, most: int = MOST_TEXT) -> bytes:
+    """The same of a text, without a byte order mark and carriage returns."""
+    return plain_text.with_plain_ends(plain_text.begun(name_of(path), read_bytes(path, most)))
 
 
 def read(path: str, most: int = MOST_TEXT) -> str:
     """The same as text. Bytes that are no UTF-8 stay what they are, and are written as they were."""
-    text = plain_text.begun(name_of(path), read_bytes(path, most))
-    return plain_text.with_plain_ends(text).decode("utf-8", "surrogateescape")
+    return plain_bytes(path, most).decode("utf-8", "surrogateescape")
 
 
 def rows(path: str, most: int = MOST_TEXT) -> List[str]:
     """The lines of the whole text of a file. As in `Lines`, a text that ends within one is refused."""
-    found = read(path, most).split("\n")
-    last = found.pop()
+    *found, last = read(path, most).split("\n")
     if last:
-        raise Refusal("%s:%d" % (name_of(path), len(found) + 1), UNENDED + quoting.shown(last))
+        raise Refusal(f"{name_of(path)}:{len(found) + 1}", UNENDED + quoting.shown(last))
     return found
 
 
 def beside(path: str) -> Output:
     """A file that is written beside standard output. It gets to its place where the command has an answer."""
     place = written.Place(path)
-    made = Output(place.begin(), name_of(path), place)
-    _besides.append(made)
-    return made
+    _besides.append(Output(place.begin(), name_of(path), place))
+    return _besides[-1]
 
 
 def tell(*texts: str) -> None:
@@ -256,14 +238,14 @@ def show_progress(text: str) -> None:
     global _is_progress_shown
     if os.isatty(2):
         _is_progress_shown = True
-        _show("\r\033[K" + quoting.escaped(text)[:79])
+        _show(CLEARED + quoting.escaped(text)[:79])
 
 
 def _clear_progress() -> None:
     global _is_progress_shown
     if _is_progress_shown:
         _is_progress_shown = False
-        _show("\r\033[K")
+        _show(CLEARED)
 
 
 def _show(text: str) -> None:
@@ -296,10 +278,7 @@ def spoil(is_fed: bool) -> None:
     failed = None
     for each in [*_besides, out]:
         try:
-            if is_fed or each is not out:
-                each.spoil()
-            else:
-                each.flush()
+            each.spoil() if is_fed or each is not out else each.flush()
         except ReaderGone:
             pass
         except OutputFailed as fault:
@@ -344,29 +323,23 @@ def _open(path: str, is_written: bool = False) -> int:
     return descriptor
 
 
-def _read_some(descriptor: int, name: str) -> bytes:
-    try:
-        if not stat.S_ISREG(os.fstat(descriptor).st_mode):
-            flush()
-        return os.read(descriptor, CHUNK)
-    except BlockingIOError:
-        _wait([descriptor], [])
-        return _read_some(descriptor, name)
-    except OSError as fault:
-        raise Refusal(name, why(fault))
-
-
-def _write_some(descriptor: int, left: memoryview) -> int:
-    try:
-        return os.write(descriptor, left)
-    except BlockingIOError:
-        _wait([], [descriptor])
-        return 0
-
-
-def _wait(inputs: List[int], outputs: List[int]) -> None:
-    import select
-    select.select(inputs, outputs, [])
+def _chunks_of(descriptor: int, name: str) -> Iterator[bytes]:
+    """What a file has, as it comes. What was written goes out before more of it is waited for."""
+    chunk = b"\0"
+    while chunk:
+        try:
+            if not stat.S_ISREG(os.fstat(descriptor).st_mode):
+                flush()
+            chunk = os.read(descriptor, CHUNK)
+        except BlockingIOError:
+            select.select([descriptor], [], [])
+            continue
+        except OSError as fault:
+            raise Refusal(name, why(fault))
+        if chunk:
+            yield chunk
+    if descriptor:
+        os.close(descriptor)
 
 
 out = Output(1, "standard output")

@@ -1,20 +1,13 @@
-"""Every two lines of a stack that have sectors in common, and which.
+"""Spans of which every two lines that have sectors in common are found. Snapshots may share an origin, also with the line
+`snapshot-origin` that serves them."""
 
-Has SPANS, what `spans` printed; else standard input. Gets on what, the first and the last sector that two lines have in
-common, and their devices. `dmremap check` prints the first clash alone. Snapshots may share an origin, also with the line
-`snapshot-origin` that serves them. Refuses to go on after a million.
-"""
-
-import argparse
 import heapq
-from typing import Dict, List, Tuple
+from typing import Dict, Iterable, Iterator, List, Tuple
 
-from dmremap_tools.base import streams
 from dmremap_tools.base.refusal import Refusal
 from dmremap_tools.layouts import span_lines
 from dmremap_tools.layouts.span_lines import Span
 
-EXAMPLE = "dmremap-tools spans stack.disks stack.table | dmremap-tools clashes"
 ORIGIN, SERVES, OTHER = "origin", "snapshot-origin", "other"
 # How many clashes are printed: nested ranges have as many as their number squared.
 MOST = 1000000
@@ -53,15 +46,11 @@ def kind_of(span: Span) -> str:
     return span.kind if span.kind in (ORIGIN, SERVES) else OTHER
 
 
-def add_words(parser: argparse.ArgumentParser) -> None:
-    """Adds SPANS."""
-    parser.add_argument("spans", metavar="SPANS", nargs="?", default="-")
-
-
-def run(words: argparse.Namespace) -> None:
-    """Prints each clash."""
+def clashes_in(spans: Iterable[Span], name: str) -> Iterator[str]:
+    """A line for each clash among sorted spans of a text that is called so: on what, the first and the last sector that two lines
+    have in common, and their devices."""
     on, opened, count = "", Open(), 0
-    for span in span_lines.spans_in(words.spans):
+    for span in spans:
         if span.kind == span_lines.END or span.first == span.end:
             continue
         if span.on != on:
@@ -69,6 +58,6 @@ def run(words: argparse.Namespace) -> None:
         for other in opened.meeting(span):
             count += 1
             if count > MOST:
-                raise Refusal(streams.name_of(words.spans), "there are more than %d clashes: take the lines of one disk, or of fewer devices" % MOST)
-            streams.out.write("%s %d %d %s %s\n" % (on, span.first, min(other.end, span.end) - 1, other.device, span.device))
+                raise Refusal(name, f"there are more than {MOST} clashes: take the lines of one disk, or of fewer devices")
+            yield f"{on} {span.first} {min(other.end, span.end) - 1} {other.device} {span.device}\n"
         opened.add(span)

@@ -9,21 +9,29 @@ extents, its label and an area for the metadata, is `label+metadata` of its grou
 area may lie, and the extents of volumes that have no line, as inactive ones, are `allocated`. With --paths the disks are
 read: labels tell which physical volume is which, and partition tables, partitions without a line, headers and data of LUKS,
 labels and areas of LVM, and superblocks and data of members of md arrays are `allocated` as well.
+
+With --free, lines `unnamed` stand between: sectors that no line names. They needn't be free: a file system may lie there without a
+device, or a partition table, swap space, a volume that isn't active or was left out. With --clashes, gets in place of the ranges
+every two that have sectors in common, where `dmremap check` has the first two alone: on what, the first and the last sector, and both
+devices. Snapshots may share an origin. With --align, gets the lines of devices that begin at no multiple of 2048 sectors, which is
+1 MiB, or of --to SECTORS.
 """
 
 from argparse import ArgumentParser, Namespace
-from typing import Dict, List, Sequence, Set
+from typing import Dict, Iterator, List, Sequence, Set
 
-from dmremap_tools.base import disks, names, paths, quoting, streams, tables
+from dmremap_tools.base import disks, names, numbers, paths, quoting, streams, tables
 from dmremap_tools.base.disk_image import Image
-from dmremap_tools.base.refusal import Refusal
+from dmremap_tools.base.refusal import Refusal, WrongWords
 from dmremap_tools.layouts import stacked
 from dmremap_tools.layouts.beginnings import Beginnings
+from dmremap_tools.layouts.clashes import clashes_in
 from dmremap_tools.layouts.group_spans import ALLOCATED, PhysicalVolume, physical_volumes
 from dmremap_tools.layouts.heads import OF_LVM, heads_of
 from dmremap_tools.layouts.span_lines import END, Span
 
 EXAMPLE = "dmremap-tools spans stack.disks stack.table > spans"
+MEBIBYTE = 2048
 
 
 def add_words(parser: ArgumentParser) -> None:
@@ -31,11 +39,18 @@ def add_words(parser: ArgumentParser) -> None:
     parser.add_argument("disks", metavar="DISKS")
     parser.add_argument("file", metavar="FILE")
     parser.add_argument("metadata", metavar="METADATA", nargs="*")
+    shown = parser.add_mutually_exclusive_group()
+    shown.add_argument("--free", action="store_true", help="what no line names, too")
+    shown.add_argument("--clashes", action="store_true", help="every two lines that have sectors in common")
+    shown.add_argument("--align", action="store_true", help="what begins at no multiple of 1 MiB, or of --to")
+    parser.add_argument("--to", type=numbers.word, default=MEBIBYTE, metavar="SECTORS", help="with --align: what they are to be multiples of")
     paths.add_words(parser)
 
 
 def run(words: Namespace) -> None:
-    """Prints the ranges."""
+    """Prints the ranges, or what is asked of them."""
+    if words.to == 0:
+        raise WrongWords("--to: a multiple of no sectors")
     devices = stacked.devices_in(words.file)
     spans = Spans(disks.read(words.disks), devices)
     if not devices and not spans.disks:
@@ -46,8 +61,34 @@ def run(words: Namespace) -> None:
             spans.add_physical(physical, beginnings)
     for on, image in beginnings.images.items():
         spans.add_heads(on, image)
-    for span in spans.sorted():
-        streams.out.write(str(span))
+    if words.clashes:
+        lines = clashes_in(spans.sorted(), streams.name_of(words.file))
+    elif words.align:
+        lines = unaligned(spans.sorted(), words.to)
+    else:
+        lines = map(str, with_free(spans.sorted()) if words.free else spans.sorted())
+    for line in lines:
+        streams.out.write(line)
+
+
+def with_free(spans: List[Span]) -> Iterator[str]:
+    """Sorted spans with what no line names in between."""
+    on, at = "", 0
+    for span in spans:
+        if span.on != on:
+            on, at = span.on, 0
+        if span.first > at:
+            yield f"{on} {at} {span.first} unnamed\n"
+        at = max(at, span.end)
+        if span.kind != END:
+            yield str(span)
+
+
+def unaligned(spans: List[Span], unit: int) -> Iterator[str]:
+    """A line for each span that begins at no multiple of so many sectors."""
+    for span in spans:
+        if span.kind != END and span.first % unit:
+            yield f"{span.device} begins at sector {span.first} of {span.on}\n"
 
 
 class Spans:

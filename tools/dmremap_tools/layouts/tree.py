@@ -1,7 +1,8 @@
 """A stack as a tree: each device that nothing lies on, and what is below it.
 
-Has FILE, table text or concise text. Gets a tree in which what was shown is not shown again. Refuses devices that stand on
-themselves, or lie on each other more than 32 deep, neither of which dmremap loads.
+Takes FILE, table text or concise text. What was shown is not shown again. --dot prints a graph for Graphviz: devices, and disks in
+boxes, with an edge for each line from its device to what it lies on; `dot -Tsvg` draws it. Refuses devices that stand on themselves, or
+lie on each other more than 32 deep, neither of which dmremap loads.
 """
 
 import argparse
@@ -16,17 +17,27 @@ Row = Tuple[str, Optional[str]]
 
 
 def add_words(parser: argparse.ArgumentParser) -> None:
-    """Adds FILE."""
+    """Adds FILE and --dot."""
     parser.add_argument("file", metavar="FILE")
+    parser.add_argument("--dot", action="store_true", help="a graph for Graphviz in place of the tree")
 
 
 def run(words: argparse.Namespace) -> None:
+    """Prints the tree, or the graph."""
+    devices = stacked.devices_in(words.file)
+    if not devices:
+        streams.tell("no device came")
+    if words.dot:
+        draw(devices)
+    else:
+        show_all(devices)
+
+
+def show_all(devices: List[tables.Device]) -> None:
     """Prints the tree."""
     lines: Dict[str, List[tables.Line]] = {}
-    for device in stacked.devices_in(words.file):
+    for device in devices:
         lines.setdefault(device.name, []).extend(device.lines)
-    if not lines:
-        streams.tell("no device came")
     under = {lower for some in lines.values() for line in some for lower in line.lowers()}
     shown: Set[str] = set()
     for name in lines:
@@ -62,3 +73,24 @@ def rows(name: str, indent: str, lines: Dict[str, List[tables.Line]], shown: Set
                 told.add(lower)
                 device = lower[len(names.MAPPER):]
                 yield "%s|    %s" % (indent, device), device
+
+
+def draw(devices: List[tables.Device]) -> None:
+    """Prints the graph, each step once."""
+    steps: Dict[str, None] = {}
+    for device in devices:
+        name = node(device.name)
+        for line in device.lines:
+            for place, lower in enumerate(line.lowers()):
+                below = node(lower[len(names.MAPPER):] if lower.startswith(names.MAPPER) else "disk " + lower)
+                if not lower.startswith(names.MAPPER):
+                    steps[below + " [shape=box]"] = None
+                kind = ("origin", "store")[place] if line.target == "snapshot" else line.target
+                steps[f'{name} -> {below} [label="{kind} {line.start}+{line.length}"]'] = None
+        steps[name] = None
+    streams.out.write("digraph stack {\n" + "".join(f"  {step}\n" for step in steps) + "}\n")
+
+
+def node(text: str) -> str:
+    """A word of the graph, in quotes."""
+    return '"%s"' % text.replace("\\", "\\\\").replace('"', '\\"')

@@ -1,7 +1,8 @@
 """Cuts requests that are longer than dmremap takes.
 
-Has requests of any length, `R DEVICE START LEN` or `W ..`, in sectors. Gets the same, cut after 1,048,576 sectors
-(512 MiB). Refuses lines that are no requests. The other commands that make requests cut by themselves.
+Takes requests of any length, `R DEVICE START LEN` or `W ..`, in sectors, or with --bytes in bytes. Gets the same in sectors, all that
+the bytes touch, cut after 1,048,576 sectors (512 MiB). Refuses lines that are no requests. The other commands that make requests
+cut by themselves.
 """
 
 from argparse import ArgumentParser, Namespace
@@ -14,12 +15,14 @@ EXAMPLE = "echo 'R vg0-lv0 8000 2500000' | dmremap-tools cut | dmremap map lvm v
 def add_words(parser: ArgumentParser) -> None:
     """Adds the arguments."""
     parser.add_argument("file", metavar="FILE", nargs="?", default="-", help="requests; else standard input")
+    parser.add_argument("--bytes", action="store_true", help="their numbers are an offset and a length in bytes")
     names.add_words(parser)
 
 
 def run(words: Namespace) -> None:
     """Cuts them as they come."""
     source = streams.Lines(words.file)
-    for asked in requests.read(source, names.Names(words.ls), "not a request"):
-        requests.write(source, *asked)
+    form, write = ("not R or W, a device, an offset and a length", requests.write_bytes) if words.bytes else ("not a request", requests.write)
+    for asked in requests.read(source, names.Names(words.ls), form):
+        write(source, *asked)
     source.tell_if_none()

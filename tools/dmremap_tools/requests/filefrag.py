@@ -1,11 +1,19 @@
-"""Requests for the sectors of files, from what `filefrag -s -v -b512 FILE` prints.
+"""Requests for the sectors of files, from what `filefrag -s -v -b512 FILE` prints, or `debugfs`.
 
-Has the extents of one file or of several, in blocks of any size. Gets requests that read them, in the file's order, and
-with --places what `read-back` needs to put a single file together. Unwritten extents are told and left out: they read as
-zeros. Refuses file systems other than ext2, ext3, ext4 and XFS, as the extents of btrfs are no places on its device:
-with --addresses, VOLUME is the device that `btrfs` makes of it. Refuses extents without a place, as `delalloc`, `inline` and
-`encoded`, and a text that isn't whole. With -s, filefrag has the file written out first: before that, new blocks have no
-place, and preallocated ones count as unwritten.
+Takes the extents of one file or of several, in blocks of any size. Gets requests that read them, in the file's order. Unwritten
+extents are told and left out: they read as zeros. Refuses file systems other than ext2, ext3, ext4 and XFS, as the extents of btrfs
+are no places on its device: with --addresses, VOLUME is the device that `btrfs` makes of it. Refuses extents without a place, as
+`delalloc`, `inline` and `encoded`, and a text that isn't whole. With -s, filefrag has the file written out first: before that, new
+blocks have no place, and preallocated ones count as unwritten.
+
+With --debugfs SUPER, FILE is what `debugfs -R 'ex /FILE' IMAGE` prints of an ext4 file system that isn't mounted, and SUPER what
+`dumpe2fs -h IMAGE` does, for the size of a block. Files without a list of extents are refused: those of ext2 and ext3, and small ones
+that are kept in their inode.
+
+With --device, gets the file as a device of that name, an image on a volume as a disk, say: table text, whose lines lie on VOLUME, or
+on the disk that --on names. Where the file has no place it is `zero`; its last sector is whole. With --debugfs, --size says how many
+bytes it has, as `debugfs -R 'stat /FILE' IMAGE` does. A file of more lines than dmremap takes is refused, unless --part says which of
+its sectors are asked for.
 
 It can't see two things: the numbers of `filefrag -X` are hexadecimal and may look decimal, and a file in the realtime
 part of XFS has its extents on another device.
@@ -13,9 +21,12 @@ part of XFS has its extents on another device.
 
 import re
 from argparse import ArgumentParser, Namespace
-from typing import List, Match, NoReturn, Optional, Set
+from typing import Iterator, List, Match, NoReturn, Set, Tuple
 
-from dmremap_tools.base import names, numbers, quoting, requests, streams
+from dmremap_tools.base import names, numbers, quoting, requests, streams, tables
+from dmremap_tools.base.refusal import WrongWords
+from dmremap_tools.layers import parts
+from dmremap_tools.requests.extent_list import ExtentList
 
 EXAMPLE = "filefrag -s -v -b512 /mnt/report.odt | dmremap-tools filefrag vg0-lv0 | dmremap map lvm vg0.backup"
 
@@ -35,42 +46,71 @@ MOST_SPARE = 1 << 24
 def add_words(parser: ArgumentParser) -> None:
     """Adds the arguments."""
     parser.add_argument("volume", metavar="VOLUME", help="the device that the file system lies on, by its name or path")
-    parser.add_argument("file", metavar="FILE", nargs="?", default="-", help="what filefrag printed; else standard input")
-    parser.add_argument("--places", metavar="PLACES", help="a file to write, for read-back")
-    parser.add_argument("--addresses", action="store_true", help="files of btrfs; VOLUME is the device of its addresses")
+    parser.add_argument("file", metavar="FILE", nargs="?", default="-", help="what filefrag or debugfs printed; else standard input")
+    kinds = parser.add_mutually_exclusive_group()
+    kinds.add_argument("--addresses", action="store_true", help="files of btrfs; VOLUME is the device of its addresses")
+    kinds.add_argument("--debugfs", metavar="SUPER", help="what dumpe2fs -h printed; FILE is what debugfs printed")
+    parser.add_argument("--device", metavar="NAME", help="the file as a device of this name")
+    parser.add_argument("--on", metavar="DISK", help="with --device: what the file system lies on, a disk or /dev/mapper/NAME")
+    parser.add_argument("--size", metavar="BYTES", help="with --device and --debugfs: how many bytes the file has")
+    parts.add_words(parser)
     names.add_words(parser)
 
 
 def run(words: Namespace) -> None:
-    """Prints the requests of each file as its extents come."""
-    places = streams.beside(words.places) if words.places is not None else None
+    """Prints the requests of each file as its extents come, or the device."""
+    if words.device is None and (words.on is not None or words.size is not None or words.part is not None):
+        raise WrongWords("--on, --size and --part are for --device")
+    if words.device is not None and (words.size is None) == (words.debugfs is not None):
+        raise WrongWords("--device needs --size with --debugfs, and has the size without it")
     name = names.Names(words.ls).device(words.volume, names.Word("VOLUME"))
-    Reader(streams.Lines(words.file), name, places, BTRFS if words.addresses else KNOWN).read()
+    if words.debugfs is None:
+        reader = Reader(streams.Lines(words.file), BTRFS if words.addresses else KNOWN)
+    else:
+        reader = ExtentList(words.debugfs, streams.Lines(words.file), streams.whole("--size", "0" if words.size is None else words.size))
+    if words.device is None:
+        for _, first, count in reader.extents():
+            requests.write(reader.source, "R", name, first, count)
+        return
+    disk = parts.disk_in(words.on, "--on") if words.on is not None else names.MAPPER + name
+    streams.out.write(tables.text_of([parts.device_of(words.device, "", lines_of(reader, disk), parts.part_of(words))], False))
+
+
+def lines_of(reader: "Reader | ExtentList", disk: str) -> Iterator[tables.Line]:
+    """The lines of a device for a file, in its order."""
+    end = 0
+    for at, first, count in reader.extents():
+        if at > end:
+            yield tables.Line(end, at - end, "zero", [])
+        yield tables.Line(at, count, "linear", [disk, str(first)])
+        end = at + count
+    if reader.files > 1:
+        reader.source.refuse("more than one file: give the extents of one")
+    size = numbers.sectors_touched(0, reader.size)[1]
+    if end < size:
+        yield tables.Line(end, size - end, "zero", [])
 
 
 class Reader:
     """Reads the text line by line; `opened` is the line that the list of a file began with."""
 
-    def __init__(self, source: streams.Lines, name: str, places: Optional[streams.Output], known: Set[str]) -> None:
-        self.source, self.name, self.places, self.known = source, name, places, known
+    def __init__(self, source: streams.Lines, known: Set[str] = KNOWN) -> None:
+        self.source, self.known = source, known
         self.opened = ""
         self.files = self.size = self.block = self.count = self.after = 0
         self.is_known = self.is_last = False
 
-    def read(self) -> None:
-        """Reads all of it."""
+    def extents(self) -> Iterator[Tuple[int, int, int]]:
+        """The extents as they come: the sector of the file, that of the device, and how many there are."""
         for fields in self.source.rows(EXTENT):
             if isinstance(fields, tuple) and self.opened:
-                self.take_extent(*map(int, fields[:6]), fields[6].split(","))
+                yield from self.take_extent(*map(int, fields[:6]), fields[6].split(","))
             else:
                 self.take_other(self.source.line)
-        self.end()
-
-    def add(self, at: int, first: int, count: int) -> None:
-        """Adds an extent: the sector of the file, that of the device, and how many there are."""
-        requests.write(self.source, "R", self.name, first, count)
-        if self.places:
-            write_places(self.places, at, count)
+        if self.opened:
+            self.source.refuse("the end is missing of: " + quoting.shown(self.opened))
+        if not self.files:
+            self.source.refuse("no file")
 
     def take_other(self, line: str) -> None:
         """Takes a line that is no extent."""
@@ -88,7 +128,7 @@ class Reader:
         elif not GROUPS.fullmatch(line) and not (self.opened and HEAD.fullmatch(line)):
             self.source.refuse_line("not a line of filefrag -v")
 
-    def take_extent(self, number: int, first: int, last: int, start: int, end: int, length: int, flags: List[str]) -> None:
+    def take_extent(self, number: int, first: int, last: int, start: int, end: int, length: int, flags: List[str]) -> Iterator[Tuple[int, int, int]]:
         """Takes an extent: from the block `first` to `last` of the file, from `start` to `end` of the device."""
         if not PLACED.issuperset(flags):
             self._refuse("an extent whose place is not known")
@@ -103,15 +143,8 @@ class Reader:
         if "unwritten" in flags:
             streams.tell("unwritten, so that it reads as zeros: " + quoting.shown(self.source.line.lstrip(" ")))
             return
-        sectors = sectors_of(self.source, self.block)
-        self.add(first * sectors, start * sectors, length * sectors)
-
-    def end(self) -> None:
-        """Refuses what isn't whole."""
-        if self.opened:
-            self.source.refuse("the end is missing of: " + quoting.shown(self.opened))
-        if not self.files:
-            self.source.refuse("no file")
+        sectors = requests.sectors_of(self.source, self.block)
+        yield first * sectors, start * sectors, length * sectors
 
     def _take_file(self, found: Match[str], line: str) -> None:
         if not self.is_known or self.opened:
@@ -119,10 +152,6 @@ class Reader:
         self.size, blocks, self.block = map(self.source.whole, found.groups())
         if not 0 <= blocks * self.block - self.size < MOST_SPARE:
             self.source.refuse_line("bytes and blocks differ")
-        if self.places:
-            if self.files:
-                self.source.refuse("PLACES is of one file")
-            self.places.write("size %d\n" % self.size)
         self.opened = line
         self.count = self.after = 0
         self.is_last = False
@@ -130,16 +159,3 @@ class Reader:
 
     def _refuse(self, reason: str) -> NoReturn:
         self.source.refuse("%s: %s" % (reason, quoting.shown(self.source.line.lstrip(" "))))
-
-
-def sectors_of(source: streams.Lines, block: int) -> int:
-    """How many sectors a block has."""
-    if block % numbers.SECTOR or not block:
-        source.refuse("blocks of %d bytes, which are no whole sectors" % block)
-    return block // numbers.SECTOR
-
-
-def write_places(places: streams.Output, first: int, count: int) -> None:
-    """Writes for each request where in the file it goes, and how much."""
-    for at, part in requests.parts(first, count):
-        places.write("%d %d\n" % (at, part))

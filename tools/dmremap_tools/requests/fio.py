@@ -1,37 +1,14 @@
-"""Requests from a log that fio wrote (`write_iolog=FILE`), of version 2 or 3.
-
-Has tables (table text or concise text) and the log. Gets requests to the devices of the tables for all sectors that the
-log's bytes touch. The files of the log are devices. Trims, and requests to what the tables have not, are left out and
-counted. Refuses what is no such log.
-"""
+"""Requests from a log that fio wrote (`write_iolog=FILE`), of version 2 or 3."""
 
 import re
-from argparse import ArgumentParser, Namespace
-from collections import Counter
-from typing import Dict, List, NoReturn, Tuple, Union
+from typing import NoReturn
 
 from dmremap_tools.base import names, numbers, requests, streams
 from dmremap_tools.requests.kept import Kept
 
-EXAMPLE = "dmremap-tools fio vg0.table fio.log | dmremap map lvm vg0.backup"
-
 FIRST = re.compile(r"fio version ([23]) iolog")
-LINE = re.compile(r"^([0-9]+ )?(\S+ (?:read|write)) %s %s$" % (numbers.SHORT, numbers.SHORT), re.M)
+LINE = re.compile(r"^([0-9]+ )?(\S+) (read|write) %s %s$" % (numbers.SHORT, numbers.SHORT), re.M)
 OPERATIONS = {"read": "R", "write": "W"}
-
-
-def add_words(parser: ArgumentParser) -> None:
-    """Adds the arguments."""
-    parser.add_argument("tables", metavar="TABLES", help="table or concise text")
-    parser.add_argument("file", metavar="LOG", nargs="?", default="-", help="the log; else standard input")
-    names.add_words(parser)
-
-
-def run(words: Namespace) -> None:
-    """Prints the requests as they come."""
-    reader = Reader(streams.Lines(words.file), Kept(words.tables), names.Names(words.ls))
-    reader.source.hand_on({LINE: reader.take_all}, reader.take_line)
-    reader.end()
 
 
 class Reader:
@@ -40,56 +17,28 @@ class Reader:
     def __init__(self, source: streams.Lines, kept: Kept, known: names.Names) -> None:
         self.source, self.kept, self.known = source, kept, known
         self.version = self.trims = self.made = 0
-        # What requests begin with, by what lines ask for: R or W, and a device, or nothing where they are left out.
-        self._beginnings: Dict[str, str] = {}
 
-    def take_all(self, lines: List[Tuple[str, ...]]) -> bool:
-        """Takes many reads and writes of the usual form, if none can be refused or cut."""
-        times, asked, begins, counts = zip(*lines)
-        if not self.version or set(map(bool, times)) != {self.version == 3}:
-            return False
-        if not self._beginnings.keys() >= set(asked) or not requests.are_short(counts, requests.MOST * numbers.SECTOR):
-            return False
-        begun = list(map(self._beginnings.get, asked))
-        if not all(begun):
-            for it, count in Counter(it for it in asked if not self._beginnings[it]).items():
-                self._leave(it, count)
-        made = requests.of_bytes(begun, begins, counts)
-        self.made += len(made)
-        streams.out.write("".join(made))
-        return True
+    def read(self) -> None:
+        """Prints the requests as they come."""
+        for fields in self.source.rows(LINE):
+            if isinstance(fields, str):
+                self._take_other(fields)
+            else:
+                self._take(*fields)
+        self.end()
 
-    def take_line(self, fields: Union[str, Tuple[str, ...]]) -> None:
-        """Takes what a line has, or the line itself."""
-        if isinstance(fields, str):
-            self.take_other(fields)
-        else:
-            self.take(*fields)
-
-    def take(self, time: str, asked: str, begin: str, count: str) -> None:
-        """Takes a read or a write of the usual form, with a time or without one."""
+    def _take(self, time: str, path: str, what: str, begin: str, count: str) -> None:
+        """Takes a read or a write, with a time or without one."""
         if not self.version or bool(time) != (self.version == 3):
             self._refuse_line()
-        beginning = self._beginning(asked)
-        if beginning:
+        name = self.known.known(path, self.source)
+        if name in self.kept.names:
             self.made += 1
-            requests.write_bytes(self.source, beginning[0], beginning[2:], int(begin), int(count))
+            requests.write_bytes(self.source, OPERATIONS[what], name, self.source.whole(begin), self.source.whole(count))
         else:
-            self._leave(asked, 1)
+            self.kept.leave(path)
 
-    def _beginning(self, asked: str) -> str:
-        if asked not in self._beginnings:
-            if len(self._beginnings) == names.MOST_KEPT:
-                self._beginnings.clear()
-            path, _, what = asked.rpartition(" ")
-            name = self.known.known(path, self.source)
-            self._beginnings[asked] = OPERATIONS[what] + " " + name if name in self.kept.names else ""
-        return self._beginnings[asked]
-
-    def _leave(self, asked: str, count: int) -> None:
-        self.kept.leave("%s, which the tables have not" % asked.rpartition(" ")[0], count)
-
-    def take_other(self, line: str) -> None:
+    def _take_other(self, line: str) -> None:
         """Takes another line."""
         if not self.version:
             first = FIRST.fullmatch(line)
@@ -100,8 +49,7 @@ class Reader:
         fields = line.split()[self.version - 2:]
         what = fields[1] if len(fields) > 1 else ""
         if what in OPERATIONS and len(fields) == 4:
-            begin, count = self.source.whole(fields[2]), self.source.whole(fields[3])
-            self.take("-" * (self.version - 2), fields[0] + " " + what, str(begin), str(count))
+            self._take("-" * (self.version - 2), *fields)
         elif what == "trim" and len(fields) == 4:
             self.trims += 1
         elif not _is_passed_over(what, len(fields)):

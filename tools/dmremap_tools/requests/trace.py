@@ -3,26 +3,27 @@
 Has what `dmsetup ls` prints (LS), the tables that will be asked (TABLES, table text or concise text), and a trace: that
 of `blkparse` or `btrace`, or the event block_bio_queue as trace_pipe, `trace-cmd report` and `perf script` print it. Gets
 the reads and writes, as they come, and with --times the time of each. Discards, flushes, requests to devices that the tables
-have not, and lines that tell of no request, are left out and counted. Refuses a trace that says that events were lost, and zone appends and other
-requests whose sectors are not the trace's.
+have not, and lines that tell of no request, are left out and counted. Refuses a trace that says that events were lost, and zone
+appends and other requests whose sectors are not the trace's.
 
-Trace top devices only: a request to a device on another one shows up at both, and would count twice.
+Trace top devices only: a request to a device on another one shows up at both, and would count twice. With --lower the trace is one of
+the disks below them: LS is what `lsblk -brno MAJ:MIN,SIZE,KNAME,PKNAME` prints, and TABLES is DISKS. `report --compare` takes that.
+
+With --fio, TRACE is a log that fio wrote (`write_iolog=FILE`), of version 2 or 3: gets requests for all sectors that its bytes touch.
+The files of the log are devices; LS is read only where they are given as /dev/dm-N. Trims are left out and counted.
 """
 
 import re
 from argparse import ArgumentParser, Namespace
-from collections import Counter
-from functools import lru_cache
-from itertools import compress
-from operator import not_
-from typing import Dict, List, Optional, Sequence, Tuple, Union
+from typing import Dict, Optional, Tuple, Union
 
-from dmremap_tools.base import listings, numbers, requests, streams
+from dmremap_tools.base import listings, names, numbers, requests, streams
+from dmremap_tools.base.refusal import WrongWords
+from dmremap_tools.requests import fio
 from dmremap_tools.requests.kept import Kept
 
-EXAMPLE = "btrace /dev/dm-0 | dmremap-tools trace ls.txt vg0.table | dmremap map lvm vg0.backup | dmremap-tools totals"
+EXAMPLE = "btrace /dev/dm-0 | dmremap-tools trace ls.txt vg0.table | dmremap map lvm vg0.backup | dmremap-tools report"
 
-Column = Sequence[str]
 EVENT = "block_bio_queue:"
 # A line of blkparse, up to the action. Those of the action Q, a request that comes, are read whole where they are of the
 # usual form; of other actions there is nothing to read. A process may have a name that looks like such a line.
@@ -50,14 +51,24 @@ def add_words(parser: ArgumentParser) -> None:
     parser.add_argument("tables", metavar="TABLES", help="table or concise text")
     parser.add_argument("file", metavar="TRACE", nargs="?", default="-", help="the trace; else standard input")
     parser.add_argument("--times", metavar="TIMES", help="a file to write: line N is the time of request N")
+    kinds = parser.add_mutually_exclusive_group()
+    kinds.add_argument("--lower", action="store_true", help="a trace of disks; LS is what lsblk prints, and TABLES is DISKS")
+    kinds.add_argument("--fio", action="store_true", help="TRACE is a log that fio wrote")
 
 
 def run(words: Namespace) -> None:
     """Prints the requests as they come."""
+    if words.fio:
+        if words.times is not None:
+            raise WrongWords("--times isn't for the logs of fio")
+        fio.Reader(streams.Lines(words.file), Kept(words.tables), names.Names(words.ls)).read()
+        return
     times = streams.beside(words.times) if words.times is not None else None
-    names = {number.replace(":", ","): name for name, number in listings.read_ls(words.ls)}
-    reader = RequestMaker(streams.Lines(words.file), names, Kept(words.tables), times)
-    reader.source.hand_on({EVENTS: reader.take_events, LINE: reader.take_lines}, reader.take_line)
+    known = listings.read_lsblk(words.ls)[1] if words.lower else {number: name for name, number in listings.read_ls(words.ls)}
+    by_number = {number.replace(":", ","): name for number, name in known.items()}
+    reader = RequestMaker(streams.Lines(words.file), by_number, Kept(words.tables, words.lower), times)
+    for fields in reader.source.rows(LINE, EVENTS):
+        reader.take_line(fields)
     reader.end()
 
 
@@ -78,6 +89,9 @@ class Reader:
             return
         self.events += 1
         number, time, what, first, count = fields
+        if "," not in number:
+            # An event has its time first; one of no sectors is none.
+            number, time, what = time, number, what if count != "0" else ""
         if what:
             self.take(number, what, int(first), int(count), time)
 
@@ -122,84 +136,32 @@ class Reader:
 class RequestMaker(Reader):
     """Makes requests of the events of a trace."""
 
-    def __init__(self, source: streams.Lines, names: Dict[str, str], kept: Kept, times: Optional[streams.Output]) -> None:
+    def __init__(self, source: streams.Lines, known: Dict[str, str], kept: Kept, times: Optional[streams.Output]) -> None:
         super().__init__(source)
-        self.names, self.kept, self.times = names, kept, times
-        self.dropped = self.made = 0
-        self._beginning = lru_cache(maxsize=1024)(self._beginning_of)
-
-    def take_lines(self, lines: List[Tuple[str, ...]]) -> bool:
-        """Takes many lines of blkparse, unless a request has to be refused or cut."""
-        return self._take_all(len(lines), list(zip(*(it for it in lines if it[2]))))
-
-    def take_events(self, lines: List[Tuple[str, ...]]) -> bool:
-        """Takes many events, unless a request has to be refused or cut."""
-        columns = list(zip(*(it for it in lines if it[4] != "0")))
-        return self._take_all(len(lines), columns[1:2] + columns[:1] + columns[2:])
-
-    def _take_all(self, events: int, columns: List[Column]) -> bool:
-        if columns and not self._print_all(*columns):
-            return False
-        self.events += events
-        return True
-
-    def _print_all(self, devices: Column, times: Column, whats: Column, firsts: Column, counts: Column) -> bool:
-        begun = list(map(self._beginning, devices, whats))
-        if not requests.are_short(counts) or not all(begun) and None in begun:
-            return False
-        if not all(begun):
-            for device, count in Counter(compress(devices, map(not_, begun))).items():
-                self._leave(device, count)
-        made = [f"{beginning} {first} {count}\n" for beginning, first, count in zip(begun, firsts, counts) if beginning]
-        self.made += len(made)
-        streams.out.write("".join(made))
-        if self.times:
-            self.times.write("".join([time + "\n" for time in compress(times, begun)]))
-        return True
+        self._names, self._kept, self._times = known, kept, times
+        self._dropped = self._made = 0
 
     def take(self, number: str, what: str, first: int, count: int, time: str) -> None:
         """Prints a request, or leaves it out."""
-        beginning = self._beginning(number, what)
-        if beginning is None:
-            self.source.refuse_line("neither a read nor a write")
-        if not beginning:
-            self._leave(number, 1)
-            return
-        made = requests.write(self.source, beginning[0], beginning[2:], first, count)
-        self.made += made
-        if self.times:
-            self.times.write((time + "\n") * made)
-
-    def _beginning_of(self, number: str, what: str) -> Optional[str]:
-        """What a request begins with: R or W, and the device. Nothing if it is left out, None if it isn't known what it does."""
-        name = self.names.get(number)
-        if name not in self.kept.names:
-            return ""
-        operation = _operation_of(what)
-        return operation and operation + " " + name
-
-    def _leave(self, number: str, count: int) -> None:
-        """Counts requests that are left out."""
-        name = self.names.get(number)
-        if name is None:
-            self.kept.leave("%s, which dmsetup ls has not" % number, count)
-        elif name not in self.kept.names:
-            self.kept.leave("%s (%s), which the tables have not" % (name, number), count)
+        name = self._names.get(number)
+        if name not in self._kept.names:
+            self._kept.leave(number if name is None else f"{name} ({number})", name is not None)
+        elif EITHER.fullmatch(what):
+            made = requests.write(self.source, "W" if "W" in what else "R", name, first, count)
+            self._made += made
+            if self._times:
+                self._times.write((time + "\n") * made)
+        elif NEITHER.fullmatch(what):
+            self._dropped += 1
         else:
-            self.dropped += count
+            self.source.refuse_line("neither a read nor a write")
 
     def end(self) -> None:
         """The same, and tells what else was left out."""
         super().end()
-        self.kept.tell()
-        if self.dropped:
-            streams.tell("left out: %d requests that are neither reads nor writes" % self.dropped)
-        if not self.made:
-            streams.tell("no request came to a device of the tables: what a trace of the disks below has, `owner --trace` says")
-
-
-def _operation_of(what: str) -> Optional[str]:
-    """R or W by what a kernel calls an operation, nothing for what is left out, and None for what isn't known."""
-    if EITHER.fullmatch(what):
-        return "W" if "W" in what else "R"
-    return "" if NEITHER.fullmatch(what) else None
+        self._kept.tell()
+        if self._dropped:
+            streams.tell("left out: %d requests that are neither reads nor writes" % self._dropped)
+        if not self._made:
+            streams.tell("no request came to a disk of DISKS" if self._kept.are_disks else
+                         "no request came to a device of the tables: a trace of the disks below them takes --lower")

@@ -2,7 +2,7 @@
 
 Has SPANS, what `spans` printed. Gets a bar for each disk, and for each device that others lie on: each range that a line uses
 in the colour of its device, and gaps hatched. Ranges that share sectors stand in rows of their own; those that clash are
-edged in red, as `clashes` prints them. The names are in the ranges that have room for them, in tooltips and in a legend.
+edged in red, as `spans --clashes` prints them. The names are in the ranges that have room for them, in tooltips and in a legend.
 Bars have one length each, or with --scale lengths in proportion. Refuses lines that are none of `spans`, and ranges past an end.
 """
 
@@ -12,8 +12,7 @@ from typing import Dict, List, Tuple
 
 from dmremap_tools.base import quoting, streams
 from dmremap_tools.base.refusal import Refusal
-from dmremap_tools.layers import svg
-from dmremap_tools.layouts import clashes, span_lines
+from dmremap_tools.layouts import clashes, span_lines, svg
 from dmremap_tools.layouts.span_lines import Span
 
 EXAMPLE = "dmremap-tools spans stack.disks stack.table | dmremap-tools picture > disks.svg"

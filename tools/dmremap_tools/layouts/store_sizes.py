@@ -1,40 +1,22 @@
-"""How much of a snapshot's store some writes fill.
-
-Has REQUESTS, the writes of a day, say, to one device or several. Gets a line for each device that is written: its name,
-how many chunks a snapshot of it takes by that, how many sectors of the store are used, and how many of these are the
-header and the chunk numbers. Writes to the snapshot and to its origin take the same chunks.
-
-A kernel may lose the snapshot one chunk earlier, so make the store a chunk larger, and leave room for what that day
-didn't have.
-"""
+"""How much of a snapshot's store some writes fill."""
 
 import re
-from argparse import ArgumentParser, Namespace
 from typing import Dict, Tuple
 
 from dmremap_tools.base import names, numbers, quoting, streams
 from dmremap_tools.base.refusal import WrongWords
 
-EXAMPLE = "dmremap-tools store-size --chunk 8 requests"
 REQUEST = re.compile("([RW]) (%s) (%s) (%s)" % (names.FORM.pattern, numbers.FORM.pattern, numbers.FORM.pattern))
 # Chunks are counted in pages, of a byte for each of them.
 PAGE, MOST_PAGES = 1 << 16, 1 << 12
 AREAS = ("P", "K")
 
 
-def add_words(parser: ArgumentParser) -> None:
-    """Adds the arguments."""
-    parser.add_argument("--chunk", type=numbers.word, default=8, metavar="SECTORS", help="the chunk of the snapshot, a power of two; else 8")
-    parser.add_argument("--kind", choices=("P", "N", "K"), default="P", help="the kind of the snapshot; else P")
-    parser.add_argument("requests", metavar="REQUESTS", nargs="?", default="-")
-
-
-def run(words: Namespace) -> None:
-    """Counts the chunks of each device."""
-    chunk = words.chunk
+def write(path: str, chunk: int, kind: str) -> None:
+    """Counts the chunks of each device, and prints them."""
     if chunk == 0 or chunk & (chunk - 1):
-        raise WrongWords("a chunk is a power of two: %d" % chunk)
-    source = streams.Lines(words.requests)
+        raise WrongWords(f"a chunk is a power of two: {chunk}")
+    source = streams.Lines(path)
     taken = Chunks()
     for line in source:
         match = REQUEST.fullmatch(line)
@@ -45,8 +27,8 @@ def run(words: Namespace) -> None:
             source.refuse("the chunks lie too far apart to be counted in %d MiB" % (MOST_PAGES * PAGE >> 20))
     source.tell_if_none()
     for name, count in taken.counts().items():
-        own = (count // (32 * chunk) + 2) * chunk if words.kind in AREAS else 0
-        streams.out.write("%s %d %d %d\n" % (name, count, count * chunk + own, own))
+        own = (count // (32 * chunk) + 2) * chunk if kind in AREAS else 0
+        streams.out.write(f"{name} {count} {count * chunk + own} {own}\n")
 
 
 class Chunks:

@@ -1,0 +1,83 @@
+"""Whether a trace of the disks has what was answered, sector by sector."""
+
+from collections import defaultdict
+from typing import Dict, Iterator, List, Sequence, Tuple
+
+from dmremap_tools.base import names, requests, streams
+from dmremap_tools.base.refusal import Refusal
+
+# At how many sectors the two may differ at once.
+MOST_PLACES = 1 << 20
+
+
+class Compared:
+    """What was answered, less what LOWER has. LOWER is read as far as the answers are, so that what is equal takes no memory."""
+
+    def __init__(self, path: str) -> None:
+        self._source = streams.Lines(path)
+        self._rows = requests.read(self._source, AsTheyAre(), "not R or W, a disk, a sector and how many")
+        # By what is done and the disk: how many more times a sector was answered than the one before it, where that differs.
+        self._steps: Dict[Tuple[str, str], Dict[int, int]] = defaultdict(dict)
+        # How many sectors were answered that LOWER didn't have yet.
+        self._ahead = self._places = 0
+
+    def answer(self, disk: str, whats: Sequence[str], starts: List[int], ends: List[int]) -> None:
+        """Takes answers, and as much of LOWER."""
+        for what, start, end in zip(whats, starts, ends):
+            self._add(what, disk, start, end, 1)
+            self._ahead += end - start
+        while self._ahead > 0 and self._take():
+            pass
+
+    def check(self) -> None:
+        """Takes the rest of LOWER, prints where the two differ, and refuses them if they do."""
+        while self._take():
+            pass
+        sectors = {"untraced": 0, "unanswered": 0}
+        for (what, disk), steps in sorted(self._steps.items(), key=lambda it: it[0][::-1]):
+            for start, end, times in runs(steps):
+                side = "untraced" if times > 0 else "unanswered"
+                streams.out.write(f"{side} {what} {disk} {start} {end - start} {abs(times)}\n")
+                sectors[side] += (end - start) * abs(times)
+        if any(sectors.values()):
+            raise Refusal(self._source.name, "it isn't what was answered: {untraced} sectors were answered only, and {unanswered} are only "
+                          "in it".format(**sectors))
+
+    def _take(self) -> bool:
+        """Takes the next line of LOWER, and says whether there is one."""
+        what, disk, start, count = next(self._rows, ("", "", 0, 0))
+        if what:
+            if not count:
+                self._source.refuse_line("no sectors")
+            self._add(what, disk, start, start + count, -1)
+            self._ahead -= count
+        return bool(what)
+
+    def _add(self, what: str, disk: str, start: int, end: int, times: int) -> None:
+        steps = self._steps[what, disk]
+        self._places -= len(steps)
+        for place, step in ((start, times), (end, -times)):
+            left = steps.pop(place, 0) + step
+            if left:
+                steps[place] = left
+        self._places += len(steps)
+        if self._places > MOST_PLACES:
+            raise Refusal(self._source.name, f"it differs from the answers at more than {MOST_PLACES} places at once: compare "
+                          "traces of the same minutes, or shorter ones")
+
+
+class AsTheyAre(names.Names):
+    """Takes names of disks for what they are."""
+
+    def device(self, path: str, place: names.Place) -> str:
+        """The name itself."""
+        return path
+
+
+def runs(steps: Dict[int, int]) -> Iterator[Tuple[int, int, int]]:
+    """From where to where the two differ by how much."""
+    times, begin = 0, 0
+    for place in sorted(steps):
+        if times:
+            yield begin, place, times
+        times, begin = times + steps[place], place

@@ -1,0 +1,175 @@
+"""What answers do to each disk: all figures in one look at them, and a picture.
+
+Takes what `dmremap map` printed. Prints lines that begin with what they say:
+
+    total DISK WHAT PIECES SECTORS BYTES    what is done there, R or W; `-` has no disk, with zero, drop or error
+    length DISK WHAT SECTORS PIECES BAR     how many pieces have from SECTORS up to less than twice as many
+    seek DISK SECTORS                       the mean distance from the end of a piece to the next one there
+    split PIECES REQUESTS                   how many requests have so many pieces that are R or W
+    time SECONDS                            with --times: from the first request to the last
+
+A copy is a read and a write, and a fill a write; neither counts for `seek` and `split`. A kernel also writes the list of a
+snapshot's store, which answers leave out: the disk of a store does more than is counted here. With --disks the lines are in the
+order of DISKS, and disks that it lacks are refused, as are pieces past their ends.
+
+--plot draws a field for each disk: to the right the numbers of the requests, or with --times their times; upwards the sectors.
+What is read is blue and what is written red, the more the darker.
+
+--compare says whether a trace of the disks has what was answered. LOWER has lines `R DISK START SECTORS` or `W ..`, with the names
+of the answers, as `trace --lower` makes them. Where they differ, lines follow, and the status is 1:
+
+    untraced WHAT DISK START SECTORS TIMES      answered so many times more often than it is in LOWER
+    unanswered WHAT DISK START SECTORS TIMES    the other way round, as for the lists of stores
+
+How requests are cut makes no difference to that, nor does their order. Refuses lines that are no pieces, and pieces out of order.
+"""
+
+from argparse import ArgumentParser, Namespace
+from collections import Counter, defaultdict
+from operator import add, sub
+from typing import Any, Dict, Iterable, List, Optional, Tuple, TypeVar
+
+from dmremap_tools.answers.compared import Compared
+from dmremap_tools.answers.moments import Moments
+from dmremap_tools.answers.plot import Fields
+from dmremap_tools.base import disks, numbers, pieces, quoting, streams
+from dmremap_tools.base.refusal import Refusal, WrongWords
+
+EXAMPLE = "dmremap map lvm vg0.backup < requests | dmremap-tools report"
+Key = TypeVar("Key", bound=Tuple[Any, ...])
+LONGEST_BAR = 40
+# More than DISKS has in a text that dmremap takes, unless their names are very short.
+MOST_DISKS = 1 << 16
+
+
+def add_words(parser: ArgumentParser) -> None:
+    """Adds the arguments."""
+    pieces.add_words(parser)
+    parser.add_argument("--disks", metavar="DISKS", help="the disks with their lengths, for the order")
+    parser.add_argument("--plot", metavar="OUT.svg", help="a picture to write; it needs --disks")
+    parser.add_argument("--times", metavar="TIMES", help="what trace --times wrote: line N is the time of request N, in seconds")
+    parser.add_argument("--compare", metavar="LOWER", help="requests of a trace of the disks")
+
+
+def run(words: Namespace) -> None:
+    """Counts until the answers end."""
+    if words.plot is not None and words.disks is None:
+        raise WrongWords("--plot needs --disks")
+    picture = streams.beside(words.plot) if words.plot is not None else None
+    sizes = disks.read(words.disks) if words.disks is not None else None
+    moments = Moments(words.times)
+    fields = Fields(sizes, moments) if picture and sizes is not None else None
+    compared = Compared(words.compare) if words.compare is not None else None
+    report, source = Report(sizes, fields, compared), pieces.Answers(words.file)
+    for block in source.by_blocks():
+        moments.take(source, block.requests)
+        report.take(source, block)
+    source.tell_if_none()
+    report.write()
+    if words.times is not None:
+        streams.out.write(f"time {moments.last:g}\n")
+    if picture and fields:
+        fields.draw(picture)
+    if compared:
+        compared.check()
+
+
+class Report:
+    """The figures, by disk."""
+
+    def __init__(self, sizes: Optional[Dict[str, int]], fields: Optional[Fields], compared: Optional[Compared]) -> None:
+        self._sizes, self._fields, self._compared = sizes, fields, compared
+        self._rank = {disk: place for place, disk in enumerate(sizes or ())}
+        # By disk and what is done: the pieces and the sectors; and with how many binary digits a length has, the pieces.
+        self._totals: Dict[Tuple[str, str], List[int]] = defaultdict(lambda: [0, 0])
+        self._lengths: Dict[Tuple[str, str, int], int] = Counter()
+        # By disk: the end of the last piece, how many moves there were, and how far they were together.
+        self._heads: Dict[str, List[int]] = {}
+        self._splits: Dict[int, int] = Counter()
+        # The last request, and its pieces so far.
+        self._request = self._pieces = 0
+
+    def take(self, source: pieces.Answers, block: pieces.Block) -> None:
+        """Counts the pieces of a block."""
+        if block.moves:
+            requests = block.requests if len(block.moves) == len(block.requests) else [int(it[0]) for it in block.moves]
+            self._count_splits(requests)
+            self._take_moves(source, block.moves, requests, True)
+        if block.copied:
+            copied = sorted(block.copied, key=lambda it: int(it[0]))
+            self._take_moves(source, copied, [int(it[0]) for it in copied], False)
+        for (what, length), times in Counter(block.others).items():
+            self._add("-", what, int(length), times)
+
+    def write(self) -> None:
+        """Prints the figures."""
+        for disk, what in self._sorted(self._totals):
+            count, sectors = self._totals[disk, what]
+            streams.out.write(f"total {disk} {what} {count} {sectors} {sectors * numbers.SECTOR}\n")
+        greatest = max(self._lengths.values(), default=0)
+        for disk, what, digits in self._sorted(self._lengths):
+            count = self._lengths[disk, what, digits]
+            streams.out.write(f"length {disk} {what} {1 << (digits - 1)} {count} {'#' * -(-LONGEST_BAR * count // greatest)}\n")
+        for disk, _ in self._sorted((it, "") for it in self._heads):
+            _, count, far = self._heads[disk]
+            if count:
+                streams.out.write(f"seek {disk} {far // count}\n")
+        self._splits[self._pieces] += 1
+        for count in sorted(self._splits.keys() - {0}):
+            streams.out.write(f"split {count} {self._splits[count]}\n")
+
+    def _sorted(self, keys: "Iterable[Key]") -> "List[Key]":
+        """Keys that begin with a disk, in the order of DISKS, or else by name."""
+        return sorted(keys, key=lambda it: (self._rank.get(it[0], -1), it))
+
+    def _count_splits(self, requests: List[int]) -> None:
+        counts = Counter(requests)
+        counts[self._request] += self._pieces
+        self._request = requests[-1]
+        self._pieces = counts.pop(self._request)
+        self._splits.update(counts.values())
+
+    def _take_moves(self, source: pieces.Answers, moves: List[pieces.Move], requests: List[int], are_heads: bool) -> None:
+        """Counts reads and writes, of which the heads may have to move."""
+        for begin, end, column in self._fields.columns(requests) if self._fields else [(0, len(moves), 0)]:
+            by_disk: Dict[str, List[pieces.Move]] = defaultdict(list)
+            for move in moves[begin:end]:
+                by_disk[move[2]].append(move)
+            for disk, those in by_disk.items():
+                _, whats, _, firsts, counts = zip(*those)
+                starts = list(map(int, firsts))
+                ends = list(map(add, starts, map(int, counts)))
+                self._check_disk(source, disk, max(ends))
+                for (what, length), times in Counter(zip(whats, counts)).items():
+                    sectors = int(length)
+                    self._add(disk, what, sectors, times)
+                    self._lengths[disk, what, sectors.bit_length()] += times
+                if are_heads:
+                    self._move_head(disk, starts, ends)
+                if self._fields:
+                    self._fields.mark(source, disk, column, whats, starts, ends)
+                if self._compared:
+                    self._compared.answer(disk, whats, starts, ends)
+
+    def _add(self, disk: str, what: str, sectors: int, times: int) -> None:
+        total = self._totals[disk, what]
+        total[0] += times
+        total[1] += times * sectors
+
+    def _move_head(self, disk: str, starts: List[int], ends: List[int]) -> None:
+        head = self._heads.setdefault(disk, [starts[0], -1, 0])
+        head[1] += len(starts)
+        head[2] += sum(map(abs, map(sub, starts, [head[0], *ends])))
+        head[0] = ends[-1]
+
+    def _check_disk(self, source: pieces.Answers, disk: str, end: int) -> None:
+        """Refuses a disk that DISKS lacks, one that is too many, and pieces past its end."""
+        if self._sizes is None:
+            if disk not in self._heads and len(self._totals) > MOST_DISKS:
+                raise Refusal(source.name, f"pieces on more than {MOST_DISKS} disks: give those of fewer")
+        elif disk not in self._sizes:
+            source.refuse_where("DISKS has no " + quoting.shown(disk), lambda it: disk in (it.disk, it.to))
+        elif end > self._sizes[disk]:
+            size = self._sizes[disk]
+            source.refuse_where("past the end of the disk", lambda it: it.disk == disk and it.start + it.count > size
+                                or it.to == disk and it.to_start + it.count > size)

@@ -1,0 +1,127 @@
+"""Whether the stores of snapshots can be full, and which request makes each snapshot invalid.
+
+Takes FORMAT, FILE and DISKS, as `dmremap map` does. Gets a line for each snapshot: how many chunks it has, how many its store has
+places for, and whether that can be too few. A kernel may have one place less, so make a store a chunk larger.
+
+With --requests, gets one more for each: the request that makes it invalid, and how full its store was before that, as `--status`
+prints it. A snapshot begins with what its store has, which lies where --paths or --store says; --fresh says that it is new. dmremap
+is run over the first half of the requests, then over less or more of them, and so on: about twenty times for a million requests.
+
+With --size in place of FORMAT, FILE and DISKS, gets for each device that is written how much of a store that fills: its name, how many
+chunks a snapshot of it takes, how many sectors of the store are used, and how many of these are the header and the chunk numbers.
+Writes to the snapshot and to its origin take the same chunks. Refuses what dmremap refuses, and a FILE without snapshots.
+"""
+
+import re
+import tempfile
+from argparse import ArgumentParser, Namespace
+from typing import Dict, Iterator, List, Tuple
+
+from dmremap_tools.answers.mapped import Mapped
+from dmremap_tools.base import given, numbers, program, store_places, streams
+from dmremap_tools.base.refusal import Refusal, WrongWords
+from dmremap_tools.layers import stack, started
+from dmremap_tools.layouts import store_sizes
+
+EXAMPLE = "dmremap-tools store table snaps.table snaps.disks"
+STATUS = re.compile(r"^([^ \n]+): 0 [0-9]+ snapshot (.*)$", re.M)
+INVALID, CHUNK = "Invalid", 1 << 16
+
+
+def add_words(parser: ArgumentParser) -> None:
+    """Adds the arguments."""
+    parser.add_argument("form", metavar="FORMAT", nargs="?", choices=given.FORMATS, help="table, concise or lvm")
+    parser.add_argument("file", metavar="FILE", nargs="?")
+    parser.add_argument("disks", metavar="DISKS", nargs="?", help="with table and concise")
+    asked = parser.add_mutually_exclusive_group()
+    asked.add_argument("--requests", metavar="REQUESTS", help="requests to the snapshots or their origins")
+    asked.add_argument("--size", metavar="REQUESTS", help="the writes of a day, say, to devices that have no snapshot yet")
+    parser.add_argument("--chunk", type=numbers.word, default=8, metavar="SECTORS", help="with --size: the chunk, a power of two; else 8")
+    parser.add_argument("--kind", choices=("P", "N", "K"), default="P", help="with --size: the kind of the snapshot; else P")
+    started.add_words(parser)
+
+
+def run(words: Namespace) -> None:
+    """Prints the lines of each snapshot, or of each device."""
+    if words.size is not None:
+        if words.form is not None:
+            raise WrongWords("--size needs no FORMAT, FILE and DISKS")
+        store_sizes.write(words.size, words.chunk, words.kind)
+        return
+    if words.file is None:
+        raise WrongWords("give FORMAT, FILE and DISKS, or --size REQUESTS")
+    requests = streams.plain_bytes(words.requests) if words.requests is not None else None
+    source = given.given_in(words, "FORMAT FILE [DISKS] [--requests REQUESTS]")
+    with tempfile.TemporaryDirectory(prefix="dmremap-tools-") as room:
+        if requests is None:
+            loaded, ends = stack.load(program.dmremap(words.program), source, room), []
+        else:
+            begun = started.start(words, source, None, room)
+            begun.check_valid()
+            loaded, ends = begun.loaded, list(ends_of(Runs(requests, [*begun.words, "--status"]), begun.renamed))
+    for line in [*places_of(loaded, streams.name_of(words.file)), *ends]:
+        streams.out.write(line)
+
+
+def places_of(loaded: stack.Stack, name: str) -> Iterator[str]:
+    """Says of each snapshot whether its store can be full."""
+    lengths = dict(loaded.sizes, **{path: device.end() for path, device in loaded.by_path().items()})
+    served = {line.words[0] for device in loaded.devices for line in device.lines if line.target == "snapshot-origin"}
+    snapshots = [(device, line.words) for device in loaded.devices for line in device.lines if line.target == "snapshot"]
+    if not snapshots:
+        raise Refusal(name, "it has no snapshot")
+    for device, (origin, store, kind, chunk) in snapshots:
+        chunks = -(-device.end() // int(chunk))
+        places = lengths[store] // int(chunk) if kind == "N" else store_places.places(int(chunk), lengths[store])
+        if places >= chunks:
+            said = "it is never full" + ", unless a kernel has one place less" * (places == chunks and kind != "N")
+        elif kind != "K":
+            said = "it can be full, which makes the snapshot invalid"
+        elif origin in served:
+            said = "it can be full; writes to the snapshot fail then, and only one to the origin makes it invalid"
+        else:
+            said = "it can be full; writes to the snapshot fail then"
+        yield f"{device.name}: {chunks} chunks, {places} places in its store: {said}\n"
+
+
+def ends_of(runs: "Runs", renamed: Dict[str, str]) -> Iterator[str]:
+    """Says when each snapshot becomes invalid. Some have other names in the answers."""
+    for name, status in runs.statuses(runs.size).items():
+        told = renamed.get(name, name)
+        if status == INVALID:
+            low, high = runs.last_valid(name)
+            yield f"{told}: invalid by request {runs.requests(high)}, before it {runs.statuses(low)[name]}\n"
+        else:
+            yield f"{told}: valid to the end, {status}\n"
+
+
+class Runs:
+    """dmremap over the beginnings of a text of requests, in bytes. Each run is made once."""
+
+    def __init__(self, text: bytes, command: List[str]) -> None:
+        self.size = len(text)
+        self._text, self._command = text, command
+        self._known: Dict[int, Dict[str, str]] = {}
+
+    def statuses(self, size: int) -> Dict[str, str]:
+        """The status of each snapshot after the requests in so many bytes."""
+        if size not in self._known:
+            streams.show_progress(f"run {len(self._known) + 1}, over {size} of {self.size} bytes")
+            parts = (self._text[at:min(at + CHUNK, size)].decode("utf-8", "surrogateescape") for at in range(0, size, CHUNK))
+            with Mapped(self._command, parts) as mapped:
+                found = [it for block in mapped.answers.blocks() for it in STATUS.findall(block)]
+            self._known[size] = dict(found)
+        return self._known[size]
+
+    def last_valid(self, name: str) -> Tuple[int, int]:
+        """The end of the last request after which the snapshot is valid, and that of the next one."""
+        low, high = 0, self.size
+        while self._text.find(b"\n", low) + 1 < high:
+            middle = self._text.rfind(b"\n", low, (low + high) // 2) + 1
+            middle = middle if middle > low else self._text.find(b"\n", low) + 1
+            low, high = (middle, high) if self.statuses(middle)[name] != INVALID else (low, middle)
+        return low, high
+
+    def requests(self, size: int) -> int:
+        """How many requests there are in so many bytes."""
+        return self._text.count(b"\n", 0, size)

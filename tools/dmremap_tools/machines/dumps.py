@@ -1,0 +1,89 @@
+"""What thin_dump and cache_dump print: XML, of which nothing is kept but what is asked for."""
+
+import itertools
+from typing import Dict, Iterator, List, NamedTuple, NoReturn
+from xml.etree import ElementTree
+
+from dmremap_tools.base import numbers, quoting, streams
+from dmremap_tools.base.refusal import Refusal
+
+# How many bytes the text has at most from the beginning of an element to the next one.
+MOST_BETWEEN = 1 << 20
+
+
+class Element(NamedTuple):
+    """The beginning or the end of an element, with what it says."""
+
+    name: str
+    is_end: bool
+    tag: str
+    said: Dict[str, str]
+
+    def number(self, key: str) -> int:
+        """A whole number that it says."""
+        if key not in self.said:
+            self.refuse("it doesn't say " + key)
+        value = numbers.read(self.said[key])
+        if value is None:
+            self.refuse(streams.NO_NUMBER % quoting.shown(self.said[key]))
+        return value
+
+    def block_size(self, key: str) -> int:
+        """The sectors of a block."""
+        return self.number(key) or self.refuse("blocks of no sectors")
+
+    def refuse(self, reason: str) -> NoReturn:
+        """Refuses the element."""
+        said = "".join(f' {key}="{value}"' for key, value in self.said.items())
+        raise Refusal(self.name, f"{reason}: " + quoting.shown(f"<{'/' * self.is_end}{self.tag}{said}>"))
+
+
+class Gathered:
+    """Takes what the parser finds. What no dump has is refused, a list of entities at its beginning."""
+
+    def __init__(self, name: str, tool: str) -> None:
+        self._name, self._tool = name, tool
+        self.elements: List[Element] = []
+        self.depth = 0
+
+    def start(self, tag: str, said: Dict[str, str]) -> None:
+        """Takes the beginning of an element; the first one is the superblock."""
+        if (tag == "superblock") != (self.depth == 0):
+            self.refuse(f"<{tag}>")
+        self.depth += 1
+        self.elements.append(Element(self._name, False, tag, said))
+
+    def end(self, tag: str) -> None:
+        """Takes the end of an element."""
+        self.depth -= 1
+        self.elements.append(Element(self._name, True, tag, {}))
+
+    def data(self, text: str) -> None:
+        """Refuses text between elements."""
+        if text.strip():
+            self.refuse(text.strip())
+
+    def doctype(self, *_: object) -> NoReturn:
+        """Refuses a document type."""
+        self.refuse("<!DOCTYPE>")
+
+    def refuse(self, found: str) -> NoReturn:
+        """Refuses what was found."""
+        raise Refusal(self._name, f"not what {self._tool} prints: {quoting.shown(found)}")
+
+
+def elements(path: str, tool: str) -> Iterator[Element]:
+    """The elements of a dump, which begins and ends with its superblock."""
+    name, between = streams.name_of(path), 0
+    gathered = Gathered(name, tool)
+    parser = ElementTree.XMLParser(target=gathered, encoding="utf-8")
+    for chunk in itertools.chain(streams.chunks(path), [b""]):
+        try:
+            parser.feed(chunk) if chunk else parser.close()
+        except ElementTree.ParseError as fault:
+            raise Refusal(f"{name}:{fault.position[0]}", f"not what {tool} prints, or its end is missing: {quoting.shown(fault.msg)}")
+        between = 0 if gathered.elements else between + len(chunk)
+        if between > MOST_BETWEEN:
+            gathered.refuse(f"{between} bytes without an element")
+        yield from gathered.elements
+        gathered.elements.clear()

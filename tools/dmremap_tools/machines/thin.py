@@ -1,0 +1,219 @@
+"""Thin or cached devices as tables, from what `thin_dump` or `cache_dump` prints of the metadata.
+
+Takes the dump, the disk or device of the pool's data, and for each device its number in the pool, a name and its sectors.
+Gets concise text of read-only devices: a line for each run of blocks, `zero` where the pool has none, or with --external what
+lies there on the origin of another kind. What is read is exact; a write may take a block, or move one that is shared, so it is
+refused by dmremap. Take the dump of a pool that isn't active, or of `thin_dump --metadata-snap`.
+
+With --cache and --origin in place of --data, takes what `cache_dump` prints, and of one device the name and its sectors. Its dirty
+blocks lie on the cache, the rest on the origin, which has the same content there as the cache. After a crash a kernel takes all
+blocks for dirty: so does --all. Take the dump of a cache that isn't active.
+
+A device of more lines than dmremap takes is refused, unless --part says which of its sectors are asked for. Refuses a dump
+that isn't whole, a device or a list that it hasn't, and blocks past the end of the data or twice.
+"""
+
+import array
+from argparse import ArgumentParser, Namespace
+from typing import Dict, Iterable, Iterator, List, Optional, Set, Tuple
+
+from dmremap_tools.base import numbers, quoting, streams, tables
+from dmremap_tools.base.refusal import Refusal, WrongWords
+from dmremap_tools.layers import parts
+from dmremap_tools.machines import cache_blocks, dumps
+
+EXAMPLE = "dmremap-tools thin --data tdata --device 1 vg0-thin1 2097152 dump.xml > thin.concise"
+# The runs of a device or a list, and of all together, where a list counts for as many as take its memory.
+MOST_RUNS, MOST_TOGETHER, RUNS_OF_LIST = 1 << 20, 1 << 22, 32
+
+
+class Runs:
+    """The runs of a device or of a shared list: the first block of each, where it begins in the data, and how many blocks follow.
+    What follows each other is one. `lists` are those that a list refers to, which may be shared by many."""
+
+    def __init__(self) -> None:
+        self.blocks = 0
+        self._figures = array.array("Q")
+        self.lists: List["Runs"] = []
+
+    def __len__(self) -> int:
+        return len(self._figures) // 3 + len(self.lists)
+
+    def add(self, element: dumps.Element, first: int, place: int, count: int) -> None:
+        """Adds a run."""
+        self.blocks += count
+        figures = self._figures
+        if figures and figures[-3] + figures[-1] == first and figures[-2] + figures[-1] == place:
+            figures[-1] += count
+        else:
+            figures.extend((first, place, count))
+            self._check(element)
+
+    def add_list(self, element: dumps.Element, other: "Runs") -> None:
+        """Adds what a list has, once it is asked for."""
+        if len(other):
+            self.lists.append(other)
+            self._check(element)
+
+    def take_lists(self, element: dumps.Element) -> None:
+        """Adds the runs of all lists that it refers to, by way of others as well, none of which a device can have twice."""
+        seen, waiting, self.lists = set(), self.lists[::-1], []
+        while waiting:
+            each = waiting.pop()
+            if id(each) in seen:
+                element.refuse("a list of blocks is in a device twice")
+            seen.add(id(each))
+            waiting += each.lists[::-1]
+            for run in each.runs(range(0, len(each._figures), 3)):
+                self.add(element, *run)
+
+    def in_order(self) -> Iterator[Tuple[int, int, int]]:
+        """The runs by their first blocks."""
+        return self.runs(sorted(range(0, len(self._figures), 3), key=self._figures.__getitem__))
+
+    def runs(self, places: Iterable[int]) -> Iterator[Tuple[int, int, int]]:
+        """The runs at these places."""
+        return (tuple(self._figures[place:place + 3]) for place in places)  # type: ignore
+
+    def _check(self, element: dumps.Element) -> None:
+        if len(self) > MOST_RUNS:
+            element.refuse(f"more than {MOST_RUNS} runs of blocks")
+
+
+def add_words(parser: ArgumentParser) -> None:
+    """Adds the arguments."""
+    parser.add_argument("--data", metavar="DISK", help="the pool's data: a disk, or /dev/mapper/NAME")
+    parser.add_argument("--device", metavar=("NUMBER", "NAME", "SECTORS"), nargs=3, action="append", default=[],
+                        help="a device: its number in the pool, a name, and its sectors")
+    parser.add_argument("--external", metavar=("NUMBER", "DISK"), nargs=2, action="append", default=[],
+                        help="the external origin of a device, and as long as it")
+    parser.add_argument("--cache", metavar="DISK", help="the cache's data: a disk, or /dev/mapper/NAME")
+    parser.add_argument("--origin", metavar="DISK", help="what is cached: the same")
+    parser.add_argument("--name", metavar="NAME", help="the cached device")
+    parser.add_argument("--sectors", metavar="SECTORS", type=numbers.word, help="its length")
+    parser.add_argument("--all", action="store_true", help="take all blocks of the cache for dirty")
+    parts.add_words(parser)
+    parser.add_argument("dump", metavar="DUMP", help="what thin_dump or cache_dump printed")
+
+
+def run(words: Namespace) -> None:
+    """Prints the devices."""
+    of_cache = [words.cache, words.origin, words.name, words.sectors]
+    if words.data is not None and words.device and of_cache == [None] * 4 and not words.all:
+        made = thin_devices(words)
+    elif words.data is None and not words.device and not words.external and None not in of_cache:
+        made = [cache_blocks.device(words)]
+    else:
+        raise WrongWords("give --data and --device, or --cache, --origin, --name and --sectors")
+    streams.out.write(tables.text_of(made, True))
+
+
+def thin_devices(words: Namespace) -> List[tables.Device]:
+    """The devices of a pool."""
+    data = parts.disk_in(words.data, "--data")
+    wanted = [(streams.whole("--device", number), name, numbers.check_length("--device", streams.whole("--device", sectors)))
+              for number, name, sectors in words.device]
+    external = {streams.whole("--external", number): parts.disk_in(disk, "--external") for number, disk in words.external}
+    pool = Pool(words.dump, {number for number, _, _ in wanted})
+    made = []
+    for number, name, sectors in wanted:
+        if number not in pool.devices:
+            raise Refusal(streams.name_of(words.dump), f"it has no device {number}")
+        lines = lines_of(name, pool.devices[number], pool.block, sectors, data, external.get(number))
+        made.append(parts.device_of(name, "ro", lines, parts.part_of(words)))
+    return made
+
+
+class Pool:
+    """The sectors of a block, and the runs of the devices that are wanted."""
+
+    def __init__(self, path: str, wanted: Set[int]) -> None:
+        self.block = self._most = self._count = self._runs = 0
+        self.devices: Dict[int, Runs] = {}
+        self._wanted, self._name = wanted, ""
+        self._lists: Dict[str, Runs] = {}
+        self._into: Optional[Runs] = None
+        for element in dumps.elements(path, "thin_dump"):
+            self._take(element)
+
+    def _take(self, element: dumps.Element) -> None:
+        tag = element.tag
+        if tag == "superblock":
+            if not element.is_end:
+                self.block, self._most = element.block_size("data_block_size"), element.number("nr_data_blocks")
+        elif tag == "device":
+            self._end_device(element) if element.is_end else self._begin_device(element)
+        elif tag == "def":
+            self._end_list(element) if element.is_end else self._begin_list(element)
+        elif tag not in ("ref", "single_mapping", "range_mapping"):
+            element.refuse("an element that isn't known")
+        elif not element.is_end:
+            self._add(element)
+
+    def _begin_device(self, element: dumps.Element) -> None:
+        number, self._count = element.number("dev_id"), element.number("mapped_blocks")
+        self._into = self.devices.setdefault(number, Runs()) if number in self._wanted else None
+
+    def _end_device(self, element: dumps.Element) -> None:
+        if self._into is not None:
+            self._use(element, RUNS_OF_LIST)
+            self._into.take_lists(element)
+            self._use(element, len(self._into))
+            if self._into.blocks != self._count:
+                element.refuse(f"it has {self._into.blocks} blocks and not {self._count}, as it says")
+        self._into = None
+
+    def _begin_list(self, element: dumps.Element) -> None:
+        self._into, self._name = Runs(), element.said.get("name", "")
+        if self._name in self._lists:
+            element.refuse("a list of this name is there already")
+
+    def _end_list(self, element: dumps.Element) -> None:
+        if self._into is not None:
+            self._use(element, RUNS_OF_LIST + len(self._into))
+            self._lists[self._name] = self._into
+        self._into = None
+
+    def _add(self, element: dumps.Element) -> None:
+        """Adds blocks, or a list of them, to what has begun."""
+        if element.tag == "ref":
+            found = self._lists.get(element.said.get("name", ""))
+            if found is None:
+                element.refuse("no list of this name comes before it")
+            if self._into is not None:
+                self._into.add_list(element, found)
+            return
+        keys = ("origin_block", "data_block", "") if element.tag == "single_mapping" else ("origin_begin", "data_begin", "length")
+        first, place, count = (element.number(key) if key else 1 for key in keys)
+        if self._into is not None:
+            if place + count > self._most or not count:
+                element.refuse(f"past the end of the data, of {self._most} blocks")
+            self._into.add(element, first, place, count)
+
+    def _use(self, element: dumps.Element, count: int) -> None:
+        """Refuses more runs than fit into memory."""
+        self._runs += count
+        if self._runs > MOST_TOGETHER:
+            element.refuse(f"more than {MOST_TOGETHER} runs of blocks in all")
+
+
+def lines_of(name: str, runs: Runs, block: int, sectors: int, data: str, external: Optional[str]) -> Iterator[tables.Line]:
+    """The lines of a device, from its first sector to its last."""
+    at = 0
+    for number, place, count in runs.in_order():
+        first, end = number * block, min((number + count) * block, sectors)
+        if first < at:
+            raise Refusal(quoting.shown(name), f"block {number} of a device is there twice")
+        if first >= sectors:
+            break
+        if at < first:
+            yield hole(at, first, external)
+        yield tables.Line(first, end - first, "linear", [data, str(place * block)])
+        at = end
+    if at < sectors:
+        yield hole(at, sectors, external)
+
+
+def hole(first: int, end: int, external: Optional[str]) -> tables.Line:
+    """A line of sectors that the pool doesn't have."""
+    return tables.Line(first, end - first, *(("linear", [external, str(first)]) if external else ("zero", [])))
