@@ -1,12 +1,18 @@
 """The commands `scan`, `save`, `serve`, `lost` and `tables` over piles of images, which are made here from their formats: what is
 found in them, and the bytes of volumes, which are known as they were put there sector by sector."""
 
+import importlib
 import json
 import os
+import pickle
 import random
 import shutil
+import signal
 import struct
 import subprocess
+import sys
+import tempfile
+import types
 
 import physical_volumes
 import tool_calls
@@ -19,7 +25,8 @@ STRIPE = 8
 
 
 def check(tally, program, top):
-    for part in (check_groups, check_partitions, check_layers, check_arrays, check_thin, check_names, check_saving, check_files, check_served, check_hostile):
+    for part in (check_groups, check_partitions, check_layers, check_arrays, check_thin, check_names, check_saving, check_files, check_served, check_plugin,
+                 check_hostile):
         folder = os.path.join(program.room, "models")
         shutil.rmtree(folder, ignore_errors=True)
         os.makedirs(folder)
@@ -538,6 +545,86 @@ def check_served(tally, pile):
     with open(os.path.join(pile.folder, "out"), "rb") as copy:
         tally.holds("a copy from a server", copy.read() == extents_of(A, 3, 5), uri)
     tally.holds("how a server ends", status in (130, 143), status)
+
+
+def served(pile, volume_name, image, do):
+    """What a function gets of the plugin's module, in a process of its own, with something in the place of nbdkit."""
+    with tempfile.TemporaryFile() as kept, tempfile.TemporaryFile() as said:
+        sys.stdout.flush()
+        child = os.fork()
+        if child == 0:
+            try:
+                os.dup2(said.fileno(), 2)
+                os.chdir(pile.folder)
+                sys.modules["nbdkit"] = types.SimpleNamespace(THREAD_MODEL_SERIALIZE_ALL_REQUESTS=1, EXTENT_HOLE=1, EXTENT_ZERO=2, set_error=lambda _: None)
+                sys.path.insert(0, os.path.join(pile.top, "tools"))
+                plugin = importlib.import_module("dmremap_tools.images.plugin")
+                signal.alarm(60)
+                for key, value in (("program", pile.program.path), ("volume", volume_name), ("image", image)):
+                    plugin.config(key, value)
+                plugin.get_ready()
+                pickle.dump(do(plugin), kept)
+                kept.flush()
+                os._exit(0)
+            except BaseException as fault:
+                os.write(2, repr(fault).encode())
+            finally:
+                os._exit(1)
+        status = os.waitpid(child, 0)[1]
+        kept.seek(0)
+        said.seek(0)
+        return (pickle.load(kept) if status == 0 else None), said.read().decode()
+
+
+def taken(plugin, at, count):
+    """Bytes that the plugin reads, or None."""
+    buffer = bytearray(count)
+    try:
+        plugin.pread(1, buffer, at, 0)
+    except RuntimeError:
+        return None
+    return bytes(buffer)
+
+
+def kill_children():
+    """Kills the mappers of this process; how many there were."""
+    killed = 0
+    for number in filter(str.isdigit, os.listdir("/proc")):
+        try:
+            with open(f"/proc/{number}/stat", encoding="ascii", errors="replace") as file:
+                name, _, rest = file.read().partition("(")[2].rpartition(")")
+        except OSError:
+            continue
+        if name == "dmremap" and int(rest.split()[1]) == os.getpid():
+            os.kill(int(number), signal.SIGKILL)
+            killed += 1
+    return killed
+
+
+def check_plugin(tally, pile):
+    """The plugin's own functions: odd reads and extents over several parts, of which one is missing; a child that is killed; stripes of a
+    sector of which every other one is zeros, in bounded memory."""
+    known = text("vg0", "g", 4, "a", volume("v", "v", linear(0, 1, ("pv0", 3)), linear(1, 1, ("pv0", 0)), segment(2, 1, "zero"), linear(3, 1, ("pv0", 63))),
+                 volume("zeros", "z", segment(0, 4096, "zero")),
+                 volume("w", "w", segment(0, 2, "striped", "stripe_count = 2", "stripe_size = 1", 'stripes = ["pv0", 8, "zeros", 0]')))
+    content = disk("a", A, known)
+    pile.put("one", content[:-4 * SECTOR])
+    size = EXTENT * SECTOR
+    whole = extents_of(A, 3, 1) + extents_of(A, 0, 1) + bytes(size) + extents_of(A, 63, 1)
+    end = len(whole) - 4 * SECTOR
+    spots = [(at, count) for at in (0, 1, size - 511, size - 1, size, size + 1, 2 * size - 3, end - 600) for count in (1, 511, 512, 1023, 4100)]
+    found, said = served(pile, "vg0/v", "one", lambda plugin: [taken(plugin, *spot) for spot in spots])
+    wanted = [whole[at:at + count] if -(-(at + count) // SECTOR) * SECTOR <= end else None for at, count in spots]
+    tally.holds("odd reads over several parts", found == wanted, f"{[a == b for a, b in zip(found or [], wanted)]}, {said}")
+    starts = (0, 1, size - 1, size + 1, 2 * size - 1, 2 * size + 1)
+    found, said = served(pile, "vg0/v", "one", lambda plugin: [plugin.extents(1, 3 * size - at, at, 0) for at in starts])
+    parts = [(0, size, 0), (size, 2 * size, 0), (2 * size, 3 * size, 3)]
+    wanted = [[(max(at, begin), stop - max(at, begin), kind) for begin, stop, kind in parts if at < stop] for at in starts]
+    tally.holds("extents from odd places", found == wanted, f"{found}, {said}")
+    found, said = served(pile, "vg0/zeros", "one", lambda plugin: [taken(plugin, 0, 1), kill_children(), taken(plugin, 20000 * SECTOR, 3)])
+    tally.holds("a server whose child was killed", found and found[0] == bytes(1) and found[1] and found[2] == bytes(3), f"{found}, {said}")
+    found, said = served(pile, "vg0/w", "one", lambda plugin: plugin.extents(1, 2 * size, 0, 0))
+    tally.holds("extents of stripes of a sector", found == [(at * SECTOR, SECTOR, 3 * (at % 2)) for at in range(2 * EXTENT)], f"{found and found[:3]}, {said}")
 
 
 TRIES = 80

@@ -5,10 +5,8 @@ of which the lines with `dev DISK, sector N` are taken, or what biosnoop prints.
 which the areas that couldn't be read are asked for, or a list of badblocks; with --trace it is a trace of disks.
 
 Gets a line for each run of sectors that goes one way up, and that way. A sector of an origin belongs to its snapshots
-`until it is copied`; of the store of a snapshot only that is said, and what stands on it. With --disks and --paths, or --store, the
-stores are read: then a sector belongs to the snapshot or was `copied to the store`, and a sector of the store is one of the
-snapshot, or `its list`, or `unused`. Many chunks of a striped line are one run, as far as what lies on
-them has them whole: `= mail 0, 128 of every 256`.
+`until it is copied`; of the store of a snapshot only that is said, and what stands on it. Many chunks of a striped line are one
+run, as far as what lies on them has them whole: `= mail 0, 128 of every 256`.
 
 What no line names may be in use all the same, as a volume that isn't active, which is told. With --group, the metadata of a
 group, sectors of such volumes are named, and with --paths the disks are read: labels and areas of LVM, partition tables and
@@ -24,9 +22,7 @@ from typing import Dict, Iterator, Optional, Set
 
 from dmremap_tools.base import listings, paths, quoting, streams
 from dmremap_tools.base.refusal import Refusal
-from dmremap_tools.layers import started
 from dmremap_tools.layouts import sectors_asked, stacked
-from dmremap_tools.layouts.copies import Copies
 from dmremap_tools.layouts.holders import Holders
 from dmremap_tools.layouts.uses import Step, Uses, Way
 
@@ -45,8 +41,7 @@ def add_words(parser: argparse.ArgumentParser) -> None:
     parser.add_argument("--ls", metavar="LS", help="what `dmsetup ls` prints, where a device is given as /dev/dm-N")
     parser.add_argument("--group", metavar="TEXT", action="append", default=[], help="the metadata of a group, of which some volumes have no line")
     sectors_asked.add_words(parser)
-    parser.add_argument("--disks", metavar="DISKS", help="the disks of FILE, so that the stores of its snapshots are read")
-    started.add_words(parser)
+    paths.add_words(parser)
     parser.add_argument("file", metavar="FILE")
     parser.add_argument("sectors", metavar="SECTORS", nargs="?", default="-")
 
@@ -56,7 +51,7 @@ def run(words: argparse.Namespace) -> None:
     minors = {number.partition(":")[2]: name for name, number in listings.read_ls(words.ls)} if words.ls else {}
     devices = stacked.devices_in(words.file)
     holders = Holders(devices, words.group, paths.places(words.paths))
-    uses = Uses(devices, minors, holders, {it.name: Copies(it) for it in started.snapshots(words, devices)})
+    uses = Uses(devices, minors, holders)
     known: Dict[str, Optional[str]] = {}
     unsure: Set[str] = set()
     for query in queries(words, uses):

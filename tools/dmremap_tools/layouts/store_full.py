@@ -2,8 +2,8 @@
 
 Has REQUESTS, and what maps them: FORMAT, FILE and DISKS, as `dmremap map` takes them. Gets a line for each
 snapshot: the request that makes it invalid, and how full its store was before that, as `--status` prints it. A snapshot begins
-with what its store has, which lies where --paths or --store says; --fresh says that it is new. Refuses what dmremap refuses, and a
-FILE without snapshots.
+with what its store has, on disks at their names or where --paths says; --fresh takes all as new. Refuses what dmremap refuses, and
+a FILE without snapshots.
 
 dmremap is run over the first half of the requests, then over less or more of them, and so on: about twenty times for a
 million requests. A snapshot of kind `K` stays valid by its own writes when its store is full, so only a write to its
@@ -21,7 +21,7 @@ from dmremap_tools.base.refusal import Refusal
 from dmremap_tools.layers import started
 from dmremap_tools.layouts.statuses import statuses_after
 
-EXAMPLE = "dmremap-tools store-full --fresh noon requests table snaps.table snaps.disks"
+EXAMPLE = "dmremap-tools store-full --fresh requests table snaps.table snaps.disks"
 INVALID = "Invalid"
 # More bytes than a request has.
 LONGEST = 8192
@@ -40,21 +40,19 @@ def run(words: Namespace) -> None:
     source = given.given_in(words, "REQUESTS FORMAT FILE [DISKS]")
     with tempfile.TemporaryDirectory(prefix="dmremap-tools-") as room:
         begun = started.start(words, source, None, room)
-        begun.check_valid()
-        tell(streams.name_of(words.requests), Runs(requests, [*begun.words, "--status"]), begun.renamed)
+        tell(streams.name_of(words.requests), Runs(requests, [*begun.words, "--status"]))
 
 
-def tell(name: str, runs: "Runs", renamed: Dict[str, str]) -> None:
-    """Says when each snapshot becomes invalid. Some have other names in the answers."""
+def tell(name: str, runs: "Runs") -> None:
+    """Says when each snapshot becomes invalid."""
     if not runs.statuses(runs.size):
         raise Refusal(name, "the command knows no snapshot")
     for name, status in runs.statuses(runs.size).items():
-        told = renamed.get(name, name)
         if status == INVALID:
             low, high = runs.last_valid(name)
-            streams.out.write("%s: invalid by request %d, before it %s\n" % (told, runs.requests(high), runs.statuses(low)[name]))
+            streams.out.write("%s: invalid by request %d, before it %s\n" % (name, runs.requests(high), runs.statuses(low)[name]))
         else:
-            streams.out.write("%s: valid to the end, %s\n" % (told, status))
+            streams.out.write("%s: valid to the end, %s\n" % (name, status))
 
 
 def opened(path: str) -> BinaryIO:

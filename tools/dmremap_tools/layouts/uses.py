@@ -4,7 +4,6 @@ import itertools
 from typing import Dict, Iterator, List, NamedTuple, Optional, Sequence, Tuple
 
 from dmremap_tools.base import names, numbers, tables
-from dmremap_tools.layouts.copies import Copies
 from dmremap_tools.layouts.holders import Holders
 from dmremap_tools.layouts.overlaps import Overlaps
 
@@ -90,18 +89,17 @@ class Comb(NamedTuple):
 
 
 class Uses:
-    """What uses each disk and device. `minors` has the name of each device by its minor number, `holders` knows of what no line
-    names, and `copies` has what the stores of snapshots have that were read."""
+    """What uses each disk and device. `minors` has the name of each device by its minor number, and `holders` knows of what no
+    line names."""
 
-    def __init__(self, devices: Sequence[tables.Device], minors: Dict[str, str], holders: Holders,
-                 copies: Optional[Dict[str, Copies]] = None) -> None:
+    def __init__(self, devices: Sequence[tables.Device], minors: Dict[str, str], holders: Holders) -> None:
         found: Dict[str, List[Use]] = {names.MAPPER + it.name: [] for it in devices}
         for device in devices:
             for line in device.lines:
                 for place, (lower, first, count) in enumerate(line.spans()):
                     found.setdefault(lower, []).append(Use(device.name, line, place, first, end_of(line, place, first, count)))
         self._uses = {on: Overlaps(uses) for on, uses in found.items()}
-        self._minors, self._holders, self._copies = minors, holders, copies or {}
+        self._minors, self._holders = minors, holders
         self._users = {on: sorted({it.device for it in uses}) for on, uses in found.items()}
 
     def named(self, disk: str) -> Optional[str]:
@@ -138,30 +136,12 @@ class Uses:
 
     def _through(self, use: Use, first: int, end: int, way: Way) -> Iterator[Tuple[Way, int]]:
         """Each way up that goes through a use, from these sectors, the first of which the way stands at."""
-        if self._is_read(use):
-            yield from self._through_read(use, first, end, way)
-            return
         for sector, count, to in use.runs(first, end):
             below = moved(way, sector - first)
             if use.is_store():
                 yield below + (self._store_of(use),), count
             else:
                 yield from self.ways(names.MAPPER + use.device, to, to + count, below + (step_of(use, to),))
-
-    def _is_read(self, use: Use) -> bool:
-        """Whether it is of a snapshot whose store was read."""
-        return use.line.target == "snapshot" and use.device in self._copies
-
-    def _through_read(self, use: Use, first: int, end: int, way: Way) -> Iterator[Tuple[Way, int]]:
-        """The same of a snapshot whose store was read."""
-        copies = self._copies[use.device]
-        for part in copies.of_store(first, end) if use.is_store() else copies.of_origin(first, end):
-            below = moved(way, part.first - first)
-            if part.sector is None:
-                yield below + (Step(part.said, None),), part.count
-            else:
-                to = part.sector
-                yield from self.ways(names.MAPPER + use.device, to, to + part.count, below + (Step(use.device, to),))
 
     def _store_of(self, use: Use) -> Step:
         """The step to a snapshot by its store, with the devices that stand on it, as nobody knows which sectors of them these are."""
@@ -188,8 +168,7 @@ class Uses:
                 yield from self._one_by_one(on, part)
             elif not over:
                 yield part.way(), part.count * part.chunk
-            elif all(it[1] <= begin and stop <= it[2] and (use.is_store() or use.stripes()[0] == 1) and not self._is_read(use)
-                     for use, it in over):
+            elif all(it[1] <= begin and stop <= it[2] and (use.is_store() or use.stripes()[0] == 1) for use, it in over):
                 for use, _ in over:
                     yield from self._over(use, part)
             else:
