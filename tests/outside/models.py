@@ -16,6 +16,7 @@ import types
 
 import physical_volumes
 import tool_calls
+import used
 
 SECTOR = 512
 MIB = 1 << 20
@@ -25,7 +26,7 @@ STRIPE = 8
 
 
 def check(tally, program, top):
-    for part in (check_groups, check_partitions, check_layers, check_arrays, check_thin, check_names, check_saving, check_files, check_served, check_plugin,
+    for part in (check_groups, check_partitions, check_layers, check_stores, check_arrays, check_thin, check_names, check_saving, check_files, check_served, check_plugin,
                  check_hostile):
         folder = os.path.join(program.room, "models")
         shutil.rmtree(folder, ignore_errors=True)
@@ -266,6 +267,58 @@ def check_layers(tally, pile):
     pile.holds(tally, "a volume that is being moved", "vg0/moving", extents_of(data, 55, 3) + extents_of(data, 53, 2))
     pile.refuses(tally, "a snapshot that is invalid", "vg0/full", "save the origin instead")
     pile.refuses(tally, "a layer that isn't followed", "vg0/odd", "is of type vdo, which isn't followed")
+
+
+def check_stores(tally, pile):
+    """Stores on two disks, of which one is missing or ends too soon: what the list and the chunks lie on has to be there, and no more. And
+    lists that no kernel writes."""
+    def made(count, chunk=1, **head):
+        """A snapshot with so many chunks in its store, of which six extents lie at the end of one disk and six on another, and its bytes."""
+        each, data = 32 * chunk, bytearray(A)
+        pairs = [(number * 7 % (80 // chunk), 2 + number + number // each) for number in range(count)]
+        content = bytearray(used.store(head.pop("pairs", pairs), chunk, 96 // chunk, **head))
+        wanted, size = bytearray(extents_of(A, 0, 10)), chunk * SECTOR
+        for old, new in pairs:
+            content[new * size:(new + 1) * size] = wanted[old * size:(old + 1) * size] = content_of("%d in %d" % (old, new), chunk)
+        data[58 * EXTENT * SECTOR:] = content[:48 * SECTOR]
+        record = volume("snapshot0", "0", segment(0, 10, "snapshot", "chunk_size = %d" % chunk, 'origin = "home"', 'cow_store = "old"'))
+        known = text("vg0", "g", 9, "ab", volume("home", "h", linear(0, 10, ("pv0", 0))),
+                     volume("old", "o", linear(0, 6, ("pv0", 58)), linear(6, 6, ("pv1", 0)), status=HIDDEN), record)
+        one = disk("a", bytes(data), known)
+        pile.put("one", one)
+        pile.put("two", disk("b", bytes(content[48 * SECTOR:]) + bytes(B[48 * SECTOR:]), known))
+        return one, bytes(wanted)
+
+    start = (DATA + 58 * EXTENT) * SECTOR
+    for count in 0, 1, 31, 32, 33, 40, 50, 63, 64, 65, 70:
+        one, wanted = made(count)
+        pile.holds(tally, "a store of %d chunks" % count, "vg0/old", wanted)
+        rows = {row["name"]: row["chunks_used"] for row in named(pile.scan()["groups"], "name", "vg0").get("volumes", [])}
+        tally.holds("how many chunks it has", rows.get("old") == count, rows)
+        if count <= 40:
+            pile.holds(tally, "a store of %d chunks, without its second disk" % count, "vg0/old", wanted, "one")
+        else:
+            pile.refuses(tally, "a store of %d chunks, without its second disk" % count, "vg0/old", dashed("b"), "one")
+        pile.put("cut", one[:start + 34 * SECTOR])
+        if count < 32:
+            pile.holds(tally, "a store of %d chunks on a disk that is cut" % count, "vg0/old", wanted, "cut", "two")
+        else:
+            pile.refuses(tally, "a store of %d chunks on a disk that is cut" % count, "vg0/old", "cut ends at byte", "cut", "two")
+        os.unlink(os.path.join(pile.folder, "cut"))
+    one, wanted = made(20, 2)
+    pile.put("cut", one[:start + 3 * SECTOR])
+    pile.refuses(tally, "a store whose chunks are cut", "vg0/old", "cut ends at byte", "cut", "two")
+    os.unlink(os.path.join(pile.folder, "cut"))
+    for name, why, head in (("no header", "neither as a store nor with zeros", {"magic": 7}), ("another version", "it isn't of version 1", {"version": 2}),
+                            ("other chunks", "its chunks have another length", {"said": 2}), ("another order", "in another order", {"pairs": [(1, 3)]}),
+                            ("a chunk past the end", "past the end", {"pairs": [(80, 2)]}), ("a chunk twice", "a chunk twice", {"pairs": [(1, 2), (1, 3)]}),
+                            ("a header that says invalid", "the snapshot is invalid", {"valid": 0})):
+        made(0, **head)
+        pile.refuses(tally, "a store with " + name, "vg0/old", why)
+        told = named(named(pile.scan()["groups"], "name", "vg0").get("volumes", []), "name", "old")
+        tally.holds("what is told of it", told.get("state") == ("invalid" if "valid" in head else "not followed") and why in str(told.get("why")), told)
+    _, wanted = made(0, magic=0)
+    pile.holds(tally, "a store that is new", "vg0/old", wanted)
 
 
 def member(data, level, number, roles, events, layout=0, chunk=8, size=64, disks=None, version=2, resync=(1 << 64) - 1):

@@ -400,7 +400,7 @@ def check_outputs(tally, program, top):
 
 SLOW = """#!/bin/sh
 [ "$1" = map ] || exec %s "$@"
-%s "$@" | { head -n 2; echo >> "$0.begun"; exec sleep 60; }
+%s "$@" | { head -n 2; echo >> "$0.begun"; exec sleep 60 2> /dev/null; }
 """
 
 
