@@ -5,11 +5,11 @@
 _dmremap_tools() {
     local word=${COMP_WORDS[COMP_CWORD]} offered=""
     if [ "$COMP_CWORD" -eq 1 ]; then
-        offered="scan save serve lost owner tables filefrag trace cut machine elsewhere thin btrfs metadata lvm2-text report dd read-back spans tree extents store picture used md nbd-plugin explain --help"
+        offered="scan save serve lost owner tables filefrag trace cut machine elsewhere thin btrfs metadata lvm2-text report dd spans tree extents store picture md explain --help"
     elif [[ $word == -* ]]; then
         case ${COMP_WORDS[1]} in
             scan) offered="--help --json --program" ;;
-            save) offered="--help --map --allow-missing --extents --ls --program --paths --store --fresh" ;;
+            save) offered="--help --map --allow-missing --extents --ls --program --paths --fresh" ;;
             serve) offered="--help --socket --program" ;;
             lost) offered="--help --map --saved --program" ;;
             owner) offered="--help --map --bytes --sector-size --program" ;;
@@ -24,17 +24,14 @@ _dmremap_tools() {
             metadata) offered="--help --list --seqno --at" ;;
             lvm2-text) offered="--help --only --program" ;;
             report) offered="--help --disks --plot --times --compare" ;;
-            dd) offered="--help --requests --image --program --paths --store --fresh" ;;
-            read-back) offered="--help --program --paths --store --fresh" ;;
+            dd) offered="--help --requests --image --program --paths --fresh" ;;
             spans) offered="--help --free --clashes --align --to --paths" ;;
             tree) offered="--help --dot" ;;
-            extents) offered="--help --ls --program --paths --store --fresh" ;;
-            store) offered="--help --requests --size --chunk --kind --program --paths --store --fresh" ;;
+            extents) offered="--help --ls --program --paths --fresh" ;;
+            store) offered="--help --requests --size --chunk --kind --program --paths --fresh" ;;
             picture) offered="--help --scale" ;;
-            used) offered="--help --program --paths --store --fresh --keep --status" ;;
             md) offered="--help --name --follow --copy --path --size" ;;
-            nbd-plugin) offered="--help" ;;
-            explain) offered="--help --program --paths --store --fresh --json --before --status" ;;
+            explain) offered="--help --program --paths --json --before --status" ;;
         esac
     fi
     mapfile -t COMPREPLY < <(compgen -W "$offered" -- "$word")

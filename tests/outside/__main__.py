@@ -78,7 +78,6 @@ import tool_streams
 import trace_parts
 import trying
 import used
-import volumes
 import walks
 import words
 import worked
@@ -93,7 +92,7 @@ PARTS = (
     words, before, stored, files, loads, backups, groups, records, printing, reports, request_lines, field_lengths, answers,
     ranges, snapshot_rows, snapshots, origins, kinds, replays, streams, limits, hostile, growths, help_texts,
     launcher, building, trying, installs, documents, crate_pages, worked, manual, completions, reading_list, source_names, recipes,
-    tool_requests, tool_answers, tool_documents, tool_streams, layouts, layers, explained, used, snapshot_readers, volumes, pictures,
+    tool_requests, tool_answers, tool_documents, tool_streams, layouts, layers, explained, used, snapshot_readers, pictures,
     trace_parts, sector_files, saves, models, owners, machines, metadata_areas, array_members, lvm2_texts, walks, lookers, refusals, halts,
     power_cuts,
 )

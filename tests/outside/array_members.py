@@ -201,12 +201,10 @@ class Members:
         self.program.file("members/table", "v: 0 8 linear %s 8\n" % NAME)
         self.program.file("members/disks", NAME + " 256\n")
         self.program.file("members/requests", "R v 0 8\n")
-        self.program.file("members/places", "size 4096\n0 8\n")
         asked, source = ["--program", self.program.path, "--paths", "paths"], ["table", "table", "disks"]
         commands = {
             "save": ["save", *asked, "v", "out", *source],
             "dd": ["dd", *asked, "--requests", "requests", *source],
-            "read-back": ["read-back", *asked, "places", "requests", "out", *source],
             "spans": ["spans", "--paths", "paths", "disks", "table"],
             "elsewhere": ["elsewhere", "--losetup", "--paths", "paths", "table"],
         }

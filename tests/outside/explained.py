@@ -205,11 +205,22 @@ def request(dice, name, lengths):
 
 def check_stores(tally, explain, program):
     """Snapshots that begin as their stores are, if that is asked for."""
-    words = ["map", "lvm", "vg0-snapshot.backup", "R vg0-snap 8000 16"]
-    shutil.copy(os.path.join(samples(explain.top), "snap.store"), explain.folder)
-    got = explain.run(["--store", "vg0-snap=snap.store", *words])
-    wanted = b"chunk 1001, taken\n"
-    tally.holds("a way from a store", got.status == 0 and wanted in got.out, "status %s, %r, %r" % (got.status, got.err, got.out))
+    words = ["map", "lvm", "vg0-snapshot.backup", "R vg0-snap 8000 16", "W vg0-snap 8000 1", "R vg0-lv0 0 1"]
+    with open(os.path.join(samples(explain.top), "snap.store"), "rb") as it, open(os.path.join(explain.folder, "sda1.img"), "wb") as image:
+        image.seek(206848 * 512)
+        image.write(it.read())
+        image.truncate(1050624 * 512)
+    program.file("explained/paths", "/dev/sda1 sda1.img\n")
+    got = explain.run(["--paths", "paths", *words])
+    wanted = b"chunk 1001, taken\n", b"chunk 1000, not taken yet\n"
+    tally.holds("ways from a store", got.status == 0 and not got.err and all(it in got.out for it in wanted), "status %s, %r, %r" % (got.status, got.err, got.out))
+    for listed, why in (("", "A part of its header or of its list lies on a disk that PATHS doesn't name. Add the disk."),
+                        ("/dev/sda1 none\n", "can't be opened or read"), ("/dev/sdb sda1.img\n", "The stack has no disk of that name")):
+        program.file("explained/paths", listed)
+        got = explain.run(["--paths", "paths", *words])
+        tally.holds("a store by the paths %r" % listed, got.status == 0 and why in got.out.decode(), "status %s, %r, %r" % (got.status, got.err, got.out))
+    got = explain.run(["--paths", "nowhere", *words])
+    tally.holds("a store without paths", got.status == 0 and b"nowhere" in got.out, "status %s, %r, %r" % (got.status, got.err, got.out))
 
 
 def check_ends(tally, explain, program):

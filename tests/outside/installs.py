@@ -20,8 +20,6 @@ PLACES = {
     "share/zsh/site-functions/_%s": "completions/_%s",
 }
 DOCUMENTS = "share/doc/dmremap"
-# What the tool looks for beside itself, and where it is here.
-PLUGIN = ("share/dmremap/nbd_volume.py", "tools/nbd_volume.py")
 # What packs the tool, and what it makes.
 PACK, TOOL = "tools/pack", "bin/dmremap-tools"
 USAGE = "usage: ./install [--remove] [PREFIX]\n"
@@ -101,7 +99,7 @@ def make_objects(program):
 
 def installed_in(tree):
     """What is installed, and the bytes that it has. Those of the tool aren't looked at."""
-    places = {"bin/dmremap": "crates/dmremap/out/dmremap", TOOL: PACK, **dict([PLUGIN])}
+    places = {"bin/dmremap": "crates/dmremap/out/dmremap", TOOL: PACK}
     places.update((place % name, path % name) for name in ("dmremap", "dmremap-tools") for place, path in PLACES.items())
     for pattern in ("README.md", "CHANGELOG.md", "docs/*.md", "docs/*.svg", "benches/RESULTS.md", "examples/*.*", "examples/samples/*.*"):
         paths = [os.path.relpath(it, tree) for it in glob.glob(os.path.join(tree, pattern))]
@@ -158,7 +156,7 @@ def check_links(tally, program, tree):
     """What is installed gets in place of a link, and not through it."""
     folder = os.path.join(program.room, "linked prefix")
     mine = program.file("mine", "mine\n")
-    places = ("bin/dmremap", TOOL, PLUGIN[0], DOCUMENTS + "/README.md")
+    places = ("bin/dmremap", TOOL, DOCUMENTS + "/README.md")
     for it in places:
         os.makedirs(os.path.dirname(os.path.join(folder, it)), exist_ok=True)
         os.symlink(mine, os.path.join(folder, it))

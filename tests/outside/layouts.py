@@ -68,8 +68,7 @@ def check_full(tally, program, top):
     """When stores are full: as the status after each number of requests says it."""
     def full(requests, table, disks):
         files = ["--requests", program.file("full/requests", requests), "table", program.file("full/table", table), program.file("full/disks", disks)]
-        fresh = [word for name in re.findall(r"^(\w+): 0 \d+ snapshot ", table, re.M) for word in ("--fresh", name)]
-        return tool_calls.call(top, ["store", "--program", program.path, *fresh, *files])
+        return tool_calls.call(top, ["store", "--program", program.path, "--fresh", *files])
 
     for seed in range(5):
         dice = random.Random(seed)
@@ -181,8 +180,7 @@ def check_stack(tally, program, top, dice):
     said = "clash" if wanted else "tidy"
     tally.holds("whether there are any", tidiness(stack).startswith(said), "the rules say %s" % tidiness(stack))
     for name in stack.tables:
-        fresh = [word for it, table in stack.tables.items() if table[0][2][0] == "snapshot" for word in ("--fresh", it)]
-        found = tool("extents", "--program", program.path, *fresh, name, "concise", source, disks).out.decode()
+        found = tool("extents", "--program", program.path, "--fresh", name, "concise", source, disks).out.decode()
         wanted = extents([stack.read("/dev/mapper/" + name, at) for at in range(stack.length("/dev/mapper/" + name))])
         tally.holds("the extents of %s" % name, found == wanted, "%r and not %r" % (found, wanted))
 

@@ -1,15 +1,22 @@
 """The commands `scan`, `save`, `serve`, `lost` and `tables` over piles of images, which are made here from their formats: what is
 found in them, and the bytes of volumes, which are known as they were put there sector by sector."""
 
+import importlib
 import json
 import os
+import pickle
 import random
 import shutil
+import signal
 import struct
 import subprocess
+import sys
+import tempfile
+import types
 
 import physical_volumes
 import tool_calls
+import used
 
 SECTOR = 512
 MIB = 1 << 20
@@ -19,7 +26,8 @@ STRIPE = 8
 
 
 def check(tally, program, top):
-    for part in (check_groups, check_partitions, check_layers, check_arrays, check_thin, check_names, check_saving, check_files, check_served, check_hostile):
+    for part in (check_groups, check_partitions, check_layers, check_stores, check_arrays, check_thin, check_names, check_saving, check_files, check_served, check_plugin,
+                 check_hostile):
         folder = os.path.join(program.room, "models")
         shutil.rmtree(folder, ignore_errors=True)
         os.makedirs(folder)
@@ -259,6 +267,58 @@ def check_layers(tally, pile):
     pile.holds(tally, "a volume that is being moved", "vg0/moving", extents_of(data, 55, 3) + extents_of(data, 53, 2))
     pile.refuses(tally, "a snapshot that is invalid", "vg0/full", "save the origin instead")
     pile.refuses(tally, "a layer that isn't followed", "vg0/odd", "is of type vdo, which isn't followed")
+
+
+def check_stores(tally, pile):
+    """Stores on two disks, of which one is missing or ends too soon: what the list and the chunks lie on has to be there, and no more. And
+    lists that no kernel writes."""
+    def made(count, chunk=1, **head):
+        """A snapshot with so many chunks in its store, of which six extents lie at the end of one disk and six on another, and its bytes."""
+        each, data = 32 * chunk, bytearray(A)
+        pairs = [(number * 7 % (80 // chunk), 2 + number + number // each) for number in range(count)]
+        content = bytearray(used.store(head.pop("pairs", pairs), chunk, 96 // chunk, **head))
+        wanted, size = bytearray(extents_of(A, 0, 10)), chunk * SECTOR
+        for old, new in pairs:
+            content[new * size:(new + 1) * size] = wanted[old * size:(old + 1) * size] = content_of("%d in %d" % (old, new), chunk)
+        data[58 * EXTENT * SECTOR:] = content[:48 * SECTOR]
+        record = volume("snapshot0", "0", segment(0, 10, "snapshot", "chunk_size = %d" % chunk, 'origin = "home"', 'cow_store = "old"'))
+        known = text("vg0", "g", 9, "ab", volume("home", "h", linear(0, 10, ("pv0", 0))),
+                     volume("old", "o", linear(0, 6, ("pv0", 58)), linear(6, 6, ("pv1", 0)), status=HIDDEN), record)
+        one = disk("a", bytes(data), known)
+        pile.put("one", one)
+        pile.put("two", disk("b", bytes(content[48 * SECTOR:]) + bytes(B[48 * SECTOR:]), known))
+        return one, bytes(wanted)
+
+    start = (DATA + 58 * EXTENT) * SECTOR
+    for count in 0, 1, 31, 32, 33, 40, 50, 63, 64, 65, 70:
+        one, wanted = made(count)
+        pile.holds(tally, "a store of %d chunks" % count, "vg0/old", wanted)
+        rows = {row["name"]: row["chunks_used"] for row in named(pile.scan()["groups"], "name", "vg0").get("volumes", [])}
+        tally.holds("how many chunks it has", rows.get("old") == count, rows)
+        if count <= 40:
+            pile.holds(tally, "a store of %d chunks, without its second disk" % count, "vg0/old", wanted, "one")
+        else:
+            pile.refuses(tally, "a store of %d chunks, without its second disk" % count, "vg0/old", dashed("b"), "one")
+        pile.put("cut", one[:start + 34 * SECTOR])
+        if count < 32:
+            pile.holds(tally, "a store of %d chunks on a disk that is cut" % count, "vg0/old", wanted, "cut", "two")
+        else:
+            pile.refuses(tally, "a store of %d chunks on a disk that is cut" % count, "vg0/old", "cut ends at byte", "cut", "two")
+        os.unlink(os.path.join(pile.folder, "cut"))
+    one, wanted = made(20, 2)
+    pile.put("cut", one[:start + 3 * SECTOR])
+    pile.refuses(tally, "a store whose chunks are cut", "vg0/old", "cut ends at byte", "cut", "two")
+    os.unlink(os.path.join(pile.folder, "cut"))
+    for name, why, head in (("no header", "neither as a store nor with zeros", {"magic": 7}), ("another version", "it isn't of version 1", {"version": 2}),
+                            ("other chunks", "its chunks have another length", {"said": 2}), ("another order", "in another order", {"pairs": [(1, 3)]}),
+                            ("a chunk past the end", "past the end", {"pairs": [(80, 2)]}), ("a chunk twice", "a chunk twice", {"pairs": [(1, 2), (1, 3)]}),
+                            ("a header that says invalid", "the snapshot is invalid", {"valid": 0})):
+        made(0, **head)
+        pile.refuses(tally, "a store with " + name, "vg0/old", why)
+        told = named(named(pile.scan()["groups"], "name", "vg0").get("volumes", []), "name", "old")
+        tally.holds("what is told of it", told.get("state") == ("invalid" if "valid" in head else "not followed") and why in str(told.get("why")), told)
+    _, wanted = made(0, magic=0)
+    pile.holds(tally, "a store that is new", "vg0/old", wanted)
 
 
 def member(data, level, number, roles, events, layout=0, chunk=8, size=64, disks=None, version=2, resync=(1 << 64) - 1):
@@ -544,6 +604,86 @@ def check_served(tally, pile):
     with open(os.path.join(pile.folder, "out"), "rb") as copy:
         tally.holds("a copy from a server", copy.read() == extents_of(A, 3, 5), uri)
     tally.holds("how a server ends", status in (130, 143), status)
+
+
+def served(pile, volume_name, image, do):
+    """What a function gets of the plugin's module, in a process of its own, with something in the place of nbdkit."""
+    with tempfile.TemporaryFile() as kept, tempfile.TemporaryFile() as said:
+        sys.stdout.flush()
+        child = os.fork()
+        if child == 0:
+            try:
+                os.dup2(said.fileno(), 2)
+                os.chdir(pile.folder)
+                sys.modules["nbdkit"] = types.SimpleNamespace(THREAD_MODEL_SERIALIZE_ALL_REQUESTS=1, EXTENT_HOLE=1, EXTENT_ZERO=2, set_error=lambda _: None)
+                sys.path.insert(0, os.path.join(pile.top, "tools"))
+                plugin = importlib.import_module("dmremap_tools.images.plugin")
+                signal.alarm(60)
+                for key, value in (("program", pile.program.path), ("volume", volume_name), ("image", image)):
+                    plugin.config(key, value)
+                plugin.get_ready()
+                pickle.dump(do(plugin), kept)
+                kept.flush()
+                os._exit(0)
+            except BaseException as fault:
+                os.write(2, repr(fault).encode())
+            finally:
+                os._exit(1)
+        status = os.waitpid(child, 0)[1]
+        kept.seek(0)
+        said.seek(0)
+        return (pickle.load(kept) if status == 0 else None), said.read().decode()
+
+
+def taken(plugin, at, count):
+    """Bytes that the plugin reads, or None."""
+    buffer = bytearray(count)
+    try:
+        plugin.pread(1, buffer, at, 0)
+    except RuntimeError:
+        return None
+    return bytes(buffer)
+
+
+def kill_children():
+    """Kills the mappers of this process; how many there were."""
+    killed = 0
+    for number in filter(str.isdigit, os.listdir("/proc")):
+        try:
+            with open(f"/proc/{number}/stat", encoding="ascii", errors="replace") as file:
+                name, _, rest = file.read().partition("(")[2].rpartition(")")
+        except OSError:
+            continue
+        if name == "dmremap" and int(rest.split()[1]) == os.getpid():
+            os.kill(int(number), signal.SIGKILL)
+            killed += 1
+    return killed
+
+
+def check_plugin(tally, pile):
+    """The plugin's own functions: odd reads and extents over several parts, of which one is missing; a child that is killed; stripes of a
+    sector of which every other one is zeros, in bounded memory."""
+    known = text("vg0", "g", 4, "a", volume("v", "v", linear(0, 1, ("pv0", 3)), linear(1, 1, ("pv0", 0)), segment(2, 1, "zero"), linear(3, 1, ("pv0", 63))),
+                 volume("zeros", "z", segment(0, 4096, "zero")),
+                 volume("w", "w", segment(0, 2, "striped", "stripe_count = 2", "stripe_size = 1", 'stripes = ["pv0", 8, "zeros", 0]')))
+    content = disk("a", A, known)
+    pile.put("one", content[:-4 * SECTOR])
+    size = EXTENT * SECTOR
+    whole = extents_of(A, 3, 1) + extents_of(A, 0, 1) + bytes(size) + extents_of(A, 63, 1)
+    end = len(whole) - 4 * SECTOR
+    spots = [(at, count) for at in (0, 1, size - 511, size - 1, size, size + 1, 2 * size - 3, end - 600) for count in (1, 511, 512, 1023, 4100)]
+    found, said = served(pile, "vg0/v", "one", lambda plugin: [taken(plugin, *spot) for spot in spots])
+    wanted = [whole[at:at + count] if -(-(at + count) // SECTOR) * SECTOR <= end else None for at, count in spots]
+    tally.holds("odd reads over several parts", found == wanted, f"{[a == b for a, b in zip(found or [], wanted)]}, {said}")
+    starts = (0, 1, size - 1, size + 1, 2 * size - 1, 2 * size + 1)
+    found, said = served(pile, "vg0/v", "one", lambda plugin: [plugin.extents(1, 3 * size - at, at, 0) for at in starts])
+    parts = [(0, size, 0), (size, 2 * size, 0), (2 * size, 3 * size, 3)]
+    wanted = [[(max(at, begin), stop - max(at, begin), kind) for begin, stop, kind in parts if at < stop] for at in starts]
+    tally.holds("extents from odd places", found == wanted, f"{found}, {said}")
+    found, said = served(pile, "vg0/zeros", "one", lambda plugin: [taken(plugin, 0, 1), kill_children(), taken(plugin, 20000 * SECTOR, 3)])
+    tally.holds("a server whose child was killed", found and found[0] == bytes(1) and found[1] and found[2] == bytes(3), f"{found}, {said}")
+    found, said = served(pile, "vg0/w", "one", lambda plugin: plugin.extents(1, 2 * size, 0, 0))
+    tally.holds("extents of stripes of a sector", found == [(at * SECTOR, SECTOR, 3 * (at % 2)) for at in range(2 * EXTENT)], f"{found and found[:3]}, {said}")
 
 
 TRIES = 80

@@ -1,16 +1,9 @@
-"""Whatever reads through a snapshot: `used`, `save`, `read-back`, `dd`, `extents`, `owner`, `elsewhere` and the plugin. Three snapshots
-of one origin were written to, and their stores lie on devices of the stack. What each holds is put together here from the disks."""
+"""Whatever reads through a snapshot: `save`, `dd`, `extents` and `elsewhere`. Three snapshots of one origin were written to, and their
+stores lie on devices of the stack. What each holds is put together here from the disks."""
 
-import importlib
 import itertools
 import os
-import pickle
 import random
-import signal
-import sys
-import tempfile
-import tracemalloc
-import types
 
 import lvm2_rows
 from harness import run
@@ -23,7 +16,7 @@ BELOW = ("base: 0 64 linear d 0\nc1: 0 2200 linear d 64\nc2: 0 40 linear d 2300\
 SNAPSHOTS = ["s%d: 0 64 snapshot /dev/mapper/base /dev/mapper/c%d P 8\n" % (it, it) for it in (1, 2, 3)]
 PAIRS = {"s1": [(3, 2), (0, 3)], "s2": [(it, 9 - it) for it in range(7, 0, -1)], "s3": [(5, 2)]}
 DISKS = "d 3600\ne 3400\n"
-TOLD = {name: "%s: used, with %d of its chunks in the store\n" % (name, len(pairs)) for name, pairs in PAIRS.items()}
+TOLD = {name: "%s: its store has %d chunk%s\n" % (name, len(pairs), "s" * (len(pairs) != 1)) for name, pairs in PAIRS.items()}
 ASIDE = "snapshots"
 
 
@@ -93,11 +86,9 @@ def check(tally, program, top):
     check_group(case)
     check_saved(case)
     check_not_read(case)
-    check_file(case)
     check_lines(case)
     check_extents(case)
     check_elsewhere(case)
-    check_served(case)
 
 
 SOURCE = ["table", "table", "disks"]
@@ -105,26 +96,14 @@ PATHS = ["--paths", "paths"]
 
 
 def check_orders(case):
-    """All three, in each order of their lines, and each alone."""
+    """All three, in each order of their lines."""
     for order in itertools.permutations(SNAPSHOTS):
         case.put("ordered", BELOW + "".join(order))
         names = [it.split(":")[0] for it in order]
-        for asked in (names, sorted(names)):
-            got = case.call("used", *PATHS, "map", "table", "ordered", "disks", given="".join("R %s 0 64\n" % it for it in asked))
-            wanted = [case.content[it] for it in asked]
-            found = contents_of(case, got.out.decode(), len(asked))
-            case.tally.holds("used snapshots in the order %s, asked %s" % (names, asked), got.status == 0 and found == wanted,
-                             "status %s, %s, %r" % (got.status, [a == b for a, b in zip(found, wanted)], got.err))
-            case.tally.holds("what is told of them", got.err.decode() == "".join(map(case.told, names)), got.err)
-
-
-def contents_of(case, answers, count):
-    """What reads bring, of their pieces."""
-    found = [b""] * count
-    for row in answers.splitlines():
-        number, what, disk, start, length = row.split()
-        found[int(number) - 1] += b"".join(case.sector((disk, int(start) + it)) for it in range(int(length))) if what == "R" else b""
-    return found
+        got = case.call("dd", *PATHS, "table", "ordered", "disks", given="".join("R %s 0 64\n" % it for it in names))
+        made = run(["sh"], given=got.out, folder=case.folder)
+        case.tally.same("used snapshots in the order %s" % names, made, 0, b"".join(case.content[it] for it in names))
+        case.tally.holds("what is told of them", got.err.decode() == "".join(map(case.told, names)), got.err)
 
 
 # The stores of a group's snapshots: the extents that they lie on, and their pairs. All else of their areas is zeros.
@@ -142,7 +121,6 @@ def check_group(case):
             disk[place_of[name][at] * SECTOR:(place_of[name][at] + 1) * SECTOR] = head[at * SECTOR:(at + 1) * SECTOR]
         homes = [place_of[name][dict(pairs)[at]] if at in dict(pairs) else 8 + at for at in range(64)]
         content[name] = b"".join(bytes(disk[it * SECTOR:(it + 1) * SECTOR]) for it in homes)
-    case.disks["/dev/sda"] = disk
     case.put("sda.img", bytes(disk))
     case.put("sda.paths", "/dev/sda sda.img\n")
     volumes = {"one": lvm2_rows.plain("one", 10, 10), "three": lvm2_rows.plain("three", 10, 30),
@@ -150,18 +128,10 @@ def check_group(case):
     for order in itertools.permutations(OF_GROUP):
         records = [lvm2_rows.record("home", name, 8, number) for number, name in enumerate(order)]
         case.put("group", lvm2_rows.GROUP % "".join([lvm2_rows.plain("home", 8, 0), *[volumes[it] for it in order], *records]))
-        got = case.call("used", "--paths", "sda.paths", "map", "lvm", "group", given="".join("R g-%s 0 64\n" % it for it in OF_GROUP))
-        found = contents_of(case, got.out.decode(), 3)
-        case.tally.holds("used snapshots of a group in the order %s %s %s" % order, got.status == 0 and found == list(content.values()),
-                         "status %s, %s, %r" % (got.status, [a == b for a, b in zip(found, content.values())], got.err))
         for name, wanted in content.items():
             got = case.call("save", "--paths", "sda.paths", "g-" + name, "out", "lvm", "group")
             case.tally.holds("saving %s of a group in the order %s %s %s" % (name, *order), got.status == 0 and case.read("out") == wanted, got.err)
             remove(case, "out")
-            words = [("format", "lvm"), ("source", "group"), ("device", "g-" + name), ("image", "/dev/sda=sda.img")]
-            found, said = served(case, words, lambda volume: taken(volume, 0, 64 * SECTOR))
-            case.tally.holds("a server of %s of a group in the order %s %s %s" % (name, *order), found == wanted, said)
-    del case.disks["/dev/sda"]
 
 
 def check_saved(case):
@@ -170,68 +140,39 @@ def check_saved(case):
     for name, wanted, words, told in (
             ("s1", case.content["s1"], [], TOLD["s1"]), ("s2", case.content["s2"], [], TOLD["s2"]), ("s3", case.content["s3"], [], TOLD["s3"]),
             ("t", case.content["s2"][7 * SECTOR:27 * SECTOR], [], TOLD["s2"]), ("base", case.content["base"], [], ""),
-            ("s1", case.content["base"], ["--fresh", "s1"], ""), ("s1", case.content["base"], ["--store", "s1=zeros"], "s1: fresh, with 0 of its chunks in the store\n")):
-        case.put("zeros", bytes(80 * SECTOR))
+            ("s1", case.content["base"], ["--fresh"], "")):
         got = case.call("save", *PATHS, *words, name, "out", "table", "upper", "disks")
         case.tally.same("saving %s %s" % (name, words), got, 0, "", told)
         case.tally.holds("what %s %s has" % (name, words), case.read("out") == wanted, "it is another")
         remove(case, "out")
 
 
-INVALID = ("the store of s1: it is invalid, as it was full once: what the origin overwrote since is lost, and nothing of s1 is read; --fresh s1 "
-           "takes what the origin has")
-NOT_HERE = "the store of s1: d: No such file or directory: --paths or --store says where it is, and --fresh s1 that nothing is in it"
+INVALID = "the store of s1: it is invalid, as it was full once: what the origin overwrote since is lost, and nothing of the snapshot is read; --fresh takes " \
+          "what the origin has"
+NOT_HERE = "the store of s1: a disk that its header or its list lies on isn't here (d); --paths says where disks are, and --fresh takes every snapshot as new"
 
 
 def check_not_read(case):
     """Snapshots that can't be read: nothing is made, and what is said leads on."""
-    pipe = os.path.join(case.folder, "pipe")
-    os.mkfifo(pipe)
-    case.put("invalid", store(PAIRS["s1"], chunks=10, valid=0))
+    os.mkfifo(os.path.join(case.folder, "pipe"))
+    whole = bytes(case.disks["d"])
+    case.put("invalid.img", whole[:64 * SECTOR] + store([], chunks=1, valid=0) + whole[(64 + CHUNK) * SECTOR:])
+    for name in "invalid.img", "pipe", "/dev/zero":
+        case.put(os.path.basename(name) + ".paths", "d %s\ne e.img\n" % name)
     case.put("n", BELOW + SNAPSHOTS[0].replace(" P ", " N "))
-    lost = "s1: invalid, with 0 of its chunks in the store\n"
-    for name, words, source, told, why in (
-            ("one that is invalid", [*PATHS, "--store", "s1=invalid"], SOURCE, lost, INVALID),
-            ("one whose disk isn't here", [], SOURCE, "", NOT_HERE),
-            ("one whose store is a pipe", [*PATHS, "--store", "s1=pipe"], SOURCE, "", "pipe: neither a file nor a disk"),
-            ("one whose store is a device of zeros", [*PATHS, "--store", "s1=/dev/zero"], SOURCE, "", "/dev/zero: neither a file nor a disk"),
-            ("one that isn't persistent", PATHS, ["table", "n", "disks"], "",
-             "the store of s1: it isn't persistent, so no disk says what is in it; --fresh s1 takes it as fresh")):
-        for command, more, given in (("save", ["s1", "out", *source], ""), ("extents", ["s1", *source], ""), ("dd", source, "R s1 0 8\n"),
-                                     ("read-back", ["places", "requests", "out", *source], "")):
-            case.put("places", "size 4096\n0 8\n")
-            case.put("requests", "R s1 0 8\n")
+    for name, words, source, why in (
+            ("one that is invalid", ["--paths", "invalid.img.paths"], SOURCE, INVALID), ("one whose disk isn't here", [], SOURCE, NOT_HERE),
+            ("one whose disk is a pipe", ["--paths", "pipe.paths"], SOURCE, "pipe: neither a file nor a disk"),
+            ("one whose disk is a device of zeros", ["--paths", "zero.paths"], SOURCE, "/dev/zero: neither a file nor a disk"),
+            ("one that isn't persistent", PATHS, ["table", "n", "disks"], "the store of s1: it isn't persistent, so no disk says what is in it; --fresh takes it as new")):
+        for command, more, given in (("save", ["s1", "out", *source], ""), ("extents", ["s1", *source], ""), ("dd", source, "R s1 0 8\n")):
             got = case.call(command, *words, *more, given=given)
-            if command == "extents" and "invalid" in name:
-                case.tally.same("the extents of " + name, got, 0, "0 64 error\n", told)
-                continue
-            case.tally.same("%s of %s" % (command, name), got, 1, "refused\n" if command == "dd" else "", "%s%s %s: %s\n" % (told, TOOL, command, why))
+            case.tally.same("%s of %s" % (command, name), got, 1, "refused\n" if command == "dd" else "", "%s %s: %s\n" % (TOOL, command, why))
             case.tally.holds("what %s leaves of %s" % (command, name), case.read("out") is None, "it is there")
-    got = case.call("save", *PATHS, "--fresh", "base", "s1", "out", *SOURCE)
-    case.tally.same("a fresh one that is none", got, 1, "", TOOL + " save: base: FILE has no such snapshot\n")
 
 
 def remove(case, name):
     os.unlink(os.path.join(case.folder, name))
-
-
-def check_file(case):
-    """A file of a snapshot, in pieces."""
-    case.put("places", "size %d\n0 9\n12 20\n" % (31 * SECTOR + 1))
-    case.put("requests", "R s1 3 9\nR s1 20 20\n")
-    got = case.call("read-back", *PATHS, "places", "requests", "out", *SOURCE)
-    case.tally.same("a file of a snapshot", got, 0, "", TOLD["s1"])
-    content = case.content["s1"]
-    wanted = content[3 * SECTOR:12 * SECTOR] + bytes(3 * SECTOR) + content[20 * SECTOR:40 * SECTOR]
-    case.tally.holds("what it has", case.read("out") == wanted[:31 * SECTOR + 1], "it is another")
-    remove(case, "out")
-    for requests, why in (("R s1 3 9\n", "request 2 is not answered in full"), ("R s1 3 8\nR s1 20 20\n", "request 1 is not answered in full"),
-                          ("R s1 3 10\nR s1 20 20\n", "not asked for by PLACES: 1 R d "), ("R s1 3 9\nR s1 20 20\nR s1 0 1\n", "not asked for by PLACES: 3 R d "),
-                          ("W s1 3 9\nR s1 20 20\n", "not of a read: 1 "), ("R s1 3 9\nR s1 20\n", "not a request: R s1 20")):
-        case.put("requests", requests)
-        got = case.call("read-back", *PATHS, "places", "requests", "out", *SOURCE)
-        is_so = got.status == 1 and why in got.err.decode() and case.read("out") is None
-        case.tally.holds("a file by %r" % requests, is_so, "%s, %r" % (got.status, got.err))
 
 
 def check_lines(case):
@@ -291,110 +232,3 @@ def check_elsewhere(case):
     case.put("some", "e /e\n")
     got = call(case.top, ["elsewhere", "--paths", "some", "--missing", "zero", "concise"], folder=case.folder)
     case.tally.holds("an origin of zeros elsewhere", got.status == 0, "%s, %r" % (got.status, got.err))
-
-
-def served(case, parameters, do):
-    """What a function gets of the plugin's module, in a process of its own, with something in the place of nbdkit."""
-    with tempfile.TemporaryFile() as kept, tempfile.TemporaryFile() as said:
-        sys.stdout.flush()
-        child = os.fork()
-        if child == 0:
-            try:
-                os.dup2(said.fileno(), 2)
-                os.chdir(case.folder)
-                sys.modules["nbdkit"] = types.SimpleNamespace(THREAD_MODEL_PARALLEL=3, EXTENT_HOLE=1, EXTENT_ZERO=2, set_error=lambda it: None)
-                sys.path.insert(0, os.path.join(case.top, "tools"))
-                volume = importlib.import_module("dmremap_tools.layers.volume")
-                signal.alarm(60)
-                for key, value in [("program", case.program.path), *parameters]:
-                    volume.config(key, value)
-                volume.config_complete()
-                volume.get_ready()
-                pickle.dump(do(volume), kept)
-                kept.flush()
-                volume.cleanup()
-                os._exit(0)
-            except BaseException as fault:
-                os.write(2, repr(fault).encode())
-            finally:
-                os._exit(1)
-        status = os.waitpid(child, 0)[1]
-        kept.seek(0)
-        said.seek(0)
-        return (pickle.load(kept) if status == 0 else None), said.read().decode()
-
-
-def taken(volume, at, count):
-    """Bytes that the plugin reads, or None."""
-    buffer = bytearray(count)
-    try:
-        volume.pread(1, buffer, at, 0)
-    except RuntimeError:
-        return None
-    return bytes(buffer)
-
-
-def words_of(device, *images, source="table", disks="disks"):
-    return [("format", "table"), ("source", source), ("disks", disks), ("device", device), *[("image", it) for it in images]]
-
-
-def check_served(case):
-    """The plugin's own functions."""
-    for name in ("s1", "s2", "s3"):
-        found, said = served(case, words_of(name, "d=d.img", "e=e.img"), lambda volume: taken(volume, 0, LENGTH * SECTOR))
-        case.tally.holds("a server of " + name, found == case.content[name] and said == TOLD[name], said)
-    found, said = served(case, words_of("s2", "d=d.img"), lambda volume: 0)
-    wanted = "the store of s2: e: there is no image of it: --paths or --store says where it is, and --fresh s2 that nothing is in it\n"
-    case.put("tail", BELOW.replace("c2: 0 40 linear d 2300\nc2: 40 2160 linear e 0", "c2: 0 2200 linear e 0") + SNAPSHOTS[1])
-    found, said = served(case, words_of("s2", "d=d.img", source="tail"), lambda volume: 0)
-    case.tally.holds("a server without the store's disk", found is None and said.endswith("nbd-plugin: " + wanted), said)
-    images = ["d=d.img", "e=e.img"]
-    found, said = served(case, words_of("s3", *images), lambda volume: [taken(volume, 0, 512), kill_children(), taken(volume, 0, 512), taken(volume, 512, 512)])
-    case.tally.holds("a server whose child was killed", found and found[1] and found[0] == found[2] == case.content["s3"][:512] and found[3] == case.content["s3"][512:1024], said)
-    # Two parts, of which the first ends with its image.
-    case.put("first.img", case.content["base"][:4 * SECTOR])
-    case.put("two", "v: 0 4 linear a 0\nv: 4 4 linear d 0\nv: 8 8 zero\nv: 16 8 linear d 8\n")
-    case.put("two.disks", DISKS + "a 4\n")
-    whole = case.content["base"][:4 * SECTOR] * 2 + bytes(8 * SECTOR) + case.content["base"][8 * SECTOR:16 * SECTOR]
-    words = words_of("v", "a=first.img", "d=d.img", source="two", disks="two.disks")
-    spots = [(at, count) for at in (0, 1, 1537, 2047, 2048, 3583, 4097) for count in (1, 511, 512, 1023, 4100)]
-    found, said = served(case, words, lambda volume: [taken(volume, *it) for it in spots])
-    case.tally.holds("odd reads over two parts", found == [whole[at:at + count] for at, count in spots], said)
-    found, said = served(case, words, lambda volume: {at: volume.extents(1, 24 * SECTOR - at, at, 0) for at in (0, 1, 4095, 4097, 8191, 8193)})
-    for at, extents in (found or {0: []}).items():
-        wanted = [(begin, end - begin, kind) for begin, end, kind in
-                  [(max(at, begin), end, kind) for begin, end, kind in ((0, 4096, 0), (4096, 8192, 3), (8192, 12288, 0))] if begin < end]
-        case.tally.holds("extents from byte %d on" % at, extents == wanted, "%s, %s" % (extents, said))
-    check_stripes(case)
-
-
-def kill_children():
-    """Kills the mappers of this process; how many there were."""
-    killed = 0
-    for it in filter(str.isdigit, os.listdir("/proc")):
-        try:
-            with open("/proc/%s/stat" % it, encoding="ascii", errors="replace") as file:
-                name, _, rest = file.read().partition("(")[2].rpartition(")")
-        except OSError:
-            continue
-        if name == "dmremap" and int(rest.split()[1]) == os.getpid():
-            os.kill(int(it), signal.SIGKILL)
-            killed += 1
-    return killed
-
-
-def check_stripes(case):
-    """Extents of stripes of one sector, and of many that are zeros: in bounded memory."""
-    case.put("stripes", "v: 0 131072 striped 2 1 a 0 b 0\nz: 0 65536 zero\nw: 0 131072 striped 2 1 a 0 /dev/mapper/z 0\n")
-    case.put("stripes.disks", "a 65536\nb 65536\n")
-    case.put("a.img", b"")
-
-    def measured(volume):
-        tracemalloc.start()
-        found = volume.extents(1, 131072 * SECTOR, 0, 0)
-        return found, tracemalloc.get_traced_memory()[1]
-
-    for device, wanted in (("v", [(0, 131072 * SECTOR, 0)]), ("w", [(it * SECTOR, SECTOR, 3 * (it % 2)) for it in range(1024)])):
-        found, said = served(case, words_of(device, "a=a.img", "b=d.img", source="stripes", disks="stripes.disks"), measured)
-        if case.tally.holds("extents of stripes of %s" % device, found and found[0] == wanted, "%r, %s" % (found and found[0][:3], said)):
-            case.tally.holds("the memory for those", found[1] < 4 << 20, "%d bytes" % found[1])

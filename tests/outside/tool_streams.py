@@ -30,11 +30,10 @@ CALLS = {
     "spans": ["stack.disks", "stack.table"],
     "tree": ["stack.table"],
     "extents": ["--program", "./dmremap", "vol", "table", "image.table", "image.disks"],
-    "store": ["--program", "./dmremap", "--fresh", "snap", "--requests", "writes", "table", "snap.table", "snap.disks"],
+    "store": ["--program", "./dmremap", "--fresh", "--requests", "writes", "table", "snap.table", "snap.disks"],
     "md": ["--name", "md0", "raid1.txt"],
     "thin": ["--data", "tdata", "--device", "1", "vg0-thin1", "4000", "thin.xml"],
     "btrfs": ["--name", "fs", "--device", "1", "/dev/sda", "--device", "2", "/dev/sdb", "chunks.txt"],
-    "nbd-plugin": [],
     "picture": ["spans"],
 }
 # Other ways to call a command, in which it reads other inputs.
@@ -83,7 +82,7 @@ DERIVED = [("spans", "spans", ["stack.disks", "stack.table"]),
            ("machine.tables", "machine", ["--disks", "machine.disks", "ls.txt", "status.txt", "lsblk.txt", "concise.txt"])]
 # Commands that make a file in place of printing, pass on what dmremap prints, or have images or files for its words. They are
 # tried in `layouts`, `saves`, `used`, `models` and `explained`.
-UNPRINTED = {"read-back", "save", "used", "scan", "serve", "lost", "owner", "tables", "explain"}
+UNPRINTED = {"save", "scan", "serve", "lost", "owner", "tables", "explain"}
 # Words of these calls that name files, but none that a text is put into.
 NO_INPUTS = ("beside", "image", "./dmremap")
 CUTS, MUTATIONS, MEMORY, MANY = 8, 500, 1 << 30, 3000
@@ -445,7 +444,7 @@ def check_rooms(tally, top, folder):
     """No room for what is kept in files meanwhile."""
     none = lambda: resource.setrlimit(resource.RLIMIT_FSIZE, (0, 0))
     stack = ["table", "snap.table", "snap.disks"]
-    for command, words in (("store", ["--requests", "writes", *stack]), ("used", ["--fresh", "snap", "map", *stack]), ("save", ["snap", "saved", *stack])):
+    for command, words in (("store", ["--requests", "writes", *stack]), ("extents", ["--fresh", "snap", *stack]), ("save", ["snap", "saved", *stack])):
         got = run(tool(top) + [command, "--program", "./dmremap", *words], folder=folder, before=none)
         said = "%s %s: a temporary file: " % (TOOL, command)
         is_so = got.status == FULL and got.err.startswith(said.encode()) and got.err.count(b"\n") == 1
@@ -458,23 +457,20 @@ def check_killed(tally, top, folder):
         it.write('#!/bin/sh\n[ "$1" = "$DIES_AT" ] && kill -9 $$\nexec ./dmremap "$@"\n')
     os.chmod(os.path.join(folder, "dies"), 0o755)
     stack = ["table", "snap.table", "snap.disks"]
-    for command, at, words in (("store", "map", ["--fresh", "snap", "--requests", "writes", *stack]), ("used", "concise", ["--fresh", "snap", "map", *stack]),
-                               ("used", "map", ["--fresh", "snap", "map", *stack]), ("used", "map", ["--store", "snap=snap.store", "map", *stack]),
-                               ("save", "concise", ["--fresh", "snap", "snap", "saved", *stack]), ("save", "map", ["--fresh", "snap", "snap", "saved", *stack])):
-        got = run(tool(top) + [command, "--program", "./dies", *words], given="R snap 0 8\n", folder=folder, env=dict(os.environ, DIES_AT=at))
+    for command, at, words in (("store", "map", ["--requests", "writes", *stack]), ("extents", "concise", ["snap", *stack]), ("extents", "map", ["snap", *stack]),
+                               ("save", "concise", ["snap", "saved", *stack]), ("save", "map", ["snap", "saved", *stack])):
+        got = run(tool(top) + [command, "--program", "./dies", "--fresh", *words], given="R snap 0 8\n", folder=folder, env=dict(os.environ, DIES_AT=at))
         said = "%s %s: ./dies: it was ended by signal 9\n" % (TOOL, command)
         is_so = (got.status, got.out) == (FULL, b"") and got.err.decode().endswith(said)
-        tally.holds("%s by a dmremap that dies at %s, %s" % (command, at, words[0]), is_so, "%s, %r, %r" % (got.status, got.out, got.err))
+        tally.holds("%s by a dmremap that dies at %s" % (command, at), is_so, "%s, %r, %r" % (got.status, got.out, got.err))
         tally.holds("what a save leaves", not os.path.exists(os.path.join(folder, "saved")), "it is there")
     for name in ("-", "./-"):
-        got = run(tool(top) + ["save", "--program", "./dmremap", "--fresh", "snap", "snap", name, *stack], folder=folder)
-        tally.holds("a save to " + name, got.status == (2 if name == "-" else INCOMPLETE) and os.path.exists(os.path.join(folder, "-")) == (name != "-"),
+        got = run(tool(top) + ["save", "--program", "./dmremap", "--fresh", "--allow-missing", "snap", name, *stack], folder=folder)
+        tally.holds("a save to " + name, got.status == (2 if name == "-" else 0) and os.path.exists(os.path.join(folder, "-")) == (name != "-"),
                     "status %s, %r" % (got.status, got.err))
         tally.holds("what is said of it", name != "-" or got.err.decode() == "%s save: %s\n" % (TOOL, NO_FILE), got.err)
-    tally.same("requests and tables from one input", call(top, ["used", "--program", "./dmremap", "map", "table", "-", "snap.disks"], folder=folder),
-               2, "", TOOL + " used: standard input can't be two files\n")
-    got = call(top, ["read-back", "--program", "./dmremap", "file.places", "file.requests", "-", "table", "vg0.table", "both.disks"], given="", folder=folder)
-    tally.holds("a file that is put together as -", got.status in (1, 2) and not got.out, "%s, %r" % (got.status, got.err))
+    got = call(top, ["dd", "--program", "./dmremap", "table", "-", "snap.disks"], folder=folder)
+    tally.same("requests and tables from one input", got, 2, "refused\n", TOOL + " dd: standard input can't be two files\n")
 
 
 def check_long(tally, top, folder, commands):

@@ -4,7 +4,7 @@ from typing import List, NamedTuple, Optional
 
 IMAGES = "images of disks"
 REQUESTS, MACHINES, METADATA, ANSWERS, LAYOUTS = "requests", "FILE and DISKS", "metadata", "answers", "layouts"
-LAYERS, REASONS = "used snapshots and other layers", "refusals and answers, explained"
+LAYERS, REASONS = "arrays", "refusals and answers, explained"
 FOLDERS = {IMAGES: "images", REQUESTS: "requests", MACHINES: "machines", METADATA: "metadata", ANSWERS: "answers", LAYOUTS: "layouts",
            LAYERS: "layers", REASONS: "explaining"}
 
@@ -41,15 +41,12 @@ COMMANDS: List[Command] = [
     Command("lvm2-text", METADATA, "a copy of lvm2's metadata that dmremap reads"),
     Command("report", ANSWERS, "what is done on each disk, how requests were split, and a picture"),
     Command("dd", ANSWERS, "a line for dd for each piece", True),
-    Command("read-back", ANSWERS, "a file, put together from the disks"),
     Command("spans", LAYOUTS, "which line uses which sectors of disks and devices, what is free, and what clashes", True),
     Command("tree", LAYOUTS, "the stack as a tree, or as a graph for Graphviz"),
     Command("extents", LAYOUTS, "where a whole device lies"),
     Command("store", LAYOUTS, "whether the stores of snapshots can be full, and what fills them"),
     Command("picture", LAYOUTS, "the disks and what lies on them, as a picture"),
-    Command("used", LAYERS, "answers from the state that the stores of snapshots hold"),
     Command("md", LAYERS, "the table of an md array, or answers followed on through one", True),
-    Command("nbd-plugin", LAYERS, "the path of a plugin by which nbdkit serves a device as a disk"),
     Command("explain", REASONS, "why dmremap refuses something, or how an answer comes about"),
 ]
 

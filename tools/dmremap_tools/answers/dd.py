@@ -3,9 +3,8 @@
 Has FORMAT, FILE and DISKS, as `dmremap map` takes them, and requests. Gets commands for a shell. What requests read is taken
 from the disks: it goes to standard output, or with --image into that file, one piece after the other. What requests write is
 taken from that file, in the same way, and goes to the disks. Copies and fills go from disk to disk. With --paths a disk has
-another path here. Snapshots begin with what their stores have, which are on these disks or where --store says, unless --fresh
-insists that nothing is in one. Refuses `error`, of which there is nothing to read or write, writes without --image, and an
-IMAGE that is one of the disks.
+another path here. Snapshots begin with what their stores have on these disks; --fresh takes them as new. Refuses `error`, of
+which there is nothing to read or write, writes without --image, and an IMAGE that is one of the disks.
 
 The lines count in sectors, so any `dd` will do. They write to disks only where the answers do: look at them first.
 """
@@ -89,8 +88,7 @@ class Writer:
             self._checked.add(name)
             if self._known and written.identity_at(place.path) == self._known:
                 raise WrongWords("--image: %s is the disk %s, too: give another file" % (quoting.shown(self.image or ""), quoting.shown(name)))
-        if place.start % numbers.SECTOR:
-            raise Refusal("--paths", "%s begins at byte %d, within a sector" % (quoting.shown(name), place.start))
+        place.check_sectors(name)
         return place.path, place.start // numbers.SECTOR + start
 
 

@@ -22,7 +22,6 @@ def mapping(words: Namespace, path: str, source: Given) -> Iterator[Tuple[pieces
         put(kept, taken.lines())
         # What is written to an origin goes to the stores of its snapshots, too.
         begun = started.start(words, source, None if taken.are_writes else sorted(taken.devices), room)
-        begun.check_valid()
         with open(kept, encoding="utf-8", errors="surrogateescape") as asked, Mapped(begun.words, asked) as mapped:
             yield mapped.answers, begun.places
 

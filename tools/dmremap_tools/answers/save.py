@@ -3,13 +3,14 @@
 Has a VOLUME, FORMAT, FILE and DISKS, as `dmremap map` takes them, and the disks that they name: each at its name, or where
 --paths says. With lvm, a whole disk will do for a partition, as the ids in labels tell. Gets TARGET, a file with what the
 volume has, with holes where it reads as zeros; or with --extents, which is what `filefrag -v` printed of a file of the
-volume, that file. A snapshot is read as its store says, which is on these disks, too, or where --store says; one that is
-invalid is refused, and --fresh takes one for new, with the sectors of its origin alone.
+volume, that file. A snapshot is read as its store says, which is on these disks, too; one that is invalid is refused, and with
+--fresh snapshots are taken as new, with the sectors of their origins alone.
 
-Sectors that can't be read, and those of disks that aren't there, are told and are holes; the status is 4 then, or 0 with
---allow-missing. With --map MAP these areas are written as a map of ddrescue, and where MAP is there already, a run that was
-broken off goes on, and tries what was missing again. Refuses a TARGET that is there already, but for that; without a map it
-is made beside its place, and is there once it is whole. Neither it nor MAP is a file that is read.
+Refuses what isn't all there, as by a disk that is missing; with --map or --allow-missing these sectors are told, and are holes.
+Sectors that can't be read are that in any case. The status is 4 then, or 0 with --allow-missing. With --map MAP these areas are
+written as a map of ddrescue, and where MAP is there already, a run that was broken off goes on, and tries what was missing again.
+Refuses a TARGET that is there already, but for that; without a map it is made beside its place, and is there once it is whole.
+Neither it nor MAP is a file that is read.
 
 If a disk has errors, read it into an image with ddrescue first. A file system in TARGET is mounted by
 `mount -o ro,loop,noload`, or its files are taken by `debugfs -R 'dump /FILE OUT' TARGET`.
@@ -18,11 +19,10 @@ If a disk has errors, read it into an image with ddrescue first. A file system i
 import tempfile
 import time
 from argparse import Namespace
-from typing import Iterator, List, NamedTuple, Optional, Set, Tuple
+from typing import Dict, Iterator, List, NamedTuple, Optional, Set, Tuple
 
 from dmremap_tools.answers.gaps import Gaps
 from dmremap_tools.answers.mapped import Mapped
-from dmremap_tools.answers.read_back import placed
 from dmremap_tools.answers.saved_map import SavedMap
 from dmremap_tools.answers.sources import Sources
 from dmremap_tools.answers.target import Target
@@ -34,6 +34,8 @@ from dmremap_tools.layers.stack import Stack
 from dmremap_tools.requests import filefrag
 
 SECONDS = 30
+READ = ("R", "zero", "error")
+PARTLY = "give --map MAP to save the rest: the map says then what is missing"
 
 
 class Extent(NamedTuple):
@@ -56,17 +58,19 @@ def save(words: Namespace, source: given.Given, room: str) -> Gaps:
     """The same, from this source, with a folder for what dmremap reads; returns what is missing."""
     volume = names.Names(words.ls).device(words.volume, names.Word("VOLUME"))
     begun = started.start(words, source, [volume], room)
-    begun.check_valid()
     size, extents = extents_of(words.extents) if words.extents is not None else whole(begun.loaded, volume, words.file)
     sources = Sources(begun.places)
     sources.note(begun.loaded.sizes)
     areas = [(it.at * numbers.SECTOR, (it.at + it.count) * numbers.SECTOR) for it in extents]
     saved = SavedMap(words.map, size, areas)
+    todo = list(left(extents, saved))
+    if words.map is None and not words.allow_missing:
+        check(begun.words, volume, todo, sources)
     target = Target(words.target, size, saved.is_begun)
     if words.map is not None:
         begin_kept(target, saved)
     try:
-        gaps = fill(begun.words, volume, list(left(extents, saved)), Saver(sources, target, saved, size))
+        gaps = fill(begun.words, volume, todo, Saver(sources, target, saved, size))
     finally:
         # Where the file's disk doesn't take what was written, the map doesn't say that it did.
         if words.map is not None:
@@ -91,14 +95,45 @@ def begin_kept(target: Target, saved: SavedMap) -> None:
         raise
 
 
+def check(command: List[str], volume: str, todo: List[Extent], sources: Sources) -> None:
+    """Refuses what isn't all there."""
+    ends: Dict[str, int] = {}
+    with Mapped(command, requests_of(volume, todo)) as mapped:
+        for at, piece in placed(todo, mapped.answers):
+            if piece.what == "error":
+                raise Refusal(volume, f"its sectors from {at} on fail to be read, as the tables say; {PARTLY}")
+            ends[piece.disk] = max(ends.get(piece.disk, 0), piece.start + piece.count)
+    for disk, end in ends.items():
+        lack = sources.lack(disk, end) if disk else None
+        if lack:
+            raise Refusal(volume, f"{lack}; {PARTLY}")
+
+
 def fill(command: List[str], volume: str, todo: List[Extent], saver: "Saver") -> Gaps:
     """Saves what is left to do, and returns what is missing of it."""
-    asked = ("R %s %d %d\n" % (volume, it.first, it.count) for it in todo)
-    with Mapped(command, asked) as mapped:
-        for at, piece in placed(((it.at, it.count) for it in todo), mapped.answers):
+    with Mapped(command, requests_of(volume, todo)) as mapped:
+        for at, piece in placed(todo, mapped.answers):
             saver.save(at, piece)
     saver.gaps.tell()
     return saver.gaps
+
+
+def requests_of(volume: str, todo: List[Extent]) -> Iterator[str]:
+    """The requests for some extents of a volume."""
+    return ("R %s %d %d\n" % (volume, it.first, it.count) for it in todo)
+
+
+def placed(todo: List[Extent], answers: pieces.Answers) -> Iterator[Tuple[int, pieces.Piece]]:
+    """Each piece of the answers to these, with the sector of the file where it goes."""
+    rest = iter(answers)
+    for number, extent in enumerate(todo, 1):
+        at, end = extent.at, extent.at + extent.count
+        while at < end:
+            piece = next(rest, None)
+            if piece is None or piece.request != number or piece.what not in READ or piece.count > end - at:
+                answers.refuse("request %d is not answered as it was asked" % number)
+            yield at, piece
+            at += piece.count
 
 
 def whole(loaded: Stack, volume: str, name: str) -> Tuple[int, List[Extent]]:

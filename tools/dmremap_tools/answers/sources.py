@@ -20,14 +20,13 @@ class Sources:
         self._open: Dict[str, int] = {}
         self._missing: Dict[str, str] = {}
 
-    def check(self, name: str, end: int) -> None:
-        """Refuses a disk that isn't there, or ends before this sector."""
+    def lack(self, name: str, end: int) -> Optional[str]:
+        """That a disk isn't there, or ends before this sector; None if neither is so."""
         missing = self.missing(name)
         place = self._place(name)
-        if missing is not None:
-            raise Refusal(quoting.shown(place.path), missing)
-        if os.lseek(self._open[name], 0, os.SEEK_END) < place.start + end * numbers.SECTOR:
-            raise Refusal(quoting.shown(place.path), "it ends before sector %d" % end)
+        if missing is None and os.lseek(self._open[name], 0, os.SEEK_END) < place.start + end * numbers.SECTOR:
+            missing = f"it ends before sector {end}"
+        return missing and f"{quoting.shown(place.path)}: {missing}"
 
     def note(self, names: Iterable[str]) -> None:
         """Notes the disks of these names, so that nothing is written over one."""

@@ -5,6 +5,7 @@ from argparse import ArgumentParser
 from typing import Container, Dict, Iterable, NamedTuple, Optional, Pattern
 
 from dmremap_tools.base import quoting, streams
+from dmremap_tools.base.numbers import SECTOR
 from dmremap_tools.base.refusal import Refusal
 
 
@@ -18,6 +19,11 @@ class Place(NamedTuple):
     path: str
     start: int = 0
     is_said: bool = False
+
+    def check_sectors(self, disk: str) -> None:
+        """Refuses a place within a sector of its file, for this disk."""
+        if self.start % SECTOR:
+            raise Refusal("--paths", f"{quoting.shown(disk)} begins at byte {self.start}, within a sector")
 
 
 def place_of(path: str) -> Place:

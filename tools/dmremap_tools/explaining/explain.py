@@ -10,7 +10,7 @@ If dmremap answers, gets the way of each request, level by level: below a device
 and devices below with their sectors, for a snapshot also whether its chunk was taken, and for an error its cause. Each
 level is an answer of dmremap about a stack in which what lies below is disks, and together they are its answer about the
 whole: where they aren't, the command fails. Requests of --before come first, and each request is in the state that those
-before it left. --paths, --store and --fresh let snapshots begin as their stores are, as with `used`.
+before it left. With --paths, snapshots begin as their stores are.
 
 With --json, gets an object for each refusal or request. Refuses more than 16 requests, and one whose way has more than 4096
 pieces.
@@ -20,14 +20,16 @@ import argparse
 import json
 import os
 import tempfile
-from typing import Any, Dict, List, Tuple
+from typing import Any, Dict, List
 
-from dmremap_tools.base import disks, program, streams, tables
+from dmremap_tools.base import paths, program, streams
 from dmremap_tools.base.given import put
 from dmremap_tools.base.refusal import Refusal
 from dmremap_tools.explaining import asked, drawn, finding, levels, name_words, refusals, texts
 from dmremap_tools.explaining.finding import Finding
-from dmremap_tools.layers import stack, started
+from dmremap_tools.explaining.store_copies import StoreCopies
+from dmremap_tools.layers import stack
+from dmremap_tools.model import mapping
 
 EXAMPLE = "dmremap-tools explain map lvm vg0.backup 'R vg0-lv0 8000 16'"
 MOST_REQUESTS = 16
@@ -35,7 +37,8 @@ MOST_REQUESTS = 16
 
 def add_words(parser: argparse.ArgumentParser) -> None:
     """Adds the options, and the words of dmremap."""
-    started.add_words(parser)
+    program.add_words(parser)
+    paths.add_words(parser)
     parser.add_argument("--json", action="store_true", help="objects of JSON in place of lines")
     parser.add_argument("--before", metavar="REQUESTS", help="earlier requests")
     parser.add_argument("--status", action="store_true", help="which changes nothing here")
@@ -57,7 +60,8 @@ def run(words: argparse.Namespace) -> None:
 
 def _explain(words: argparse.Namespace, typed: asked.Typed, room: str) -> None:
     one = program.dmremap(words.program)
-    told = refusals.Told(typed, words.before, room)
+    mapping.use(words.program)
+    told = refusals.Told(typed, words.before, words.paths, room)
     # What is loaded is looked at first, so that no request is waited for where it is refused.
     message, requests = told.ask(one, b""), b""
     if not message:
@@ -84,31 +88,18 @@ def _show_ways(words: argparse.Namespace, told: refusals.Told, requests: List[st
     """Shows the way of each request."""
     if len(requests) > MOST_REQUESTS:
         raise Refusal("the requests", "there are %d: give at most %d, and those before them by --before" % (len(requests), MOST_REQUESTS))
-    loaded, source, earlier = _begun(words, told, room)
-    before = os.path.join(room, "earlier")
+    one = program.dmremap(words.program)
+    loaded, listed, earlier = stack.load(one, told.copies(), room), told.copy_of("paths"), told.copy_of("before")
+    copies, before = StoreCopies(loaded, listed, room) if listed else None, os.path.join(room, "earlier")
     for number, request in enumerate(requests):
-        put(before, ["".join(it + "\n" for it in [*earlier, *requests[:number]])])
+        put(before, (it + "\n" for it in [*(streams.rows(earlier) if earlier else []), *requests[:number]]))
         operation, name, start, count = request.split(" ")
-        levels_of = levels.Levels(program.dmremap(words.program), source, loaded, before, room)
+        levels_of = levels.Levels(one, told.words(), loaded, before, copies, room)
         top, answer = levels_of.way(operation, name, int(start), int(count))
         if words.json:
             _show_object(drawn.record(top, answer))
         else:
             streams.out.write("\n" * bool(number) + drawn.tree(top, answer))
-
-
-def _begun(words: argparse.Namespace, told: refusals.Told, room: str) -> "Tuple[stack.Stack, List[str], List[str]]":
-    """The stack, the words by which dmremap loads it, and the requests before: from what stores have, if that is asked for."""
-    given, before = told.copies(), told.before()
-    earlier = streams.rows(before) if before else []
-    if not (words.paths or words.store or words.fresh):
-        return stack.load(program.dmremap(words.program), given, room), given.words(), earlier
-    begun = started.start(words, given, None, room)
-    for new, own in begun.renamed.items():
-        streams.tell("%s stands for the read-only snapshot %s, which has something in its store" % (new, own))
-    source = begun.words[2:5]
-    kept = streams.rows(begun.words[6]) if len(begun.words) > 5 else []
-    return stack.Stack(tables.read(source[1])[0], disks.read(source[2])), source, kept + earlier
 
 
 def _show_loaded(words: argparse.Namespace, one: str, told: refusals.Told, room: str) -> None:

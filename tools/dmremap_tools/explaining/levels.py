@@ -14,6 +14,7 @@ from dmremap_tools.base.pieces import Answers, Piece
 from dmremap_tools.base.refusal import Refusal
 from dmremap_tools.explaining import notes, whole
 from dmremap_tools.explaining.steps import Row, Step
+from dmremap_tools.explaining.store_copies import StoreCopies
 from dmremap_tools.layers.stack import Stack
 
 # What the name of a unit begins with that is more than a device, before its origin; no name of a device has a space.
@@ -34,10 +35,12 @@ class Cut(NamedTuple):
 
 
 class Levels:
-    """Asks dmremap, which is `asked` and reads the whole by some words, about a stack after the requests of a file."""
+    """Asks dmremap, which is `asked` and reads the whole by some words, about a stack after the requests of a file. With copies,
+    snapshots begin as their stores are."""
 
-    def __init__(self, asked: str, words: List[str], loaded: Stack, before: Optional[str], room: str) -> None:
-        self._asked, self._words, self._stack, self._room = asked, words, loaded, room
+    def __init__(self, asked: str, words: List[str], loaded: Stack, before: Optional[str], copies: Optional[StoreCopies],
+                 room: str) -> None:
+        self._asked, self._words, self._stack, self._copies, self._room = asked, words, loaded, copies, room
         self._before = [] if before is None else ["--before", before]
         self._by_path = loaded.by_path()
 
@@ -132,7 +135,11 @@ class Levels:
             meant[disk] = path
         folder = os.path.join(self._room, "level")
         os.makedirs(folder, exist_ok=True)
-        return Cut(Stack(devices, sizes).write(folder), meant, stores)
+        words = Stack(devices, sizes).write(folder)
+        if self._copies:
+            lines = [it.lines[0] for it in self._members(unit) if it.lines[0].target == "snapshot" and it.lines[0].words[2] != "N"]
+            words += ["--paths", self._copies.put({named[line.words[1]]: (line.words[1], int(line.words[3])) for line in lines})]
+        return Cut(words, meant, stores)
 
     def _cut_line(self, device: str, line: tables.Line, named: Dict[str, str], stores: Dict[str, str]) -> tables.Line:
         words = list(line.words)
@@ -154,7 +161,7 @@ class Levels:
 
     def _may_fail(self, path: str) -> bool:
         """Whether a read of a device may fail."""
-        below, _ = self._stack.below([path[len(names.MAPPER):]])
+        below, _ = self._stack.below([path])
         return any(line.target in ("error", "snapshot") for it in below for line in self._by_path[it].lines)
 
     def _length(self, path: str) -> int:

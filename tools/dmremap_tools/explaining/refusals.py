@@ -2,7 +2,7 @@
 
 import os
 import re
-from typing import Dict, Optional
+from typing import Dict, List, Optional
 
 from dmremap_tools.base import names, program
 from dmremap_tools.base.given import Given, put
@@ -24,9 +24,9 @@ OF_SNAPSHOTS = ("field", "snapshot", "store", "limit")
 class Told:
     """A command with its files, each as a text or why it can't be read."""
 
-    def __init__(self, typed: Typed, before: Optional[str], room: str) -> None:
+    def __init__(self, typed: Typed, before: Optional[str], listed: Optional[str], room: str) -> None:
         self.typed, self._room = typed, room
-        paths = {"source": typed.file, "disks": typed.disks, "before": before}
+        paths = {"source": typed.file, "disks": typed.disks, "before": before, "paths": listed}
         self.texts = {part: texts.copied(path, os.path.join(room, part)) for part, path in paths.items() if path is not None}
 
     def copies(self) -> Given:
@@ -34,15 +34,20 @@ class Told:
         typed = self.typed
         return Given(typed.form, os.path.join(self._room, "source"), None if typed.disks is None else os.path.join(self._room, "disks"))
 
-    def before(self) -> Optional[str]:
-        """A copy of the earlier requests, if there are any."""
-        return os.path.join(self._room, "before") if "before" in self.texts else None
+    def copy_of(self, part: str) -> Optional[str]:
+        """A copy of the earlier requests or of PATHS, if they are given and map takes them."""
+        return os.path.join(self._room, part) if part in self.texts and self.typed.command == "map" else None
+
+    def words(self) -> List[str]:
+        """What it loads and reads the stores of, as words of dmremap."""
+        listed = self.copy_of("paths")
+        return self.copies().words() + (["--paths", listed] if listed else [])
 
     def ask(self, asked: str, requests: bytes) -> str:
         """What dmremap says of it and of some requests on standard error."""
-        given, before = os.path.join(self._room, "given"), self.before()
+        given, before = os.path.join(self._room, "given"), self.copy_of("before")
         put(given, [requests.decode("utf-8", "surrogateescape")])
-        words = [asked, self.typed.command, *self.copies().words(), *(["--before", before] if before and self.typed.command == "map" else [])]
+        words = [asked, self.typed.command, *self.words(), *(["--before", before] if before else [])]
         with open(given, "rb") as it:
             return program.ask_quietly(words, given=it.fileno())[1].rstrip("\n")
 
@@ -67,12 +72,10 @@ class Told:
         request, earlier = ABOUT_REQUEST.fullmatch(message), ABOUT_EARLIER.fullmatch(message)
         if request:
             return self._why_request(asked, request[2], int(request[1]), texts.Text("requests", requests, ""))
-        before = self.texts.get("before")
+        before, listed = self.texts.get("before"), self.texts.get("paths")
         if earlier and isinstance(before, texts.Text):
             return self._why_request(asked, earlier[1], int(earlier[2]), before)
-        if isinstance(before, Finding):
-            return before
-        return general(message)
+        return next((it for it in (listed, before) if isinstance(it, Finding)), general(message))
 
     def _text(self, part: str) -> Optional[texts.Text]:
         text = self.texts.get(part)

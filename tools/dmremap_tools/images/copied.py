@@ -4,7 +4,7 @@ import time
 from typing import Iterator, List, Optional, Tuple
 
 from dmremap_tools.answers.gaps import Gaps
-from dmremap_tools.answers.save import begin_kept
+from dmremap_tools.answers.save import PARTLY, begin_kept
 from dmremap_tools.answers.saved_map import SavedMap
 from dmremap_tools.answers.target import Target as File
 from dmremap_tools.base import quoting, streams
@@ -17,7 +17,6 @@ from dmremap_tools.model.named import Target
 
 # Bytes whose places are asked for at once, bytes that are read at once, and how often the map is written.
 WINDOW, BLOCK, SECONDS = 256 << 20, 1 << 20, 30
-PARTLY = "give --map MAP to save the rest: the map says then what is missing"
 
 
 class Copy:

@@ -3,7 +3,7 @@ arguments of nbdkit-python-plugin(3)."""
 
 import errno
 import os
-from typing import Dict, List, NoReturn, Tuple
+from typing import Callable, Dict, List, NoReturn, Tuple, TypeVar
 
 import nbdkit  # type: ignore
 
@@ -11,13 +11,16 @@ from dmremap_tools.base import streams
 from dmremap_tools.base.numbers import SECTOR
 from dmremap_tools.base.refusal import Refusal
 from dmremap_tools.model import mapping
-from dmremap_tools.model.device import joined
+from dmremap_tools.model.device import Gap, joined
 from dmremap_tools.model.named import Target, target_of
 from dmremap_tools.model.pile import Pile
 
 __all__ = ["API_VERSION", "thread_model", "config", "get_ready", "open", "get_size", "can_multi_conn", "can_extents", "pread", "extents"]
 
 API_VERSION = 2
+# Of how many bytes a client is told at once what reads as zeros, and in how many extents: it goes on asking.
+MOST_BYTES, MOST_EXTENTS = 1 << 26, 1 << 10
+Answer = TypeVar("Answer")
 _given: Dict[str, str] = {}
 _images: List[str] = []
 _target: Target
@@ -69,24 +72,39 @@ def can_extents(handle: int) -> bool:
 
 def pread(handle: int, buffer: bytearray, offset: int, flags: int) -> None:
     """Reads bytes."""
-    try:
-        buffer[:] = _target.device.read(offset, len(buffer))
-    except (Refusal, streams.OutputFailed) as fault:
-        _fail(fault)
+    buffer[:] = answered(lambda: _target.device.read(offset, len(buffer)))
 
 
 def extents(handle: int, count: int, offset: int, flags: int) -> List[Tuple[int, int, int]]:
     """What reads as zeros, and what doesn't, of these bytes."""
+    return answered(lambda: found_extents(count, offset))
+
+
+def found_extents(count: int, offset: int) -> List[Tuple[int, int, int]]:
+    """The same, as far as it is told at once."""
     first = offset // SECTOR * SECTOR
-    end = min(-(-(offset + count) // SECTOR) * SECTOR, _target.size)
+    end = min(-(-(offset + count) // SECTOR) * SECTOR, _target.size, first + MOST_BYTES)
     found: List[Tuple[int, int, int]] = []
+    for extent in joined(_target.device.extents(first, end - first)):
+        begin, first = max(first, offset), first + extent.size
+        found.append((begin, first - begin, (nbdkit.EXTENT_HOLE | nbdkit.EXTENT_ZERO) * extent.source.is_zero))
+        if len(found) == MOST_EXTENTS:
+            break
+    return found
+
+
+def answered(ask: Callable[[], Answer]) -> Answer:
+    """What is asked of the volume. Where a child was ended meanwhile it is asked once more; what isn't there fails."""
     try:
-        for extent in joined(_target.device.extents(first, end - first)):
-            begin, first = max(first, offset), first + extent.size
-            found.append((begin, first - begin, (nbdkit.EXTENT_HOLE | nbdkit.EXTENT_ZERO) * extent.source.is_zero))
+        return ask()
+    except Gap as gap:
+        _fail(gap)
+    except (Refusal, streams.OutputFailed):
+        pass
+    try:
+        return ask()
     except (Refusal, streams.OutputFailed) as fault:
         _fail(fault)
-    return found
 
 
 def _fail(fault: Exception) -> NoReturn:

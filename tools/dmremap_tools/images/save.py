@@ -11,7 +11,7 @@ these areas are written as a map of ddrescue, and where MAP is there already, a 
 Also has VOLUME TARGET FORMAT FILE [DISKS], with FORMAT, FILE and DISKS as `dmremap map` takes them: the disks that they name are
 read, each at its name, or where --paths says. (An image that is called as a format is given as ./table.) With --extents, which
 is what `filefrag -v` printed of a file of the volume, TARGET is that file. A snapshot is read as its store says, which is on
-these disks, too, or where --store says; --fresh takes one for new, with the sectors of its origin alone.
+these disks, too; --fresh takes snapshots as new, with the sectors of their origins alone.
 
 If a disk has errors, read it into an image with ddrescue first. A file system in OUT is mounted by `mount -o ro,loop,noload`,
 or its files are taken by `debugfs -R 'dump /FILE OUT' OUT`.
@@ -51,7 +51,7 @@ def run(words: Namespace) -> Optional[int]:
     if form in given.FORMATS and 1 <= len(others) <= 2:
         words.form, words.file, words.disks = form, others[0], others[1] if len(others) == 2 else None
         return by_tables.run(words)
-    for option in ("extents", "paths", "ls", "store", "fresh"):
+    for option in ("extents", "paths", "ls", "fresh"):
         if getattr(words, option):
             raise WrongWords(f"--{option} is for FORMAT FILE [DISKS]", USAGE)
     mapping.use(words.program)

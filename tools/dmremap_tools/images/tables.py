@@ -61,6 +61,5 @@ def write(made: GroupTables, folder: str) -> None:
     put(file, [tables.text_of(list(made.devices.values()), False)])
     put(disks, [f"{name} {made.sectors_of(name)}\n" for name in made.disks])
     put(paths, [f"{name} {os.path.abspath(image.path)}\n" for name, image in made.disks.items()])
-    words = f"map table {shlex.quote(file)} {shlex.quote(disks)}"
-    used = f"dmremap-tools used --paths {shlex.quote(paths)} {words}" if made.has_snapshots else f"dmremap {words}"
-    streams.out.write(used + "\n")
+    command = f"dmremap map table {shlex.quote(file)} {shlex.quote(disks)}"
+    streams.out.write(command + f" --paths {shlex.quote(paths)}" * made.has_snapshots + "\n")

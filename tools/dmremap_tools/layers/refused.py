@@ -26,7 +26,7 @@ STORE_BETWEEN = (PLACES + ": put a linear device on the store, as long as what `
                  "the store")
 READ_ONLY = "a kernel takes a store that is read-only, and writes to it all the same, with a warning in its log: write rw"
 NOTHING_KEPT = "a kernel takes a store of zeros, which keeps nothing, and refuses one whose list fails to be read"
-ON_ANOTHER = "a kernel keeps a store on %s, and dmremap doesn't: put a disk of its length in its place, and give what it holds by --store"
+ON_ANOTHER = "a kernel keeps a store on %s, and dmremap doesn't: put a disk of its length in its place, and name an image of what it holds by --paths"
 STORES = {"zero": "a kernel takes a store of zeros, which keeps nothing, so that it is fresh each time: put a disk in its place, and give "
                   "--fresh",
           "error": "a kernel refuses a store whose list fails to be read, and takes one of which other chunks are lost: " + LOST,

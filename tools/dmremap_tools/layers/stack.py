@@ -23,15 +23,21 @@ class Stack(NamedTuple):
         """The devices, each by its path."""
         return {names.MAPPER + it.name: it for it in self.devices}
 
-    def below(self, devices: Iterable[str]) -> Tuple[Set[str], Set[str]]:
-        """The paths of the devices that these stand on, with their own, and the disks."""
-        lower, found, left = self.by_path(), set(), [names.MAPPER + it for it in devices]
+    def below(self, paths: Iterable[str]) -> Tuple[Set[str], Set[str]]:
+        """Of devices and disks by their paths, and what they stand on: the devices, and the disks."""
+        lower, found, left = self.by_path(), set(), list(paths)
         while left:
             path = left.pop()
             if path not in found:
                 found.add(path)
                 left += lower[path].lowers() if path in lower else []
         return found & set(lower), found - set(lower)
+
+    def part(self, devices: Iterable[str]) -> "Stack":
+        """These devices, by their names, and what they stand on."""
+        found, disks = self.below(names.MAPPER + it for it in devices)
+        devices = [it for it in self.devices if names.MAPPER + it.name in found]
+        return Stack(devices, {disk: size for disk, size in self.sizes.items() if disk in disks})
 
     def write(self, folder: str) -> List[str]:
         """Writes FILE, in the concise form, and DISKS into a folder; the words with which dmremap reads them."""

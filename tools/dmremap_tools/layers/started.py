@@ -1,70 +1,83 @@
-"""How a command starts dmremap for the devices that it reads: from the state that the stores of the snapshots below them hold,
-or not at all. A snapshot that nothing is read through is left fresh, and its store isn't looked at."""
+"""How a command starts dmremap for the devices that it reads: with these and what they stand on, and from the state that the
+stores of their snapshots hold, which dmremap reads from the disks. A store that nothing is read through isn't looked at."""
 
 import argparse
-import tempfile
-from typing import Dict, Iterable, List, NamedTuple, Optional
+import os
+import stat
+from typing import Dict, Iterable, Iterator, List, NamedTuple, Optional
 
-from dmremap_tools.base import disks, names, paths, program, tables
-from dmremap_tools.base.given import Given
+from dmremap_tools.answers.sources import opened
+from dmremap_tools.base import paths, program, quoting, streams, tables
+from dmremap_tools.base.given import Given, put
 from dmremap_tools.base.paths import Place
-from dmremap_tools.base.refusal import Refusal, WrongWords
-from dmremap_tools.layers import stack, state
-from dmremap_tools.layers.stores import INVALID, Snapshot
+from dmremap_tools.base.refusal import Refusal
+from dmremap_tools.layers import stack, store_states
 from dmremap_tools.machines.placed import by_ids
+
+NEXT = "--paths says where disks are, and --fresh takes every snapshot as new"
+INVALID = ("it is invalid, as it was full once: what the origin overwrote since is lost, and nothing of the snapshot is read; --fresh "
+           "takes what the origin has")
 
 
 class Started(NamedTuple):
-    """The words with which dmremap maps; the stack, and where its disks are; the own names of snapshots that have others there;
-    the snapshots that are invalid."""
+    """The words with which dmremap maps; the whole stack, and where its disks are."""
 
     words: List[str]
     loaded: stack.Stack
     places: Dict[str, Place]
-    renamed: Dict[str, str]
-    invalid: List[str]
-
-    def check_valid(self) -> None:
-        """Refuses snapshots that are invalid."""
-        for name in self.invalid:
-            raise Refusal("the store of " + name, "it is invalid, as it was full once: what the origin overwrote since is lost, and "
-                          "nothing of %s is read; --fresh %s takes what the origin has" % (name, name))
 
 
 def add_words(parser: argparse.ArgumentParser) -> None:
     """Adds which dmremap is asked, and what is said of disks and stores."""
     program.add_words(parser)
-    state.add_words(parser)
+    paths.add_words(parser)
+    parser.add_argument("--fresh", action="store_true", help="take every snapshot as new, with nothing in its store")
 
 
 def start(words: argparse.Namespace, source: Given, devices: Optional[Iterable[str]], room: str) -> Started:
-    """Starts for these devices of a source, or for all. What dmremap reads goes into a folder."""
-    wanted, asked = state.wanted_in(words), program.dmremap(words.program)
+    """Starts for these devices of a source, or for all. What dmremap reads goes into a folder. Snapshots whose stores can't be
+    read, or that are invalid, are refused."""
+    asked, places = program.dmremap(words.program), paths.places(words.paths)
     loaded = stack.load(asked, source, room)
-    paths.check_known(words.paths, wanted.places, loaded.sizes)
-    wanted = wanted._replace(places=by_ids(loaded.group, wanted.places, loaded.sizes))
-    return start_loaded(asked, loaded, wanted, devices, room)
+    paths.check_known(words.paths, places, loaded.sizes)
+    places = by_ids(loaded.group, places, loaded.sizes)
+    part = loaded if devices is None else loaded.part(devices)
+    command = [asked, "map", *part.write(room)]
+    snapshots = [] if words.fresh else [it for it in part.devices if it.lines[0].target == "snapshot"]
+    for device in snapshots:
+        if device.lines[0].words[2] == "N":
+            raise Refusal("the store of " + device.name, "it isn't persistent, so no disk says what is in it; --fresh takes it as new")
+    if snapshots:
+        disks = part.below(it.lines[0].words[1] for it in snapshots)[1]
+        stores = {disk: places.get(disk) or Place(disk) for disk in sorted(disks)}
+        command += ["--paths", os.path.join(room, "PATHS")]
+        put(command[-1], rows_of(stores))
+        check(command, snapshots, [disk for disk, place in stores.items() if not os.path.exists(place.path)])
+    return Started(command, loaded, places)
 
 
-def start_loaded(asked: str, loaded: stack.Stack, wanted: state.Wanted, devices: Optional[Iterable[str]], room: str) -> Started:
-    """The same for a stack that is loaded."""
-    if devices is not None:
-        below = loaded.below(devices)[0]
-        others = [it.name for it in loaded.devices if it.lines[0].target == "snapshot" and names.MAPPER + it.name not in below]
-        wanted = wanted._replace(fresh=[*wanted.fresh, *others])
-    prepared = state.prepare(asked, loaded, wanted, room)
-    return Started(prepared.words, loaded, wanted.places, prepared.renamed, [it.name for it in prepared.looked if it.state == INVALID])
+def rows_of(places: Dict[str, Place]) -> Iterator[str]:
+    """PATHS, with the disks that are here."""
+    for disk, place in places.items():
+        if not os.path.exists(place.path):
+            continue
+        place.check_sectors(disk)
+        descriptor = opened(place.path)
+        if stat.S_ISBLK(os.fstat(descriptor).st_mode):
+            streams.tell(f"{quoting.shown(place.path)} is a block device: if a snapshot on it is in use, suspend it first, or give an "
+                         "image that was read with O_DIRECT, as `dd iflag=direct` does")
+        os.close(descriptor)
+        yield f"{disk} {place.path}?offset={place.start}\n"
 
 
-def snapshots(words: argparse.Namespace, devices: List[tables.Device]) -> List[Snapshot]:
-    """The snapshots of a text, with what their stores have, if its disks are given; else none."""
-    wanted = state.wanted_in(words)
-    if words.disks is None:
-        if words.store or words.fresh:
-            raise WrongWords("--store and --fresh need --disks DISKS, too")
-        return []
-    loaded = stack.Stack(devices, disks.read(words.disks))
-    paths.check_known(words.paths, wanted.places, loaded.sizes)
-    wanted = wanted._replace(places=by_ids(None, wanted.places, loaded.sizes))
-    with tempfile.TemporaryDirectory(prefix="dmremap-tools-") as room:
-        return state.look(program.dmremap(words.program), loaded, wanted, room)
+def check(command: List[str], snapshots: List[tables.Device], absent: List[str]) -> None:
+    """Tells what the stores have, or refuses one. `absent` are disks that aren't here."""
+    try:
+        found = store_states.chunks_in(command, snapshots)
+    except store_states.Unread as refusal:
+        which = f" ({quoting.some([quoting.shown(disk) for disk in absent])})" if refusal.word == "missing" else ""
+        raise Refusal(refusal.where, f"{refusal.why}{which}; {NEXT}")
+    for name, count in found.items():
+        if count is None:
+            raise Refusal("the store of " + name, INVALID)
+        streams.tell(f"{name}: its store has {count} chunk{'s' * (count != 1)}")

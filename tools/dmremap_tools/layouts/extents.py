@@ -1,8 +1,8 @@
 """Where a whole device lies, through all levels.
 
 Has VOLUME, FORMAT, FILE and DISKS, as `dmremap map` takes them. Gets a line for each extent: the sector of the device, the number
-of sectors, and the disk with the sector there, `zero` or `error`. Of a snapshot it reads the store, which lies where --paths or
---store says, unless --fresh insists that nothing is in it.
+of sectors, and the disk with the sector there, `zero` or `error`. Of a snapshot it reads the store, on disks at their names or
+where --paths says; --fresh takes it as new.
 """
 
 import argparse

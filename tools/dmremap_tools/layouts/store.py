@@ -4,7 +4,7 @@ Takes FORMAT, FILE and DISKS, as `dmremap map` does. Gets a line for each snapsh
 places for, and whether that can be too few. A kernel may have one place less, so make a store a chunk larger.
 
 With --requests, gets one more for each: the request that makes it invalid, and how full its store was before that, as `--status`
-prints it. A snapshot begins with what its store has, which lies where --paths or --store says; --fresh says that it is new. dmremap
+prints it. A snapshot begins with what its store has, on disks at their names or where --paths says; --fresh takes all as new. dmremap
 is run over the first half of the requests, then over less or more of them, and so on: about twenty times for a million requests.
 
 With --size in place of FORMAT, FILE and DISKS, gets for each device that is written how much of a store that fills: its name, how many
@@ -57,8 +57,7 @@ def run(words: Namespace) -> None:
             loaded, ends = stack.load(program.dmremap(words.program), source, room), []
         else:
             begun = started.start(words, source, None, room)
-            begun.check_valid()
-            loaded, ends = begun.loaded, list(ends_of(Runs(requests, [*begun.words, "--status"]), begun.renamed))
+            loaded, ends = begun.loaded, list(ends_of(Runs(requests, [*begun.words, "--status"])))
     for line in [*places_of(loaded, streams.name_of(words.file)), *ends]:
         streams.out.write(line)
 
@@ -84,15 +83,14 @@ def places_of(loaded: stack.Stack, name: str) -> Iterator[str]:
         yield f"{device.name}: {chunks} chunks, {places} places in its store: {said}\n"
 
 
-def ends_of(runs: "Runs", renamed: Dict[str, str]) -> Iterator[str]:
-    """Says when each snapshot becomes invalid. Some have other names in the answers."""
+def ends_of(runs: "Runs") -> Iterator[str]:
+    """Says when each snapshot becomes invalid."""
     for name, status in runs.statuses(runs.size).items():
-        told = renamed.get(name, name)
         if status == INVALID:
             low, high = runs.last_valid(name)
-            yield f"{told}: invalid by request {runs.requests(high)}, before it {runs.statuses(low)[name]}\n"
+            yield f"{name}: invalid by request {runs.requests(high)}, before it {runs.statuses(low)[name]}\n"
         else:
-            yield f"{told}: valid to the end, {status}\n"
+            yield f"{name}: valid to the end, {status}\n"
 
 
 class Runs:

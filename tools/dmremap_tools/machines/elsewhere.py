@@ -88,7 +88,7 @@ class Moved:
         """Refuses a snapshot whose store would read as zeros: a kernel takes one that begins so for new."""
         line = device.lines[0]
         if line.target == "snapshot" and self._target == "zero" and line.words[1].startswith(names.MAPPER):
-            disks = Stack(devices, {}).below([line.words[1][len(names.MAPPER):]])[1]
+            disks = Stack(devices, {}).below([line.words[1]])[1]
             lost = sorted(it for it in disks if it not in self._path_of)
             if lost:
                 raise Refusal(self._source, "the store of %s lies on %s, and would read as one that has nothing in it: give --missing error"

@@ -12,6 +12,8 @@ from dmremap_tools.base import names, numbers, program, quoting, streams, tables
 from dmremap_tools.base.given import put
 from dmremap_tools.base.numbers import SECTOR
 from dmremap_tools.base.refusal import Refusal
+from dmremap_tools.layers import store_states
+from dmremap_tools.model import store_copy
 from dmremap_tools.model.device import Device, Extent, Gap, Missing, Zeros
 
 # Sectors that one request asks for, requests that are written before their answers are read, and windows that are kept.
@@ -59,7 +61,7 @@ class Tables:
     def __init__(self) -> None:
         self.devices: Dict[str, tables.Device] = {}
         self.disks: Dict[str, Device] = {}
-        self.before: List[str] = []
+        self.stores: Dict[str, int] = {}
         self._names: Dict[int, str] = {}
         self._children: Dict[str, Child] = {}
         self._refused: Set[int] = set()
@@ -70,6 +72,12 @@ class Tables:
         if name is None:
             name = self._names[id(device)] = f"d{next(DISKS)}"
             self.disks[name] = device
+        return name
+
+    def store(self, device: Device, chunk: int) -> str:
+        """The name of the disk that a store is here, with chunks of so many sectors."""
+        name = self.disk(device)
+        self.stores[name] = chunk
         return name
 
     def closure(self, wanted: Sequence[str]) -> "Tables":
@@ -84,6 +92,8 @@ class Tables:
                 if lower in self.disks:
                     found.disks[lower] = self.disks[lower]
                     found._names[id(self.disks[lower])] = lower
+                    if lower in self.stores:
+                        found.stores[lower] = self.stores[lower]
                 else:
                     waiting.append(names.of_path(lower))
         return found
@@ -95,19 +105,24 @@ class Tables:
 
     def pieces(self, name: str, first: int, count: int) -> Iterator[Piece]:
         """Where these sectors of a device are read."""
-        child = self._children.get(name)
-        if child is None or child.is_closed:
-            child = self._child_of(name)
-        return child.pieces(name, first, count)
+        return self._child_of(name).pieces(name, first, count)
+
+    def chunks(self, name: str) -> Optional[int]:
+        """How many chunks the store of a snapshot has, or None if it is invalid."""
+        return self._child_of(name).chunks[name]
 
     def _child_of(self, name: str) -> "Child":
+        """The program that knows a device."""
+        child = self._children.get(name)
+        return self._new_child(name) if child is None or child.is_closed else child
+
+    def _new_child(self, name: str) -> "Child":
         """The program with this device and others around it, or with this one and what it lies on where it refuses another."""
         names_here = list(self.devices)
         block = names_here.index(name) // MOST_DEVICES
         around = names_here[block * MOST_DEVICES:(block + 1) * MOST_DEVICES]
         for wanted in [around] * (block not in self._refused) + [[name]]:
             source = self.closure(wanted)
-            source.before = self.before
             try:
                 child = Child(source, name)
             except NoProgram:
@@ -121,9 +136,19 @@ class Tables:
             return child
         raise Refusal(name, "dmremap refuses it")
 
-    def text(self) -> str:
-        """The tables as the program reads them."""
-        return tables.text_of(list(self.devices.values()), False)
+    def words(self, room: str) -> List[str]:
+        """The words with which the program maps by them, once what it reads is in a folder."""
+        file, disks, paths = (os.path.join(room, name) for name in ("FILE", "DISKS", "PATHS"))
+        put(file, [tables.text_of(list(self.devices.values()), False)])
+        put(disks, [self.disk_list()])
+        words = [_program.path(), "map", "table", file, disks]
+        if self.stores:
+            copies = {name: os.path.join(room, name) for name in self.stores}
+            for name, chunk in self.stores.items():
+                store_copy.copy(self.disks[name], chunk, copies[name])
+            put(paths, (f"{name} {copy}?offset=0\n" for name, copy in copies.items()))
+            words += ["--paths", paths]
+        return words
 
     def disk_list(self) -> str:
         """The disks and their sectors, as the program reads them. One that is too short is as long as the lines say: what it
@@ -149,7 +174,9 @@ class Child:
         self._said = tempfile.TemporaryFile()
         self.is_closed = False
         with tempfile.TemporaryDirectory(prefix="dmremap-tools-") as room:
-            self._child = self._started(source, room)
+            words = source.words(room)
+            self.chunks = store_states.chunks_in(words, source.devices.values()) if source.stores else {}
+            self._child = self._started(words)
             _live.append(self)
             if len(_live) > MOST_CHILDREN:
                 _live[0].close()
@@ -167,14 +194,7 @@ class Child:
             with contextlib.suppress(OSError):
                 pipe.close()
 
-    def _started(self, source: Tables, room: str) -> "subprocess.Popen[bytes]":
-        file, disks, before = (os.path.join(room, name) for name in ("FILE", "DISKS", "BEFORE"))
-        put(file, [source.text()])
-        put(disks, [source.disk_list()])
-        words = [self._name, "map", "table", file, disks]
-        if source.before:
-            put(before, source.before)
-            words += ["--before", before]
+    def _started(self, words: List[str]) -> "subprocess.Popen[bytes]":
         streams.flush()
         try:
             return program.start(words, stdin=subprocess.PIPE, stdout=subprocess.PIPE, stderr=self._said)
@@ -283,8 +303,8 @@ class Mapped(Device):
             self._is_looked_at = True
             source = self.source.closure([self.key])
             lines = [line for device in source.devices.values() for line in device.lines]
-            spans = ((source.disks[lower], start, count or 0) for line in lines for lower, start, count in line.spans() if lower in source.disks)
-            lacks = (disk.lack(start * SECTOR, count * SECTOR) for disk, start, count in spans)
+            spans = ((source.disks[lower], start, count) for line in lines for lower, start, count in line.spans() if lower in source.disks)
+            lacks = (disk.lack(start * SECTOR, disk.size if count is None else count * SECTOR) for disk, start, count in spans)
             self._why = FAILS if any(line.target == "error" for line in lines) else next(filter(None, lacks), None)
         return self._why
 
