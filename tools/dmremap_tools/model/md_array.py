@@ -49,6 +49,18 @@ class Array:
         """How many of them aren't there, or aren't to be read."""
         return self.count - len(self.by_role)
 
+    @property
+    def may_be_old(self) -> bool:
+        """Whether so many members are missing that these may have run on without those that are here."""
+        layout = self.best.superblock.layout
+        copies = max((layout & 0xFF) * (layout >> 8 & 0xFF), 1)
+        fewest = {"raid1": 1, "raid4": self.count - 1, "raid5": self.count - 1, "raid6": self.count - 2, "raid10": -(-self.count // copies)}
+        return self.missing >= fewest.get(self.level, self.count)
+
+    def refuse(self, why: str) -> None:
+        """Says why nobody can say its bytes."""
+        self.device, self.why = None, why
+
     def _take(self, members: Sequence[Member]) -> None:
         """Those with the most events, or one less, count, in the role that the freshest superblock gives them."""
         best = self.best
@@ -112,7 +124,7 @@ class Array:
         """The data of a member, without what its log says it lacks."""
         member = self.by_role.get(role)
         if not member:
-            return Missing(f"member {role} of {self.label} is missing", 1 << 62)
+            return Missing(f"member {role} of {self.label} is missing: give its image", 1 << 62)
         superblock = member.superblock
         size = superblock.data_size if self.level in ("linear", "raid0") else superblock.size
         data: Device = Part(f"member {role} of {self.label}", member.device, superblock.data_offset * SECTOR, size * SECTOR)
@@ -135,7 +147,8 @@ class Holed(Device):
                 continue
             if begin > start:
                 yield from self._lower.extents(start, begin - start)
-            yield Extent(Missing(f"{self.name} lacks these bytes, as its log of bad blocks says"), 0, min(stop, end) - max(start, begin))
+            why = f"{self.name} lacks these bytes, as its log of bad blocks says: give the other members"
+            yield Extent(Missing(why), 0, min(stop, end) - max(start, begin))
             start = min(stop, end)
         if start < end:
             yield from self._lower.extents(start, end - start)
