@@ -25,7 +25,7 @@ class Shape(NamedTuple):
             return column, row
         role = (arrays._role_of_raid5 if self.level == "raid5" else arrays._role_of_raid6)(self.layout, self.count, row, column)
         if role is None:
-            raise Gap(self.level, f"no layout of {self.level} that is known: {self.layout or 'none'}")
+            raise Gap(self.level, f"no layout of {self.level} that is known: {self.layout or 'none'}: assemble it with mdadm --readonly")
         return role, row
 
     @property
