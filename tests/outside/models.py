@@ -372,6 +372,14 @@ def check_arrays(tally, pile):
         others = [name for name in ("m0", "m1", "m2") if name != "m%d" % number]
         pile.holds(tally, "raid5 without member %d" % number, "md:array", data, *others)
     pile.refuses(tally, "raid5 of one member", "md:array", "is missing", "m1")
+    # Two members lack sectors of one row, which aren't the same.
+    for number, sector in ((0, 64 + 3), (1, 64 + 5)):
+        at = sector * SECTOR
+        pile.put("map%d" % number, b"0x0 ?\n0x0 0x%x +\n0x%x 0x200 -\n0x%x 0x10000 +\n" % (at, at, at + SECTOR))
+    got = pile.call("lost", "md:array", "m0", "m1", "m2", "--map", "m0=map0", "--map", "m1=map1")
+    tally.same("sectors that two members lack in one row", got, 0, "0 sectors lost of 128\n")
+    for name in ("map0", "map1"):
+        os.unlink(os.path.join(pile.folder, name))
     pile.put("m1", member(b"\xff" * len(legs[1]), 5, 1, (0, 1, 2), 3, layout=2))
     found = pile.scan()
     row = found["arrays"][0] if found["arrays"] else {}
@@ -393,6 +401,13 @@ def check_arrays(tally, pile):
     for number in range(2):
         os.unlink(os.path.join(pile.folder, "end%d" % number))
     halves = [content_of("zone %d" % number, 24 + 16 * number) for number in range(2)]
+    copies = [content_of("copy %d" % number, 64) for number in range(2)]
+    for number in (0, 3):
+        pile.put("c%d" % number, member(copies[number // 2], 10, number, (0, 1, 2, 3), 7, layout=258))
+    pile.holds(tally, "raid10 without two members", "md:array", striped(copies, 8))
+    pile.refuses(tally, "raid10 without three", "md:array", "is missing", "c0")
+    for number in (0, 3):
+        os.unlink(os.path.join(pile.folder, "c%d" % number))
     for number, half in enumerate(halves):
         pile.put("z%d" % number, member(half, 0, number, (0, 1), 0, layout=2, size=0))
     pile.holds(tally, "raid0 of unequal members", "md:array", striped([half[:24 * SECTOR] for half in halves], 8) + halves[1][24 * SECTOR:])

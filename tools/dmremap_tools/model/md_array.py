@@ -212,11 +212,20 @@ class Laid(arrays.Array):
         self._tables.add("array", list(arrays.lines_of(self, None)))
         return Mapped(self._array.label, self._tables, "array")
 
+    @property
+    def bytes(self) -> int:
+        """The bytes of a chunk."""
+        return self.chunk * SECTOR
+
+    def whole_members(self) -> List[Device]:
+        """The members of which no bytes are missing that the array uses."""
+        return [member for member in self._members if member.lack(0, self.chunks * self.bytes) is None]
+
     def copies_of(self, number: int) -> Iterator[Tuple[Device, int]]:
         """The members that have a chunk of raid10, and where, in bytes."""
         for copy in range(self.copies.near * self.copies.far):
             role, row = arrays.place(self, number, copy)
-            yield self._members[role], row * self.chunk * SECTOR
+            yield self._members[role], row * self.bytes
 
 
 class CopiedChunks(Device):
@@ -225,9 +234,18 @@ class CopiedChunks(Device):
     def __init__(self, name: str, laid: Laid) -> None:
         super().__init__(name, laid.sectors * SECTOR)
         self._laid = laid
+        self._is_there: Optional[bool] = None
+
+    def lack(self, start: int, size: int) -> Optional[str]:
+        """What all copies lack. Where each member has all of its bytes or none, as many chunks as there are members tell it."""
+        if self._is_there is None:
+            whole = self._laid.whole_members()
+            chunks = [list(self._laid.copies_of(number)) for number in range(min(self._laid.count, self.size // self._laid.bytes))]
+            self._is_there = all(any(member in whole for member, _ in copies) for copies in chunks)
+        return None if self._is_there and start + size <= self.size else super().lack(start, size)
 
     def _extents(self, start: int, size: int) -> Iterator[Extent]:
-        for number, offset, count in blocks_of(start, size, self._laid.chunk * SECTOR):
+        for number, offset, count in blocks_of(start, size, self._laid.bytes):
             copies = list(self._laid.copies_of(number))
             member, place = next((copy for copy in copies if copy[0].lack(copy[1] + offset, count) is None), copies[0])
             yield from member.extents(place + offset, count)
