@@ -26,8 +26,8 @@ STRIPE = 8
 
 
 def check(tally, program, top):
-    for part in (check_groups, check_partitions, check_layers, check_stores, check_arrays, check_thin, check_names, check_saving, check_files, check_served, check_plugin,
-                 check_hostile):
+    for part in (check_groups, check_partitions, check_layers, check_stores, check_legs, check_arrays, check_lost_superblocks, check_thin, check_names, check_saving,
+                 check_files, check_served, check_plugin, check_hostile):
         folder = os.path.join(program.room, "models")
         shutil.rmtree(folder, ignore_errors=True)
         os.makedirs(folder)
@@ -319,6 +319,71 @@ def check_stores(tally, pile):
         tally.holds("what is told of it", told.get("state") == ("invalid" if "valid" in head else "not followed") and why in str(told.get("why")), told)
     _, wanted = made(0, magic=0)
     pile.holds(tally, "a store that is new", "vg0/old", wanted)
+def leg_superblock(number, events=4):
+    """A superblock of dm-raid, of a mirror of two."""
+    clean = (1 << 64) - 1
+    return struct.pack("<4L4Q4LQ", 0x64526D44, 0, 2, number, events, 0, clean, clean, 1, 0, 0, 0, clean).ljust(4096, b"\0")
+
+
+# The bytes of a sum in the test's journal, so that a section has few blocks, and the sectors of a section.
+TAG, SECTION = 200, 24
+
+
+def journal(blocks):
+    """The metadata of dm-integrity, with a journal of two sections, of which the second one is older and has these blocks."""
+    sectors = [bytearray(SECTOR) for _ in range(2 * SECTION)]
+    for at in range(16):
+        for section_number in range(2):
+            sectors[section_number * SECTION + at % 8][at // 8 * 216:at // 8 * 216 + 8] = b"\xff" * 8
+    for at, (number, content) in enumerate(blocks):
+        entry = struct.pack("<Q", number) + content[-8:] + struct.pack("<L", summed(struct.pack("<Q", number) + content) ^ 0xFFFFFFFF)
+        sectors[SECTION + at % 8][at // 8 * 216:at // 8 * 216 + len(entry)] = entry
+        sectors[SECTION + 8 + at][:504] = content[:504]
+    for at, sector in enumerate(sectors):
+        commit = (1 - at // SECTION + 1) * 0x1111111111111111
+        sector[504:] = struct.pack("<Q", commit ^ at // SECTION << 32 ^ at % SECTION)
+    head = struct.pack("<8sBBHLQLBB2xQ8x16s", b"integrt\0", 5, 0, TAG, 2, 40, 8, 0, 0, 0, b"").ljust(4096, b"\0")
+    return head + b"".join(map(bytes, sectors))
+
+
+def check_legs(tally, pile):
+    """A mirror of LVM over dm-integrity, whose journal has newer blocks; damaged journals and superblocks."""
+    held = [(3, content_of("held", 1)), (17, content_of("kept", 1))]
+    data = extents_of(A, 0, 5)
+    wanted = bytearray(data)
+    for number, content in held:
+        wanted[number * SECTOR:(number + 1) * SECTOR] = content
+    def leg(number):
+        return [volume("image%d" % number, "ij"[number], segment(0, 5, "integrity", 'origin = "data%d"' % number, 'meta_dev = "tags%d"' % number, 'mode = "J"',
+                                                                 "tag_size = %d" % TAG, "block_size = 512", 'internal_hash = "crc32c"'), status=HIDDEN),
+                volume("data%d" % number, "de"[number], linear(0, 5, ("pv%d" % number, 0)), status=HIDDEN),
+                volume("tags%d" % number, "tu"[number], linear(0, 7, ("pv%d" % number, 10)), status=HIDDEN),
+                volume("meta%d" % number, "mn"[number], linear(0, 1, ("pv%d" % number, 20)), status=HIDDEN)]
+    mirror = volume("home", "h", segment(0, 5, "raid1", "device_count = 2", "region_size = 8", 'raids = ["meta0", "image0", "meta1", "image1"]'))
+    known = text("vg0", "g", 9, "ab", mirror, *leg(0), *leg(1))
+    size = EXTENT * SECTOR
+    def legged(number, change=None, superblock=None, base=A):
+        content = bytearray(base)
+        for place, part in ((0, data), (10, journal(held)), (20, leg_superblock(number) if superblock is None else superblock)):
+            content[place * size:place * size + len(part)] = part
+        if change is not None:
+            content[10 * size + change] ^= 1
+        pile.put("leg%d" % number, disk("ab"[number], bytes(content), known))
+    block = 4096 + (SECTION + 9) * SECTOR
+    legged(0)
+    legged(1)
+    pile.holds(tally, "a mirror over a journal", "vg0/home", bytes(wanted))
+    for name, change, why in (("a block of a journal", block + 5, "of sector 17 is damaged"), ("a commit of a journal", block + 510, "section 1 of its journal is damaged"),
+                              ("the counts of a journal", 10, "other sizes than the text")):
+        legged(0, change)
+        legged(1)
+        pile.holds(tally, name + " damaged on a leg", "vg0/home", bytes(wanted))
+        legged(1, change)
+        pile.refuses(tally, name + " damaged on both", "vg0/home", why)
+    legged(0)
+    legged(1, superblock=bytes(4096))
+    pile.refuses(tally, "a leg whose superblock is gone", "vg0/home", "leave its disk out to take the other one")
+    pile.holds(tally, "the other leg", "vg0/home", bytes(wanted), "leg0")
 
 
 def member(data, level, number, roles, events, layout=0, chunk=8, size=64, disks=None, version=2, resync=(1 << 64) - 1):
@@ -365,6 +430,14 @@ def check_arrays(tally, pile):
         others = [name for name in ("m0", "m1", "m2") if name != "m%d" % number]
         pile.holds(tally, "raid5 without member %d" % number, "md:array", data, *others)
     pile.refuses(tally, "raid5 of one member", "md:array", "is missing", "m1")
+    # Two members lack sectors of one row, which aren't the same.
+    for number, sector in ((0, 64 + 3), (1, 64 + 5)):
+        at = sector * SECTOR
+        pile.put("map%d" % number, b"0x0 ?\n0x0 0x%x +\n0x%x 0x200 -\n0x%x 0x10000 +\n" % (at, at, at + SECTOR))
+    got = pile.call("lost", "md:array", "m0", "m1", "m2", "--map", "m0=map0", "--map", "m1=map1")
+    tally.same("sectors that two members lack in one row", got, 0, "0 sectors lost of 128\n")
+    for name in ("map0", "map1"):
+        os.unlink(os.path.join(pile.folder, name))
     pile.put("m1", member(b"\xff" * len(legs[1]), 5, 1, (0, 1, 2), 3, layout=2))
     found = pile.scan()
     row = found["arrays"][0] if found["arrays"] else {}
@@ -386,10 +459,51 @@ def check_arrays(tally, pile):
     for number in range(2):
         os.unlink(os.path.join(pile.folder, "end%d" % number))
     halves = [content_of("zone %d" % number, 24 + 16 * number) for number in range(2)]
+    copies = [content_of("copy %d" % number, 64) for number in range(2)]
+    for number in (0, 3):
+        pile.put("c%d" % number, member(copies[number // 2], 10, number, (0, 1, 2, 3), 7, layout=258))
+    pile.holds(tally, "raid10 without two members", "md:array", striped(copies, 8))
+    pile.refuses(tally, "raid10 without three", "md:array", "is missing", "c0")
+    for number in (0, 3):
+        os.unlink(os.path.join(pile.folder, "c%d" % number))
     for number, half in enumerate(halves):
         pile.put("z%d" % number, member(half, 0, number, (0, 1), 0, layout=2, size=0))
     pile.holds(tally, "raid0 of unequal members", "md:array", striped([half[:24 * SECTOR] for half in halves], 8) + halves[1][24 * SECTOR:])
     pile.refuses(tally, "raid0 without a member", "md:array", "is missing", "z0")
+
+
+def check_lost_superblocks(tally, pile):
+    """Members whose superblock is damaged or gone: a mirror's other half may be older, and one member of raid0 isn't the disk."""
+    base = text("vg0", "g", 4, "a", volume("home", "h", linear(0, 5, ("pv0", 3)))).replace(b"/dev/a", b"/dev/md0")
+    inside, older = disk("a", A, base), disk("a", B, base)
+    count = len(inside) // SECTOR
+    def damaged(image, *places):
+        made = bytearray(image)
+        for place in places:
+            made[place] ^= 1
+        return bytes(made)
+    new, old = member(inside, 1, 0, (0, 1), 9, size=count), member(older, 1, 1, (0, 1), 4, size=count)
+    pile.put("new", new)
+    pile.put("old", old)
+    pile.holds(tally, "a mirror with a stale half", "vg0/home", extents_of(A, 3, 5))
+    for place in (8 * SECTOR + 20, 8 * SECTOR + 200):
+        pile.put("new", damaged(new, place))
+        pile.refuses(tally, "a mirror whose newer half has a damaged superblock", "vg0/home", "leave that out to take what is here")
+    pile.holds(tally, "the other half", "vg0/home", extents_of(B, 3, 5), "old")
+    pile.put("new", bytes(64 * SECTOR) + new[64 * SECTOR:])
+    pile.refuses(tally, "a mirror whose newer half has no superblock", "vg0/home", "both are the physical volume")
+    os.unlink(os.path.join(pile.folder, "old"))
+    pile.holds(tally, "that half", "vg0/home", extents_of(A, 3, 5))
+    os.unlink(os.path.join(pile.folder, "new"))
+    half = b"".join(inside[at:at + 256 * SECTOR] for at in range(0, len(inside), 512 * SECTOR))
+    found = member(half, 0, 0, (0, 1), 0, layout=2, size=0, chunk=256)
+    pile.put("half", bytes(64 * SECTOR) + found[64 * SECTOR:])
+    pile.refuses(tally, "a member of raid0 without its superblock", "vg0/home", "one member of an array whose md superblock is lost")
+    pile.put("half", damaged(found, 8 * SECTOR + 20))
+    pile.refuses(tally, "a member of raid0 with a damaged one", "vg0/home", "no group is called vg0")
+    pile.put("half", half)
+    pile.refuses(tally, "a member of raid0 whose end is cut off", "vg0/home", "one member of an array whose md superblock is lost")
+    os.unlink(os.path.join(pile.folder, "half"))
 
 
 def summed(content):
@@ -486,6 +600,10 @@ def check_names(tally, pile):
     pile.put("one", disk("a", A, base, behind))
     found = pile.scan()
     tally.holds("a disk that is only behind", [(row["state"], row["seqno"]) for row in found["groups"]] == [("complete", 5)], found)
+    newer = bytearray(disk("a", A, base, behind))
+    newer[bytes(newer).rindex(b"extent_count")] ^= 1
+    pile.put("one", bytes(newer))
+    pile.refuses(tally, "a disk that is behind, where the newer text is damaged", "vg0/home", "has a later text, with the seqno 5, that isn't confirmed")
     os.unlink(os.path.join(pile.folder, "two"))
     first, second = lone("old", "g", 1, "a", home, other), lone("vg0", "g", 2, "a", home, other)
     third, fourth = lone("vg0", "g", 3, "a", other), lone("vg0", "g", 4, "a", other, volume("new", "n", linear(0, 1, ("pv0", 5))))

@@ -77,7 +77,7 @@ def device_of(layout: "Layout", name: str, segment: Segment, size: int) -> Devic
     mode = segment.node.value(b"cache_mode", bytes)
     pool, origin = segment.node.value(b"cache_pool", bytes), segment.node.value(b"origin", bytes)
     if not isinstance(pool, bytes) or not isinstance(origin, bytes):
-        raise Refusal(name, "its text doesn't say what is cached where")
+        raise Refusal(name, "its text doesn't say what is cached where: activate it with lvm2")
     meta, data, settings = devices_of(layout, name, segment, pool)
     mode = mode if isinstance(mode, bytes) else settings.node.value(b"cache_mode", bytes)
     if mode is not None and mode not in MODES:
@@ -102,13 +102,13 @@ def devices_of(layout: "Layout", name: str, segment: Segment, pool: bytes) -> Tu
     if node.child(b"metadata_start"):
         runs = [node.value(key, int) for key in (b"metadata_start", b"metadata_len", b"data_start", b"data_len")]
         if any(not isinstance(run, int) or run < 0 for run in runs):
-            raise Refusal(name, "its text doesn't say where the cache's metadata is")
+            raise Refusal(name, "its text doesn't say where the cache's metadata is: activate it with lvm2")
         return layout.part(pool, runs[0], runs[1]), layout.part(pool, runs[2], runs[3]), segment
     volume = layout.group.volumes.get(pool)
     inner = volume.segments[0] if volume and len(volume.segments) == 1 else None
     meta, data = (inner.node.value(key, bytes) if inner else None for key in (b"metadata", b"data"))
     if not inner or not isinstance(meta, bytes) or not isinstance(data, bytes):
-        raise Refusal(name, "its text doesn't say where the cache's metadata is")
+        raise Refusal(name, "its text doesn't say where the cache's metadata is: activate it with lvm2")
     return layout.plain(meta), layout.plain(data), inner
 
 

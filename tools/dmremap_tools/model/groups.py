@@ -13,13 +13,15 @@ from dmremap_tools.model.volume import Volume
 COMPLETE, LACKING, TRUNCATED, FORKED, REMOVED = "complete", "missing", "truncated", "forked", "removed"
 TWO_SIDES = ("disks of this group were changed apart from each other, and both sides have a volume of this name: give the images of "
              "one side alone ({})")
+NEWER = ("{} has a later text, with the seqno {}, that isn't confirmed ({}), and the other disks the one with {}: restore that text by "
+         "vgcfgrestore on copies of the disks (`metadata` prints it)")
 
 
 class Group:
-    """A group, or one side of a group whose disks were changed apart from each other."""
+    """A group, or one side of a group whose disks were changed apart from each other. `doubt` says why its text isn't the last."""
 
-    def __init__(self, side: Side, state: str, places: Sequence[str], volumes: List[Volume]) -> None:
-        self.side, self.state, self.places, self.volumes = side, state, list(places), volumes
+    def __init__(self, side: Side, state: str, places: Sequence[str], volumes: List[Volume], doubt: Optional[str] = None) -> None:
+        self.side, self.state, self.places, self.volumes, self.doubt = side, state, list(places), volumes, doubt
         self.name, self.identity, self.seqno = side.text.group, side.text.identity, side.text.seqno
         self.former_names: List[str] = []
         self.notes: List[str] = []
@@ -30,7 +32,7 @@ class Group:
             if name == volume.name or same_id(name, volume.identity):
                 return volume
         key = name.encode("utf-8", "surrogateescape")
-        return Volume(self.side, key) if self.state != REMOVED and key in self.side.group.volumes else None
+        return Volume(self.side, key, lambda: self.doubt) if self.state != REMOVED and key in self.side.group.volumes else None
 
 
 class Holder(NamedTuple):
@@ -84,11 +86,14 @@ def finder(volumes: Sequence[PhysicalVolume]) -> Callable[[str], Device]:
 
     def find(identity: str) -> Device:
         found = by_id.get(identity, [])
-        if len(found) == 1:
-            return found[0].device
+        believed = [volume for volume in found if not volume.doubt]
+        if len(believed) == 1:
+            return believed[0].device
+        if found and not believed:
+            return Missing(found[0].doubt or "")
         if not found:
             return Missing(f"the physical volume {identity} isn't in these images: give the image that has it")
-        return Missing(f"{' and '.join(volume.place for volume in found)} both are the physical volume {identity}: give one of them")
+        return Missing(f"{' and '.join(volume.place for volume in believed)} both are the physical volume {identity}: give one of them")
     return find
 
 
@@ -126,15 +131,27 @@ def current_groups(texts: Texts, find: Callable[[str], Device], volumes: Sequenc
         places = {id(other): ", ".join(volume.place for volume in found.volumes) for other, found in zip(sides, holders)}
         refused = TWO_SIDES.format(" or ".join(places.values()))
         state, notes = state_of(side, find)
-        listed = [Volume(side, name, (lambda: refused) if name in named else (lambda: None)) for name in side.visible()]
+        newer = newer_text(side, volumes)
+        whys = {name: newer or (refused if name in named else None) for name in side.visible()}
+        listed = [Volume(side, name, lambda why=why: why) for name, why in whys.items()]
         known = texts.newest_first() if not others else ring_texts(holder, side.text.identity)
         living = {identity for each in sides for identity in each.names()}
-        group = Group(side, FORKED if others else state, [volume.place for volume in volumes if volume.identity in dict_of(side)], listed)
+        group = Group(side, FORKED if others else state, [volume.place for volume in volumes if volume.identity in dict_of(side)], listed, newer)
         group.volumes += removed_volumes(known, living, find, writers)
         group.former_names = sorted({text.group for text in known} - {side.text.group})
         group.notes = notes
         made.append(group)
     return made
+
+
+def newer_text(side: Side, volumes: Sequence[PhysicalVolume]) -> Optional[str]:
+    """Why a text isn't the last one, where a disk that it names has a later one that no sum confirms."""
+    for volume in volumes:
+        if volume.identity in dict_of(side) and not volume.current:
+            last = max((text.seqno for text in volume.older() if text.identity == side.text.identity), default=0)
+            if last > side.text.seqno:
+                return NEWER.format(volume.place, last, volume.faults[0] if volume.faults else "it isn't the current one", side.text.seqno)
+    return None
 
 
 def dict_of(side: Side) -> List[str]:

@@ -50,6 +50,18 @@ class Array:
         """How many of them aren't there, or aren't to be read."""
         return self.count - len(self.by_role)
 
+    @property
+    def may_be_old(self) -> bool:
+        """Whether so many members are missing that these may have run on without those that are here."""
+        layout = self.best.superblock.layout
+        copies = max((layout & 0xFF) * (layout >> 8 & 0xFF), 1)
+        fewest = {"raid1": 1, "raid4": self.count - 1, "raid5": self.count - 1, "raid6": self.count - 2, "raid10": -(-self.count // copies)}
+        return self.missing >= fewest.get(self.level, self.count)
+
+    def refuse(self, why: str) -> None:
+        """Says why nobody can say its bytes."""
+        self.device, self.why = None, why
+
     def _take(self, members: Sequence[Member]) -> None:
         """Those with the most events, or one less, count, in the role that the freshest superblock gives them."""
         best = self.best
@@ -113,7 +125,7 @@ class Array:
         """The data of a member, without what its log says it lacks."""
         member = self.by_role.get(role)
         if not member:
-            return Missing(f"member {role} of {self.label} is missing", 1 << 62)
+            return Missing(f"member {role} of {self.label} is missing: give its image", 1 << 62)
         superblock = member.superblock
         size = superblock.data_size if self.level in ("linear", "raid0") else superblock.size
         data: Device = Part(f"member {role} of {self.label}", member.device, superblock.data_offset * SECTOR, size * SECTOR)
@@ -136,7 +148,8 @@ class Holed(Device):
                 continue
             if begin > start:
                 yield from self._lower.extents(start, begin - start)
-            yield Extent(Missing(f"{self.name} lacks these bytes, as its log of bad blocks says"), 0, min(stop, end) - max(start, begin))
+            why = f"{self.name} lacks these bytes, as its log of bad blocks says: give the other members"
+            yield Extent(Missing(why), 0, min(stop, end) - max(start, begin))
             start = min(stop, end)
         if start < end:
             yield from self._lower.extents(start, end - start)
@@ -200,11 +213,20 @@ class Laid(arrays.Array):
         self._tables.add("array", list(arrays.lines_of(self, None)))
         return Mapped(self._array.label, self._tables, "array")
 
+    @property
+    def bytes(self) -> int:
+        """The bytes of a chunk."""
+        return self.chunk * SECTOR
+
+    def whole_members(self) -> List[Device]:
+        """The members of which no bytes are missing that the array uses."""
+        return [member for member in self._members if member.lack(0, self.chunks * self.bytes) is None]
+
     def copies_of(self, number: int) -> Iterator[Tuple[Device, int]]:
         """The members that have a chunk of raid10, and where, in bytes."""
         for copy in range(self.copies.near * self.copies.far):
             role, row = arrays.place(self, number, copy)
-            yield self._members[role], row * self.chunk * SECTOR
+            yield self._members[role], row * self.bytes
 
 
 class CopiedChunks(Device):
@@ -213,9 +235,18 @@ class CopiedChunks(Device):
     def __init__(self, name: str, laid: Laid) -> None:
         super().__init__(name, laid.sectors * SECTOR)
         self._laid = laid
+        self._is_there: Optional[bool] = None
+
+    def lack(self, start: int, size: int) -> Optional[str]:
+        """What all copies lack. Where each member has all of its bytes or none, as many chunks as there are members tell it."""
+        if self._is_there is None:
+            whole = self._laid.whole_members()
+            chunks = [list(self._laid.copies_of(number)) for number in range(min(self._laid.count, self.size // self._laid.bytes))]
+            self._is_there = all(any(member in whole for member, _ in copies) for copies in chunks)
+        return None if self._is_there and start + size <= self.size else super().lack(start, size)
 
     def _extents(self, start: int, size: int) -> Iterator[Extent]:
-        for number, offset, count in blocks_of(start, size, self._laid.chunk * SECTOR):
+        for number, offset, count in blocks_of(start, size, self._laid.bytes):
             copies = list(self._laid.copies_of(number))
             member, place = next((copy for copy in copies if copy[0].lack(copy[1] + offset, count) is None), copies[0])
             yield from member.extents(place + offset, count)

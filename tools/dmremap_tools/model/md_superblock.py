@@ -72,6 +72,13 @@ class Member(NamedTuple):
         return self.superblock.set_name.split(b"\0", 1)[0].decode("utf-8", "replace")
 
 
+class Damaged(NamedTuple):
+    """A superblock that isn't sound: its byte, and the id that it gives its array, which may be wrong, too."""
+
+    start: int
+    set_uuid: bytes
+
+
 def member_in(device: Device) -> Optional[Member]:
     """The member that a device is, by its first sound superblock."""
     for place in places(device.size // SECTOR):
@@ -90,6 +97,15 @@ def has_old_superblock(device: Device) -> bool:
     """Whether there is metadata 0.90, which nothing here follows."""
     place = device.size // OLD_ROOM * OLD_ROOM - OLD_ROOM
     return place >= 0 and _read(device, place, len(OLD_MAGIC)) == OLD_MAGIC
+
+
+def damaged_in(device: Device) -> Optional[Damaged]:
+    """What begins as a superblock does where one may be; for devices that have no sound one."""
+    for place in places(device.size // SECTOR):
+        content = _read(device, place * SECTOR, ROLES_AT)
+        if content.startswith(MAGIC):
+            return Damaged(place * SECTOR, Superblock(*FORM.unpack(content)).set_uuid)
+    return None
 
 
 def _member_at(device: Device, sector: int) -> Optional[Member]:

@@ -7,7 +7,7 @@ from dmremap_tools.base.numbers import SECTOR
 from dmremap_tools.base.refusal import Refusal
 from dmremap_tools.model.device import Device
 from dmremap_tools.model.groups import REMOVED, Group, same_id
-from dmremap_tools.model.pile import Pile
+from dmremap_tools.model.pile import NOTHING, Pile
 from dmremap_tools.model.volume import Volume
 
 SCAN = "`scan` lists what is there"
@@ -70,11 +70,11 @@ def volume_named(pile: Pile, name: str) -> Volume:
     group_name, slash, volume_name = name.rpartition("/")
     groups = [group for group in pile.groups if not slash or group_name == group.name or same_id(group_name, group.identity)]
     if slash and not groups:
-        raise Refusal(quoting.shown(name), f"no group is called {quoting.shown(group_name)}: {SCAN}")
+        raise Refusal(quoting.shown(name), f"no group is called {quoting.shown(group_name)}{unread(pile)}: {SCAN}")
     having = [(group, volume) for group in groups for volume in [group.volume(volume_name)] if volume]
     living = [(group, volume) for group, volume in having if group.state != REMOVED and not volume.is_removed] or having
     if not living:
-        where = f"the group {quoting.shown(group_name)} has no such volume" if slash else "no group has such a volume"
+        where = f"the group {quoting.shown(group_name)} has no such volume" if slash else f"no group has such a volume{unread(pile)}"
         raise Refusal(quoting.shown(name), f"{where}: {SCAN}")
     if len({group.identity for group, _ in living}) > 1:
         called = [f"{group.identity}/{quoting.shown(volume_name)} (on {', '.join(map(quoting.shown, group.places))})" for group, _ in living]
@@ -82,10 +82,17 @@ def volume_named(pile: Pile, name: str) -> Volume:
     return living[0][1]
 
 
+def unread(pile: Pile) -> str:
+    """What of a pile can't be read, in which something may be that isn't found."""
+    whys = [f"{quoting.shown(array.label)}: {array.why}" for array in pile.arrays if array.why]
+    whys += [f"{quoting.shown(found.spot.path)}: {found.note}" for found in pile.found if found.note and found.note != NOTHING]
+    return f" ({quoting.some(whys, '; ')})" if whys else ""
+
+
 def groups_named(pile: Pile, name: str) -> List[Group]:
     """The groups of this name or id."""
     pile.search()
     found = [group for group in pile.groups if name == group.name or same_id(name, group.identity)]
     if not found:
-        raise Refusal(quoting.shown(name), f"no group is called so: {SCAN}")
+        raise Refusal(quoting.shown(name), f"no group is called so{unread(pile)}: {SCAN}")
     return found

@@ -1,10 +1,12 @@
 """Chunks with parity, in rows over the members of an array (raid4, 5 and 6). A member that is missing is computed from the
 others: P is the sum of a row's data, Q the sum of g^d D_d in GF(2^8) with the polynomial 0x11d and g = 2."""
 
+import bisect
+import itertools
 from typing import Iterator, List, NamedTuple, Optional, Sequence, Tuple
 
 from dmremap_tools.layers import arrays
-from dmremap_tools.model.device import Device, Extent, Gap, Source, blocks_of
+from dmremap_tools.model.device import Device, Extent, Gap, Source, blocks_of, joined
 
 POLYNOMIAL = 0x11D
 UNCLEAN = "the array wasn't shut down cleanly, so that its parity may be old: give the missing member"
@@ -25,7 +27,7 @@ class Shape(NamedTuple):
             return column, row
         role = (arrays._role_of_raid5 if self.level == "raid5" else arrays._role_of_raid6)(self.layout, self.count, row, column)
         if role is None:
-            raise Gap(self.level, f"no layout of {self.level} that is known: {self.layout or 'none'}")
+            raise Gap(self.level, f"no layout of {self.level} that is known: {self.layout or 'none'}: assemble it with mdadm --readonly")
         return role, row
 
     @property
@@ -53,6 +55,30 @@ class Row(NamedTuple):
     syndrome: Optional[int]
 
 
+class Edges:
+    """Where members begin or end to lack bytes, or their parity to be old. Nothing of that changes in between."""
+
+    def __init__(self, members: Sequence[Device], size: int, doubtful: "Sequence[tuple[int, int]]") -> None:
+        self._members, self._size, self._doubtful = members, size, doubtful
+        self._known: Optional[List[int]] = None
+
+    def all(self) -> List[int]:
+        """All of them, with the first byte of the members and their end."""
+        if self._known is None:
+            runs = [run for member in self._members for run in lacking(member, self._size)] + list(self._doubtful)
+            self._known = sorted({0, self._size, *(edge for run in runs for edge in run if edge < self._size)})
+        return self._known
+
+    def parts(self, start: int, size: int, chunk: int) -> Iterator[Tuple[int, int, int]]:
+        """The parts of rows of chunks in some bytes: the row of each, the first byte in it, and how many."""
+        known = self.all()
+        for row, offset, count in blocks_of(start, size, chunk):
+            at = row * chunk + offset
+            cuts = [at, *known[bisect.bisect_right(known, at):bisect.bisect_left(known, at + count)], at + count]
+            for begin, end in zip(cuts, cuts[1:]):
+                yield row, begin - row * chunk, end - begin
+
+
 class Rows(Device):
     """The data of an array with parity; `members` has the data of each member, or why it is missing. In `doubtful` runs of a
     member, from a byte up to another, the parity may be old."""
@@ -60,15 +86,29 @@ class Rows(Device):
     def __init__(self, name: str, shape: Shape, members: Sequence[Device], size: int, doubtful: "Sequence[tuple[int, int]]") -> None:
         super().__init__(name, size)
         self._shape, self._members = shape, members
-        self._is_there: Optional[bool] = None
-        self._computed = [Computed(f"{member.name}, computed", shape, members, role, doubtful) for role, member in enumerate(members)]
+        self._edges = Edges(members, -(-size // shape.data), doubtful)
+        self._is_looked_at, self._why = False, None  # type: bool, Optional[str]
+        self._computed = [Computed(shape, members, role, doubtful, self._edges) for role in range(shape.count)]
 
     def lack(self, start: int, size: int) -> Optional[str]:
         """What the members lack."""
-        if self._is_there is None:
-            used = self.size // self._shape.data
-            self._is_there = all(member.lack(0, used) is None for member in self._members)
-        return None if self._is_there and start + size <= self.size else super().lack(start, size)
+        if not self._is_looked_at:
+            self._is_looked_at, self._why = True, self._whole_lack()
+        if start + size <= self.size and (self._why is None or (start, size) == (0, self.size)):
+            return self._why
+        return super().lack(start, size)
+
+    def _whole_lack(self) -> Optional[str]:
+        """What the members lack of all. Between two edges rows come again after so many of them as there are members."""
+        edges = self._edges.all()
+        for begin, end in zip(edges, edges[1:]):
+            for row, offset, count in itertools.islice(blocks_of(begin, end - begin, self._shape.chunk), self._shape.count + 1):
+                at = row * self._shape.chunk + offset
+                for role in self._shape.row(row).data:
+                    why = self._members[role].lack(at, count) and self._computed[role].lack(at, count)
+                    if why:
+                        return why
+        return None
 
     def _extents(self, start: int, size: int) -> Iterator[Extent]:
         for number, offset, count in blocks_of(start, size, self._shape.chunk):
@@ -76,31 +116,31 @@ class Rows(Device):
             at, member = row * self._shape.chunk + offset, self._members[role]
             if member.lack(at, count) is None:
                 yield from member.extents(at, count)
-            else:
-                yield Extent(self._computed[role], at, count)
+                continue
+            for _, begin, some in self._edges.parts(at, count, self._shape.chunk):
+                part = row * self._shape.chunk + begin
+                if member.lack(part, some) is None:
+                    yield from member.extents(part, some)
+                else:
+                    yield Extent(self._computed[role], part, some)
 
 
 class Computed(Source):
     """What a member that is missing had, as far as it was data, computed from the others."""
 
-    def __init__(self, name: str, shape: Shape, members: Sequence[Device], role: int, doubtful: "Sequence[tuple[int, int]]") -> None:
-        super().__init__(name, 1 << 64)
-        self._shape, self._members, self._role, self._doubtful = shape, members, role, doubtful
+    def __init__(self, shape: Shape, members: Sequence[Device], role: int, doubtful: "Sequence[tuple[int, int]]", edges: Edges) -> None:
+        super().__init__(f"{members[role].name}, computed", 1 << 64)
+        self._shape, self._members, self._role, self._doubtful, self._edges = shape, members, role, doubtful, edges
 
     def lack(self, start: int, size: int) -> Optional[str]:
         """Why it can't be computed, or None."""
-        if any(begin < start + size and start < end for begin, end in self._doubtful):
-            return f"{self._members[self._role].name}, and {UNCLEAN}"
-        for row, offset, count in blocks_of(start, size, self._shape.chunk):
-            _, why = self._rule(row, offset, count)
-            if why:
-                return why
-        return None
+        whys = (self._rule(row, offset, count)[1] for row, offset, count in self._edges.parts(start, size, self._shape.chunk))
+        return next(filter(None, whys), None)
 
     def load(self, start: int, size: int) -> bytes:
         """Computes these bytes."""
         parts = []
-        for row, offset, count in blocks_of(start, size, self._shape.chunk):
+        for row, offset, count in self._edges.parts(start, size, self._shape.chunk):
             gone, why = self._rule(row, offset, count)
             if why:
                 raise Gap(self.name, why)
@@ -110,6 +150,8 @@ class Computed(Source):
     def _rule(self, row: int, offset: int, count: int) -> Tuple[List[int], Optional[str]]:
         """The roles that are missing in a row, and why they can't be computed."""
         at = row * self._shape.chunk + offset
+        if any(begin < at + count and at < end for begin, end in self._doubtful):
+            return [], f"{self._members[self._role].name}, and {UNCLEAN}"
         lacks = {role: why for role, why in enumerate(member.lack(at, count) for member in self._members) if why is not None}
         roles, gone = self._shape.row(row), list(lacks)
         if len(gone) > self._shape.count - self._shape.data:
@@ -135,6 +177,17 @@ class Computed(Source):
         other = roles.data.index(next(role for role in lost if role != self._role))
         both = added([have[roles.parity or 0]] + [content for _, content in data])
         return times(added([syndrome, times(both, other)]), -LOGARITHMS[POWERS[mine] ^ POWERS[other]])
+
+
+def lacking(device: Device, size: int) -> Iterator[Tuple[int, int]]:
+    """The runs of bytes that a device lacks: the first byte of each, and the one after it."""
+    if device.lack(0, size) is None:
+        return
+    at = 0
+    for extent in joined(device.extents(0, size)):
+        if extent.source.lack(extent.start, extent.size) is not None:
+            yield at, at + extent.size
+        at += extent.size
 
 
 def added(parts: Sequence[bytes]) -> bytes:

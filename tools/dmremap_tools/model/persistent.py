@@ -17,6 +17,7 @@ VALUE = struct.Struct("<Q")
 # The most levels of a tree: with the fewest children a node may have, more don't fit into a device.
 MOST_LEVELS, MOST_KEPT, LAST_KEY = 16, 128, 1 << 64
 POLYNOMIAL = 0x82F63B78
+NEXT = "mend a copy of the metadata by thin_repair or cache_repair"
 
 
 class Node(NamedTuple):
@@ -56,7 +57,7 @@ class Tree:
     def _below(self, block: int, bounds: "tuple[int, int]", wanted: "tuple[int, int]", level: int) -> Iterator[Union[Entry, Damage]]:
         try:
             if level == MOST_LEVELS:
-                raise Gap(self._device.name, "its tree has too many levels")
+                raise Gap(self._device.name, f"its tree has too many levels: {NEXT}")
             node = self._node(block, bounds)
         except Gap as gap:
             yield Damage(max(bounds[0], wanted[0]), min(bounds[1], wanted[1]), gap.why)
@@ -78,7 +79,7 @@ class Tree:
                 self._nodes.popitem(last=False)
         keys = node.keys
         if keys and not (bounds[0] <= keys[0] and keys[-1] < bounds[1]):
-            raise Gap(self._device.name, f"the keys of block {block} of its tree lie in another place")
+            raise Gap(self._device.name, f"the keys of block {block} of its tree lie in another place: {NEXT}")
         return node
 
     def _read(self, block: int) -> Node:
@@ -87,10 +88,10 @@ class Tree:
         is_leaf = flags & LEAF != 0
         if flags & (INTERNAL | LEAF) not in (INTERNAL, LEAF) or size != (self._value_size if is_leaf else VALUE.size) or count > most \
                 or NODE.size + most * (VALUE.size + size) > BLOCK or not count and block != self._root:
-            raise Gap(self._device.name, f"block {block} of its tree is no node")
+            raise Gap(self._device.name, f"block {block} of its tree is no node: {NEXT}")
         keys = struct.unpack_from(f"<{count}Q", content, NODE.size)
         if any(one >= other for one, other in zip(keys, keys[1:])):
-            raise Gap(self._device.name, f"the keys of block {block} of its tree are out of order")
+            raise Gap(self._device.name, f"the keys of block {block} of its tree are out of order: {NEXT}")
         start = NODE.size + most * VALUE.size
         return Node(is_leaf, keys, [content[at:at + size] for at in range(start, start + count * size, size)])
 
@@ -102,12 +103,12 @@ def array_values(device: Device, root: int, most: int) -> Iterator[int]:
         if isinstance(entry, Damage):
             raise Gap(device.name, entry.why)
         if entry.key != expected:
-            raise Gap(device.name, "its array has holes")
+            raise Gap(device.name, f"its array has holes: {NEXT}")
         expected += 1
         content = checked(device, VALUE.unpack(entry.value)[0], ARRAY_SUM, ARRAY.size - VALUE.size)
         _, _, count, size, _ = ARRAY.unpack_from(content)
         if size != VALUE.size or ARRAY.size + count * size > BLOCK:
-            raise Gap(device.name, "a block of its array is none")
+            raise Gap(device.name, f"a block of its array is none: {NEXT}")
         for value in struct.unpack_from(f"<{count}Q", content, ARRAY.size):
             if not most:
                 return
@@ -118,12 +119,12 @@ def array_values(device: Device, root: int, most: int) -> Iterator[int]:
 def checked(device: Device, block: int, changed: int, number_at: int = 8) -> bytes:
     """The bytes of a block, if its sum and its number are right."""
     if (block + 1) * BLOCK > device.size:
-        raise Gap(device.name, f"block {block} of its metadata is past its end")
+        raise Gap(device.name, f"block {block} of its metadata is past its end: {NEXT}")
     content = device.read(block * BLOCK, BLOCK)
     stored, = struct.unpack_from("<L", content)
     number, = struct.unpack_from("<Q", content, number_at)
     if number != block or sum_of(content[4:]) ^ changed != stored:
-        raise Gap(device.name, f"block {block} of its metadata is damaged")
+        raise Gap(device.name, f"block {block} of its metadata is damaged: {NEXT}")
     return content
 
 

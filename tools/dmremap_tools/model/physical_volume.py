@@ -2,18 +2,21 @@
 
 import hashlib
 import re
-from typing import Dict, List, NamedTuple, Optional
+from typing import Dict, Iterator, List, NamedTuple, Optional
 
 from dmremap_tools.base.config_text import Document, Node
 from dmremap_tools.base.refusal import Refusal
 from dmremap_tools.metadata import older_texts, physical_volume
 from dmremap_tools.metadata.group_text import beginning_of, without_time
+from dmremap_tools.metadata.volume_group import sections_in
 from dmremap_tools.model.device import Device
 from dmremap_tools.model.image import Lenient
 
 
 # The bytes of a text that is read, and texts that are kept as they were read.
 MOST_TEXT, MOST_KEPT = 4 << 20, 8
+# What the paths of md arrays begin with.
+ARRAYS = b"/dev/md"
 TIME = re.compile(rb"\ncreation_time = ([0-9]{1,18})")
 
 
@@ -44,12 +47,19 @@ class Text(NamedTuple):
                 del _nodes[next(iter(_nodes))]
         return known
 
+    def on_arrays(self) -> Iterator[str]:
+        """The ids of the physical volumes that were on md arrays when it was written."""
+        for node in sections_in(self.node(), b"physical_volumes"):
+            device, identity = node.value(b"device", bytes), node.value(b"id", bytes)
+            if isinstance(device, bytes) and isinstance(identity, bytes) and device.startswith(ARRAYS):
+                yield identity.decode("ascii", "replace")
+
 
 _nodes: Dict[bytes, Node] = {}
 
 
 class PhysicalVolume:
-    """A device with a label. `faults` says what is wrong with its metadata areas."""
+    """A device with a label. `faults` says what is wrong with its metadata areas, and `doubt` why its bytes aren't believed."""
 
     def __init__(self, device: Device, label: physical_volume.Label, place: str) -> None:
         self.device, self.place, self.start = device, place, 0
@@ -57,6 +67,7 @@ class PhysicalVolume:
         self.size, self.is_used = label.size, label.is_used
         self._image = Lenient(device)
         self.faults: List[str] = []
+        self.doubt: Optional[str] = None
         self.current: List[Text] = []
         self._older: Optional[List[Text]] = None
         for start, size in label.areas:

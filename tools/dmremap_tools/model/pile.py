@@ -9,12 +9,16 @@ from dmremap_tools.model.groups import Group, groups_of
 from dmremap_tools.model.image import Image
 from dmremap_tools.model.luks import Container
 from dmremap_tools.model.md_array import Array
-from dmremap_tools.model.md_superblock import Member
+from dmremap_tools.model.md_superblock import Damaged, Member
 from dmremap_tools.model.partitions import BIG_SECTOR, Partitions, partitions_of
 from dmremap_tools.model.physical_volume import PhysicalVolume
 
 NOTHING = "nothing is found in it"
 OLD = "a member of an md array with metadata 0.90, which isn't followed: assemble copies with mdadm --readonly"
+DAMAGED = "its md superblock at byte {} is damaged: give the other members, or make the array anew on copies (mdadm --create --assume-clean)"
+MAY_BE_NEWER = "it lacks members, and {} may be one with newer data, as its md superblock is damaged: leave that out to take what is here"
+ONE_MEMBER = ("{} has {} bytes, and the physical volume in it {}: it seems to be one member of an array whose md superblock is lost, "
+              "or is cut off: give the whole disk, or all members with their superblocks")
 
 
 class Spot(NamedTuple):
@@ -50,6 +54,7 @@ class Pile:
         self.containers: List[Tuple[Spot, Container]] = []
         self.volumes: List[PhysicalVolume] = []
         self._members: Dict[bytes, List[Member]] = {}
+        self._damaged: List[Tuple[Spot, Damaged]] = []
         self._spots: Dict[int, Spot] = {}
         self._unknown: List[Spot] = []
         for path in paths:
@@ -60,7 +65,10 @@ class Pile:
             else:
                 self._look_at(Spot(image, image, 0))
         self._assemble()
-        self.groups: List[Group] = groups_of(self.volumes)
+        self.groups: List[Group] = []
+        # What isn't known may be the other half of a mirror, with newer data.
+        if not any(array.device and array.may_be_old for array in self.arrays) or not self.search():
+            self._group()
 
     def search(self) -> bool:
         """Looks through the whole of the images in which nothing sound was where it should be, and says whether that was of use."""
@@ -68,8 +76,18 @@ class Pile:
         for spot in waiting:
             self._search(spot)
         if len(self.volumes) > known:
-            self.groups = groups_of(self.volumes)
+            self._group()
         return len(self.volumes) > known
+
+    def _group(self) -> None:
+        """Puts the groups together. A physical volume that is longer than what it is in is doubted where it was looked for, or
+        where a text says that it was on an array."""
+        cut = [volume for volume in self.volumes if self.spot_of(volume.device).image and volume.size > volume.device.size]
+        on_arrays = {identity for volume in self.volumes for text in volume.current for identity in text.on_arrays()} if cut else set()
+        for volume in cut:
+            if volume.start or volume.identity in on_arrays:
+                volume.doubt = ONE_MEMBER.format(volume.place, volume.device.size, volume.size)
+        self.groups = groups_of(self.volumes)
 
     def spots(self) -> List[Spot]:
         """All devices that were looked at: images, partitions, arrays and their partitions."""
@@ -126,7 +144,11 @@ class Pile:
         if md_superblock.has_old_superblock(spot.device):
             self.found.append(Found(spot, "md member", OLD))
             return True
-        return False
+        damaged = md_superblock.damaged_in(spot.device)
+        if damaged:
+            self._damaged.append((spot, damaged))
+            self.found.append(Found(spot, "md member", DAMAGED.format(damaged.start)))
+        return damaged is not None
 
     def _recognise(self, spot: Spot, known: Optional[str]) -> None:
         """Says what a device is that has no partitions and is no member."""
@@ -167,5 +189,8 @@ class Pile:
                 done.add(identity)
                 array = Array(self._members[identity])
                 self.arrays.append(array)
+                newer = [spot for spot, damaged in self._damaged if damaged.set_uuid not in self._members or damaged.set_uuid == identity]
+                if newer and array.device and array.may_be_old:
+                    array.refuse(MAY_BE_NEWER.format(newer[0].device.name))
                 if array.device:
                     self._look_at(Spot(array.device, None, 0))

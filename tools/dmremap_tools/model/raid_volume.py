@@ -49,16 +49,20 @@ class Superblock(NamedTuple):
 
 
 class Legs(NamedTuple):
-    """The data of each leg, or why it isn't to be read, and the freshest superblock with the device that has it."""
+    """The data of each leg, or why it isn't to be read, and the freshest superblock with the device that has it; and what is wrong
+    with superblocks that are there."""
 
     devices: List[Device]
     best: Superblock
     best_meta: Device
+    faults: List[str]
 
 
 def mirror_of(layout: "Layout", name: str, segment: Segment, size: int) -> Device:
     """A mirror: the first leg that has the bytes. Before the legs are alike, that is the first leg alone."""
     legs = legs_of(layout, name, segment, 1)
+    if legs.faults:
+        raise Refusal(name, f"{legs.faults[0]}, so that nothing tells whether that leg is newer: leave its disk out to take the other one")
     devices = legs.devices if legs.best.array_resync_offset == CLEAN else legs.devices[:1]
     return Copies(name, [Part(device.name, device, 0, size) if not isinstance(device, Missing) else device for device in devices], size)
 
@@ -80,16 +84,19 @@ def legs_of(layout: "Layout", name: str, segment: Segment, level: int) -> Legs:
     names = [value for value in segment.node.values(b"raids") if isinstance(value, bytes)]
     pairs = list(zip(names[::2], names[1::2]))
     if not 1 < len(pairs) <= MOST_LEGS or len(pairs) != segment.node.value(b"device_count", int):
-        raise Refusal(name, "its text doesn't say its legs")
+        raise Refusal(name, "its text doesn't say its legs: activate it with lvm2")
     found: Dict[int, Superblock] = {}
     whys: Dict[int, str] = {}
+    faults: List[str] = []
     for number, (meta, _) in enumerate(pairs):
+        device = layout.plain(meta)
         try:
-            found[number] = superblock_of(layout.plain(meta), len(pairs), number, level)
+            found[number] = superblock_of(device, len(pairs), number, level)
         except Refusal as refusal:
             whys[number] = f"{shown(meta)}: {refusal.why}"
+            faults += [whys[number]] * (device.lack(0, SECTOR) is None)
     if not found:
-        raise Refusal(name, "; ".join(whys.values()))
+        raise Refusal(name, f"{'; '.join(whys.values())}: give the disks of all legs")
     freshest = max(found, key=lambda number: found[number].events)
     best = found[freshest]
     if best.compat_features & V190 and (best.reshape_position != CLEAN or best.data_offset or best.delta_disks):
@@ -97,8 +104,8 @@ def legs_of(layout: "Layout", name: str, segment: Segment, level: int) -> Legs:
     devices: List[Device] = []
     for number, (_, data) in enumerate(pairs):
         why = whys.get(number) or stale(found[number], best, number)
-        devices.append(Missing(f"{shown(data)}: {why}") if why else layout.plain(data))
-    return Legs(devices, best, layout.plain(pairs[freshest][0]))
+        devices.append(Missing(f"{shown(data)}: {why}: give the disks of the other legs") if why else layout.plain(data))
+    return Legs(devices, best, layout.plain(pairs[freshest][0]), faults)
 
 
 def dirty_runs(meta: Device) -> List[Tuple[int, int]]:

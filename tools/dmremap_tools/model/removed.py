@@ -104,6 +104,10 @@ class Refused:
         self._side, self._name, self._texts, self._writers = side, name, texts, writers
 
     def __call__(self) -> Optional[str]:
+        why = self._why()
+        return why and f"{why}: to see what is left, restore the text with the seqno {self._side.text.seqno} on copies (vgcfgrestore)"
+
+    def _why(self) -> Optional[str]:
         later = [text for text in self._texts if text.seqno > self._side.text.seqno]
         numbers = {text.seqno for text in later}
         missing = [number for number in range(self._side.text.seqno + 1, max(numbers, default=0)) if number not in numbers]

@@ -91,7 +91,7 @@ def device_of(layout: "Layout", name: str, segment: Segment, size: int) -> Devic
     pool_name, number = segment.node.value(b"thin_pool", bytes), segment.node.value(b"device_id", int)
     pool = layout.group.volumes.get(pool_name) if isinstance(pool_name, bytes) else None
     if not pool or len(pool.segments) != 1 or not isinstance(number, int) or number < 0:
-        raise Refusal(name, "its text doesn't say in which pool it is")
+        raise Refusal(name, "its text doesn't say in which pool it is: activate it with lvm2")
     if segment.node.child(b"external_origin"):
         raise Refusal(name, "it has an external origin, which isn't followed: activate it with lvm2")
     node = pool.segments[0].node
@@ -101,7 +101,7 @@ def device_of(layout: "Layout", name: str, segment: Segment, size: int) -> Devic
     parts = (node.value(b"metadata", bytes), node.value(b"pool", bytes))
     meta, data = (layout.plain(value) if isinstance(value, bytes) else None for value in parts)
     if not meta or not data:
-        raise Refusal(name, f"the text doesn't say where the pool {shown(pool.name)} is")
+        raise Refusal(name, f"the text doesn't say where the pool {shown(pool.name)} is: activate it with lvm2")
     superblock = superblock_of(meta)
     if superblock.data_block_size != node.value(b"chunk_size", int):
         raise Refusal(name, "the pool's metadata has other blocks than the text: give images of one time")
@@ -110,7 +110,7 @@ def device_of(layout: "Layout", name: str, segment: Segment, size: int) -> Devic
         raise Refusal(name, f"the pool's metadata has the transaction {superblock.trans_id}, and the text {told}: give images of one time")
     root = values_of(list(Tree(meta, superblock.data_mapping_root, VALUE.size).entries(number, number + 1)), meta)
     if root is None:
-        raise Refusal(name, f"the pool's metadata has no device {number}: it was deleted from the pool")
+        raise Refusal(name, f"the pool's metadata has no device {number}: it was deleted from the pool, and `scan` lists what is left")
     return ThinDevice(name, Tree(meta, VALUE.unpack(root)[0], VALUE.size), data, superblock.data_block_size * SECTOR, size)
 
 
