@@ -1,4 +1,4 @@
-"""The script ./build: what it says, that one call builds at a time, and that nothing of a build is lost or left behind,
+"""The script tools/building/build: what it says, that one call builds at a time, and that nothing of a build is lost or left behind,
 however it ends. Whatever fails that isn't the program's own has the status 70 and a message."""
 
 import contextlib
@@ -11,12 +11,12 @@ import tempfile
 import time
 
 from harness import Outcome, become_nobody, run
-from trees import ANEW, ANSWER, BUILDING, CRATES, HELD_RT, REQUESTS, RT, SLOW_RT, WAITING, Tree, becomes, runs, told, without_times
+from trees import ANEW, ANSWER, BUILD, BUILDING, CRATES, HELD_RT, REQUESTS, RT, SLOW_RT, TOOLCHAIN, WAITING, Tree, becomes, runs, told, without_times
 
 # How often the script tells what runs.
 OFTEN = ("MINUTE, AWAY, MOMENT = 60, 300, 0.02", "MINUTE, AWAY, MOMENT = 1, 1, 0.02")
 SOURCE = "crates/low/src/text"
-USAGE = "usage: ./build [--run WORD.. | --by COMMAND..]\n"
+USAGE = "usage: tools/building/build [--run WORD.. | --by COMMAND..]\n"
 
 
 def check(tally, program, top):
@@ -82,7 +82,7 @@ def check_faults(tally, tree):
     tree.remove()
     got = tree.run(["splitname", "a-b"], variables={"TMPDIR": "/no/such/folder"})
     tally.same("./dmremap without a TMPDIR", got, 0, "a b\n", BUILDING + told())
-    for name, lost in ("no crates.txt", "crates.txt"), ("no README", "README.md"), ("no HANDLES", "HANDLES"), ("no crates", "crates"):
+    for name, lost in ("no crates.txt", "crates.txt"), ("no toolchain", TOOLCHAIN), ("no HANDLES", "HANDLES"), ("no crates", "crates"):
         os.rename(tree.path(lost), tree.path("lost"))
         tree.remove()
         got = tree.run(["splitname", "a-b"])
@@ -282,7 +282,7 @@ def check_told(tally, tree):
     with open(tree.build, encoding="utf-8") as it:
         text = it.read()
     tally.holds("./build tells what runs", text.count(OFTEN[0]) == 1, "there is no %s" % OFTEN[0])
-    often = tree.write("often", text.replace(*OFTEN))
+    often = tree.write(os.path.join(os.path.dirname(BUILD), "often"), text.replace(*OFTEN))
     os.chmod(often, 0o755)
     tree.rt(HELD_RT)
     let = os.path.join(tree.room, "let")

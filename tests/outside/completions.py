@@ -82,7 +82,7 @@ def check(tally, program, top):
             tally.skip("what is typed in " + shell, "it isn't there")
             continue
         folder = os.path.join(program.room, "typed", shell)
-        for name, content in [(start, TOLD % (script % os.path.join(top, "completions"))), ("stack.table", ""),
+        for name, content in [(start, TOLD % (script % os.path.join(top, "tools", "packaging", "completions"))), ("stack.table", ""),
                               ("stack.disks", ""), ("stack.errors", ""), ("other file", "what it holds")]:
             program.file(os.path.join(folder, name), content)
         told = typed(words, [line for line, _ in LINES], folder)
@@ -134,7 +134,7 @@ def check_offered(tally, program, top):
             tally.skip("the completions of " + shell, "it isn't there")
             continue
         for given, wanted in rows:
-            got = run(words + [os.path.join(top, "completions", script), "dmremap"] + given, folder=folder)
+            got = run(words + [os.path.join(top, "tools", "packaging", "completions", script), "dmremap"] + given, folder=folder)
             offered = set(got.out.decode().split("\n")) - {""}
             is_so = got.status == 0 and got.err == b"" and is_offered(offered, given[-1], wanted)
             tally.holds("what %s offers after %s" % (shell, given), is_so,

@@ -8,7 +8,7 @@ import re
 import transcripts
 
 # Where a path of this repository begins, as documents write it.
-PATH = re.compile(r"(?:crates|docs|examples|benches|tests|completions)/[\w./*-]*[\w*]")
+PATH = re.compile(r"(?:crates|docs|examples|tests|tools)/[\w./*-]*[\w*]")
 # A file of definitions of a crate, and words that a document says are in files of a name.
 SPECS = re.compile(r"\b(\w+)/specs/((?:[a-z]\w*/)*[A-Z]\w*)")
 WORDS = re.compile(r"`([A-Z]\w*)` (?:\(((?:`\w+`(?:, )?)+)\)|(`\w+`))")
@@ -39,7 +39,7 @@ WALK, COMMANDS = re.compile(r"\n## 10\. From images alone\n(.*?)\n## ", re.S), 1
 
 
 def check(tally, program, top):
-    documents = [os.path.join(top, *it) for it in (("README.md",), ("CHANGELOG.md",), ("benches", "RESULTS.md"))]
+    documents = [os.path.join(top, *it) for it in (("README.md",), ("CHANGELOG.md",), ("tests", "benches", "RESULTS.md"))]
     documents += sorted(glob.glob(os.path.join(top, "docs", "*.md")))
     code = code_of(top)
     for document in documents + sorted(glob.glob(os.path.join(top, "docs", "*.1"))):

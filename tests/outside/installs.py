@@ -1,4 +1,4 @@
-"""The scripts ./install and ./release: what they put where, that it works from there, what they remove, that the program
+"""The scripts ./install and tools/packaging/release: what they put where, that it works from there, what they remove, that the program
 of a release asks the machine for no library, and that one commit packs into the same bytes.
 
 They run in a small repository of their own, in which the program stands built."""
@@ -11,19 +11,20 @@ import shutil
 import tarfile
 
 from harness import is_static, run
-from trees import ANSWER, DISKS, REQUESTS, SCRIPTS, TABLE
+from trees import ANSWER, BUILD, DISKS, REQUESTS, SCRIPTS, TABLE
 
 # What is installed besides the program and the documents, and where it is here.
 PLACES = {
     "share/man/man1/%s.1": "docs/%s.1",
-    "share/bash-completion/completions/%s": "completions/%s.bash",
-    "share/zsh/site-functions/_%s": "completions/_%s",
+    "share/bash-completion/completions/%s": "tools/packaging/completions/%s.bash",
+    "share/zsh/site-functions/_%s": "tools/packaging/completions/_%s",
 }
 DOCUMENTS = "share/doc/dmremap"
 # What packs the tool, and what it makes.
 PACK, TOOL = "tools/pack", "bin/dmremap-tools"
 USAGE = "usage: ./install [--remove] [PREFIX]\n"
-RELEASE_USAGE = "usage: ./release [FOLDER]\n"
+RELEASE = "tools/packaging/release"
+RELEASE_USAGE = "usage: tools/packaging/release [FOLDER]\n"
 # How the README tells which C library the program needs.
 LEAST = re.compile(r"glibc (\d+)\.(\d+)")
 GIT = ["git", "-c", "user.name=A", "-c", "user.email=a@b", "-c", "commit.gpgsign=false"]
@@ -63,7 +64,7 @@ def check(tally, program, top):
 def make_tree(program, top, name):
     """A repository with the scripts, what they install, and the program."""
     tree = os.path.join(program.room, name)
-    for it in [*SCRIPTS, "install", "release", "README.md", "CHANGELOG.md", ".gitignore", "docs", "benches/RESULTS.md", "completions", "examples", "tools"]:
+    for it in [*SCRIPTS[:2], "install", "README.md", "CHANGELOG.md", ".gitignore", "docs", "tests/benches/RESULTS.md", "examples", "tools"]:
         one, other = os.path.join(top, it), os.path.join(tree, it)
         os.makedirs(os.path.dirname(other), exist_ok=True)
         if os.path.isdir(one):
@@ -79,7 +80,7 @@ def make_tree(program, top, name):
     if not os.path.exists(objects):
         make_objects(program)
     make = 'cp "$1" "$3/dmremap" && cp "$2" "$3/dmremap.o"'
-    got = run([os.path.join(tree, "build"), "--by", "sh", "-c", make, "sh", program.path, os.path.join(objects, "c", "main.o"), out])
+    got = run([os.path.join(tree, BUILD), "--by", "sh", "-c", make, "sh", program.path, os.path.join(objects, "c", "main.o"), out])
     if got.status:
         raise RuntimeError("no program was put there: %r" % got.err)
     return tree
@@ -101,7 +102,7 @@ def installed_in(tree):
     """What is installed, and the bytes that it has. Those of the tool aren't looked at."""
     places = {"bin/dmremap": "crates/dmremap/out/dmremap", TOOL: PACK}
     places.update((place % name, path % name) for name in ("dmremap", "dmremap-tools") for place, path in PLACES.items())
-    for pattern in ("README.md", "CHANGELOG.md", "docs/*.md", "docs/*.svg", "benches/RESULTS.md", "examples/*.*", "examples/samples/*.*"):
+    for pattern in ("README.md", "CHANGELOG.md", "docs/*.md", "docs/*.svg", "tests/benches/RESULTS.md", "examples/*.*", "examples/samples/*.*"):
         paths = [os.path.relpath(it, tree) for it in glob.glob(os.path.join(tree, pattern))]
         places.update(("%s/%s" % (DOCUMENTS, it), it) for it in paths)
     return {place: None if place == TOOL else bytes_of(os.path.join(tree, path)) for place, path in places.items()}
@@ -214,7 +215,7 @@ def check_release(tally, program, top, tree):
     kit = os.path.join(program.room, "objects")
     os.chmod(program.file("kit/rt", RT % kit), 0o755)
     env["PATH"] = os.path.join(program.room, "kit") + os.pathsep + env["PATH"]
-    release = os.path.join(tree, "release")
+    release = os.path.join(tree, RELEASE)
     for words in ["--help"], [""], ["a", "b"], [program.room, ""]:
         tally.same("./release %s" % words, run([release, *words], env=env), 2, "", RELEASE_USAGE)
     tally.same("./release without a repository", run([release], env=env), 1, "", "release: there is no repository in %s\n" % tree)
@@ -231,7 +232,7 @@ def check_release(tally, program, top, tree):
     for at, mask, variables in (tree, 0o022, env), (other, 0o077, odd):
         folder = os.path.join(program.room, "packed", str(mask))
         os.makedirs(folder)
-        got = run([os.path.join(at, "release")], folder=folder, env=variables, before=lambda: os.umask(mask))
+        got = run([os.path.join(at, RELEASE)], folder=folder, env=variables, before=lambda: os.umask(mask))
         made = {it: bytes_of(os.path.join(folder, it)) for it in os.listdir(folder)}
         packed.append(made)
         names = names_of(program)

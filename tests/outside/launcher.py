@@ -10,7 +10,7 @@ import subprocess
 import time
 
 from harness import run
-from trees import ANSWER, BUILDING, ECHO, REQUESTS, TOOLS, VERSION, Tree, becomes, told
+from trees import ANSWER, BUILD, BUILDING, ECHO, LOGIC, REQUESTS, TOOLCHAIN, TOOLS, Tree, becomes, told
 
 # A change of any of these means that the program is built anew.
 SOURCES = ["crates/low/src/text", "crates/middle/proofs/text", "crates/dmremap/specs/text", "HANDLES"]
@@ -36,13 +36,12 @@ def check(tally, program, top, is_own):
 
 
 def check_version(tally, top):
-    """The script finds the version of the toolchain in the README, and another document has the same."""
-    texts = []
+    """The documents have the logic of the toolchain that a file says, which the build compares."""
+    with open(os.path.join(top, TOOLCHAIN), encoding="utf-8") as it:
+        logic = it.read().strip()
     for name in ("README.md", os.path.join("docs", "PROMISES.md")):
         with open(os.path.join(top, name), encoding="utf-8") as it:
-            texts.append(it.read())
-    said = re.findall("`rt version` prints `([^`]*)`", texts[0])
-    tally.holds("the version of the toolchain", len(said) == 1 and "`%s`" % said[0] in texts[1], "the README has %s" % said)
+            tally.holds("the logic of the toolchain in " + name, "%s`" % logic in it.read(), "there is no " + logic)
 
 
 def path_without(tree, *left_out):
@@ -60,7 +59,7 @@ def check_own(tally, tree, top):
     no means to build another."""
     env = dict(os.environ, PATH=path_without(tree, "python3"))
     got = run([os.path.join(top, "dmremap"), *tree.words()], env=env, given=REQUESTS)
-    tally.same("the repository's own ./dmremap, which ./check or ./build leaves", got, 0, ANSWER)
+    tally.same("the repository's own ./dmremap, which ./check or a build leaves", got, 0, ANSWER)
 
 
 def check_words(tally, tree):
@@ -145,11 +144,11 @@ def check_own_path(tally, program, top):
 
 def check_interrupts(tally, tree):
     """An interrupt while the scripts are loaded, before they can end a build, ends them in silence."""
-    path = tree.path("launch/calls.py")
+    path = tree.path("tools/building/calls.py")
     with open(path, encoding="utf-8") as it:
         kept = it.read()
     begun = os.path.join(tree.room, "begun")
-    tree.write("launch/calls.py", "import time\nopen(%r, 'w').close()\ntime.sleep(30)\n%s" % (begun, kept))
+    tree.write("tools/building/calls.py", "import time\nopen(%r, 'w').close()\ntime.sleep(30)\n%s" % (begun, kept))
     for script in tree.script, tree.build:
         tree.remove()
         ran = subprocess.Popen([script, "--run"], env=tree.environment(), stdout=subprocess.PIPE, stderr=subprocess.PIPE, start_new_session=True)
@@ -159,7 +158,7 @@ def check_interrupts(tally, tree):
         is_so = has_begun and ran.returncode in (130, -signal.SIGINT) and not out and not err
         tally.holds("an interrupt of %s while it is loaded" % os.path.basename(script), is_so, "%s, %r" % (ran.returncode, err))
         os.remove(begun)
-    tree.write("launch/calls.py", kept)
+    tree.write("tools/building/calls.py", kept)
 
 
 def check_changes(tally, tree):
@@ -339,29 +338,31 @@ def check_lacking(tally, tree):
     tally.same("./dmremap once it is built, without python3", got, 0, ANSWER)
     tree.remove()
     got = tree.run(["--version"], variables={"PATH": path_without(tree, "python3")})
-    tally.same("./dmremap without python3", got, 70, "", "dmremap: ./build makes the program, and there is no python3 on the path that runs\n")
+    tally.same("./dmremap without python3", got, 70, "", "dmremap: tools/building/build makes the program, and there is no python3 on the path that runs\n")
     broken = path_without(tree, "python3", "rt")
     for name, text in ("fails", "#!/bin/sh\nexit 1\n"), ("can't be run", "#!/no/such/interpreter\n"):
         os.chmod(tree.program.file(os.path.join(broken, "python3"), text), 0o755)
         got = tree.run(["--version"], variables={"PATH": broken})
-        tally.same("./dmremap with a python3 that " + name, got, 70, "", "dmremap: ./build makes the program, and there is no python3 on the path that runs\n")
-    for name in "build", "try":
+        tally.same("./dmremap with a python3 that " + name, got, 70, "", "dmremap: tools/building/build makes the program, and there is no python3 on the path that runs\n")
+    for name in BUILD, "try":
         for few in path_without(tree, "python3"), broken:
             got = tree.run([], tree.path(name), variables={"PATH": few})
-            said = "dmremap: ./%s takes Python, and there is no python3 on the path that runs\n" % name
+            said = "dmremap: %s takes Python, and there is no python3 on the path that runs\n" % (name if name == BUILD else "./try")
             tally.same("./%s without a python3 that runs" % name, got, 70, "", said)
     got = tree.run(["--help"], tree.build, variables={"PYTHONHOME": "/no/such/folder"})
-    tally.same("./build where Python is sent elsewhere", got, 2, "", "usage: ./build [--run WORD.. | --by COMMAND..]\n")
+    tally.same("./build where Python is sent elsewhere", got, 2, "", "usage: tools/building/build [--run WORD.. | --by COMMAND..]\n")
     got = tree.run(["--version"], variables={"PATH": path_without(tree)})
     tally.same("./dmremap without rt", got, 70, "", "dmremap: the program is built by the Rattle toolchain"
-               " (%s), and there is no rt on the path\n" % VERSION)
+               " (of %s), and there is no rt on the path\n" % LOGIC)
     old = "import runpy, sys\nsys.version_info = (3, 7)\nsys.version = '3.7.3 (default)'\nrunpy.run_path(sys.argv[1])"
     got = tree.run(["-c", old, tree.build], "python3")
     tally.same("./build by an older Python", got, 70, "", "dmremap: the scripts take Python 3.8 or later, and this is 3.7.3\n")
     got = tree.run(["splitname", "a-b"], variables={"VERSION": "another", "BROKEN": "low"})
     tally.same("./dmremap with another version of rt", got, 70, "",
-               "dmremap: warning: rt version prints another, and the program is proved with %s\n" % VERSION + BUILDING
+               "dmremap: warning: rt version prints another, and the program is proved with %s\n" % LOGIC + BUILDING
                + "rt: this is low\ndmremap: the build of low failed\n")
+    got = tree.run(["splitname", "a-b"], variables={"VERSION": "another kit " + LOGIC, "BROKEN": "low"})
+    tally.same("./dmremap with another rt of the same logic", got, 70, "", BUILDING + "rt: this is low\ndmremap: the build of low failed\n")
     tree.put("#!/no/such/interpreter\n")
     for shell in ["sh"], ["bash"], ["bash", "--posix"]:
         got = tree.run([*shell[1:], tree.script, "--version"], shell[0])

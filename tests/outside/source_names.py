@@ -11,8 +11,8 @@ from documents import text_of
 BYTES = {"ARCHITECTURE.md": 18200, "DECISIONS.md": 17800, "DEVELOPING.md": 10400, "PROMISES.md": 21500, "READING.md": 3800}
 # And all pages together.
 ALL_BYTES = 235500
-SOURCES = ("crates/*/*/**/*.rt", "crates/*/*/**/*.antt", "crates/*/must-fail/*", "crates.txt", "HANDLES", "launch/*",
-           "benches/*", "tools/**/*.py", "tests/*/*.py", "[a-z]*")
+SOURCES = ("crates/*/*/**/*.rt", "crates/*/*/**/*.antt", "crates/*/must-fail/*", "crates.txt", "HANDLES", "tools/*/*",
+           "tests/benches/*", "tools/**/*.py", "tests/*/*.py", "[a-z]*")
 # Wrong changes that the gate has to refuse, and how many of them a document says that there are.
 EDITS, SAID = "crates/*/must-fail/*.edit", re.compile(r"at most (\d+) must-fail edits; there are (\d+)\b")
 # A name in marks of code: of one word, or with the type before.

@@ -69,7 +69,7 @@ def check_offered(tally, program, top, derive):
             tally.skip("the completions of " + shell, "it isn't there")
             continue
         for given, wanted in rows:
-            got = run(words + [os.path.join(top, "completions", script), TOOL] + given, folder=folder)
+            got = run(words + [os.path.join(top, "tools", "packaging", "completions", script), TOOL] + given, folder=folder)
             offered = {it for it in got.out.decode().split("\n") if it.startswith(given[-1])} - {"", "--help"}
             is_so = (got.status, got.err) == (0, b"") and offered == wanted - {"--help"}
             tally.holds("what %s offers after %s" % (shell, given), is_so, "status %s, %r, %s" % (got.status, got.err, offered))
@@ -78,7 +78,7 @@ def check_offered(tally, program, top, derive):
 def check_derived(tally, program, top):
     """A manual that doesn't fit on the disk, and completions without their folder."""
     room = os.path.join(os.path.realpath(program.room), "derived")
-    shutil.copytree(os.path.join(top, "tools"), os.path.join(room, "tools"))
+    shutil.copytree(os.path.join(top, "tools"), os.path.join(room, "tools"), ignore=shutil.ignore_patterns("completions"))
     page = os.path.join(room, "docs", TOOL + ".1")
     os.makedirs(os.path.dirname(page))
     shutil.copy(os.path.join(top, "docs", "dmremap.1"), os.path.dirname(page))
@@ -86,7 +86,7 @@ def check_derived(tally, program, top):
     script = [os.path.join(room, "tools", "derive")]
     tally.same("tools/derive on a full disk", run(script), 5, "", "derive: %s: No space left on device\n" % page)
     os.unlink(page)
-    lost = os.path.join(room, "completions", TOOL + ".bash")
+    lost = os.path.join(room, "tools", "packaging", "completions", TOOL + ".bash")
     tally.same("tools/derive without a folder", run(script), 5, "", "derive: %s: No such file or directory\n" % lost)
     with open(page, encoding="utf-8") as one, open(os.path.join(top, "docs", TOOL + ".1"), encoding="utf-8") as other:
         tally.holds("what it wrote before", one.read() == other.read(), "it is another")

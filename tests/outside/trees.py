@@ -1,4 +1,4 @@
-"""Small trees with the scripts ./dmremap, ./build and ./try, and a few crates, in which `rt` is a script that tells how
+"""Small trees with the scripts ./dmremap, tools/building/build and ./try, and a few crates, in which `rt` is a script that tells how
 it was called."""
 
 import os
@@ -17,14 +17,15 @@ ANSWER = "1 W sda 6 3\n"
 # Each stands on those before it, and the program on nothing else.
 CRATES = ["low", "middle", "dmremap"]
 LINES = "# a comment: low\nlow: memchr\ndmremap: clap low middle\nbeside: low\nmiddle: low itoa\n"
-SCRIPTS = ["dmremap", "build", "try", "launch"]
+BUILD, TOOLCHAIN = "tools/building/build", "tools/building/toolchain"
+SCRIPTS = ["dmremap", "try", "tools/building"]
 BUILDING = "dmremap: building the proved program; the first time this takes 25 minutes on four processors\n"
 ANEW = "dmremap: building the proved program; the sources were changed meanwhile\n"
 WAITING = "dmremap: another call builds the program; waiting for it\n"
 # How long crates took and since when they run, which no two runs have in common.
 TOOK = [(re.compile(rb"after \d+ min \d+ s"), b"after 0 min 0 s"), (re.compile(rb"since \d\d:\d\d"), b"since 00:00")]
-VERSION = "a kit 1 logic 2"
-README = "Proved with the one for which `rt version` prints `%s`.\n" % VERSION
+LOGIC = "logic 2"
+VERSION = "a kit 1 " + LOGIC
 # What the scripts call, for a path where there is no rt.
 TOOLS = ["awk", "cat", "cmp", "cp", "date", "find", "readlink", "sed", "sha256sum", "sort", "stat", "tr", "xargs"]
 
@@ -88,12 +89,12 @@ class Tree:
             for part in ("src", "specs", "proofs"):
                 program.file(os.path.join(self.top, "crates", crate, part, "text"), "%s of %s\n" % (part, crate))
         program.file(os.path.join(self.top, "crates.txt"), LINES)
-        program.file(os.path.join(self.top, "README.md"), README)
         program.file(os.path.join(self.top, "HANDLES"), "Handles allowed: none.\n")
         for it in SCRIPTS:
             how = shutil.copytree if os.path.isdir(os.path.join(top, it)) else shutil.copy
             how(os.path.join(top, it), os.path.join(self.top, it))
-        self.script, self.build = os.path.join(self.top, "dmremap"), os.path.join(self.top, "build")
+        program.file(os.path.join(self.top, TOOLCHAIN), LOGIC + "\n")
+        self.script, self.build = os.path.join(self.top, "dmremap"), os.path.join(self.top, BUILD)
         self.built = os.path.join(self.top, "crates", "dmremap", "out", "dmremap")
         self.made = program.path
         self.rt(RT)

@@ -1,4 +1,4 @@
-# Completes the words of dmremap in bash. To try it: `source completions/dmremap.bash`. To keep it, copy
+# Completes the words of dmremap in bash. To try it: `source tools/packaging/completions/dmremap.bash`. To keep it, copy
 # it to ~/.local/share/bash-completion/completions/dmremap.
 
 _dmremap() {

@@ -7,7 +7,7 @@ import re
 
 from calls import Failed
 
-TOP = os.path.dirname(os.path.dirname(os.path.realpath(__file__)))
+TOP = os.path.realpath(os.path.join(os.path.dirname(os.path.realpath(__file__)), "..", ".."))
 OUT = os.path.join(TOP, "out")
 PARTS = ("src", "specs", "proofs")
 # What is built, and what rt links it from.

@@ -1,7 +1,7 @@
 #!/usr/bin/env python3
 """Time and memory of replays, for a number of requests and for a tenth of them.
 
-Usage: benches/replay.py PROGRAM [MOST]
+Usage: tests/benches/replay.py PROGRAM [MOST]
 
 PROGRAM is the built program, crates/dmremap/out/dmremap. Each line tells what is asked, how many
 times (up to MOST, 1000000 if not said), the seconds of processor time, how much longer they are than

@@ -1,7 +1,7 @@
 #!/usr/bin/env python3
 """Times of loading, for the largest table of each shape and for a tenth of it.
 
-Usage: benches/load.py PROGRAM [RUNS]
+Usage: tests/benches/load.py PROGRAM [RUNS]
 
 PROGRAM is the built program, crates/dmremap/out/dmremap. Each line tells a shape, the bytes of its
 table, the least milliseconds of processor time of RUNS runs (5 if not said) over the time of an

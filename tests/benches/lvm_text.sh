@@ -4,14 +4,14 @@
 # Where crates/lvm_text/out holds a check, the build takes it over; from nothing it takes some minutes more.
 set -eu
 
-top=$(cd "$(dirname "$0")/.." && pwd)
+top=$(cd "$(dirname "$0")/../.." && pwd)
 work=$(mktemp -d)
 trap 'rm -rf "$work"' EXIT
 
 program="$work/crates/lvm_text_times"
 mkdir -p "$program/src"
 cp -r "$top/crates/lvm_text" "$work/crates/lvm_text"
-cp "$top/benches/lvm_text.rt.in" "$program/src/main.rt"
+cp "$top/tests/benches/lvm_text.rt.in" "$program/src/main.rt"
 grep '^lvm_text:' "$top/crates.txt" > "$work/crates.txt"
 echo 'lvm_text_times: lvm_text' >> "$work/crates.txt"
 

@@ -1,5 +1,5 @@
 # Completes the words of dmremap-tools in bash. Made by tools/derive: don't edit. To try it:
-# `source completions/dmremap-tools.bash`. To keep it, copy it to
+# `source tools/packaging/completions/dmremap-tools.bash`. To keep it, copy it to
 # ~/.local/share/bash-completion/completions/dmremap-tools.
 
 _dmremap_tools() {

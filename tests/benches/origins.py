@@ -1,7 +1,7 @@
 #!/usr/bin/env python3
 """What writes of origins cost, in instructions, beside writes through a linear line.
 
-Usage: benches/origins.py PROGRAM
+Usage: tests/benches/origins.py PROGRAM
 
 PROGRAM is the built program, crates/dmremap/out/dmremap. Each line tells some requests, how many
 snapshots the origin has, in chunks of 8 sectors, and the instructions and the lines of output of one

@@ -1,7 +1,7 @@
 #!/usr/bin/env python3
 """Time and memory of the commands of dmremap-tools, for a number of lines and for a tenth of them.
 
-Usage: benches/tools.py [MOST [COMMAND ..]]
+Usage: tests/benches/tools.py [MOST [COMMAND ..]]
 
 Each line tells a command and its input of MOST lines (1000000 if not said), the least seconds of processor time of five
 runs, how much longer they are than those of a tenth, and the greatest memory in MiB of a tenth and of all. Time that is linear
@@ -17,7 +17,7 @@ import subprocess
 import sys
 import tempfile
 
-TOOL = [sys.executable, os.path.join(os.path.dirname(os.path.dirname(os.path.realpath(__file__))), "dmremap-tools")]
+TOOL = [sys.executable, os.path.join(os.path.dirname(os.path.realpath(__file__)), "..", "..", "dmremap-tools")]
 RUNS = 5
 EXTENTS = ("Filesystem type is: ef53\nFile size of /f is %d (%d blocks of 512 bytes)\n"
            " ext:     logical_offset:        physical_offset: length:   expected: flags:\n")
