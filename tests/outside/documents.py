@@ -35,7 +35,7 @@ PICTURE, GROUP, WRITE = "docs/stack.svg", "examples/vg0-snapshot.backup", "W vg0
 # What a block of the tutorial begins with if its commands want more than the repository's files.
 MARK = "# needs "
 # Its way from images of disks to lost files, and how many commands that takes at most.
-WALK, COMMANDS = re.compile(r"\n## 10\. From images alone\n(.*?)\n## ", re.S), 12
+WALK, COMMANDS = re.compile(r"\n## 1\. From images alone\n(.*?)\n## ", re.S), 12
 
 
 def check(tally, program, top):
