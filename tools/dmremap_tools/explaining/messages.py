@@ -230,7 +230,6 @@ OTHERS: Dict[str, str] = {
     ),
     "dmremap: memory": (
         "Out of memory. Give it more, or leave devices out. The stack may be too small, too: `ulimit -s` has to print 512 or "
-        "more. Where the address space ends before the stack does, the program ends by a signal in place of this message.\n"
-        "Other messages with status 2 come from the library that reads the command line."
+        "more."
     ),
 }
