@@ -1,5 +1,5 @@
-"""The documents: what they name and link to exists, they are short, and the commands that the README and the tutorial
-show print what is shown there. The heads of the sources' files name files that exist, too."""
+"""The documents: what they name and link to exists, they are short, and the commands that the README, the tutorial and the
+page on programs show print what is shown there. The heads of the sources' files name files that exist, too."""
 
 import glob
 import os
@@ -29,13 +29,13 @@ NAME = re.compile(r"`(?:\w+/)*(\w+)`")
 ITEM = re.compile(r"^ *(?:pub(?:\(\w+\))? )?(?:const )?(?:fn|struct|enum|trait|const|static|type) (\w+)", re.M)
 
 # What these documents have at most, so that each is read at one sitting.
-BYTES = {"README.md": 7400, "docs/TUTORIAL.md": 16000, "docs/RECIPES.md": 26000, "docs/dmremap.1": 21600, "docs/dmremap-tools.1": 13200}
+BYTES = {"README.md": 7000, "docs/TUTORIAL.md": 12700, "docs/RECIPES.md": 26000, "docs/dmremap.1": 20800, "docs/dmremap-tools.1": 13200}
 # The picture of the README, the group that it is of, and the write that it shows.
 PICTURE, GROUP, WRITE = "docs/stack.svg", "examples/vg0-snapshot.backup", "W vg0-lv0 8000 8"
 # What a block of the tutorial begins with if its commands want more than the repository's files.
 MARK = "# needs "
 # Its way from images of disks to lost files, and how many commands that takes at most.
-WALK, COMMANDS = re.compile(r"\n## 10\. From images alone\n(.*?)\n## ", re.S), 12
+WALK, COMMANDS = re.compile(r"\n## 1\. From images alone\n(.*?)\n## ", re.S), 12
 
 
 def check(tally, program, top):
@@ -61,7 +61,7 @@ def check(tally, program, top):
         size = os.path.getsize(os.path.join(top, name))
         tally.holds("the size of %s" % name, size <= most, "it has %d bytes" % size)
     check_picture(tally, program, top)
-    for name in ("README.md", os.path.join("docs", "TUTORIAL.md")):
+    for name in ("README.md", os.path.join("docs", "TUTORIAL.md"), os.path.join("docs", "PYTHON.md")):
         text = text_of(os.path.join(top, name))
         transcripts.check(tally, program, top, name, transcripts.of_markdown(text))
     tutorial = text_of(os.path.join(top, "docs", "TUTORIAL.md"))

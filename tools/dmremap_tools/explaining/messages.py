@@ -13,10 +13,9 @@ TEXTS: Dict[str, str] = {
         "The file has more than 1,048,576 bytes; there is no number. Leave out devices that the requests don't need."
     ),
     "text": (
-        "A byte that the text can't have: in tables a tab, a carriage return or a letter outside ASCII; in metadata, what is "
-        "no UTF-8. In a table, `tr -d '\\r'` takes carriage returns out; write spaces for tabs, and other names. Of "
-        "metadata, `dmremap-tools lvm2-text` makes a copy without such bytes. If FILE is the metadata of a group, which has "
-        "tabs, its FORMAT is `lvm`."
+        "A byte that isn't allowed: in tables a tab, a carriage return or a letter outside ASCII; in metadata, anything but "
+        "UTF-8. In a table, `tr -d '\\r'` takes carriage returns out; write spaces for tabs, and other names. Of metadata, "
+        "`dmremap-tools lvm2-text` makes a copy without such bytes. Metadata, which has tabs, is of the FORMAT `lvm`."
     ),
     "syntax": (
         "The form is wrong.\nIn a table, a line is NAME: START LEN TYPE ARGS, with single spaces and a newline at its end. "
@@ -25,34 +24,32 @@ TEXTS: Dict[str, str] = {
         "first line, there is no semicolon after the last one, and no newline but at the end; write other names for those "
         "with escapes, as `a\\,b`. In metadata, a punctuation mark, string or key is missing, or there is one too many; "
         "`read_ahead = -1` and decimals are refused: `dmremap-tools lvm2-text` makes a copy of what lvm2 wrote without them. "
-        "If the number is one more than the file has lines, the end of the text is missing.\n`syntax at 1` for a file that "
-        "says `No devices found` means that dmsetup had none to print: run it on the right machine, while the devices are "
-        "active. For another file it mostly means that FORMAT is not the form that the file has, or that FILE and DISKS "
-        "stand the wrong way round."
+        "If the number is one more than the file has lines, the end of the text is missing.\n`syntax at 1` mostly means that "
+        "FORMAT is not that of the file, or that FILE and DISKS are swapped. If the file says `No devices found`, dmsetup "
+        "had none to print: run it on the right machine, while the devices are active."
     ),
     "field": (
         "A value doesn't fit.\nIn a table: a number with a sign, a leading zero, a unit or more than 19 digits; an unknown "
         "target; too few or too many arguments; a snapshot of a kind other than `P`, `N` and `K`. In concise text, also: "
         "MINOR is neither empty nor a number, or FLAGS is neither empty, `ro` nor `rw`. In a list of disks, the length is no "
         "such number. Delete devices with other targets, list them in DISKS with their lengths, and name them without "
-        "/dev/mapper/: answers then end at them.\nIn metadata: a field that is missing from the section at that line, a "
-        "value of another kind, a 0 where there has to be more, a number from 2^63 on or of more than 19 digits, a second "
-        "section at the top, or a segment of another type (raid, thin, cache, mirror and others). `dmremap-tools lvm2-text` "
-        "makes a copy without such volumes, and without what lies on them. If it is the segment of a snapshot that is being "
-        "merged into its origin, wait until that is done (`lvs -a`), and take the text anew."
+        "/dev/mapper/: answers then end at them.\nIn metadata: a field that the section at that line lacks, a value of "
+        "another kind, a 0 where more is needed, a number from 2^63 on or of more than 19 digits, a second section at the "
+        "top, or a segment of another type (raid, thin, cache, mirror and others). `dmremap-tools lvm2-text` makes a copy "
+        "without such volumes, and without what lies on them. If a snapshot is being merged into its origin, take the text "
+        "anew after that (`lvs -a`)."
     ),
     "name": (
-        "A name is empty, too long, or has a character that it can't have, such as those that dmsetup writes as `\\x20`. A "
+        "A name is empty, too long, or has a character that isn't allowed, such as those that dmsetup writes as `\\x20`. A "
         "device has 1 to 127 letters, digits and `#+-.:=@_`, a disk 1 to 255 characters from `!` to `~` without comma, "
         "semicolon and backslash, and not below /dev/mapper/. The UUID of concise text is empty, or has up to 128 of the "
-        "characters of a device. Write another name, in all places where it stands.\nIn metadata, the name of a volume or of "
-        "a layer of it would have more than 127 characters, with hyphens doubled: `dmremap-tools lvm2-text` makes a copy "
-        "without it."
+        "characters of a device. Write another name, everywhere.\nIn metadata, the name of a volume or of its layer would "
+        "have more than 127 characters, with hyphens doubled: `dmremap-tools lvm2-text` makes a copy without it."
     ),
     "twice": (
-        "A device, a disk or a key of the metadata is there twice. In a table, keep the lines of a device together, or give "
-        "one of two devices another name; otherwise delete one of the two. Of metadata, `dmremap-tools lvm2-text` makes a "
-        "copy with the one that lvm2 takes."
+        "A device, a disk or a key of the metadata is there twice. In a table, keep the lines of a device together, or "
+        "rename one of two devices; otherwise delete one of the two. Of metadata, `dmremap-tools lvm2-text` makes a copy "
+        "with the one that lvm2 takes."
     ),
     "empty": (
         "A device, a line, a disk or a volume of metadata has no sectors. Delete it."
@@ -77,24 +74,24 @@ TEXTS: Dict[str, str] = {
         "metadata are more than 16 deep."
     ),
     "stripe": (
-        "Stripes don't divide the line: there are 1 to 128 columns, the length is a multiple of their number, and each one's "
-        "share a multiple of the chunk, which has 1 to 4,294,967,295 sectors. Compare with `dmsetup table`."
+        "The line doesn't divide into stripes: there are 1 to 128 columns, the length is a multiple of their number, and "
+        "each one's share a multiple of the chunk, which has 1 to 4,294,967,295 sectors. Compare with `dmsetup table`."
     ),
     "range": (
-        "The line goes past the end of what it names. Compare offset and length with that one's length."
+        "The line goes past the end of what it names. Compare offset and length with the length of that."
     ),
     "snapshot": (
-        "A snapshot's or an origin's line is not the only one of its device, or is not as long as the origin, or the chunk "
-        "is no power of two from 1 to 1024. If it isn't the only one, give it a device of its own, and put a linear line to "
+        "The line of a snapshot or an origin is not the only one of its device, or is not as long as the origin, or the "
+        "chunk is no power of two from 1 to 1024. If it isn't the only one, give it its own device, and put a linear line to "
         "that in its place. In metadata, also: an origin or a store that is itself a snapshot, and a store that is also an "
-        "origin or the store of another snapshot. Where an origin was extended under its snapshot, make a linear device of "
-        "the snapshot's length on it, and name that as the origin. Of metadata, `dmremap-tools lvm2-text` makes a copy "
-        "without the snapshot."
+        "origin or the store of another snapshot. If an origin was extended under its snapshot, make a linear device of the "
+        "snapshot's length on it, and name that as the origin. Of metadata, `dmremap-tools lvm2-text` makes a copy without "
+        "the snapshot."
     ),
     "store": (
-        "A store has to be a disk, or a writable device that has only linear and striped lines, and below it only such "
-        "devices. In a table, list the store as a disk, or delete the snapshot. Of metadata, `dmremap-tools lvm2-text` makes "
-        "a copy without it."
+        "A store has to be a disk, or a writable device of linear and striped lines, over disks or over such devices. In a "
+        "table, list the store as a disk, or delete the snapshot. Of metadata, `dmremap-tools lvm2-text` makes a copy "
+        "without it."
     ),
     "extents": (
         "Only for metadata. A physical volume is shorter than its extents, or segments leave a gap, are empty or no multiple "
@@ -233,7 +230,6 @@ OTHERS: Dict[str, str] = {
     ),
     "dmremap: memory": (
         "Out of memory. Give it more, or leave devices out. The stack may be too small, too: `ulimit -s` has to print 512 or "
-        "more. Where the address space ends before the stack does, the program ends by a signal in place of this message.\n"
-        "Other messages with status 2 come from the library that reads the command line."
+        "more."
     ),
 }
