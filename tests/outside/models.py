@@ -267,6 +267,16 @@ def check_layers(tally, pile):
     pile.holds(tally, "a volume that is being moved", "vg0/moving", extents_of(data, 55, 3) + extents_of(data, 53, 2))
     pile.refuses(tally, "a snapshot that is invalid", "vg0/full", "save the origin instead")
     pile.refuses(tally, "a layer that isn't followed", "vg0/odd", "is of type vdo, which isn't followed")
+    got = pile.call("tables", "vg0", "disk", "--to", "out")
+    words = ["map", "table", "out/FILE", "out/DISKS", "--paths", "out/PATHS"]
+    tally.holds("tables with snapshots", got.status == 0 and got.out.decode() == f"dmremap {' '.join(words)}\n", f"{got.out!r}, {got.err!r}")
+    answers = pile.program.run(words, given="R vg0-old 0 40\n", folder=pile.folder)
+    with open(os.path.join(pile.folder, "disk"), "rb") as image:
+        read = b""
+        for row in answers.out.decode().splitlines():
+            image.seek(int(row.split()[3]) * SECTOR)
+            read += image.read(int(row.split()[4]) * SECTOR)
+    tally.holds("a snapshot by them", read == over(extents_of(data, 0, 5), new), f"{answers.out!r}, {answers.err!r}")
 
 
 def check_stores(tally, pile):
