@@ -22,8 +22,7 @@ TEXT = b'vg0 {\nid = "AAAAAA"\nseqno = 7\n}\ncontents = "x"\n\0'
 NEWER = TEXT.replace(b"7", b"10")
 SEARCHED = "metadata areas were looked for in the first and last 4 MiB\n"
 NOT_FOUND = ", and no metadata area is in the first or last 4 MiB"
-SEARCH = "`dmremap-tools scan` looks through the whole of it for labels"
-FROM_FIRST = ": %s; or %s" % (SEARCH, OTHER[2:])
+FROM_FIRST = ": take the physical volume from its first byte on, or " + OTHER[2:]
 USAGE = "usage: dmremap-tools metadata [-h] [--list | --seqno N | --at BYTE]"
 SAID = "dmremap-tools metadata: "
 
@@ -180,6 +179,7 @@ OTHER_GROUP = TEXT.replace(b"AAAAAA", b"BBBBBB")
 SUMMARY = "vg0 seqno %d, volumes: none\n"
 OLDER = (ONE + "its text is older: " + SUMMARY % 7).join(["passed over: ", "head: taken: the metadata area at byte 65536: " + SUMMARY % 10])
 BOTH_TOLD = "head: " + ONE + SUMMARY % 7 + "head: the metadata area at byte 65536: " + SUMMARY % 7
+LABELLED = "; the label of one that begins at byte %d is sound: give it as IMAGE?offset=%d"
 
 REFUSED = [
     ("zeros", bytes(8192), "there is no label in the first four sectors" + NOT_FOUND + FROM_FIRST),
@@ -220,7 +220,7 @@ REFUSED = [
     ("a volume without its first sector", ONE_AREA[SECTOR:], "the label in sector 0 says that it belongs in sector 1; "
      "the metadata area at byte 3584 belongs at byte 4096, so the image lacks its first 512 bytes" + NOT_FOUND + FROM_FIRST),
     ("a volume behind other sectors", bytes(8 * SECTOR) + ONE_AREA, "there is no label in the first four sectors; the metadata area "
-     "at byte 8192 belongs at byte 4096, so a physical volume begins at byte 4096 (sector 8)" + NOT_FOUND + FROM_FIRST),
+     "at byte 8192 belongs at byte 4096, so a physical volume begins at byte 4096 (sector 8)" + NOT_FOUND + LABELLED % (4096, 4096)),
     ("five areas without a label", b"".join([bytes(SIZE)] + [area(TEXT, start=(1 + it) * SIZE) for it in range(5)]),
      "more than 4 metadata areas are where they say that they begin" + OTHER),
     ("many areas that are damaged", (bytes(4) + MAGIC).ljust(SECTOR, b"\0") * 20, "there is no label in the first four sectors; "
@@ -301,14 +301,14 @@ LACKS = "the image of a whole disk (%s), which ends before its partitions do (%s
 
 DISKS = [
     ("a disk without a physical volume", disk_of(mbr((0x83, 64, 8)), (72, b"")),
-     "the image of a whole disk (MBR), none of whose partitions (1) has a sound label: give the partition that it is, as IMAGE?offset=BYTES; " + SEARCH),
+     "the image of a whole disk (MBR), none of whose partitions (1) has a sound label: give the partition that it is, as IMAGE?offset=BYTES"),
     ("the beginning of a disk", MBR_DISK[:100 * SECTOR], LACKS % ("MBR", "1 from sector 64 on, 2 from sector 128 on")),
     ("the beginning of a disk with a GPT", GPT_DISK[:50 * SECTOR], LACKS % ("GPT", "1 from sector 64 on, 3 from sector 128 on")),
     ("a disk whose GPT isn't all there", GPT_DISK[:20 * SECTOR],
      "the image of a whole disk, which ends before its partition table (GPT) does: take more of the disk"),
-    ("a GPT with a damaged header", with_flip(GPT_DISK, SECTOR + 72), DAMAGED_GPT),
-    ("a GPT with a damaged entry", with_flip(GPT_DISK, 2 * SECTOR + 32), DAMAGED_GPT),
-    ("a GPT whose header is gone", with_bytes(GPT_DISK, SECTOR, bytes(SECTOR)), DAMAGED_GPT),
+    ("a GPT with a damaged header", with_flip(GPT_DISK, SECTOR + 72), DAMAGED_GPT + LABELLED % (65536, 65536)),
+    ("a GPT with a damaged entry", with_flip(GPT_DISK, 2 * SECTOR + 32), DAMAGED_GPT + LABELLED % (65536, 65536)),
+    ("a GPT whose header is gone", with_bytes(GPT_DISK, SECTOR, bytes(SECTOR)), DAMAGED_GPT + LABELLED % (65536, 65536)),
     ("a partition table beside a label", BOTH, "there are both a partition table (MBR) and the label of a physical volume, which lvm2 "
      "doesn't take then: IMAGE?offset=BYTES takes a partition, and IMAGE?offset=0 the disk itself"),
 ]
@@ -363,15 +363,17 @@ PLACES = [
      "head: the image of a whole disk (%s read\n" % (IS_ONE % ("MBR", 1)) + ARRAY % 16),
 ]
 NO_PLACES = [
-    ("a label in the middle of an image", FAR, [], "there is no label in the first four sectors" + NOT_FOUND + FROM_FIRST),
+    ("a label in the middle of an image", FAR, [], "there is no label in the first four sectors" + NOT_FOUND + LABELLED % (5 << 20, 5 << 20)),
+    ("two labels", FAR + FAR, [], "there is no label in the first four sectors" + NOT_FOUND
+     + "; labels of some that begin at the bytes %d, %d are sound: give one as IMAGE?offset=BYTES" % (5 << 20, len(FAR) + (5 << 20))),
     # Where an area belongs is said of the whole image.
     ("a start before the volume", bytes(16 * SECTOR) + ONE_AREA, ["head?offset=4096"], "there is no label in the first four sectors; the metadata area "
-     "at byte 8192 belongs at byte 4096, so a physical volume begins at byte 8192 (sector 16)" + NOT_FOUND + FROM_FIRST),
+     "at byte 8192 belongs at byte 4096, so a physical volume begins at byte 8192 (sector 16)" + NOT_FOUND + LABELLED % (8192, 8192)),
     ("a partition before the volume", disk_of(mbr((0x8E, 64, 256)), (72, ONE_AREA)), ["head?offset=32768"], "there is no label in the first four sectors; the "
-     "metadata area at byte 8192 belongs at byte 4096, so a physical volume begins at byte 36864 (sector 72)" + NOT_FOUND + FROM_FIRST),
+     "metadata area at byte 8192 belongs at byte 4096, so a physical volume begins at byte 36864 (sector 72)" + NOT_FOUND + LABELLED % (36864, 36864)),
     ("a start after the end", ONE_AREA, ["head?offset=1048576"], "it ends before byte 1048576"),
     ("a GPT whose copies are both damaged", with_flip(with_flip(WITH_BACKUP, SECTOR + 72), len(WITH_BACKUP) - SECTOR + 72), [],
-     DAMAGED_GPT),
+     DAMAGED_GPT + LABELLED % (65536, 65536)),
     ("a member of an array without a volume", md_member(bytes(8192), 16), [], "there is no label in the first four sectors" + NOT_FOUND + FROM_FIRST),
 ]
 

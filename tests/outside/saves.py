@@ -228,10 +228,10 @@ def check_labels(tally, program, top):
             ("another label", below + PHYSICAL, 0, "it isn't p, whose id is %s: its own is %s" % (OWN, OTHER)),
             ("no label", gpt + plain, None, UNLABELLED), ("a partition without a label", gpt + plain, 40, None),
             ("a label elsewhere", gpt + plain + bytes(8 * SECTOR) + PHYSICAL, None,
-             UNLABELLED + "; the label of one that begins at sector 104 is sound: give it as IMAGE?offset=53248"),
+             UNLABELLED + "; the label of one that begins at byte 53248 is sound: give it as IMAGE?offset=53248"),
             ("a volume elsewhere", gpt + plain + bytes(8 * SECTOR) + PHYSICAL, 104, None),
             ("two labels elsewhere", gpt + plain + bytes(8 * SECTOR) + PHYSICAL + BESIDE, None,
-             UNLABELLED + "; labels of some that begin at the sectors 104, 160 are sound: give one as IMAGE?offset=BYTES, 512 for each sector"),
+             UNLABELLED + "; labels of some that begin at the bytes 53248, 81920 are sound: give one as IMAGE?offset=BYTES"),
             ("the head of a disk", physical_volumes.mbr((0x83, 8, 8), (0x8E, 400, 56)) + bytes(99 * SECTOR), None,
              "the image of a whole disk (MBR), which ends before its partitions do (1 from sector 8 on, 2 from sector 400 on): take more of the disk")):
         path, target = program.file("save/disk", image), os.path.join(program.room, "save", "of label")

@@ -48,8 +48,8 @@ def table_of(image: Image, sector: int = SECTOR) -> Optional[Table]:
     if is_protective or any(image.read(it, len(GPT)) == GPT for it in GPT_SECTORS):
         backup = backup_of(image)
         if backup is None:
-            raise DamagedTable(image.path, "both copies of its partition table (GPT) are damaged: repair it in a copy with gdisk, or cut the "
-                               "partition out with dd")
+            raise DamagedTable(image.path, "both copies of its partition table (GPT) are damaged: repair it in a copy with gdisk, or cut "
+                               "the partition out with dd")
         return backup
     return None
 

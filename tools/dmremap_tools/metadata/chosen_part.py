@@ -4,23 +4,25 @@ from typing import List, Optional
 
 from dmremap_tools.base import quoting, streams
 from dmremap_tools.base.disk_image import Image
-from dmremap_tools.base.numbers import SECTOR
 from dmremap_tools.base.mbr import Partition
-from dmremap_tools.base.partition_table import Table, backup_of, table_of
+from dmremap_tools.base.numbers import SECTOR
+from dmremap_tools.base.partition_table import DamagedTable, Table, backup_of, table_of
 from dmremap_tools.base.refusal import Refusal
 from dmremap_tools.metadata.physical_volume import label_of
-from dmremap_tools.metadata.volumes_within import array_data
+from dmremap_tools.metadata.volumes_within import array_data, where_volumes_begin
 
 # What is said where the image of a whole disk is given for a partition.
 GIVE = "give the partition that it is, as IMAGE?offset=BYTES"
-SEARCH = "`dmremap-tools scan` looks through the whole of it for labels"
 # What a sector has on disks that don't have 512 bytes in it.
 LARGE_SECTOR = 4096
 
 
 def chosen_parts(disk: Image) -> List[Image]:
     """The physical volumes: the image itself, or each partition that is one."""
-    table = table_in(disk)
+    try:
+        table = table_in(disk)
+    except DamagedTable as damaged:
+        raise Refusal(disk.path, damaged.why + where_volumes_begin(disk))
     return [disk] if table is None else volumes_of(disk, table)
 
 
@@ -67,7 +69,8 @@ def no_volume(disk: Image, table: Table, there: int) -> str:
     if there < len(table.partitions):
         others = ["%d from sector %d on" % (it.number, it.start // SECTOR) for it in table.partitions]
         return "%s, which ends before its partitions do (%s): take more of the disk" % (found, quoting.some(others))
-    return "%s, none of whose partitions (%s) has a sound label: %s; %s" % (found, numbers_of(table.partitions) or "-", GIVE, SEARCH)
+    return ("%s, none of whose partitions (%s) has a sound label: %s%s"
+            % (found, numbers_of(table.partitions) or "-", GIVE, where_volumes_begin(disk)))
 
 
 def with_volumes(disk: Image, partitions: List[Partition]) -> List[Partition]:

@@ -14,8 +14,8 @@ volume of the group, or a text in /etc/lvm/backup. With --list, what is left of 
 group, the group's id, the seqno and the time; `cut` is a text that isn't there to its end. --seqno and --at print one of
 these.
 
-Without a sound label, areas are looked for in the first and the last 4 MiB; `scan` looks through the whole image for labels. A
-GPT whose first copy is damaged is read by its second one.
+Without a sound label, areas are looked for in the first and the last 4 MiB, and then labels in the whole image. A GPT
+whose first copy is damaged is read by its second one.
 
 Refuses whatever no sum confirms, and a volume that belongs to no group. Of texts that differ each is told with its
 volumes. A text that lvm2 was about to make the valid one isn't taken; nor does lvm2 take it. Older texts have no sum:

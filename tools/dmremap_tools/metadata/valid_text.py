@@ -7,10 +7,10 @@ from dmremap_tools.base.disk_image import Image, other_form
 from dmremap_tools.base.numbers import SECTOR
 from dmremap_tools.base.refusal import Refusal
 from dmremap_tools.metadata import physical_volume
-from dmremap_tools.metadata.chosen_part import SEARCH
 from dmremap_tools.metadata.group_text import beginning_of, summary, without_time
 from dmremap_tools.metadata.physical_volume import (EMPTY, MISSING, MOST_AREAS, SEARCHED, Area, area_at, header_fault, label_of,
                                                     listed_area)
+from dmremap_tools.metadata.volumes_within import where_volumes_begin
 
 OTHER = "try another physical volume of the group, or a file in /etc/lvm/backup"
 LUKS, ENCRYPTED = b"LUKS\xba\xbe", "it is encrypted with LUKS: open it with cryptsetup, and take what is opened"
@@ -46,8 +46,8 @@ def searched_areas(image: Image, faults: List[str]) -> List[Area]:
             areas.append(area_at(image, at, size))
     said = quoting.some(why, "; ")
     if not areas:
-        raise Refusal(image.path, "%s, and no metadata area is in the first or last %d MiB: %s"
-                      % (said, SEARCHED >> 20, what_else(image)))
+        raise Refusal(image.path, "%s, and no metadata area is in the first or last %d MiB%s"
+                      % (said, SEARCHED >> 20, where_volumes_begin(image) or ": " + what_else(image)))
     streams.tell("%s: %s: metadata areas were looked for in the first and last %d MiB" % (image.path, said, SEARCHED >> 20))
     return areas
 
@@ -64,7 +64,7 @@ def what_else(image: Image) -> str:
     """What to try where nothing of a physical volume is found."""
     first = image.read(0, SECTOR)
     known = ENCRYPTED if first.startswith(LUKS) else other_form(first)
-    return known or "%s; or %s" % (SEARCH, OTHER)
+    return known or "take the physical volume from its first byte on, or " + OTHER
 
 
 def valid_text(image: Image, areas: List[Area]) -> bytes:

@@ -1,14 +1,18 @@
-"""Physical volumes behind the superblock of an md array."""
+"""Where physical volumes begin that aren't at the beginning of an image: behind the superblock of an md array, or anywhere,
+by their labels."""
 
-from typing import Optional
+import itertools
+from typing import Iterator, Optional
 
-from dmremap_tools.base import md_superblock, streams
+from dmremap_tools.base import md_superblock, quoting, streams
 from dmremap_tools.base.disk_image import Image
 from dmremap_tools.base.md_superblock import BAD_BLOCKS, BITMAP, LAYOUT_SAID, Superblock
 from dmremap_tools.base.numbers import SECTOR
 from dmremap_tools.base.refusal import Refusal
-from dmremap_tools.metadata.physical_volume import Label, label_of
+from dmremap_tools.metadata.physical_volume import LABEL, LABEL_SECTORS, Label, label_fault, label_of
 
+WINDOW = 4 << 20
+PROGRESS = 64
 # Bits of a superblock's feature map that don't say that data is elsewhere; bad blocks are refused by themselves.
 HARMLESS = BITMAP | LAYOUT_SAID | BAD_BLOCKS
 # The last byte at which a superblock begins that lies before its data.
@@ -68,3 +72,31 @@ def taken_from_array(image: Image) -> Image:
     streams.tell("%s: a member of an md array, whose data begins at sector %d: that is read as the physical volume"
                  % (image.path, (data.base - image.base) // SECTOR))
     return data
+
+
+def volumes_in(image: Image) -> Iterator[int]:
+    """The bytes at which physical volumes begin, of all sound labels in an image."""
+    at, count = image.next_data(0) // SECTOR * SECTOR, 0
+    while at < image.size:
+        window = image.read(at, WINDOW)
+        place = window.find(LABEL)
+        while place >= 0:
+            sector = window[place:place + SECTOR]
+            belongs = int.from_bytes(sector[8:16], "little")
+            begin = at + place - belongs * SECTOR
+            if place % SECTOR == 0 and belongs < LABEL_SECTORS and image.base + begin >= 0 and not label_fault(sector, belongs):
+                yield begin
+            place = window.find(LABEL, place + 1)
+        at, count = max(at + WINDOW, image.next_data(at + WINDOW) // SECTOR * SECTOR), count + 1
+        if count % PROGRESS == 0:
+            streams.show_progress("labels are searched: MiB %d of %d" % (at >> 20, image.size >> 20))
+
+
+def where_volumes_begin(image: Image) -> str:
+    """What is said of the physical volumes that are found by their labels, or nothing."""
+    found = [image.base + it for it in itertools.islice(volumes_in(image), quoting.MOST_NAMED + 1)]
+    if not found:
+        return ""
+    if len(found) == 1:
+        return "; the label of one that begins at byte %d is sound: give it as IMAGE?offset=%d" % (found[0], found[0])
+    return "; labels of some that begin at the bytes %s are sound: give one as IMAGE?offset=BYTES" % quoting.some(list(map(str, found)))

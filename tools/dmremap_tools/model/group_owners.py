@@ -130,7 +130,7 @@ class Stack:
         segment, kind, upper = above.segment, above.segment.kind or b"", above.volume
         length = (segment.count or 0) * self.extent
         begin, columns = above.start * self.extent, len(segment.stripes) if above.field == b"stripes" else 1
-        until = begin + length // (columns or 1)
+        until = begin - (-length // (columns or 1))
         to = (segment.node.value(b"start_extent", int) or 0) * self.extent
         if above.field == b"raids":
             yield from self._of_raid(above, first, end, to, length)
