@@ -234,7 +234,7 @@ def check_walk(tally, program, top, dice):
     # What the metadata says of the disks holds for their images, as their labels tell.
     program.file("walk/images", "".join("%s %s\n" % (it, it) for it in NAMES))
     tool("spans", "--paths", "images", "disks", "tables", "vg.backup", to="spans")
-    tool("clashes", "spans")
+    tool("spans", "--clashes", "--paths", "images", "disks", "tables", "vg.backup")
     spans = read(os.path.join(folder, "spans")).decode().splitlines()
     taken = ["%s 0 %d vg - label+metadata" % (it, BEFORE) for it in ("/dev/mapper/a.img1", "b.img", "c.img")]
     tally.holds("what is taken of images", set(taken) < set(spans) and not any("of-LVM" in it for it in spans), "%s" % spans)
