@@ -1,6 +1,6 @@
-"""What `elsewhere` and `aliases` make of inputs: rows as those of `tool_calls`."""
+"""What `elsewhere` makes of inputs: rows as those of `tool_calls`."""
 
-from tool_calls import bad, good, lost
+from tool_calls import bad, good
 
 PATHS = "/dev/sda1 /dev/loop0\n/dev/sda10 /dev/loop1\n"
 TEXT = "a,,,rw,0 8 linear /dev/sda1 0,8 8 linear /dev/sda10 0;b,,,ro,0 8 snapshot /dev/mapper/a /dev/sda1 P 8\n"
@@ -47,27 +47,4 @@ ELSEWHERE = [
     bad("elsewhere", ["--losetup", "--paths", "1"], [PATHS, "a: 0 8 linear /dev/sdb 2\n"], "2:1: no path of the disk /dev/sdb"),
 ]
 
-LSBLK = "8:0 100 sda \n8:1 50 sda1 sda\n8:16 100 sdb\n9:0 90 md0 sda1\n9:0 90 md0 sdb\n253:0 80 dm-0 md0\n253:0 80 dm-0 md0\n11:0 0 sr0 \n"
-NEEDED = "lsblk's text and DISKS are needed, neither of them empty"
-ALIASES = [good("aliases", [], [LSBLK, disks], output, message) for disks, output, message in [
-    ("/dev/sda 1\n/dev/sdb 1\n/dev/sr0 1\n", "", ""),
-    ("/dev/sda 1\n/dev/sda1 1\n", "/dev/sda1 lies on /dev/sda\n", ""),
-    ("8:1 1\nsda 1\n", "8:1 lies on sda\n", ""),
-    ("8:1 1\nsda1 1\n/dev/sda1 1\n", "sda1 is 8:1\n/dev/sda1 is 8:1\n/dev/sda1 is sda1\n", ""),
-    ("/dev/sdb 1\n/dev/dm-0 1\n/dev/sda 1\n", "/dev/dm-0 lies on /dev/sdb\n/dev/dm-0 lies on /dev/sda\n", ""),
-    ("sdb 1\nsda1 1\n8:16 1\nmd0 1\n", "8:16 is sdb\nmd0 lies on sdb\nmd0 lies on sda1\nmd0 lies on 8:16\n", ""),
-    ("base 1\n/dev/sda 1\n", "", "lsblk has not base\n"),
-]]
-ALIASES += [
-    good("aliases", [], ["\ufeff" + LSBLK.replace("\n", "\r\n"), "/dev/sda 1\r\n/dev/sda1 1\r\n"], "/dev/sda1 lies on /dev/sda\n"),
-    lost("aliases", [], [LSBLK, b"\xfd7zXZ\0\n"], "2: it is compressed (xz)"),
-    lost("aliases", [], [LSBLK, b"sda\0 1\n"], "2: it is no text"),
-    lost("aliases", [], ["sda 8:0\n", "sda 1\n"], "1:1: not a line of lsblk -brno MAJ:MIN,SIZE,KNAME,PKNAME: sda 8:0"),
-    lost("aliases", [], [LSBLK, "sda\n"], "2:1: not a line of DISKS: sda"),
-    lost("aliases", [], [LSBLK, ""], "2: " + NEEDED),
-    lost("aliases", [], ["", "sda 1\n"], "1: " + NEEDED),
-    lost("aliases", [], ["8:0 1 sda sdb\n8:16 1 sdb sda\n8:32 1 sdc \n", "sda 1\nsda 2\nsdc 1\n"], "2:3: devices lie on themselves: sda",
-         "sda is sda\n"),
-]
-
-ROWS = ELSEWHERE + ALIASES
+ROWS = ELSEWHERE

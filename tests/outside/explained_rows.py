@@ -146,7 +146,7 @@ CAUSES = [
     ("request 1: form", [*VG0, "r vg0-lv0 0 8"], b"", ["write R"]),
     ("request 1: form", [*VG0], b"R vg0-lv0 0\n", ["there are 3 words"]),
     ("request 2: form", [*VG0], b"R vg0-lv0 0 8\n\n", ["the line is empty", "requests:2"]),
-    ("request 1: number", [*VG0, "R vg0-lv0 0 8k"], b"", ["no unit", "dmremap-tools bytes"]),
+    ("request 1: number", [*VG0, "R vg0-lv0 0 8k"], b"", ["no unit", "dmremap-tools cut --bytes"]),
     ("request 1: number", [*VG0], b"R vg0-lv0 0 8\r\n", ["CR LF"]),
     ("request 1: length", [*VG0, "R vg0-lv0 0 0"], b"", ["one sector at least"]),
     ("request 1: length", [*VG0, "R vg0-lv0 0 1048577"], b"", ["dmremap-tools cut"]),

@@ -50,6 +50,8 @@ ANSWERED = [
     lost("report", ["--disks", "2"], ["1 R a 0 8\n2 zero 8\n2 copy a 0 8 b 0\n", "a 8\n"], "1:3: DISKS has no b: 2 copy a 0 8 b 0"),
     lost("report", ["--disks", "2"], ["1 R a 0 8\n2 fill 2 a 7\n", "a 8\n"], "1:2: past the end of the disk: 2 fill 2 a 7"),
     ("report", ["--plot", "3"], [ANSWERS], "", "dmremap-tools report: --plot needs --disks\n", 2),
+    lost("report", ["--disks", "2"], ["1 R a 0 8\n", b"\xfd7zXZ\0\n"], "2: it is compressed (xz)"),
+    lost("report", ["--disks", "2"], ["1 R a 0 8\n", b"sda\0 1\n"], "2: it is no text"),
     # What a trace of the disks has.
     good("report", ["--compare", "2"], [ANSWERS, LOWER], FIGURES),
     lost("report", ["--compare", "2"], [ANSWERS, LOWER + "W sdb 0 4\n"], "2: " + OTHER % (0, 4), FIGURES + "unanswered W sdb 0 4 1\n"),
@@ -145,7 +147,7 @@ def figures_of(rows):
 
 def check_costs(tally, program, top):
     """Pieces on more disks than there are, and none that is equal to a long trace, take little memory."""
-    path = program.file("costs/pieces", "".join(f"1 R {'d' * 200}{it} 0 8\n" for it in range(100000)))
+    path = program.file("costs/pieces", "".join(f"1 R {'d' * 200}{it} 0 8\n" for it in range(150000)))
     got = call(top, ["report", path], memory=MEMORY)
     tally.same("pieces on many disks", got, 1, "", f"dmremap-tools report: {path}: pieces on more than 65536 disks: give those of fewer\n")
     rows = 300000

@@ -16,15 +16,15 @@ class Compared:
     def __init__(self, path: str) -> None:
         self._source = streams.Lines(path)
         self._rows = requests.read(self._source, AsTheyAre(), "not R or W, a disk, a sector and how many")
-        # By what is done and the disk: how many more times a sector was answered than the one before it, where that differs.
-        self._steps: Dict[Tuple[str, str], Dict[int, int]] = defaultdict(dict)
+        # By R or W and the disk: how many more times a sector was answered than the one before it, where that differs.
+        self._steps: Dict[str, Dict[int, int]] = defaultdict(dict)
         # How many sectors were answered that LOWER didn't have yet.
         self._ahead = self._places = 0
 
-    def answer(self, disk: str, whats: Sequence[str], starts: List[int], ends: List[int]) -> None:
+    def answer(self, uses: Sequence[str], starts: List[int], ends: List[int]) -> None:
         """Takes answers, and as much of LOWER."""
-        for what, start, end in zip(whats, starts, ends):
-            self._add(what, disk, start, end, 1)
+        for use, start, end in zip(uses, starts, ends):
+            self._add(use, start, end, 1)
             self._ahead += end - start
         while self._ahead > 0 and self._take():
             pass
@@ -34,10 +34,10 @@ class Compared:
         while self._take():
             pass
         sectors = {"untraced": 0, "unanswered": 0}
-        for (what, disk), steps in sorted(self._steps.items(), key=lambda it: it[0][::-1]):
-            for start, end, times in runs(steps):
+        for use in sorted(self._steps, key=lambda it: (it[2:], it)):
+            for start, end, times in runs(self._steps[use]):
                 side = "untraced" if times > 0 else "unanswered"
-                streams.out.write(f"{side} {what} {disk} {start} {end - start} {abs(times)}\n")
+                streams.out.write(f"{side} {use} {start} {end - start} {abs(times)}\n")
                 sectors[side] += (end - start) * abs(times)
         if any(sectors.values()):
             raise Refusal(self._source.name, "it isn't what was answered: {untraced} sectors were answered only, and {unanswered} are only "
@@ -49,12 +49,12 @@ class Compared:
         if what:
             if not count:
                 self._source.refuse_line("no sectors")
-            self._add(what, disk, start, start + count, -1)
+            self._add(f"{what} {disk}", start, start + count, -1)
             self._ahead -= count
         return bool(what)
 
-    def _add(self, what: str, disk: str, start: int, end: int, times: int) -> None:
-        steps = self._steps[what, disk]
+    def _add(self, use: str, start: int, end: int, times: int) -> None:
+        steps = self._steps[use]
         self._places -= len(steps)
         for place, step in ((start, times), (end, -times)):
             left = steps.pop(place, 0) + step

@@ -32,17 +32,12 @@ class Field:
         # what is written.
         self._index, self._counts = array("H", bytes(2 * COLUMNS)), bytearray()
 
-    def mark(self, column: int, whats: Sequence[str], starts: List[int], ends: List[int]) -> None:
-        """Marks the cells of some sectors."""
+    def cells(self, column: int) -> Tuple[bytearray, int]:
+        """The counts, and where those of a column begin."""
         if not self._index[column]:
             self._counts += bytes(BOTH)
             self._index[column] = len(self._counts) // BOTH
-        counts, size, base = self._counts, self.size, (self._index[column] - 1) * BOTH
-        firsts, lasts = [it * ROWS // size for it in starts], [(it - 1) * ROWS // size for it in ends]
-        for (what, first, last), times in Counter(zip(whats, firsts, lasts)).items():
-            begin = base + (ROWS if what == "W" else 0)
-            for cell in range(begin + first, begin + last + 1):
-                counts[cell] = min(DARKEST, counts[cell] + times)
+        return self._counts, (self._index[column] - 1) * BOTH
 
     def halve(self) -> None:
         """Lets two columns be one."""
@@ -102,13 +97,24 @@ class Fields:
             yield begin, end, column
             begin = end
 
-    def mark(self, source: pieces.Answers, disk: str, column: int, whats: Sequence[str], starts: List[int], ends: List[int]) -> None:
-        """Marks what is done with sectors of a disk."""
-        if disk not in self._fields:
-            if len(self._fields) == MOST_FIELDS:
-                raise Refusal(source.name, f"pieces on more than {MOST_FIELDS} disks, which is too many for a picture")
-            self._fields[disk] = Field(self._sizes[disk])
-        self._fields[disk].mark(column, whats, starts, ends)
+    def mark(self, source: pieces.Answers, column: int, uses: Sequence[str], starts: List[int], ends: List[int]) -> None:
+        """Marks what is done with sectors of disks."""
+        cells: Dict[str, Tuple[bytearray, int]] = {}
+        for use in set(uses):
+            disk = use[2:]
+            if disk not in self._fields:
+                if len(self._fields) == MOST_FIELDS:
+                    raise Refusal(source.name, f"pieces on more than {MOST_FIELDS} disks, which is too many for a picture")
+                self._fields[disk] = Field(self._sizes[disk])
+            counts, begin = self._fields[disk].cells(column)
+            cells[use] = counts, begin + (ROWS if use[0] == "W" else 0)
+        sizes = list(map({use: self._sizes[use[2:]] for use in cells}.__getitem__, uses))
+        firsts = [start * ROWS // size for start, size in zip(starts, sizes)]
+        lasts = [(end - 1) * ROWS // size for end, size in zip(ends, sizes)]
+        for (use, first, last), times in Counter(zip(uses, firsts, lasts)).items():
+            counts, begin = cells[use]
+            for cell in range(begin + first, begin + last + 1):
+                counts[cell] = min(DARKEST, counts[cell] + times)
 
     def draw(self, out: streams.Output) -> None:
         """Writes the picture, with the disks in the order of DISKS."""

@@ -26,8 +26,8 @@ How requests are cut makes no difference to that, nor does their order. Refuses 
 
 from argparse import ArgumentParser, Namespace
 from collections import Counter, defaultdict
-from operator import add, sub
-from typing import Any, Dict, Iterable, List, Optional, Tuple, TypeVar
+from operator import add, gt
+from typing import Dict, List, Optional, Sequence, Tuple
 
 from dmremap_tools.answers.compared import Compared
 from dmremap_tools.answers.moments import Moments
@@ -36,10 +36,9 @@ from dmremap_tools.base import disks, numbers, pieces, quoting, streams
 from dmremap_tools.base.refusal import Refusal, WrongWords
 
 EXAMPLE = "dmremap map lvm vg0.backup < requests | dmremap-tools report"
-Key = TypeVar("Key", bound=Tuple[Any, ...])
 LONGEST_BAR = 40
-# More than DISKS has in a text that dmremap takes, unless their names are very short.
-MOST_DISKS = 1 << 16
+# Reads and writes of more disks than DISKS has in a text that dmremap takes, unless their names are very short.
+MOST_TOTALS = 1 << 17
 
 
 def add_words(parser: ArgumentParser) -> None:
@@ -75,14 +74,13 @@ def run(words: Namespace) -> None:
 
 
 class Report:
-    """The figures, by disk."""
+    """The figures, by disk, or by what is done there: R or W, and the disk."""
 
     def __init__(self, sizes: Optional[Dict[str, int]], fields: Optional[Fields], compared: Optional[Compared]) -> None:
         self._sizes, self._fields, self._compared = sizes, fields, compared
-        self._rank = {disk: place for place, disk in enumerate(sizes or ())}
-        # By disk and what is done: the pieces and the sectors; and with how many binary digits a length has, the pieces.
-        self._totals: Dict[Tuple[str, str], List[int]] = defaultdict(lambda: [0, 0])
-        self._lengths: Dict[Tuple[str, str, int], int] = Counter()
+        # By what is done, the pieces and the sectors; and with how many binary digits a length has, the pieces.
+        self._totals: Dict[str, List[int]] = defaultdict(lambda: [0, 0])
+        self._lengths: Dict[Tuple[str, int], int] = Counter()
         # By disk: the end of the last piece, how many moves there were, and how far they were together.
         self._heads: Dict[str, List[int]] = {}
         self._splits: Dict[int, int] = Counter()
@@ -92,35 +90,35 @@ class Report:
     def take(self, source: pieces.Answers, block: pieces.Block) -> None:
         """Counts the pieces of a block."""
         if block.moves:
-            requests = block.requests if len(block.moves) == len(block.requests) else [int(it[0]) for it in block.moves]
+            requests = block.requests if len(block.moves) == len(block.requests) else list(map(int, next(zip(*block.moves))))
             self._count_splits(requests)
             self._take_moves(source, block.moves, requests, True)
         if block.copied:
             copied = sorted(block.copied, key=lambda it: int(it[0]))
             self._take_moves(source, copied, [int(it[0]) for it in copied], False)
         for (what, length), times in Counter(block.others).items():
-            self._add("-", what, int(length), times)
+            self._add(what + " -", int(length), times)
 
     def write(self) -> None:
         """Prints the figures."""
-        for disk, what in self._sorted(self._totals):
-            count, sectors = self._totals[disk, what]
+        rank = {disk: place for place, disk in enumerate(self._sizes or ())}
+        uses = sorted(self._totals, key=lambda it: (rank.get(it.partition(" ")[2], -1), it.split(" ")[::-1]))
+        for use in uses:
+            what, _, disk = use.partition(" ")
+            count, sectors = self._totals[use]
             streams.out.write(f"total {disk} {what} {count} {sectors} {sectors * numbers.SECTOR}\n")
         greatest = max(self._lengths.values(), default=0)
-        for disk, what, digits in self._sorted(self._lengths):
-            count = self._lengths[disk, what, digits]
-            streams.out.write(f"length {disk} {what} {1 << (digits - 1)} {count} {'#' * -(-LONGEST_BAR * count // greatest)}\n")
-        for disk, _ in self._sorted((it, "") for it in self._heads):
-            _, count, far = self._heads[disk]
+        order = {use: place for place, use in enumerate(uses)}
+        for use, digits in sorted(self._lengths, key=lambda it: (order[it[0]], it[1])):
+            count = self._lengths[use, digits]
+            streams.out.write(f"length {use[2:]} {use[0]} {1 << (digits - 1)} {count} {'#' * -(-LONGEST_BAR * count // greatest)}\n")
+        for disk in dict.fromkeys(use.partition(" ")[2] for use in uses):
+            _, count, far = self._heads.get(disk, (0, 0, 0))
             if count:
                 streams.out.write(f"seek {disk} {far // count}\n")
         self._splits[self._pieces] += 1
         for count in sorted(self._splits.keys() - {0}):
             streams.out.write(f"split {count} {self._splits[count]}\n")
-
-    def _sorted(self, keys: "Iterable[Key]") -> "List[Key]":
-        """Keys that begin with a disk, in the order of DISKS, or else by name."""
-        return sorted(keys, key=lambda it: (self._rank.get(it[0], -1), it))
 
     def _count_splits(self, requests: List[int]) -> None:
         counts = Counter(requests)
@@ -130,46 +128,48 @@ class Report:
         self._splits.update(counts.values())
 
     def _take_moves(self, source: pieces.Answers, moves: List[pieces.Move], requests: List[int], are_heads: bool) -> None:
-        """Counts reads and writes, of which the heads may have to move."""
+        """Counts reads and writes, for which heads may have to move."""
         for begin, end, column in self._fields.columns(requests) if self._fields else [(0, len(moves), 0)]:
-            by_disk: Dict[str, List[pieces.Move]] = defaultdict(list)
-            for move in moves[begin:end]:
-                by_disk[move[2]].append(move)
-            for disk, those in by_disk.items():
-                _, whats, _, firsts, counts = zip(*those)
-                starts = list(map(int, firsts))
-                ends = list(map(add, starts, map(int, counts)))
-                self._check_disk(source, disk, max(ends))
-                for (what, length), times in Counter(zip(whats, counts)).items():
-                    sectors = int(length)
-                    self._add(disk, what, sectors, times)
-                    self._lengths[disk, what, sectors.bit_length()] += times
-                if are_heads:
-                    self._move_head(disk, starts, ends)
-                if self._fields:
-                    self._fields.mark(source, disk, column, whats, starts, ends)
-                if self._compared:
-                    self._compared.answer(disk, whats, starts, ends)
+            _, uses, firsts, counts = zip(*moves[begin:end])
+            starts = list(map(int, firsts))
+            ends = list(map(add, starts, map(int, counts)))
+            if self._sizes is not None:
+                check_disks(source, self._sizes, uses, ends)
+            for (use, length), times in Counter(zip(uses, counts)).items():
+                sectors = int(length)
+                self._add(use, sectors, times)
+                self._lengths[use, sectors.bit_length()] += times
+            if are_heads:
+                self._move_heads(uses, starts, ends)
+            if self._fields:
+                self._fields.mark(source, column, uses, starts, ends)
+            if self._compared:
+                self._compared.answer(uses, starts, ends)
+        if len(self._totals) > MOST_TOTALS:
+            raise Refusal(source.name, f"pieces on more than {MOST_TOTALS // 2} disks: give those of fewer")
 
-    def _add(self, disk: str, what: str, sectors: int, times: int) -> None:
-        total = self._totals[disk, what]
+    def _add(self, use: str, sectors: int, times: int) -> None:
+        total = self._totals[use]
         total[0] += times
         total[1] += times * sectors
 
-    def _move_head(self, disk: str, starts: List[int], ends: List[int]) -> None:
-        head = self._heads.setdefault(disk, [starts[0], -1, 0])
-        head[1] += len(starts)
-        head[2] += sum(map(abs, map(sub, starts, [head[0], *ends])))
-        head[0] = ends[-1]
+    def _move_heads(self, uses: Sequence[str], starts: List[int], ends: List[int]) -> None:
+        heads = {use: self._heads.setdefault(use[2:], [-1, -1, 0]) for use in set(uses)}
+        for use, start, end in zip(uses, starts, ends):
+            head = heads[use]
+            if head[1] >= 0:
+                head[2] += abs(start - head[0])
+            head[1] += 1
+            head[0] = end
 
-    def _check_disk(self, source: pieces.Answers, disk: str, end: int) -> None:
-        """Refuses a disk that DISKS lacks, one that is too many, and pieces past its end."""
-        if self._sizes is None:
-            if disk not in self._heads and len(self._totals) > MOST_DISKS:
-                raise Refusal(source.name, f"pieces on more than {MOST_DISKS} disks: give those of fewer")
-        elif disk not in self._sizes:
-            source.refuse_where("DISKS has no " + quoting.shown(disk), lambda it: disk in (it.disk, it.to))
-        elif end > self._sizes[disk]:
-            size = self._sizes[disk]
-            source.refuse_where("past the end of the disk", lambda it: it.disk == disk and it.start + it.count > size
-                                or it.to == disk and it.to_start + it.count > size)
+
+def check_disks(source: pieces.Answers, sizes: Dict[str, int], uses: Sequence[str], ends: List[int]) -> None:
+    """Refuses disks that DISKS lacks, and pieces past their ends."""
+    lengths = {}
+    for use in set(uses):
+        if use[2:] not in sizes:
+            source.refuse_where("DISKS has no " + quoting.shown(use[2:]), lambda it: use[2:] in (it.disk, it.to))
+        lengths[use] = sizes[use[2:]]
+    if any(map(gt, ends, map(lengths.__getitem__, uses))):
+        source.refuse_where("past the end of the disk", lambda it: bool(it.disk) and it.start + it.count > sizes[it.disk]
+                            or bool(it.to) and it.to_start + it.count > sizes[it.to])

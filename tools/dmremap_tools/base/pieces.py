@@ -8,7 +8,7 @@ from dmremap_tools.base import numbers, streams
 
 # Most pieces are of one form, and their numbers are short enough to be below 2^64 in any case.
 _COUNT = "([1-9][0-9]{0,17})"
-_MOVE = re.compile(fr"^{_COUNT} ([RW]) (\S+) {numbers.SHORT} {_COUNT}$", re.M)
+_MOVE = re.compile(fr"^{_COUNT} ([RW] \S+) {numbers.SHORT} {_COUNT}$", re.M)
 _SHORT_COPY = re.compile(fr"^{_COUNT} copy (\S+) {numbers.SHORT} {_COUNT} (\S+) {numbers.SHORT}$", re.M)
 _SHORT_FILL = re.compile(fr"^{_COUNT} fill {_COUNT} (\S+) {numbers.SHORT}$", re.M)
 _SHORT_OTHER = re.compile(fr"^{_COUNT} (zero|drop|error) {_COUNT}$", re.M)
@@ -39,8 +39,8 @@ class Piece(NamedTuple):
     to_start: int = 0
 
 
-# The words of what is read or written: the request, R or W, the disk, the start and how many sectors.
-Move = Tuple[str, str, str, str, str]
+# The words of what is read or written: the request, R or W with the disk, the start and how many sectors.
+Move = Tuple[str, str, str, str]
 
 
 class Block(NamedTuple):
@@ -67,7 +67,7 @@ class Answers(streams.Lines):
         for text in self.blocks():
             count = text.count("\n")
             moves: List[Move] = _MOVE.findall(text)
-            block = Block([int(it[0]) for it in moves], moves, [], []) if len(moves) == count else self._mixed(text, count, moves)
+            block = Block(list(map(int, next(zip(*moves)))), moves, [], []) if len(moves) == count else self._mixed(text, count, moves)
             if block.requests != sorted(block.requests) or block.requests and block.requests[0] < last:
                 self._refuse_order(last)
             last = block.requests[-1] if block.requests else last
@@ -89,9 +89,9 @@ class Answers(streams.Lines):
         copies, fills, others = _SHORT_COPY.findall(text), _SHORT_FILL.findall(text), _SHORT_OTHER.findall(text)
         if len(moves) + len(copies) + len(fills) + len(others) < count:
             return _block_of(list(filter(None, map(self._piece, self.each(_MOVE)))))
-        copied = [(request, "R", disk, start, length) for request, disk, start, length, _, _ in copies]
-        copied += [(request, "W", to, start, length) for request, _, _, length, to, start in copies]
-        copied += [(request, "W", to, start, length) for request, length, to, start in fills]
+        copied = [(request, "R " + disk, start, length) for request, disk, start, length, _, _ in copies]
+        copied += [(request, "W " + to, start, length) for request, _, _, length, to, start in copies]
+        copied += [(request, "W " + to, start, length) for request, length, to, start in fills]
         return Block(list(map(int, _REQUEST.findall(text))), moves, copied, [(what, length) for _, what, length in others])
 
     def _refuse_order(self, last: int) -> None:
@@ -106,8 +106,8 @@ class Answers(streams.Lines):
         """The piece that a line is, or None for a status."""
         if isinstance(fields, str):
             return self._read(fields)
-        request, what, disk, start, count = fields
-        return Piece(int(request), what, int(count), disk, int(start))
+        request, use, start, count = fields
+        return Piece(int(request), use[0], int(count), use[2:], int(start))
 
     def _read(self, line: str) -> Optional[Piece]:
         """The same of a line of any form."""
@@ -125,9 +125,10 @@ def _block_of(pieces: List[Piece]) -> Block:
     block = Block([it.request for it in pieces], [], [], [])
     for it in pieces:
         if it.disk:
-            (block.copied if it.to else block.moves).append((str(it.request), "R" if it.to else it.what, it.disk, str(it.start), str(it.count)))
+            use = f"{'R' if it.to else it.what} {it.disk}"
+            (block.copied if it.to else block.moves).append((str(it.request), use, str(it.start), str(it.count)))
         if it.to:
-            block.copied.append((str(it.request), "W", it.to, str(it.to_start), str(it.count)))
+            block.copied.append((str(it.request), "W " + it.to, str(it.to_start), str(it.count)))
         if not it.disk and not it.to:
             block.others.append((it.what, str(it.count)))
     return block

@@ -76,7 +76,7 @@ def _why_number(words: List[str]) -> Finding:
         return Finding("the line ends in CR LF", [command("tr -d '\\r' < REQUESTS > plain")])
     what = ("the first sector", "the number of sectors")[at - 2]
     return Finding("%s, where %s stands" % (why_no_number(words[at]), what),
-                   [HOW_MANY + "; of bytes, this makes requests:", command("dmremap-tools bytes < REQUESTS > plain")])
+                   [HOW_MANY + "; of bytes, this makes requests:", command("dmremap-tools cut --bytes < REQUESTS > plain")])
 
 
 def _why_device(words: List[str], devices: List[str], disks: List[str], tops: List[str]) -> Finding:

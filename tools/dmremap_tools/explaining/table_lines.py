@@ -17,7 +17,7 @@ END = ["list the device in DISKS with its length, and name it without %s: answer
 # Names that mean nothing else to sed.
 PLAIN = re.compile(r"[\w/-]+", re.A)
 # What commands make of lines that dmremap doesn't read.
-MADE = {"thin": "dmremap-tools thin", "cache": "dmremap-tools cache", "crypt": "dmremap-tools machine", "raid": "dmremap-tools lvm2-text"}
+MADE = {"thin": "dmremap-tools thin", "cache": "dmremap-tools thin", "crypt": "dmremap-tools machine", "raid": "dmremap-tools lvm2-text"}
 
 
 class Line(NamedTuple):

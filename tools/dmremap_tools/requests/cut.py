@@ -22,7 +22,7 @@ def add_words(parser: ArgumentParser) -> None:
 def run(words: Namespace) -> None:
     """Cuts them as they come."""
     source = streams.Lines(words.file)
-    form, write = ("not R or W, a device, an offset and a length", requests.write_bytes) if words.bytes else ("not a request", requests.write)
+    form = "not R or W, a device, an offset and a length" if words.bytes else "not a request"
     for asked in requests.read(source, names.Names(words.ls), form):
-        write(source, *asked)
+        (requests.write_bytes if words.bytes else requests.write)(source, *asked)
     source.tell_if_none()

@@ -41,6 +41,8 @@ KNOWN = {"ef53", "58465342"}
 BTRFS = {"9123683e"}
 PLACED = {"", "last", "eof", "merged", "shared", "unwritten"}
 MOST_SPARE = 1 << 24
+# The sector of the file, that of the device, and how many there are.
+Extent = Tuple[int, int, int]
 
 
 def add_words(parser: ArgumentParser) -> None:
@@ -100,7 +102,7 @@ class Reader:
         self.files = self.size = self.block = self.count = self.after = 0
         self.is_known = self.is_last = False
 
-    def extents(self) -> Iterator[Tuple[int, int, int]]:
+    def extents(self) -> Iterator[Extent]:
         """The extents as they come: the sector of the file, that of the device, and how many there are."""
         for fields in self.source.rows(EXTENT):
             if isinstance(fields, tuple) and self.opened:
@@ -128,7 +130,7 @@ class Reader:
         elif not GROUPS.fullmatch(line) and not (self.opened and HEAD.fullmatch(line)):
             self.source.refuse_line("not a line of filefrag -v")
 
-    def take_extent(self, number: int, first: int, last: int, start: int, end: int, length: int, flags: List[str]) -> Iterator[Tuple[int, int, int]]:
+    def take_extent(self, number: int, first: int, last: int, start: int, end: int, length: int, flags: List[str]) -> Iterator[Extent]:
         """Takes an extent: from the block `first` to `last` of the file, from `start` to `end` of the device."""
         if not PLACED.issuperset(flags):
             self._refuse("an extent whose place is not known")
