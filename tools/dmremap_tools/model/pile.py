@@ -3,6 +3,7 @@ it where nothing sound is there."""
 
 from typing import Dict, List, NamedTuple, Optional, Sequence, Tuple
 
+from dmremap_tools.base.refusal import Refusal
 from dmremap_tools.model import file_system, luks, md_superblock, physical_volume, searched
 from dmremap_tools.model.device import Device
 from dmremap_tools.model.groups import Group, groups_of
@@ -14,6 +15,8 @@ from dmremap_tools.model.partitions import BIG_SECTOR, Partitions, partitions_of
 from dmremap_tools.model.physical_volume import PhysicalVolume
 
 NOTHING = "nothing is found in it"
+# The most disks, partitions and arrays that are looked at.
+MOST_SPOTS = 1 << 13
 OLD = "a member of an md array with metadata 0.90, which isn't followed: assemble copies with mdadm --readonly"
 DAMAGED = ("its md superblock at byte {} is damaged: give the other members alone, or of a mirror this image alone, or make the array anew "
            "on copies (mdadm --create --assume-clean)")
@@ -145,6 +148,8 @@ class Pile:
         return "lvm2" if physical_volume.has_label(device) else file_system.file_system_of(device)
 
     def _is_member(self, spot: Spot) -> bool:
+        if len(self._spots) >= MOST_SPOTS:
+            raise Refusal(spot.device.name, f"no more than {MOST_SPOTS} disks, partitions and arrays are looked at: give fewer images")
         self._spots[id(spot.device)] = spot
         member = md_superblock.member_in(spot.device)
         if member:
