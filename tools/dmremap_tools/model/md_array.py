@@ -1,5 +1,7 @@
 """md arrays: which members count, and the bytes of the array, also where members are missing."""
 
+import bisect
+import itertools
 from typing import Dict, Iterator, List, NoReturn, Optional, Sequence, Tuple
 
 from dmremap_tools.base.numbers import SECTOR
@@ -139,17 +141,22 @@ class Holed(Device):
     def __init__(self, lower: Device, bad: Sequence[Tuple[int, int]]) -> None:
         super().__init__(lower.name, lower.size)
         self._lower = lower
-        self._bad = sorted((start * SECTOR, (start + count) * SECTOR) for start, count in bad)
+        self._bad: List[Tuple[int, int]] = []
+        for start, count in sorted(bad):
+            before = self._bad.pop() if self._bad and start * SECTOR <= self._bad[-1][1] else (start * SECTOR, 0)
+            self._bad.append((before[0], max(before[1], (start + count) * SECTOR)))
+        self._ends = [end for _, end in self._bad]
 
     def _extents(self, start: int, size: int) -> Iterator[Extent]:
         end = start + size
-        for begin, stop in self._bad:
-            if stop <= start or begin >= end:
-                continue
+        for begin, stop in itertools.islice(self._bad, bisect.bisect_right(self._ends, start), None):
+            if begin >= end:
+                break
             if begin > start:
                 yield from self._lower.extents(start, begin - start)
+                start = begin
             why = f"{self.name} lacks these bytes, as its log of bad blocks says: give the other members"
-            yield Extent(Missing(why), 0, min(stop, end) - max(start, begin))
+            yield Extent(Missing(why), 0, min(stop, end) - start)
             start = min(stop, end)
         if start < end:
             yield from self._lower.extents(start, end - start)
@@ -166,7 +173,7 @@ class Laid(arrays.Array):
         self.layout = LAYOUTS.get(self.level, {}).get(superblock.layout, "")
         near, far = superblock.layout & 0xFF, superblock.layout >> 8 & 0xFF
         if self.level == "raid10" and (superblock.layout >> 17 or not 0 < near * far <= self.count):
-            self.refuse(f"no layout of raid10 that is known: {superblock.layout}")
+            self.refuse(f"no layout of raid10 that is known: {superblock.layout}: assemble it with mdadm --readonly")
         self.copies = arrays.Copies(near, far, bool(superblock.layout & 1 << 16))
 
     def refuse(self, why: str) -> NoReturn:

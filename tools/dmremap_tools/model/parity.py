@@ -5,6 +5,7 @@ import bisect
 import itertools
 from typing import Iterator, List, NamedTuple, Optional, Sequence, Tuple
 
+from dmremap_tools.base import quoting
 from dmremap_tools.layers import arrays
 from dmremap_tools.model.device import Device, Extent, Gap, Source, blocks_of, joined
 
@@ -155,7 +156,7 @@ class Computed(Source):
         lacks = {role: why for role, why in enumerate(member.lack(at, count) for member in self._members) if why is not None}
         roles, gone = self._shape.row(row), list(lacks)
         if len(gone) > self._shape.count - self._shape.data:
-            return gone, "; ".join(lacks.values())
+            return gone, quoting.some(list(lacks.values()), "; ")
         if self._shape.level != "raid6" or roles.parity is not None and (len(gone) == 1 or roles.syndrome in gone):
             return gone, None
         if roles.syndrome is None:

@@ -3,6 +3,7 @@ it where nothing sound is there."""
 
 from typing import Dict, List, NamedTuple, Optional, Sequence, Tuple
 
+from dmremap_tools.base.refusal import Refusal
 from dmremap_tools.model import file_system, luks, md_superblock, physical_volume, searched
 from dmremap_tools.model.device import Device
 from dmremap_tools.model.groups import Group, groups_of
@@ -14,8 +15,11 @@ from dmremap_tools.model.partitions import BIG_SECTOR, Partitions, partitions_of
 from dmremap_tools.model.physical_volume import PhysicalVolume
 
 NOTHING = "nothing is found in it"
+# The most disks, partitions and arrays that are looked at.
+MOST_SPOTS = 1 << 13
 OLD = "a member of an md array with metadata 0.90, which isn't followed: assemble copies with mdadm --readonly"
-DAMAGED = "its md superblock at byte {} is damaged: give the other members, or make the array anew on copies (mdadm --create --assume-clean)"
+DAMAGED = ("its md superblock at byte {} is damaged: give the other members alone, or of a mirror this image alone, or make the array anew "
+           "on copies (mdadm --create --assume-clean)")
 MAY_BE_NEWER = "it lacks members, and {} may be one with newer data, as its md superblock is damaged: leave that out to take what is here"
 ONE_MEMBER = ("{} has {} bytes, and the physical volume in it {}: it seems to be one member of an array whose md superblock is lost, "
               "or is cut off: give the whole disk, or all members with their superblocks")
@@ -65,6 +69,10 @@ class Pile:
             else:
                 self._look_at(Spot(image, image, 0))
         self._assemble()
+        if not self.arrays:
+            # A half of a mirror alone has all data.
+            for spot, _ in self._damaged:
+                self._look_into(spot)
         self.groups: List[Group] = []
         # What isn't known may be the other half of a mirror, with newer data.
         if not any(array.device and array.may_be_old for array in self.arrays) or not self.search():
@@ -84,8 +92,9 @@ class Pile:
         where a text says that it was on an array."""
         cut = [volume for volume in self.volumes if self.spot_of(volume.device).image and volume.size > volume.device.size]
         on_arrays = {identity for volume in self.volumes for text in volume.current for identity in text.on_arrays()} if cut else set()
+        damaged = [spot.device for spot, _ in self._damaged]
         for volume in cut:
-            if volume.start or volume.identity in on_arrays:
+            if volume.start or volume.identity in on_arrays or volume.device in damaged:
                 volume.doubt = ONE_MEMBER.format(volume.place, volume.device.size, volume.size)
         self.groups = groups_of(self.volumes)
 
@@ -107,9 +116,12 @@ class Pile:
             self.images.append(image)
 
     def _look_at(self, spot: Spot) -> None:
-        """Looks at a whole disk or array: a member of an array is looked into no more, and a disk with partitions is these."""
-        if self._is_member(spot):
-            return
+        """Looks at a whole disk or array: a member of an array is looked into no more."""
+        if not self._is_member(spot):
+            self._look_into(spot)
+
+    def _look_into(self, spot: Spot) -> None:
+        """Looks at what is no member: a disk with partitions is these."""
         known = self._known(spot.device)
         table = None if known in ("luks", "lvm2") else self._table(spot.device, known)
         if not table:
@@ -136,6 +148,8 @@ class Pile:
         return "lvm2" if physical_volume.has_label(device) else file_system.file_system_of(device)
 
     def _is_member(self, spot: Spot) -> bool:
+        if len(self._spots) >= MOST_SPOTS:
+            raise Refusal(spot.device.name, f"no more than {MOST_SPOTS} disks, partitions and arrays are looked at: give fewer images")
         self._spots[id(spot.device)] = spot
         member = md_superblock.member_in(spot.device)
         if member:

@@ -86,26 +86,27 @@ def legs_of(layout: "Layout", name: str, segment: Segment, level: int) -> Legs:
     if not 1 < len(pairs) <= MOST_LEGS or len(pairs) != segment.node.value(b"device_count", int):
         raise Refusal(name, "its text doesn't say its legs: activate it with lvm2")
     found: Dict[int, Superblock] = {}
-    whys: Dict[int, str] = {}
-    faults: List[str] = []
+    missing: Dict[int, str] = {}
+    faults: Dict[int, str] = {}
     for number, (meta, _) in enumerate(pairs):
         device = layout.plain(meta)
         try:
             found[number] = superblock_of(device, len(pairs), number, level)
         except Refusal as refusal:
+            whys = missing if device.lack(0, SECTOR) else faults
             whys[number] = f"{shown(meta)}: {refusal.why}"
-            faults += [whys[number]] * (device.lack(0, SECTOR) is None)
     if not found:
-        raise Refusal(name, f"{'; '.join(whys.values())}: give the disks of all legs")
+        raise Refusal(name, "; ".join([*faults.values(), *missing.values()]) + ": give the disks of all legs" * bool(faults))
     freshest = max(found, key=lambda number: found[number].events)
     best = found[freshest]
     if best.compat_features & V190 and (best.reshape_position != CLEAN or best.data_offset or best.delta_disks):
         raise Refusal(name, "it is being reshaped: activate it with lvm2")
     devices: List[Device] = []
     for number, (_, data) in enumerate(pairs):
-        why = whys.get(number) or stale(found[number], best, number)
-        devices.append(Missing(f"{shown(data)}: {why}: give the disks of the other legs") if why else layout.plain(data))
-    return Legs(devices, best, layout.plain(pairs[freshest][0]), faults)
+        fault = None if number in missing else faults.get(number) or stale(found[number], best, number)
+        why = f"{fault}: give the disks of the other legs" if fault else missing.get(number)
+        devices.append(Missing(f"{shown(data)}: {why}") if why else layout.plain(data))
+    return Legs(devices, best, layout.plain(pairs[freshest][0]), list(faults.values()))
 
 
 def dirty_runs(meta: Device) -> List[Tuple[int, int]]:

@@ -1,5 +1,6 @@
 """Volumes that were removed, by the texts that are left of the time before."""
 
+import functools
 import re
 from typing import Callable, Dict, Iterator, List, NamedTuple, Optional, Sequence, Set
 
@@ -29,7 +30,8 @@ class Writers:
         """`lost` says of physical volumes, by their ids, why their current text can't be read."""
         self._find, self._lost = find, lost
         self._texts: List[Written] = []
-        self._uses: Dict[bytes, List["tuple[Use, str]"]] = {}
+        self._uses: Dict[Text, List["tuple[Use, str]"]] = {}
+        self._faults: Dict[Text, Optional[str]] = {}
 
     def add(self, text: Text, is_current: bool) -> None:
         """Adds a text."""
@@ -52,11 +54,11 @@ class Writers:
         return None
 
     def _uses_of(self, text: Text) -> "List[tuple[Use, str]]":
-        found = self._uses.get(text.key())
+        found = self._uses.get(text)
         if found is None:
             side = Side(text, self._find)
             found = [(use, f"{text.group}/{shown(name)}") for name in side.group.volumes for use in side.uses(name)]
-            self._uses[text.key()] = found
+            self._uses[text] = found
         return found
 
     def unreadable(self, side: Side) -> Optional[str]:
@@ -65,14 +67,20 @@ class Writers:
         for _, identity in side.physicals():
             if identity in self._lost:
                 return self._lost[identity]
-        for other in self.after(text):
+        return next(filter(None, map(self._fault, self.after(text))), None)
+
+    def _fault(self, text: Text) -> Optional[str]:
+        """Why a text can't be read, or None."""
+        if text not in self._faults:
             try:
-                other.node()
+                text.node()
+                self._faults[text] = None
             except Refusal as refusal:
-                return str(refusal)
-        return None
+                self._faults[text] = str(refusal)
+        return self._faults[text]
 
 
+@functools.lru_cache(maxsize=1 << 12)
 def ids_in(text: Text) -> Set[str]:
     """The ids of the volumes of a text."""
     begin, end = text.content.find(VOLUMES), text.content.find(HISTORY)
