@@ -6,12 +6,11 @@ import os
 import resource
 import shutil
 import signal
-import subprocess
 import tempfile
 import time
 
 from harness import Outcome, become_nobody, run
-from trees import ANEW, ANSWER, BUILD, BUILDING, CRATES, HELD_RT, REQUESTS, RT, SLOW_RT, TOOLCHAIN, WAITING, Tree, becomes, runs, told, without_times
+from trees import ANEW, BUILD, BUILDING, CRATES, HELD_RT, RT, SLOW_RT, TOOLCHAIN, WAITING, Tree, becomes, runs, told, without_times
 
 # How often the script tells what runs.
 OFTEN = ("MINUTE, AWAY, MOMENT = 60, 300, 0.02", "MINUTE, AWAY, MOMENT = 1, 1, 0.02")

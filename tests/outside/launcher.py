@@ -3,7 +3,6 @@ sources that are there, and no other one, whatever the times of files say."""
 
 import contextlib
 import os
-import re
 import shutil
 import signal
 import subprocess
