@@ -1,15 +1,15 @@
-"""The recipes: the commands of docs/RECIPES.md with the outputs that stand below them, and the line `refused`, which dmremap
-refuses wherever it reads it."""
+"""The recipes: the commands of docs/RECIPES.md print what stands below them, each recipe in a folder of its own, in any order;
+and the line `refused`, which dmremap refuses wherever it reads it."""
 
 import os
+import random
 import re
-import shutil
 
-from harness import run
+import transcripts
+from documents import MARK, text_of
 
-# What a block of the document needs, if it has this word.
-NEEDED = [("dmremap-tools files", "debugfs")]
-BLOCK = re.compile(r"^```(\w*)\n(.*?)^```$", re.M | re.S)
+# A recipe with its heading.
+RECIPE = re.compile(r"^##+ (.*)\n(.*?)(?=^##+ |\Z)", re.M | re.S)
 
 
 def check(tally, program, top):
@@ -19,25 +19,14 @@ def check(tally, program, top):
 
 
 def check_document(tally, program, top):
-    """Runs each block of shell in one folder, and compares the block without a language that follows it."""
-    folder = os.path.dirname(program.file("recipes/room"))
-    shutil.copy(program.path, os.path.join(folder, "dmremap"))
-    for it in ("dmremap-tools", "examples"):
-        os.symlink(os.path.join(top, it), os.path.join(folder, it))
-    with open(os.path.join(top, "docs", "RECIPES.md"), encoding="utf-8") as it:
-        blocks = BLOCK.findall(it.read())
-    for (language, commands), (after, output) in zip(blocks, blocks[1:] + [("end", "")]):
-        if language != "sh":
-            continue
-        name = "the recipe %r" % commands.splitlines()[-1]
-        lost = [tool for word, tool in NEEDED if word in commands and not shutil.which(tool)]
-        if lost:
-            tally.skip(name, "there is no " + lost[0])
-            continue
-        got = run(["sh", "-c", commands], folder=folder)
-        shown = (got.err + got.out).decode()
-        wanted = output if after == "" else ""
-        tally.holds(name, got.status == 0 and shown == wanted, "status %s, and it prints %r" % (got.status, shown))
+    """Runs the commands of each recipe. What isn't run says what it needs."""
+    found = [(title, transcripts.blocks(text)) for title, text in RECIPE.findall(text_of(os.path.join(top, "docs", "RECIPES.md")))]
+    unmarked = [lines[0] for _, blocks in found for kind, lines in blocks if kind != "console" and not lines[0].startswith(MARK)]
+    tally.holds("commands of the recipes that aren't run", not unmarked, "no line %r before %s" % (MARK + "..", ", ".join(unmarked)))
+    shown = [(title, [it for kind, lines in blocks if kind == "console" for it in transcripts.commands(lines)]) for title, blocks in found]
+    for title, commands in random.sample(shown, len(shown)):
+        if commands:
+            transcripts.check(tally, program, top, "the recipe " + title, commands)
 
 
 def check_refusal(tally, program):

@@ -4,41 +4,32 @@ import os
 import random
 import re
 import shutil
-import sys
 
+import transcripts
+from documents import text_of
 from harness import run
 from tool_calls import TOOL
 
 SECTION = re.compile(r"\n### A long trace in parts\n(.*?)\n##", re.S)
-BLOCK = re.compile(r"```(\w+)\n(.*?)```", re.S)
-SMALLER = (("--block 10M", "--block 20k"), ("1000000", "700"), ('"10MB"', "20000"))
+SMALLER = (("--block 10M", "--block 20k"), ("1000000", "700"))
 COUNT = 5000
 
 
 def check(tally, program, top):
-    with open(os.path.join(top, "docs", "RECIPES.md"), encoding="utf-8") as it:
-        found = SECTION.search(it.read())
-    if not tally.holds("the task of a long trace", found, "RECIPES has none"):
+    found = SECTION.search(text_of(os.path.join(top, "docs", "RECIPES.md")))
+    commands = [smaller("\n".join(lines)) for _, lines in transcripts.blocks(found[1])] if found else []
+    if not tally.holds("the commands for a long trace", len(commands) == 2, "RECIPES has %d" % len(commands)):
         return
-    blocks = [(kind, smaller(text)) for kind, text in BLOCK.findall(found[1])]
     folder = make_room(program, top)
     pieces = run(["./dmremap", "map", "lvm", "vg0.backup"], given=bytes_of(folder, "requests"), folder=folder)
     totals = run(["sh", "-c", "./dmremap map lvm vg0.backup < requests | ./dmremap-tools report | grep ^total | sort"], folder=folder)
     tally.holds("one run over a long trace", pieces.status == totals.status == 0 and totals.out.count(b"\n") == 2, totals.err)
-    commands = [text.replace("$ ", "", 1) for kind, text in blocks if kind == "console"]
-    if shutil.which("parallel"):
-        tally.same("totals by parts", run(["bash", "-c", commands[0]], folder=folder), 0, totals.out)
-        tally.same("pieces by parts", run(["bash", "-c", commands[1]], folder=folder))
-        tally.holds("numbers by parts", bytes_of(folder, "pieces") == pieces.out, "they differ")
-    else:
+    if not shutil.which("parallel"):
         tally.skip("a long trace in parts", "there is no parallel")
-    # The system's own Python may have it where this one hasn't.
-    python = next((it for it in (sys.executable, "/usr/bin/python3") if run([it, "-c", "import dask.bag"]).status == 0), None)
-    if python is None:
-        tally.skip("a long trace on many machines", "there is no dask")
         return
-    program.file("parts/totals.py", next(text for kind, text in blocks if kind == "python"))
-    tally.same("totals by Dask", run([python, "totals.py", "requests"], folder=folder), 0, totals.out)
+    tally.same("totals by parts", run(["bash", "-c", commands[0]], folder=folder), 0, totals.out)
+    tally.same("pieces by parts", run(["bash", "-c", commands[1]], folder=folder))
+    tally.holds("numbers by parts", bytes_of(folder, "pieces") == pieces.out, "they differ")
 
 
 def make_room(program, top):
