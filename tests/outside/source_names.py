@@ -8,9 +8,9 @@ import re
 from documents import text_of
 
 # What these documents have at most, so that each is read at one sitting.
-BYTES = {"ARCHITECTURE.md": 15000, "DECISIONS.md": 12100, "DEVELOPING.md": 10000, "PROMISES.md": 21100, "READING.md": 3800}
+BYTES = {"ARCHITECTURE.md": 15000, "DECISIONS.md": 12100, "DEVELOPING.md": 10000, "PROMISES.md": 21000, "READING.md": 3800}
 # And all pages together.
-ALL_BYTES = 222500
+ALL_BYTES = 215000
 SOURCES = ("crates/*/*/**/*.rt", "crates/*/*/**/*.antt", "crates/*/must-fail/*", "crates.txt", "HANDLES", "tools/*/*",
            "tests/benches/*", "tools/**/*.py", "tests/*/*.py", "[a-z]*")
 # Wrong changes that the gate has to refuse, and how many of them a document says that there are.
