@@ -13,6 +13,7 @@ import shutil
 
 from groups import BOTH
 from harness import is_static, run
+from stored import put, taken
 
 MEMORY = "dmremap: memory\n"
 SNAPSHOT = ("s: 0 20 snapshot base cow P 8\n", "base 20\ncow 64\n")
@@ -57,7 +58,7 @@ def check(tally, program):
     if is_static(program.path):
         tally.skip("growths that are refused", "no shim is loaded into a static program")
     elif tally.holds("the shim growths.c", not shim.fault, shim.fault):
-        for command, files, flags, given, output in ROWS:
+        for command, files, flags, given, output in [*ROWS, stored_row(program)]:
             words = words_of(program, command, files) + flags
             asked = check_growths(tally, shim, command, words, [given], [output])
             tally.holds(command + " after its load", asked[0] == asked[1], "it asks for %s growths" % asked)
@@ -75,6 +76,12 @@ def check(tally, program):
 
 def words_of(program, command, files):
     return command.split() + [program.file("growths/%d" % at, it) for at, it in enumerate(files)]
+
+
+def stored_row(program):
+    """A run that starts from a store of two areas."""
+    paths = program.file("growths/paths", "cow %s\n" % put(program, "growths/cow.img", 1, taken(1, 33)))
+    return "map table", AREAS, ["--paths", paths], "R s 0 1\nW s 40 1\n", "1 R cow 35 1\n2 copy base 40 1 cow 36\n2 W cow 36 1\n"
 
 
 class Shim:

@@ -26,8 +26,8 @@ STRIPE = 8
 
 
 def check(tally, program, top):
-    for part in (check_groups, check_partitions, check_layers, check_stores, check_legs, check_arrays, check_lost_superblocks, check_thin, check_names, check_saving,
-                 check_files, check_served, check_plugin, check_hostile):
+    for part in (check_groups, check_partitions, check_layers, check_stores, check_legs, check_arrays, check_lost_superblocks, check_thin, check_names, check_areas,
+                 check_saving, check_files, check_served, check_plugin, check_hostile):
         folder = os.path.join(program.room, "models")
         shutil.rmtree(folder, ignore_errors=True)
         os.makedirs(folder)
@@ -644,6 +644,34 @@ def check_names(tally, pile):
         pile.holds(tally, "the image", "./other", image.read())
     pile.refuses(tally, "no such volume", "vg0/nothing", "`scan` lists what is there")
     pile.refuses(tally, "no such group", "nowhere/home", "no group is called nowhere")
+
+
+def check_areas(tally, pile):
+    """A disk with two metadata areas, of which one is damaged, or behind."""
+    home, other = volume("home", "h", linear(0, 5, ("pv0", 3))), volume("other", "o", linear(0, 2, ("pv0", 30)))
+    older, old, new = text("vg0", "g", 3, "a", home, other), text("vg0", "g", 4, "a", home), text("vg0", "g", 5, "a", home, volume("new", "n", linear(0, 2, ("pv0", 30))))
+    size, second = 64 * 1024, 512 * 1024
+    def two(first_texts, second_texts, damaged=None):
+        made = []
+        for start, texts in ((physical_volumes.FIRST, first_texts), (second, second_texts)):
+            at = [SECTOR * (1 + 4 * place) for place in range(len(texts))]
+            made.append((start, bytearray(physical_volumes.area(texts[-1], at[-1], start=start, size=size, others=list(zip(at, texts))))))
+        if damaged is not None:
+            place, pattern = damaged
+            content = made[place][1]
+            content[bytes(content).rindex(pattern)] ^= 1
+        pile.put("disk", physical_volumes.volume(*made, length=DATA * SECTOR, identity=identity("a"), size=DATA * SECTOR + len(A)) + A)
+    for name, damaged in (("sound", None), ("damaged at the first", (0, b"seqno = 5")), ("damaged at the second", (1, b"extent_count")), ("without a header", (0, b"LVM2 x"))):
+        two([older, old, new], [older, old, new], damaged)
+        pile.holds(tally, "two areas, " + name, "vg0/home", extents_of(A, 3, 5))
+        pile.refuses(tally, "a removed volume by two areas, " + name, "vg0/other", "belong to vg0/new since")
+    two([older, old], [older, old, new])
+    pile.holds(tally, "two areas, of which one is behind", "vg0/new", extents_of(A, 30, 2))
+    for name, pattern in (("a later text", b"extent_count"), ("another text", b"seqno = 5")):
+        two([older, old], [older, old, new], (1, pattern))
+        for volume_name in ("home", "other"):
+            pile.refuses(tally, "two areas, of which the newer one is damaged", "vg0/" + volume_name, "disk has " + name)
+    os.unlink(os.path.join(pile.folder, "disk"))
 
 
 def check_saving(tally, pile):

@@ -13,7 +13,7 @@ from physical_volumes import gpt, mbr
 
 
 def check(tally, program, top):
-    for part in (check_tables, check_held, check_words, check_groups, check_layers, check_pools, check_arrays):
+    for part in (check_tables, check_held, check_words, check_groups, check_ladder, check_layers, check_pools, check_arrays):
         folder = os.path.join(program.room, "owners")
         shutil.rmtree(folder, ignore_errors=True)
         os.makedirs(folder)
@@ -184,6 +184,20 @@ def check_groups(tally, pile):
         pile.put("one", image)
         got = asked(pile, "one %d 1\n" % place, "one")
         tally.holds(name, got.status == 0 and got.out.decode().startswith("one %d 1 = %s" % (place, why)), got.out)
+
+
+def check_ladder(tally, pile):
+    """Volumes on each other in circles, and with more ways up than can be told."""
+    def mirror(name, *lowers):
+        legs = ", ".join('"%s", 0' % lower for lower in lowers)
+        return volume(name, "c", segment(0, 4, "mirror", "mirrors = [%s]" % legs))
+    pile.put("disk", disk("a", A, text("vg0", "g", 4, "a", mirror("x", "y"), mirror("y", "x", "x", "pv0"))))
+    got = asked(pile, "disk %d 1\n" % DATA)
+    tally.holds("volumes that lie on themselves", got.status == 0 and got.out.count(b"\n") < 100 and b"unknown: it lies on itself" in got.out, got.out[:200])
+    steps = [mirror("%s%d" % (name, number), *(["x%d" % (number - 1), "y%d" % (number - 1)] if number else ["pv0"])) for number in range(30) for name in "xy"]
+    pile.put("disk", disk("a", A, text("vg0", "g", 4, "a", *steps)))
+    got = asked(pile, "disk %d 1\n" % DATA)
+    tally.holds("too many ways up", got.status == 1 and b"sector %d: too many ways lead up from there" % DATA in got.err, got.err)
 
 
 def check_layers(tally, pile):

@@ -2,10 +2,12 @@
 store at its edges, and that the state is the one from which requests are mapped, and earlier ones played."""
 
 import os
+import signal
 import struct
+import subprocess
 import threading
 
-from harness import become_nobody
+from harness import Outcome, become_nobody
 
 SECTOR = 512
 MAGIC = 0x70416E53
@@ -136,6 +138,8 @@ def check(tally, program):
     check_lists(tally, program)
     check_ends(tally, program)
     check_images(tally, program)
+    check_blocks(tally, program)
+    check_shrinks(tally, program)
     check_missing(tally, program)
     check_kinds(tally, program)
     check_runs(tally, program)
@@ -329,6 +333,47 @@ def check_images(tally, program):
                             ("a file that may not be read", secret, {"before": become_nobody})):
         got = stored(program, TABLE % (800, 8), DISKS % (800, 4000), "cow %s\n" % path, "R s 8 1\n", **how)
         tally.same("%s as an image" % name, got, 1, "", told("read"))
+
+
+def check_blocks(tally, program):
+    """An image that ends inside a block of 128 rows: it is read row by row, as far as the list and the free pair after it go."""
+    chunk = 1024
+    for count in (1, 32, 4095, 4096, 5000, 32 * chunk):
+        last = end_of(chunk, count) - chunk + count % (32 * chunk) // 32
+        for less in (0, 1):
+            got = of_store(program, chunk, taken(chunk, count), "R s 0 1\n", length=count * chunk,
+                           store_len=(place(chunk, count) + 1) * chunk, size=(last + 1) * SECTOR - less)
+            if less:
+                tally.same("an image of %d pairs that ends inside the last row" % count, got, 1, "", told("read"))
+            else:
+                tally.same("an image of %d pairs that ends with the last row" % count, got, 0, "1 R %s 1\n" % where_of(chunk, count, 0))
+
+
+def check_shrinks(tally, program):
+    """An image that becomes shorter while its list is read: the program is stopped for that after the first blocks."""
+    pairs = taken(8, 400000)
+    path = put(program, "c.img", 8, pairs)
+    words = ["map", "table", program.file("table", TABLE % (4000000, 8)), program.file("disks", DISKS % (4000000, 4000000)),
+             "--paths", program.file("paths", "cow c.img\n")]
+    ran = subprocess.Popen(
+        [program.path, *words], stdin=subprocess.DEVNULL, stdout=subprocess.PIPE, stderr=subprocess.PIPE, cwd=program.room)
+    while ran.poll() is None and bytes_read(ran.pid) < 65536:
+        pass
+    ran.send_signal(signal.SIGSTOP)
+    is_early = ran.poll() is None and bytes_read(ran.pid) < 16 * len(pairs)
+    os.truncate(path, 16 * SECTOR)
+    ran.send_signal(signal.SIGCONT)
+    out, err = ran.communicate()
+    if is_early or ran.returncode:
+        tally.same("an image that shrinks", Outcome(ran.returncode, out, err), 1, "", told("read"))
+    else:
+        tally.skip("an image that shrinks", "its list was read before it did")
+
+
+def bytes_read(process):
+    """How many bytes a process has read so far."""
+    with open("/proc/%d/io" % process, "rb") as it:
+        return int(it.readline().split()[1])
 
 
 def check_missing(tally, program):

@@ -4,7 +4,7 @@ import os
 import random
 
 from harness import run
-from tool_calls import bad, call, check_rows, good, lost
+from tool_calls import call, check_rows, good, lost
 
 # What is made of answers.
 

@@ -220,8 +220,9 @@ def check_walk(tally, program, top, dice):
     program.file("walk/empty", "")
     program.file("walk/lacking", "".join("%s %s\n" % it for it in zip(HINTS, ("a.img", "empty", "c.img"))))
     got = tool_calls.call(top, ["save", "--program", program.path, "--paths", "lacking", "vg-home", "gaps", "lvm", "vg.backup"], folder=folder)
-    is_told = b"nothing says which disk it is: empty: it is empty\n" in got.err and b" can't be read\n" in got.err
-    tally.holds("a volume of a disk without an image", got.status == 4 and is_told, "%s, %r" % (got.status, got.err))
+    is_told = b"nothing says which disk it is: empty: it is empty\n" in got.err and b"vg-home: empty: it ends before sector " in got.err
+    is_refused = got.status == 1 and is_told and not os.path.exists(os.path.join(folder, "gaps"))
+    tally.holds("a volume of a disk without an image", is_refused, "%s, %r" % (got.status, got.err))
     disk_image = importlib.import_module("dmremap_tools.base.disk_image")
     plain = disk_image.Image.read
     disk_image.Image.read = lambda image, at, count: unreadable(image) if image.path == "b.img" else plain(image, at, count)

@@ -30,7 +30,6 @@ from dmremap_tools.model.pile import Pile
 from dmremap_tools.model.pile_owners import Owners
 
 EXAMPLE = "echo 'sda.img 12096 8' | dmremap-tools owner sda.img sdb.img"
-MOST_WAYS = 1000000
 
 
 def add_words(parser: ArgumentParser) -> None:
@@ -53,9 +52,7 @@ def run(words: Namespace) -> None:
             raise Refusal(quoting.shown(query.name), "no image that is given is called so, and no partition or array of one")
         inside, end = device.size // SECTOR, query.first + query.count
         found = ways(owners.on(device), query.first, min(end, inside)) if query.first < inside else iter(())
-        for number, way in enumerate(found):
-            if number == MOST_WAYS:
-                raise Refusal(quoting.shown(query.name), f"more than {MOST_WAYS} runs from sector {query.first} on: ask for fewer sectors")
+        for way in found:
             streams.out.write(line_of(query.name, way.first, way.count, *way.steps))
         if end > inside:
             first = max(inside, query.first)

@@ -13,8 +13,8 @@ from dmremap_tools.model.volume import Volume
 COMPLETE, LACKING, TRUNCATED, FORKED, REMOVED = "complete", "missing", "truncated", "forked", "removed"
 TWO_SIDES = ("disks of this group were changed apart from each other, and both sides have a volume of this name: give the images of "
              "one side alone ({})")
-NEWER = ("{} has a later text, with the seqno {}, that isn't confirmed ({}), and the other disks the one with {}: restore that text by "
-         "vgcfgrestore on copies of the disks (`metadata` prints it)")
+NEWER = ("{} has {} ({}), and what can be read is the one with the seqno {}: restore one of them by vgcfgrestore on copies of the disks "
+         "(`metadata` prints it)")
 
 
 class Group:
@@ -131,26 +131,32 @@ def current_groups(texts: Texts, find: Callable[[str], Device], volumes: Sequenc
         places = {id(other): ", ".join(volume.place for volume in found.volumes) for other, found in zip(sides, holders)}
         refused = TWO_SIDES.format(" or ".join(places.values()))
         state, notes = state_of(side, find)
-        newer = newer_text(side, volumes)
+        newer = newer_text(holder, side, volumes)
         whys = {name: newer or (refused if name in named else None) for name in side.visible()}
         listed = [Volume(side, name, lambda why=why: why) for name, why in whys.items()]
         known = texts.newest_first() if not others else ring_texts(holder, side.text.identity)
         living = {identity for each in sides for identity in each.names()}
-        group = Group(side, FORKED if others else state, [volume.place for volume in volumes if volume.identity in dict_of(side)], listed, newer)
-        group.volumes += removed_volumes(known, living, find, writers)
+        on_disks = [volume.place for volume in volumes if volume.identity in dict_of(side)]
+        group = Group(side, FORKED if others else state, on_disks, listed, newer)
+        group.volumes += removed_volumes(known, living, find, writers, newer)
         group.former_names = sorted({text.group for text in known} - {side.text.group})
         group.notes = notes
         made.append(group)
     return made
 
 
-def newer_text(side: Side, volumes: Sequence[PhysicalVolume]) -> Optional[str]:
-    """Why a text isn't the last one, where a disk that it names has a later one that no sum confirms."""
+def newer_text(holder: Holder, side: Side, volumes: Sequence[PhysicalVolume]) -> Optional[str]:
+    """Why a text may not be the last one: a disk that it names has a later one that no sum confirms, or one that can't be read
+    and is another one by its sum."""
+    same = [volume.told_of(side.text) for volume in holder.volumes]
     for volume in volumes:
-        if volume.identity in dict_of(side) and not volume.current:
+        if volume.identity in dict_of(side) and (volume.faults or not volume.current):
+            fault = volume.faults[0] if volume.faults else "it isn't the current one"
             last = max((text.seqno for text in volume.older() if text.identity == side.text.identity), default=0)
-            if last > side.text.seqno:
-                return NEWER.format(volume.place, last, volume.faults[0] if volume.faults else "it isn't the current one", side.text.seqno)
+            is_later = last > side.text.seqno
+            which = f"a later text, with the seqno {last}, that isn't confirmed" if is_later else "another text, which may be later"
+            if is_later or any(told not in same for told in volume.unread):
+                return NEWER.format(volume.place, which, fault, side.text.seqno)
     return None
 
 

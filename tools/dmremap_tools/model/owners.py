@@ -3,10 +3,11 @@
 from typing import Callable, Iterable, Iterator, List, NamedTuple, Optional, Sequence, Tuple
 
 from dmremap_tools.base.numbers import SECTOR
+from dmremap_tools.base.refusal import Refusal
 from dmremap_tools.model.device import Device, Gap
 
-# How many things may lie on each other.
-DEEPEST = 40
+# How many things may lie on each other, and how many ways up there are beside some for each sector.
+DEEPEST, MOST_WAYS, MOST_OF_SECTOR = 40, 4096, 8
 # Bytes that are read at once of what nothing claims, and sectors that are asked for at once.
 WINDOW, MOST_SECTORS = 1 << 20, 1 << 18
 NOBODY = "nobody"
@@ -52,7 +53,9 @@ def ways(ground: Ground, first: int, end: int) -> Iterator[Way]:
     waiting: List[Way] = []
     for start in range(first, end, MOST_SECTORS):
         stop, before, waiting = min(end, start + MOST_SECTORS), waiting, []
-        for way in ways_at_once(ground, start, stop):
+        for number, way in enumerate(ways_at_once(ground, start, stop)):
+            if number > MOST_WAYS + MOST_OF_SECTOR * (stop - start):
+                raise Refusal(f"sector {start}", "too many ways lead up from there")
             known = next((other for other in before if other.goes_on(way)), None)
             if known:
                 before.remove(known)
@@ -67,7 +70,8 @@ def ways(ground: Ground, first: int, end: int) -> Iterator[Way]:
 
 def ways_at_once(ground: Ground, first: int, end: int, depth: int = 0) -> Iterator[Way]:
     """The same of so few sectors that their runs can be listed."""
-    runs = list(ground(first, end)) if depth < DEEPEST else [Run(first, end, unknown("it lies on itself"))]
+    found = ground(first, end) if depth < DEEPEST else [Run(first, end, unknown("it lies on itself"))]
+    runs = list({run[:3]: run for run in found}.values())
     for run in sorted(runs + [Run(*gap) for gap in gaps(runs, first, end)], key=lambda run: run.first):
         if run.step is None:
             yield Way(run.first, run.end - run.first, ())

@@ -2,9 +2,11 @@
 
 import hashlib
 import re
+import struct
 from typing import Dict, Iterator, List, NamedTuple, Optional
 
 from dmremap_tools.base.config_text import Document, Node
+from dmremap_tools.base.numbers import SECTOR
 from dmremap_tools.base.refusal import Refusal
 from dmremap_tools.metadata import older_texts, physical_volume
 from dmremap_tools.metadata.group_text import beginning_of, without_time
@@ -58,8 +60,16 @@ class Text(NamedTuple):
 _nodes: Dict[bytes, Node] = {}
 
 
+class Told(NamedTuple):
+    """What the header of a metadata area says of its current text: how many bytes it has, and their sum."""
+
+    length: int
+    checksum: int
+
+
 class PhysicalVolume:
-    """A device with a label. `faults` says what is wrong with its metadata areas, and `doubt` why its bytes aren't believed."""
+    """A device with a label. `faults` says what is wrong with its metadata areas, `unread` what these say of texts that can't be
+    read, and `doubt` why its bytes aren't believed."""
 
     def __init__(self, device: Device, label: physical_volume.Label, place: str) -> None:
         self.device, self.place, self.start = device, place, 0
@@ -69,14 +79,22 @@ class PhysicalVolume:
         self.faults: List[str] = []
         self.doubt: Optional[str] = None
         self.current: List[Text] = []
+        self.unread: List[Told] = []
+        self._told: Dict[bytes, Told] = {}
         self._older: Optional[List[Text]] = None
         for start, size in label.areas:
             area = physical_volume.listed_area(self._image, label, start, size)  # type: ignore[arg-type]
-            fault = self._take(area.text) if area.text is not None else area.fault
+            told = told_at(self._image, start)
+            fault = self._take(area.text, told) if area.text is not None else area.fault
             if fault not in (None, physical_volume.EMPTY):
                 self.faults.append(f"the metadata area at byte {start}: {fault}")
+                self.unread += [told] if told else []
 
-    def _take(self, content: bytes) -> Optional[str]:
+    def told_of(self, text: Text) -> Optional[Told]:
+        """What an area of it says of a current text."""
+        return self._told.get(text.key())
+
+    def _take(self, content: bytes, told: Optional[Told]) -> Optional[str]:
         """Takes the current text of an area, or says what is wrong with it."""
         text = text_of(content)
         if not text:
@@ -86,6 +104,8 @@ class PhysicalVolume:
         except Refusal as refusal:
             return f"its text can't be read: {refusal}"
         self.current.append(text)
+        if told:
+            self._told[text.key()] = told
         return None
 
     def older(self) -> List[Text]:
@@ -98,6 +118,15 @@ class PhysicalVolume:
                 found = older_texts.texts_of_ring(0, ring.rstrip(b"\0") + b"\0", len(ring.rstrip(b"\0")) == len(ring))
                 self._older += filter(None, (text_of(text.content) for text in found if text.content is not None))
         return self._older
+
+
+def told_at(image: Lenient, start: int) -> Optional[Told]:
+    """What the header of the area at this byte says of its text, if the header is sound and lvm2 keeps one there."""
+    header = image.read(start, SECTOR)
+    if len(header) < SECTOR or physical_volume.header_fault(header, start):
+        return None
+    length, checksum, flags = struct.unpack_from("<QLL", header, 48)
+    return Told(length, checksum) if length and not flags & physical_volume.IGNORED else None
 
 
 def text_of(content: bytes) -> Optional[Text]:

@@ -88,8 +88,10 @@ def ids_in(text: Text) -> Set[str]:
     return {found.decode("ascii", "replace") for found in IDENTITY.findall(region)}
 
 
-def removed_volumes(texts: Sequence[Text], living: Set[str], find: Callable[[str], Device], writers: Writers) -> Iterator[Volume]:
-    """The volumes of texts, of which the newest comes first, that have no id of those that are there now."""
+def removed_volumes(texts: Sequence[Text], living: Set[str], find: Callable[[str], Device], writers: Writers,
+                    doubt: Optional[str] = None) -> Iterator[Volume]:
+    """The volumes of texts, of which the newest comes first, that have no id of those that are there now. `doubt` says why a later
+    text may be lost."""
     seen = set(living)
     for text in texts:
         ids = ids_in(text) - seen
@@ -102,7 +104,8 @@ def removed_volumes(texts: Sequence[Text], living: Set[str], find: Callable[[str
             continue
         for name in side.visible():
             if side.identity(name) in ids:
-                yield Volume(side, name, Refused(side, name, texts, writers), True)
+                refused = Refused(side, name, texts, writers)
+                yield Volume(side, name, (lambda: doubt) if doubt else refused, True)
 
 
 class Refused:
