@@ -1,10 +1,10 @@
-"""A line for `dd` for each piece of the answers to requests.
+"""Prints a line for `dd` for each piece of the answers to requests.
 
-Has FORMAT, FILE and DISKS, as `dmremap map` takes them, and requests. Gets commands for a shell. What requests read is taken
-from the disks: it goes to standard output, or with --image into that file, one piece after the other. What requests write is
-taken from that file, in the same way, and goes to the disks. Copies and fills go from disk to disk. With --paths a disk has
-another path here. Snapshots begin with what their stores have on these disks; --fresh takes them as new. Refuses `error`, of
-which there is nothing to read or write, writes without --image, and an IMAGE that is one of the disks.
+Takes FORMAT, FILE and DISKS, as `dmremap map` does, and requests. Prints commands for a shell. What requests read is taken from
+the disks: it goes to standard output, or with --image into that file, one piece after the other. What requests write is taken
+from that file, in the same way, and goes to the disks. Copies and fills go from disk to disk. With --paths a disk has another
+path here. Snapshots start from what their stores have on these disks; --fresh takes them as new. Refuses `error`, of which
+there is nothing to read or write, writes without --image, and an IMAGE that is one of the disks.
 
 The lines count in sectors, so any `dd` will do. They write to disks only where the answers do: look at them first.
 """

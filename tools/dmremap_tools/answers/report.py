@@ -1,8 +1,8 @@
-"""What answers do to each disk: all figures in one look at them, and a picture.
+"""Reports what answers do to each disk: all figures at once, and a picture.
 
-Takes what `dmremap map` printed. Prints lines that begin with what they say:
+Takes the output of `dmremap map`. Prints lines that begin with what they say:
 
-    total DISK WHAT PIECES SECTORS BYTES    what is done there, R or W; `-` has no disk, with zero, drop or error
+    total DISK WHAT PIECES SECTORS BYTES    what is done there, R or W; `-` is no disk, with zero, drop or error
     length DISK WHAT SECTORS PIECES BAR     how many pieces have from SECTORS up to less than twice as many
     seek DISK SECTORS                       the mean distance from the end of a piece to the next one there
     split PIECES REQUESTS                   how many requests have so many pieces that are R or W
@@ -10,18 +10,19 @@ Takes what `dmremap map` printed. Prints lines that begin with what they say:
 
 A copy is a read and a write, and a fill a write; neither counts for `seek` and `split`. A kernel also writes the list of a
 snapshot's store, which answers leave out: the disk of a store does more than is counted here. With --disks the lines are in the
-order of DISKS, and disks that it lacks are refused, as are pieces past their ends.
+order of DISKS; disks that it lacks are refused, and so are pieces past their ends.
 
 --plot draws a field for each disk: to the right the numbers of the requests, or with --times their times; upwards the sectors.
-What is read is blue and what is written red, the more the darker.
+Reads are blue and writes red, the more the darker.
 
---compare says whether a trace of the disks has what was answered. LOWER has lines `R DISK START SECTORS` or `W ..`, with the names
-of the answers, as `trace --lower` makes them. Where they differ, lines follow, and the status is 1:
+--compare says whether a trace of the disks has what was answered. LOWER has lines `R DISK START SECTORS` or `W ..`, with the
+names of the answers, as `trace --lower` prints them. If they differ, lines follow, and the status is 1:
 
     untraced WHAT DISK START SECTORS TIMES      answered so many times more often than it is in LOWER
     unanswered WHAT DISK START SECTORS TIMES    the other way round, as for the lists of stores
 
-How requests are cut makes no difference to that, nor does their order. Refuses lines that are no pieces, and pieces out of order.
+How requests are cut makes no difference to that, nor does their order. Refuses lines that aren't pieces, and pieces out of
+order.
 """
 
 from argparse import ArgumentParser, Namespace

@@ -1,18 +1,18 @@
-"""Why dmremap refuses something, or how an answer comes about.
+"""Says why dmremap refuses something, or how an answer comes about.
 
-Has the words of dmremap as they were typed, such as `map FORMAT FILE [DISKS]`, with requests as words or on standard
-input, unless that is a terminal. If dmremap refuses them, gets its message, the place as a compiler shows it, what is
-wrong there, and the command or the edit that mends it; the status is 0 then, too, as that is what was asked for. It looks at
-what a file really is, at the names that are near to one that isn't there, and at what the system says of a file that can't
-be read. What nothing is found of, it explains as the manual does.
+Takes the words of dmremap as they were typed, such as `map FORMAT FILE [DISKS]`, with requests as words or on standard input,
+unless that is a terminal. If dmremap refuses them, prints its message, the place as a compiler shows it, what is wrong there,
+and the command or the edit that mends it. The status is 0 then, too, because that is what was asked for. It looks at what a
+file really is, at names that are near to one that isn't there, and at what the system says of a file that can't be read. If it
+finds no cause, it explains the message as the manual does.
 
-If dmremap answers, gets the way of each request, level by level: below a device its line, and what comes of it: the disks
-and devices below with their sectors, for a snapshot also whether its chunk was taken, and for an error its cause. Each
-level is an answer of dmremap about a stack in which what lies below is disks, and together they are its answer about the
-whole: where they aren't, the command fails. Requests of --before come first, and each request is in the state that those
-before it left. With --paths, snapshots begin as their stores are.
+If dmremap answers, prints the way of each request, level by level: below a device its line, and then the disks and devices
+below with their sectors, for a snapshot also whether its chunk was taken, and for an error its cause. Each level is an answer
+of dmremap about a stack in which what lies below is disks. Together they have to be its answer about the whole: if they aren't,
+the command fails. Requests of --before come first, and each request is in the state that those before it left. With --paths,
+snapshots start from what their stores hold.
 
-With --json, gets an object for each refusal or request. Refuses more than 16 requests, and one whose way has more than 4096
+With --json, prints an object for each refusal or request. Refuses more than 16 requests, and one whose way has more than 4096
 pieces.
 """
 

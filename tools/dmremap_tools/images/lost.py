@@ -1,20 +1,21 @@
-"""Says which files of a volume the sectors cost that are missing or can't be read.
+"""Says which files of a volume are hit by sectors that are missing or can't be read.
 
-Has GROUP/VOLUME, and IMAGEs that are searched for it as by `scan`; a name means what it means to `save`. With --map IMAGE=MAP,
-for each image that has one, the areas that a map of ddrescue doesn't have as finished are missing, too. What another member of an
-array or another leg has isn't lost. Gets a line for each file: how many of its sectors are lost, and its path; `folder` stands
-before a folder, in which files may be lost whole. The last line says how many sectors are lost in all. Other words than paths are
+Takes GROUP/VOLUME and images, as `save` does. With --map IMAGE=MAP, for each image that has one, the areas that a map of
+ddrescue doesn't list as finished are missing, too. What another member of an array or another leg has isn't lost. Prints a line
+for each file: how many of its sectors are lost, and its path. `folder` stands before a folder, whose files may be lost whole.
+The last line says how many sectors are lost in all. In place of a path, a line may have
 
-    inode N            a file without a name, as the journal, or whose folder is lost; ?/PATH: a folder above may be lost
+    inode N            a file without a name, such as the journal, or whose folder is lost; ?/PATH: a folder above may be lost
     inode table: FILE  the inode of this file lies there; `inode table` alone has inodes of no file
     in use             the file system's own: its superblocks, descriptors, bitmaps
-    no inode           in use, but by no inode: data of a file whose inode is lost, perhaps
-    unused             nothing has it
-    no file            unused or the file system's own, which isn't known where bitmaps can't be read
-    past its end       what the volume has more than the file system
+    no inode           in use, but by no inode: perhaps data of a file whose inode is lost
+    unused             nothing uses it
+    no file            unused or the file system's own: bitmaps that can't be read don't say which
+    past its end       the part of the volume behind the file system
 
-Needs debugfs of e2fsprogs for ext2, ext3 and ext4, and xfs_db of xfsprogs for XFS. These read the volume where it lies in one
-piece in an image, and else a copy in the folder for temporary files, or the one that --saved names, which `save` made.
+Needs debugfs of e2fsprogs for ext2, ext3 and ext4, and xfs_db of xfsprogs for XFS. These read the volume in its image, if it
+lies there in one piece. Otherwise they read a copy in the folder for temporary files, or the one that --saved names, which
+`save` made.
 """
 
 import os

@@ -1,20 +1,20 @@
 """Saves a volume out of images, by its name.
 
-Has GROUP/VOLUME, and IMAGEs that are searched for it as by `scan`. GROUP may be the group's id, and be left out where one group
-has such a volume. A partition (disk.img:2), an array (md:NAME) or an image can be named as well. Gets OUT, a file with the
-bytes of the volume, with holes where it reads as zeros. Without a map OUT is made beside, and has its name when it is whole.
+Takes GROUP/VOLUME, the file to write, and images, which are searched as by `scan`. GROUP may be the group's id, and may be left
+out if only one group has such a volume. A partition (disk.img:2), an array (md:NAME) or an image can be named as well. OUT gets
+the bytes of the volume, with holes where it reads as zeros. Without a map, OUT has its name only once it is whole.
 
-Refuses a volume of which something is missing, and then there is no OUT; with --map or --allow-missing these sectors are told,
-and are holes. Sectors that can't be read are that in any case. The status is 4 then, or 0 with --allow-missing. With --map MAP
-these areas are written as a map of ddrescue, and where MAP is there already, a run that was broken off goes on.
+Refuses a volume if something of it is missing, and leaves no OUT. With --map or --allow-missing, these sectors are reported and
+become holes. Sectors that can't be read are reported and become holes in any case. The status is 4 then, or 0 with
+--allow-missing. --map MAP writes these areas as a map of ddrescue; if MAP is there already, a run that was broken off goes on.
 
-Also has VOLUME TARGET FORMAT FILE [DISKS], with FORMAT, FILE and DISKS as `dmremap map` takes them: the disks that they name are
-read, each at its name, or where --paths says. (An image that is called as a format is given as ./table.) With --extents, which
-is what `filefrag -v` printed of a file of the volume, TARGET is that file. A snapshot is read as its store says, which is on
-these disks, too; --fresh takes snapshots as new, with the sectors of their origins alone.
+Also takes VOLUME TARGET FORMAT FILE [DISKS], with FORMAT, FILE and DISKS as for `dmremap map`. The disks that they name are
+read at their names, or where --paths says. (If an image is called as a format is, write ./table.) With --extents, the output of
+`filefrag -v` for a file of the volume, TARGET is that file. A snapshot is read by its store, which lies on these disks, too;
+--fresh takes snapshots as new, with the sectors of their origins alone.
 
-If a disk has errors, read it into an image with ddrescue first. A file system in OUT is mounted by `mount -o ro,loop,noload`,
-or its files are taken by `debugfs -R 'dump /FILE OUT' OUT`.
+If a disk has errors, read it into an image with ddrescue first. To mount a file system in OUT, use `mount -o ro,loop,noload`;
+to take a file from it, `debugfs -R 'dump /FILE OUT' OUT`.
 """
 
 from argparse import ArgumentParser, Namespace

@@ -1,11 +1,11 @@
 """Says what a pile of images holds: partition tables, md arrays, LUKS containers, volume groups and their volumes.
 
-Has IMAGEs, files or block devices, several in any order; nothing is written to one. Gets a tree for a person. Each image is read
-where labels and superblocks lie, and the whole of it where nothing sound is there. What is foreign or damaged is a line, and
-hides nothing else. `save GROUP/VOLUME OUT IMAGE..` gives a volume's bytes. dmremap is asked where volumes lie. A LUKS container
-has the two ways into it; that without root takes version 2 only with sectors of 512 bytes.
+Takes images, files or block devices, in any order. Nothing is written to them. Prints a tree. Each image is read where labels
+and superblocks lie, and as a whole if nothing sound is there. Something foreign or damaged gets a line, and hides nothing else.
+To copy a volume, run `save GROUP/VOLUME OUT IMAGE..`. dmremap is asked where volumes lie. For a LUKS container, two ways into
+it are printed. The one without root reads version 2 only if its sectors have 512 bytes.
 
-With --json it is one object, in which `why` is null where nothing is wrong:
+With --json, prints one object instead, in which `why` is null if nothing is wrong:
 
     images   image, bytes, table (kind, copy, sector, why; or null), holds: a list of partition (0: the whole image), what, why
     arrays   name, id, level, members, missing (how many), stale, sectors, why
@@ -14,7 +14,8 @@ With --json it is one object, in which `why` is null where nothing is wrong:
              name, id, sectors, kind, file_system, state, why, origin, chunks_used
 
 A group's state is complete, missing (a disk isn't there), truncated (an image ends too soon), forked (its disks were changed
-apart; each side is an entry) or removed. A volume's is whole, incomplete, invalid (of a snapshot), removed or not followed.
+separately; each side is an entry) or removed. A volume's state is whole, incomplete, invalid (a snapshot), removed or not
+followed.
 """
 
 import json

@@ -1,9 +1,9 @@
 """Writes FILE, DISKS and PATHS of a group, by which dmremap itself answers for its volumes.
 
-Has GROUP, its name or its id, IMAGEs that are searched for it as by `scan`, and the folder that gets the three files, which
-mustn't be there yet. FILE is table text: the volumes under the names that lvm2 gives them, snapshots over their origins and
-stores, and the md arrays that they lie on. DISKS are the images, and PATHS has where they are. Gets the command line to use
-them. A volume that a layer computes, as a thin one, or one with parity, has no table: it is told, and `save` and `serve` give it.
+Takes GROUP, a name or an id, images, which are searched as by `scan`, and a folder for the three files, none of which may be
+there yet. FILE is table text: the volumes under the names that lvm2 gives them, snapshots over their origins and stores, and
+the md arrays that they lie on. DISKS lists the images, and PATHS says where they are. Prints the command line that uses them. A
+volume that a layer computes, such as a thin one or one with parity, has no table. It is reported; `save` and `serve` read it.
 """
 
 import os

@@ -1,17 +1,17 @@
-"""Table text of an md array, or answers that end at one followed on to its members.
+"""Makes table text of an md array, or follows answers that end at one on to its members.
 
-Has what `mdadm --examine` prints of all members of an array, which may be images; metadata 0.90 and 1.0 to 1.2. Gets a table
-of the array, named --name: of linear, raid0, raid1 and raid4, and of raid10 whose copies are far, or near and divide the
-members. Where there are copies, the table is of the first that is there, or of --copy, counted from 0; a write goes to all of
+Takes what `mdadm --examine` prints of all members of an array, which may be images, with metadata 0.90 and 1.0 to 1.2. Prints a
+table of the array, named --name: of linear, raid0, raid1 and raid4, and of raid10 whose copies are far, or near and divide the
+members. If there are copies, the table is that of the first that is there, or of --copy, counted from 0. A write goes to all of
 them, and raid4 writes parity as well, so ask for reads. A kernel reads any copy.
 
-With --follow DISK it has answers too, and gets them with each piece on that disk followed on to the members: of raid4, raid5
-and raid6 in all their layouts, and of raid10 of all kinds. A read of raid10 is of --copy, or of another one where that one is
-missing; a write is of each copy that is there.
+With --follow DISK, takes answers as well, and prints them with each piece on that disk followed on to the members: of raid4,
+raid5 and raid6 in all their layouts, and of raid10 of all kinds. A read of raid10 is of --copy, or of another one if that one
+is missing; a write is of each copy that is there.
 
---path names a member's disk in the table, where that isn't its path. Metadata 0.90 of linear and raid0 doesn't say how long
-the members are: --size does. Left out is a member that is a spare, was away, or was dropped. Refuses members that differ in
-what they say of the array, that are being reshaped or rebuilt, that have a journal or a wrong sum, and what needs one that is
+--path names a member's disk in the table, if that isn't its path. Metadata 0.90 of linear and raid0 doesn't say how long the
+members are: --size does. A member that is a spare, was away, or was dropped is left out. Refuses members that differ in what
+they say of the array, that are being reshaped or rebuilt, that have a journal or a wrong checksum, and what needs one that is
 missing. In answers it refuses writes beside parity, copies and fills, and what lies past the end.
 """
 

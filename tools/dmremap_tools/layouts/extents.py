@@ -1,8 +1,8 @@
-"""Where a whole device lies, through all levels.
+"""Says where a whole device lies, through all levels.
 
-Has VOLUME, FORMAT, FILE and DISKS, as `dmremap map` takes them. Gets a line for each extent: the sector of the device, the number
-of sectors, and the disk with the sector there, `zero` or `error`. Of a snapshot it reads the store, on disks at their names or
-where --paths says; --fresh takes it as new.
+Takes VOLUME, and FORMAT, FILE and DISKS as `dmremap map` does. Prints a line for each extent: the sector of the device, the
+number of sectors, and the disk with the sector there, `zero` or `error`. For a snapshot it reads the store, on disks at their
+names or where --paths says; --fresh takes it as new.
 """
 
 import argparse

@@ -1,9 +1,10 @@
-"""A picture of the disks, as SVG: what lies where.
+"""Draws the disks as SVG: what lies where.
 
-Has SPANS, what `spans` printed. Gets a bar for each disk, and for each device that others lie on: each range that a line uses
-in the colour of its device, and gaps hatched. Ranges that share sectors stand in rows of their own; those that clash are
-edged in red, as `spans --clashes` prints them. The names are in the ranges that have room for them, in tooltips and in a legend.
-Bars have one length each, or with --scale lengths in proportion. Refuses lines that are none of `spans`, and ranges past an end.
+Takes SPANS, the output of `spans`. Draws a bar for each disk, and for each device that others lie on: each range that a line
+uses in the colour of its device, and gaps hatched. Ranges that share sectors stand in rows of their own; those that clash are
+edged in red, as `spans --clashes` prints them. The names are in the ranges that have room for them, in tooltips and in a
+legend. Bars have one length each, or with --scale lengths in proportion. Refuses lines that `spans` doesn't print, and ranges
+past an end.
 """
 
 import heapq

@@ -1,20 +1,20 @@
-"""What lies where: each range of a disk or a device that a line of a stack uses.
+"""Says what lies where: each range of a disk or a device that a line of a stack uses.
 
-Has DISKS, FILE, which is table text or concise text of a stack that dmremap loads, and perhaps the metadata of volume groups.
-Gets a line for each range, sorted: on what, the first sector, the sector after the last, the device whose line it is,
-where that line begins on it, and as what. A line with `end` says where a disk or a device ends.
+Takes DISKS, FILE, which is table text or concise text of a stack that dmremap loads, and perhaps the metadata of volume groups.
+Prints a line for each range, sorted: what it lies on, the first sector, the sector after the last, the device whose line it is,
+where that line begins on the device, and as what it is used. A line with `end` says where a disk or a device ends.
 
 A snapshot uses all of its origin, as `origin`, and all of its store. With metadata, what a physical volume has before its
-extents, its label and an area for the metadata, is `label+metadata` of its group; what it has after them, where a second
-area may lie, and the extents of volumes that have no line, as inactive ones, are `allocated`. With --paths the disks are
-read: labels tell which physical volume is which, and partition tables, partitions without a line, headers and data of LUKS,
-labels and areas of LVM, and superblocks and data of members of md arrays are `allocated` as well.
+extents, its label and an area for the metadata, is `label+metadata` of its group. What it has after them, where a second area
+may lie, and the extents of volumes without a line, such as inactive ones, are `allocated`. With --paths the disks are read:
+labels tell which physical volume is which. Partition tables, partitions without a line, headers and data of LUKS, labels and
+areas of LVM, and superblocks and data of members of md arrays are `allocated` as well.
 
-With --free, lines `unnamed` stand between: sectors that no line names. They needn't be free: a file system may lie there without a
-device, or a partition table, swap space, a volume that isn't active or was left out. With --clashes, gets in place of the ranges
-every two that have sectors in common, where `dmremap check` has the first two alone: on what, the first and the last sector, and both
-devices. Snapshots may share an origin. With --align, gets the lines of devices that begin at no multiple of 2048 sectors, which is
-1 MiB, or of --to SECTORS.
+With --free, lines `unnamed` stand between: sectors that no line names. They needn't be free: a file system may lie there
+without a device, or a partition table, swap space, or a volume that isn't active or was left out. --clashes prints, in place of
+the ranges, every two that have sectors in common; `dmremap check` prints the first two alone. A line has what they lie on, the
+first and the last sector, and both devices. Snapshots may share an origin. --align prints the lines of devices that begin at no
+multiple of 2048 sectors, which is 1 MiB, or of --to SECTORS.
 """
 
 from argparse import ArgumentParser, Namespace

@@ -1,15 +1,17 @@
-"""Whether the stores of snapshots can be full, and which request makes each snapshot invalid.
+"""Says whether the stores of snapshots can be full, and which request makes each snapshot invalid.
 
-Takes FORMAT, FILE and DISKS, as `dmremap map` does. Gets a line for each snapshot: how many chunks it has, how many its store has
-places for, and whether that can be too few. A kernel may have one place less, so make a store a chunk larger.
+Takes FORMAT, FILE and DISKS, as `dmremap map` does. Prints a line for each snapshot: how many chunks it has, for how many its
+store has places, and whether that can be too few. A kernel may have one place less, so make a store a chunk larger.
 
-With --requests, gets one more for each: the request that makes it invalid, and how full its store was before that, as `--status`
-prints it. A snapshot begins with what its store has, on disks at their names or where --paths says; --fresh takes all as new. dmremap
-is run over the first half of the requests, then over less or more of them, and so on: about twenty times for a million requests.
+With --requests, prints one more for each: the request that makes it invalid, and how full its store was before that, as
+`--status` prints it. A snapshot starts from what its store has, on disks at their names or where --paths says; --fresh takes
+all as new. dmremap is run over the first half of the requests, then over less or more of them, and so on: about twenty times
+for a million requests.
 
-With --size in place of FORMAT, FILE and DISKS, gets for each device that is written how much of a store that fills: its name, how many
-chunks a snapshot of it takes, how many sectors of the store are used, and how many of these are the header and the chunk numbers.
-Writes to the snapshot and to its origin take the same chunks. Refuses what dmremap refuses, and a FILE without snapshots.
+With --size in place of FORMAT, FILE and DISKS, prints for each device that is written how much of a store that fills: its name,
+how many chunks a snapshot of it takes, how many sectors of the store are used, and how many of these are the header and the
+chunk numbers. Writes to the snapshot and to its origin take the same chunks. Refuses what dmremap refuses, and a FILE without
+snapshots.
 """
 
 import re

@@ -1,12 +1,12 @@
-"""The addresses of a btrfs file system as a device, from its tree of chunks.
+"""Makes a device of the addresses of a btrfs file system, from its tree of chunks.
 
-Has what `btrfs inspect-internal dump-tree -t chunk DEVICE` prints, and for each device of the file system its number and a
-disk. Gets table text of a device on which each address is a sector: the file system counts the extents of its files, which
-`filefrag --addresses` takes, in these. Chunks are `single`, `dup`, `raid0`, `raid1` and its like, and `raid10`; of those with
-copies it is the first, or --copy, counted from 0. Those of raid5 and raid6 are told, and become `error`, as does what no chunk
-has. A write goes to all copies, and never to where the file was before, so ask for reads.
+Takes what `btrfs inspect-internal dump-tree -t chunk DEVICE` prints, and for each device of the file system its number and a
+disk. Prints table text of a device on which each address is a sector. The file system counts the extents of its files in these
+addresses, which `filefrag --addresses` takes. Chunks are `single`, `dup`, `raid0`, `raid1` and its like, and `raid10`. If they
+have copies, it is the first, or --copy, counted from 0. Those of raid5 and raid6 are reported, and become `error`, as does what
+no chunk has. A write goes to all copies, and never to where the file was before, so ask for reads.
 
-Refuses a text without chunks, one that isn't whole, a device that isn't given, and chunks of no whole sectors.
+Refuses a text without chunks, one that isn't whole, a device that isn't given, and chunks that aren't whole sectors.
 """
 
 import re

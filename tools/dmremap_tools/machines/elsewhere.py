@@ -1,16 +1,16 @@
-"""Text for `dmsetup create --concise` on a machine where the disks have other paths, with all devices read-only.
+"""Prints text for `dmsetup create --concise` on a machine where the disks have other paths, with all devices read-only.
 
-Have: PATHS, lines NAME PATH for each disk, and FILE, what `dmremap concise` prints. Get: the devices on these paths.
---prefix puts letters before each name, for a machine that has such a device already. --missing puts a device of `error`
-or `zero` in the place of a disk that PATHS has not. --losetup prints, in place of all that, a command for each device
-that is one linear line on a disk, as that needs no device-mapper; FILE may be table text then, and where PATHS is not
-given, IMAGE is to be replaced by the image of the disk behind `#`.
+Takes PATHS, lines NAME PATH for each disk, and FILE, the output of `dmremap concise`. Prints the devices on these paths.
+--prefix puts letters before each name, for a machine that has such a device already. --missing puts a device of `error` or
+`zero` in the place of a disk that PATHS doesn't have. --losetup prints a command for each device that is one linear line on a
+disk, and nothing else, because that needs no device-mapper. FILE may be table text then; without PATHS, replace IMAGE by the
+image of the disk after `#`.
 
-`losetup -r` makes a disk of an image that nothing writes to, and with -P also its partitions. A kernel reads from a
-snapshot's store which chunks it has, so such a snapshot shows its copies. Mount with `-o ro,noload`, so that ext4 doesn't
-replay its journal; for XFS it is `norecovery`.
+`losetup -r` makes a disk of an image that nothing writes to, and with -P also its partitions. A kernel reads from a snapshot's
+store which chunks it has, so such a snapshot shows its copies. Mount with `-o ro,noload`, so that ext4 doesn't replay its
+journal; for XFS it is `norecovery`.
 
-Refuses a disk that has no path here, unless --missing is given, and one on which a store lies where that would read as zeros.
+Refuses a disk that has no path here, unless --missing is given, and a disk with a store if it would read as zeros.
 """
 
 import argparse

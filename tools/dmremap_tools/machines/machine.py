@@ -1,31 +1,31 @@
-"""FILE and DISKS of a machine that has device-mapper devices of any kind.
+"""Makes FILE and DISKS of a machine that has device-mapper devices of any kind.
 
-Have: four texts, which root can make on that machine:
+Takes four texts, which root can make on that machine:
 
     dmsetup ls > ls.txt
     dmsetup status > status.txt
     lsblk -brno MAJ:MIN,SIZE,KNAME,PKNAME > lsblk.txt
     dmsetup table --concise > concise.txt
 
-Without LSBLK the lengths are those of the disks or images in PATHS, whose lines begin with numbers, as `8:1 sda1.img`, or
-`8:1 sda.img?offset=1048576` for a partition that begins there in the image of a whole disk, which has its length.
+Without LSBLK, the lengths are those of the disks or images in PATHS, whose lines begin with numbers: `8:1 sda1.img`, or `8:1
+sda.img?offset=1048576` for a partition that begins there in the image of a whole disk, whose partition table gives its length.
 
-Get: FILE in the form of the last text, which may be what `dmsetup table` prints instead, and DISKS with the disks that
-FILE names. Numbers of devices become their names, numbers of disks their paths, and lines of `crypt` linear ones: what
-lies there is encrypted, so compare nothing with it. `dmsetup table` doesn't say which devices are read-only, so all count
-as writable then. One device alone: `dmsetup table NAME | sed 's/^/NAME: /'`.
+Prints FILE in the form of the last text, which may be the output of `dmsetup table` instead, and writes DISKS with the disks
+that FILE names. Numbers of devices become their names, and numbers of disks their paths. Lines of `crypt` become linear: what
+lies there is encrypted, so compare nothing with it. `dmsetup table` doesn't say which devices are read-only, so all count as
+writable then. For one device alone: `dmsetup table NAME | sed 's/^/NAME: /'`.
 
-A device that dmremap can't follow is told and left out; to the devices above it, it is a disk, by the kernel's path, at
-which answers end. Such are
+A device that dmremap can't follow is reported and left out. To the devices above it, it is a disk, by the kernel's path, at
+which answers end. These are
 
-    devices of other targets, as thin, raid, mirror, cache, multipath, verity, integrity and snapshot-merge;
+    devices of other targets, such as thin, raid, mirror, cache, multipath, verity, integrity and snapshot-merge;
     those without a table, or with a name that dmremap doesn't take (`dmsetup rename` gives another);
     those that aren't as long as lsblk says, or go past the end of what lies below, or lie on a disk without a length;
     snapshots whose status isn't as `16/1048576 16`, with two equal figures, so that their stores have copies, unless --store
-    names them: ask `used` then, with the same words;
+    names them: `dmremap map --paths` reads these stores;
     those of kind PO or with features, not as long as their origin, or with a store that is read-only or not plain.
 
-An origin stays where a snapshot of it is left out, and it is said that copies for that one are missing in answers.
+If a snapshot is left out, its origin stays, and a message says that copies for this snapshot are missing in answers.
 
 With --only, which may be given several times, FILE has that device and all that it stands on.
 
@@ -50,7 +50,7 @@ def add_words(parser: argparse.ArgumentParser) -> None:
     """Adds the four texts, and DISKS."""
     parser.add_argument("--disks", metavar="DISKS", required=True, help="the file to write DISKS to")
     parser.add_argument("--only", metavar="NAME", action="append", default=[], help="a device that is asked for, with all that it stands on")
-    parser.add_argument("--store", metavar="SNAPSHOT=IMAGE", action="append", default=[], help="a snapshot whose store `used` will read")
+    parser.add_argument("--store", metavar="SNAPSHOT=IMAGE", action="append", default=[], help="a snapshot whose store `dmremap map --paths` will read")
     paths.add_words(parser)
     numbers.add_sector_size(parser, "with --paths, how many bytes a sector has where an image has an MBR, which doesn't say so")
     for name, command in (("ls", "dmsetup ls"), ("status", "dmsetup status"), ("lsblk", listings.LSBLK_COMMAND),

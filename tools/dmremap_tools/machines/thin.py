@@ -1,16 +1,16 @@
-"""Thin or cached devices as tables, from what `thin_dump` or `cache_dump` prints of the metadata.
+"""Makes tables of thin or cached devices, from what `thin_dump` or `cache_dump` prints of the metadata.
 
 Takes the dump, the disk or device of the pool's data, and for each device its number in the pool, a name and its sectors.
-Gets concise text of read-only devices: a line for each run of blocks, `zero` where the pool has none, or with --external what
-lies there on the origin of another kind. What is read is exact; a write may take a block, or move one that is shared, so it is
-refused by dmremap. Take the dump of a pool that isn't active, or of `thin_dump --metadata-snap`.
+Prints concise text of read-only devices: a line for each run of blocks, `zero` where the pool has none, or with --external what
+lies there on the external origin. Reads are exact. A write may take a block, or move one that is shared, so dmremap refuses it.
+Take the dump of a pool that isn't active, or of `thin_dump --metadata-snap`.
 
-With --cache and --origin in place of --data, takes what `cache_dump` prints, and of one device the name and its sectors. Its dirty
-blocks lie on the cache, the rest on the origin, which has the same content there as the cache. After a crash a kernel takes all
-blocks for dirty: so does --all. Take the dump of a cache that isn't active.
+With --cache and --origin in place of --data, takes what `cache_dump` prints, and of one device the name and its sectors. Its
+dirty blocks lie on the cache, the rest on the origin, which has the same content there as the cache. After a crash a kernel
+takes all blocks as dirty; so does --all. Take the dump of a cache that isn't active.
 
-A device of more lines than dmremap takes is refused, unless --part says which of its sectors are asked for. Refuses a dump
-that isn't whole, a device or a list that it hasn't, and blocks past the end of the data or twice.
+A device of more lines than dmremap takes is refused, unless --part says which of its sectors are wanted. Refuses a dump that
+isn't whole, a device or a list that it doesn't have, and blocks past the end of the data or twice.
 """
 
 import array

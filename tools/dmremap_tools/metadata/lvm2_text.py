@@ -1,33 +1,32 @@
-"""A copy of a group's metadata that dmremap reads, and that means the same to it.
+"""Makes a copy of a group's metadata that dmremap reads, and that means the same to it.
 
-Have: TEXT, as `vgcfgbackup` writes it or a metadata area has it, of which dmremap says `field`, `syntax`, `extents`,
+Takes TEXT, as `vgcfgbackup` writes it or a metadata area has it, which dmremap refuses as `field`, `syntax`, `extents`,
 `snapshot`, `store` or `limit`: one raid, mirror, cache or thin volume is enough, or one disk after `pvresize`.
 
-Get: the text without what dmremap can't follow. Each line keeps its number, and a text that needs no change comes out as
-it is. Whatever is left out or changed is told with its line. Left out are
+Prints the text without what dmremap can't follow. Each line keeps its number, and a text that needs no change comes out as it
+is. Whatever is left out or changed is reported with its line. Left out are
 
     volumes of other types than striped, linear, zero and error, and what lies on them or is a snapshot of them;
     volumes on another volume, as while they are moved; stripes that don't divide one; names that no device can have;
     snapshots that aren't as long as their origin, or whose store has zero or error or is left out, or has more places for
-    chunks than dmremap counts in all: the origin stays, and what answers lack is said;
+    chunks than dmremap counts in all: the origin stays, and a message says what answers lack;
     snapshots that are being merged, with their origin: it reads as the snapshot does, from what is left in the store;
     fields that don't matter, with negative numbers, fractions, words without quotes or several lines.
 
-Changed are a disk that is shorter than its extents, as after pvresize, one without a name or a length, parts of raid
-volumes that are read-only, and what lvm2 reads and dmremap doesn't: octal numbers, single quotes, `linear`, a string in
-place of a list, commas too many or too few, fields that are there twice, other white space, bytes that are no UTF-8.
+Changed are a disk that is shorter than its extents, as after pvresize, one without a name or a length, parts of raid volumes
+that are read-only, and what lvm2 reads and dmremap doesn't: octal numbers, single quotes, `linear`, a string in place of a
+list, commas too many or too few, fields that are there twice, other white space, bytes that aren't UTF-8.
 
 The parts of a volume that is left out stay, under the names that they have in the kernel: `r1_rimage_0` is one half of the
-mirror `r1`, and `pool_tdata` has the data of a thin pool. For a cached volume, the cache may have newer data than
-`home_corig`.
+mirror `r1`, and `pool_tdata` has the data of a thin pool. For a cached volume, the cache may have newer data than `home_corig`.
 
-With --only, which may be given several times, the copy has that volume, its origin if it is a snapshot, and the disks that
-they lie on.
+With --only, which may be given several times, the copy has that volume, its origin if it is a snapshot, and the disks that they
+lie on.
 
-Refuses a text of which no volume would be left, one that is no metadata of a group, and forms that lvm2 never writes; one
-that is damaged, so that dmremap, which is asked, refuses the copy; and one of more than 8 MiB, or of more than 150,000 keys and values.
-Nothing about the copy is proved. The text can't say whether it is the newest, and a machine's devices are those of the text
-only if `dmsetup table` says so.
+Refuses a text of which no volume would be left, one that isn't the metadata of a group, forms that lvm2 never writes, a damaged
+text whose copy dmremap refuses when it is asked, and one of more than 8 MiB, or of more than 150,000 keys and values. Nothing
+about the copy is proved. The text can't say whether it is the newest; `dmsetup table` shows whether a machine's devices are
+those of the text.
 """
 
 import argparse

@@ -1,26 +1,24 @@
-"""The metadata text of the group that a physical volume of LVM2 belongs to.
+"""Prints the metadata text of the group that a physical volume of LVM2 belongs to.
 
-Have: HEAD, the physical volume, or an image of its beginning, such as its first MiB, or of the whole disk, of which each
+Takes HEAD, the physical volume, or an image of its beginning, such as its first MiB, or of the whole disk, of which each
 partition with a sound label is taken. HEAD?offset=BYTES is what begins there in it: a partition, or a volume that begins
-elsewhere. In a member of an md array it is found behind the superblock (1.1 or 1.2), unless a newer member is given as well.
-Several physical volumes have to agree.
-`dd if=/dev/sda1 of=head.img bs=1M count=1` makes an image of the beginning; where there is lvm2, `pvck --dump metadata -f
-TEXT head.img` does the same.
+elsewhere. In a member of an md array the volume is found behind the superblock (1.1 or 1.2), unless a newer member is given as
+well. Several physical volumes have to agree. `dd if=/dev/sda1 of=head.img bs=1M count=1` makes an image of the beginning; with
+lvm2, `pvck --dump metadata -f TEXT head.img` does the same as this command.
 
-Get: the valid text. The label says where the metadata areas are, and the header of an area which of its texts is valid.
-Each of the three has a sum. If the first area is damaged, the second is taken, where there is one. If both are sound, the
-text with the higher seqno; two groups, or two texts with one number, are refused. If all are damaged, take another physical
-volume of the group, or a text in /etc/lvm/backup. With --list, what is left of older texts: the place of each in HEAD, its
-group, the group's id, the seqno and the time; `cut` is a text that isn't there to its end. --seqno and --at print one of
-these.
+Prints the valid text. The label says where the metadata areas are, and the header of an area which of its texts is valid. Each
+of the three has a checksum. If the first area is damaged, the second is taken, if there is one. If both are sound, the text
+with the higher seqno is taken; two groups, or two texts with one number, are refused. If all are damaged, take another physical
+volume of the group, or a text in /etc/lvm/backup. --list prints what is left of older texts: the place of each in HEAD, its
+group, the group's id, the seqno and the time; `cut` is a text whose end isn't there. --seqno and --at print one of these.
 
-Without a sound label, areas are looked for in the first and the last 4 MiB, and then labels in the whole image. A GPT
-whose first copy is damaged is read by its second one.
+Without a sound label, areas are looked for in the first and the last 4 MiB, and then labels in the whole image. If the first
+copy of a GPT is damaged, the second one is read.
 
-Refuses whatever no sum confirms, and a volume that belongs to no group. Of texts that differ each is told with its
-volumes. A text that lvm2 was about to make the valid one isn't taken; nor does lvm2 take it. Older texts have no sum:
-choose one by the group's id and the time, as a group that was removed may have had the same name, and higher numbers.
-No sum tells whether another physical volume has a later text, or whether the disks still hold what it says.
+Refuses whatever no checksum confirms, and a volume that belongs to no group. If texts differ, each is reported with its
+volumes. A text that lvm2 was about to make the valid one isn't taken; lvm2 doesn't take it either. Older texts have no
+checksum: choose one by the group's id and the time, because a group that was removed may have had the same name, and higher
+numbers. No checksum tells whether another physical volume has a later text, or whether the disks still hold what it says.
 """
 
 import argparse

@@ -1,21 +1,21 @@
-"""Requests for the sectors of files, from what `filefrag -s -v -b512 FILE` prints, or `debugfs`.
+"""Makes requests for the sectors of files, from what `filefrag -s -v -b512 FILE` prints, or `debugfs`.
 
-Takes the extents of one file or of several, in blocks of any size. Gets requests that read them, in the file's order. Unwritten
-extents are told and left out: they read as zeros. Refuses file systems other than ext2, ext3, ext4 and XFS, as the extents of btrfs
-are no places on its device: with --addresses, VOLUME is the device that `btrfs` makes of it. Refuses extents without a place, as
-`delalloc`, `inline` and `encoded`, and a text that isn't whole. With -s, filefrag has the file written out first: before that, new
-blocks have no place, and preallocated ones count as unwritten.
+Takes the extents of one file or of several, in blocks of any size. Prints requests that read them, in the file's order.
+Unwritten extents are reported and left out: they read as zeros. Refuses file systems other than ext2, ext3, ext4 and XFS. The
+extents of btrfs are no places on its device: with --addresses, VOLUME is the device that `btrfs` makes of it. Refuses extents
+without a place, such as `delalloc`, `inline` and `encoded`, and a text that isn't whole. The option -s of filefrag has the file
+written out first: before that, new blocks have no place, and preallocated ones count as unwritten.
 
-With --debugfs SUPER, FILE is what `debugfs -R 'ex /FILE' IMAGE` prints of an ext4 file system that isn't mounted, and SUPER what
-`dumpe2fs -h IMAGE` does, for the size of a block. Files without a list of extents are refused: those of ext2 and ext3, and small ones
-that are kept in their inode.
+With --debugfs SUPER, FILE is what `debugfs -R 'ex /FILE' IMAGE` prints of an ext4 file system that isn't mounted. SUPER is what
+`dumpe2fs -h IMAGE` prints; it gives the size of a block. Files without a list of extents are refused: those of ext2 and ext3,
+and small ones that are kept in their inode.
 
-With --device, gets the file as a device of that name, an image on a volume as a disk, say: table text, whose lines lie on VOLUME, or
-on the disk that --on names. Where the file has no place it is `zero`; its last sector is whole. With --debugfs, --size says how many
-bytes it has, as `debugfs -R 'stat /FILE' IMAGE` does. A file of more lines than dmremap takes is refused, unless --part says which of
-its sectors are asked for.
+With --device, prints the file as a device of that name, such as an image on a volume as a disk: table text, whose lines lie on
+VOLUME, or on the disk that --on names. Where the file has no place, the line is `zero`. The last sector is whole. With
+--debugfs, --size says how many bytes the file has, as `debugfs -R 'stat /FILE' IMAGE` prints. A file of more lines than dmremap
+takes is refused, unless --part says which of its sectors are wanted.
 
-It can't see two things: the numbers of `filefrag -X` are hexadecimal and may look decimal, and a file in the realtime
+Two things don't show in the text: the numbers of `filefrag -X` are hexadecimal and may look decimal, and a file in the realtime
 part of XFS has its extents on another device.
 """
 

@@ -1,16 +1,17 @@
-"""Requests from a trace of device-mapper devices.
+"""Makes requests from a trace of device-mapper devices.
 
-Has what `dmsetup ls` prints (LS), the tables that will be asked (TABLES, table text or concise text), and a trace: that
-of `blkparse` or `btrace`, or the event block_bio_queue as trace_pipe, `trace-cmd report` and `perf script` print it. Gets
-the reads and writes, as they come, and with --times the time of each. Discards, flushes, requests to devices that the tables
-have not, and lines that tell of no request, are left out and counted. Refuses a trace that says that events were lost, and zone
-appends and other requests whose sectors are not the trace's.
+Takes what `dmsetup ls` prints (LS), the tables that will be asked (TABLES, table text or concise text), and a trace: that of
+`blkparse` or `btrace`, or the event block_bio_queue as trace_pipe, `trace-cmd report` and `perf script` print it. Prints the
+reads and writes as they come; --times writes the time of each to a file. Discards, flushes, requests to devices that the tables
+don't have, and lines without a request are left out and counted. Refuses a trace that says that events were lost, and zone
+appends and other requests whose sectors aren't those of the trace.
 
-Trace top devices only: a request to a device on another one shows up at both, and would count twice. With --lower the trace is one of
-the disks below them: LS is what `lsblk -brno MAJ:MIN,SIZE,KNAME,PKNAME` prints, and TABLES is DISKS. `report --compare` takes that.
+Trace top devices only: a request to a device on another one shows up at both, and would count twice. With --lower, the trace is
+one of the disks below them: LS is what `lsblk -brno MAJ:MIN,SIZE,KNAME,PKNAME` prints, and TABLES is DISKS. `report --compare`
+takes that.
 
-With --fio, TRACE is a log that fio wrote (`write_iolog=FILE`), of version 2 or 3: gets requests for all sectors that its bytes touch.
-The files of the log are devices; LS is read only where they are given as /dev/dm-N. Trims are left out and counted.
+With --fio, TRACE is a log that fio wrote (`write_iolog=FILE`), of version 2 or 3. Prints requests for all sectors that its
+bytes touch. The files of the log are devices; LS is read only if they are given as /dev/dm-N. Trims are left out and counted.
 """
 
 import re
