@@ -15,19 +15,23 @@ MODULE = re.compile(r"(\w+)/([\w/]+)$")
 
 def tables(sources):
     """The tables of docs/READING.md, each by its first line."""
-    promises = [("`%s`: %s" % (name, says), "`%s`" % "`, `".join(names), needed(sources, name))
-                for name, names, says in PROMISES]
-    formats = [("`%s`" % it, needed(sources, "map", it)) for it in sorted(FORMATS, reverse=True)]
+    promises = [("`%s`: %s" % (name, says), "`%s`" % "`, `".join(names), *counted(sources, name)) for name, names, says in PROMISES]
+    formats = [("`%s`" % it, *counted(sources, "map", it)[2:]) for it in sorted(FORMATS, reverse=True)]
     return {
-        "| Promise | Contracts | Definitions | Lines |\n": rows(promises),
-        "| `map` of | Definitions | Lines |\n": rows(formats),
+        "| Promise | Contracts | Definitions | Lines | Whole | Lines |\n": rows(promises),
+        "| `map --whole` of | Definitions | Lines |\n": rows(formats),
     }
 
 
+def counted(sources, promise, read_as=None):
+    """The cells of a promise: the definitions and lines of what a reader needs, and those with what other promises have."""
+    found = [counts(needed(sources, promise, read_as, it)) for it in (False, True)]
+    return [cell for definitions, others, lines in found for cell in ("%d + %d" % (definitions, others), str(lines))]
+
+
 def rows(cells):
-    """The lines of a table after its first: cells, of which the last are the counts of what a reader needs."""
-    found = ["| %s | %d + %d | %d |\n" % (" | ".join(it[:-1]), *counts(it[-1])) for it in cells]
-    return ["|%s\n" % ("---|" * (len(cells[0]) + 1))] + found
+    """The lines of a table after its first."""
+    return ["|%s\n" % ("---|" * len(cells[0]))] + ["| %s |\n" % " | ".join(it) for it in cells]
 
 
 def written(sources):
@@ -56,7 +60,8 @@ def lacks(sources):
     found = [] if written(sources) == lines_of(sources, READING) else [
         "docs/READING.md has other tables than `python3 tests/reading --write` makes"]
     for name, _, _ in PROMISES:
-        found += ["the list of %s: %s" % (name, it) for it in disorder(sources, needed(sources, name))]
+        for is_whole in (False, True):
+            found += ["the list of %s: %s" % (name, it) for it in disorder(sources, needed(sources, name, is_whole=is_whole))]
     return found + NamedContracts(sources).lacks()
 
 
