@@ -3,7 +3,7 @@
 //! What a proof knows of a real device is what is noted here: note each result where it is returned.
 ghost use Rattle.std.specs.Prelude.{◌≡◌, ◌+◌, ◌<◌, ◌≤◌, ◌++◌, [], length, IfOk};
 ghost use Rattle.std.specs.Io.KnownBytes.{Keeps, ReadConsumes, WriteAppends};
-ghost use Rattle.dm_table.specs.io.DeviceIo.{given, fault_of, end_of, unflushed};
+ghost use Rattle.dm_table.specs.io.DeviceIo.{given, fault_of, ends_added, unflushed};
 
 use crate::io::device_io::{InFault, Input, OutFault, Output};
 use crate::io::ghost_list::{GhostList, Tally};
@@ -52,7 +52,7 @@ impl<T: Read> Input for Counted<T> {
         ensures within { IfOk result (λ n. n ≤ length buffer.new) }
         ensures bytes { self.new.handed.items ≡ self.old.handed.items ++ given result buffer.new }
         ensures faults { self.new.read_faults ≡ self.old.read_faults + fault_of result }
-        ensures ends { self.new.ends ≡ self.old.ends + end_of result (length buffer.new) }
+        ensures ends { self.new.ends ≡ self.old.ends + ends_added result (length buffer.new) }
         // Where std knows the reader's bytes, none is lost or made up.
         ensures inner { ReadConsumes (T.remaining self.old.inner) (T.remaining self.new.inner)
             result buffer.new }
