@@ -32,7 +32,7 @@ PROMISES = [
     ("taken", ["PlainTaken", "RunTaken", "TrieTaken"], "chunks that a snapshot took"),
     ("stores", ["read_stores", "StoreRefusal::message", "stores_fit", "reads_back", "is_spelled", "ReadLog", "MemoryImages"],
      "the state that stores hold"),
-    ("run", ["Lines::next", "handle_requests", "InTurn", "Join", "run"], "lines, pieces, and a run"),
+    ("run", ["Lines::next", "handle_requests", "Exchange", "Join", "run"], "lines, pieces, and a run"),
     ("replay", ["Replay"], "answers of a replay"),
     ("alone", ["tops_are_alone", "play_goes_on", "requests_are_alone", "errors_have_causes", "nothing_is_lost"],
      "each top device alone, and where errors come from"),
@@ -56,8 +56,9 @@ def named(sources, name):
 
 
 def of_type(sources, name):
-    """The functions of a type that others may call, and its implementations of traits with what these declare."""
-    found = [it for it in sources.code_items if it.name.endswith(" for " + name)]
+    """The functions of a type that others may call, and its implementations of traits with what these declare; or the
+    implementations of a trait."""
+    found = [it for it in sources.code_items if name in it.name.split(" for ")]
     found += [it for it in sources.code_items if it.name.startswith(name + "::") and it.is_promised]
     if not found:
         raise SystemExit("there is no function or type %s" % name)

@@ -81,6 +81,8 @@ impl<T: Write> Output for Counted<T> {
       flushes = c.flushes;
     } };
 
+    ghost is_out = { λ c. Unit {0} };
+
     /// One write of the writer. Each of its errors is a fault, an interrupted call too, and so is a 0
     /// for a slice that isn't empty.
     fn write(&mut self, bytes: &[u8]) -> Result<usize, OutFault>
@@ -126,4 +128,7 @@ impl<T: Write> Output for Counted<T> {
             }
         }
     }
+
+    /// Nothing is gathered here.
+    fn drain(&mut self) {}
 }
