@@ -3,7 +3,6 @@
 import os
 import re
 
-from definitions import FORMATS
 from promises import PROMISES, counts, in_order, named, needed
 
 READING = os.path.join("docs", "READING.md")
@@ -16,17 +15,14 @@ MODULE = re.compile(r"(\w+)/([\w/]+)$")
 def tables(sources):
     """The tables of docs/READING.md, each by its first line."""
     promises = [("`%s`: %s" % (name, says), "`%s`" % "`, `".join(names), *counted(sources, name)) for name, names, says in PROMISES]
-    formats = [("`%s`" % it, *counted(sources, "map", it)[2:]) for it in sorted(FORMATS, reverse=True)]
-    return {
-        "| Promise | Contracts | Definitions | Lines | Whole | Lines |\n": rows(promises),
-        "| `map --whole` of | Definitions | Lines |\n": rows(formats),
-    }
+    return {"| Promise | Contracts | Definitions | Lines | Whole |\n": rows(promises)}
 
 
-def counted(sources, promise, read_as=None):
-    """The cells of a promise: the definitions and lines of what a reader needs, and those with what other promises have."""
-    found = [counts(needed(sources, promise, read_as, it)) for it in (False, True)]
-    return [cell for definitions, others, lines in found for cell in ("%d + %d" % (definitions, others), str(lines))]
+def counted(sources, promise):
+    """The cells of a promise: the definitions and lines of what a reader needs, and, if there are more, those with what
+    other promises have."""
+    own, whole = [counts(needed(sources, promise, is_whole=it)) for it in (False, True)]
+    return ["%d + %d" % own[:2], str(own[2]), "" if whole == own else "%d + %d, %d" % whole]
 
 
 def rows(cells):
