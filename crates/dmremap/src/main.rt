@@ -10,6 +10,7 @@ ghost use Rattle.dmremap.specs.OtherWhole.{is_other};
 
 mod disk_paths;
 mod exit;
+mod explanation;
 mod file_images;
 mod help;
 mod job;
@@ -17,6 +18,7 @@ mod load;
 mod map_after;
 mod map_stored;
 mod map_whole;
+mod messages;
 mod other_whole;
 mod part_file;
 mod printing;
