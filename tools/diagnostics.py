@@ -21,10 +21,14 @@ WIDTH = 116
 def module_of(path: str) -> str:
     """The text of the module with all entries."""
     with open(path, encoding="utf-8") as it:
-        found = re.search(r"^\.SH DIAGNOSTICS\n(.*?)^\.SH ", it.read(), re.M | re.S)
-    parts = re.split(r"^\.SS (.*)\n", found[1], flags=re.M)
+        parts = re.split(r"^\.SS (.*)\n", section_of(it.read(), "DIAGNOSTICS"), flags=re.M)
     made = [_dictionary(SECTIONS[_key(title)], entries_of(part)) for title, part in zip(parts[1::2], parts[2::2])]
     return HEAD + "\n".join(made)
+
+
+def section_of(manual: str, title: str) -> str:
+    """The text of a section of a manual."""
+    return re.search(r"^\.SH %s\n(.*?)^\.SH " % title, manual, re.M | re.S)[1]
 
 
 def _key(title: str) -> str:
@@ -35,7 +39,7 @@ def entries_of(part: str) -> Dict[str, str]:
     """What the entries of a section say, by what they are about."""
     entries = {}
     for entry in re.split(r"^\.TP\n", part, flags=re.M)[1:]:
-        head, _, body = entry.partition("\n")
+        head, _, body = re.split(r"^\.PP\n", entry, flags=re.M)[0].partition("\n")
         entries[plain(_line(head)).replace("`", "")] = plain_text(body)
     return entries
 
@@ -68,7 +72,8 @@ def _line(line: str) -> str:
     if macro in (".BR", ".RB"):
         return "".join("`%s`" % it if at % 2 == (macro == ".RB") else it for at, it in enumerate(words))
     joined = (" " if macro in (".B", ".I") else "").join(words)
-    return "`%s`" % joined if macro in (".B", ".BI") else joined
+    typed, _, rest = joined.partition("\\fR")
+    return "`%s`%s" % (typed, rest) if macro in (".B", ".BI") else joined
 
 
 def _words(text: str) -> List[str]:

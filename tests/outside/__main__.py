@@ -35,6 +35,7 @@ import files
 import groups
 import growths
 import halts
+import help_messages
 import help_texts
 import hostile
 import installs
@@ -90,7 +91,7 @@ BUILT = os.path.join(TOP, "crates", "dmremap", "out", "dmremap")
 # The modules, in the order in which they run.
 PARTS = (
     words, before, stored, files, loads, backups, groups, records, printing, reports, request_lines, field_lengths, answers,
-    ranges, snapshot_rows, snapshots, origins, kinds, replays, streams, limits, hostile, growths, help_texts,
+    ranges, snapshot_rows, snapshots, origins, kinds, replays, streams, limits, hostile, growths, help_texts, help_messages,
     launcher, building, trying, installs, documents, crate_pages, worked, manual, completions, reading_list, source_names, recipes,
     tool_requests, tool_answers, tool_documents, tool_streams, layouts, layers, explained, used, snapshot_readers, pictures,
     trace_parts, sector_files, saves, models, owners, machines, metadata_areas, array_members, lvm2_texts, walks, lookers, refusals, halts,

@@ -16,6 +16,8 @@ ZERO_LINE = "a: %d 1 zero\n"
 # the chunks, and the next area. And how much memory may be touched while ten chunks are taken.
 PLACES_DISKS = "base 320\ncow %d\n" % (32 * (1 + 4096 + 4194304 + 1))
 MOST_TOUCHED = 24 << 10
+# How much more memory, in KiB, may be taken for 1,000 devices on 1,000 disks than for one of each.
+MOST_LOADED = 5 << 9
 
 
 def check(tally, program):
@@ -25,6 +27,7 @@ def check(tally, program):
     check_many_requests(tally, program)
     check_memory(tally, program)
     check_touched_memory(tally, program)
+    check_loaded_memory(tally, program)
     check_replay_memory(tally, program)
     check_small_stack(tally, program)
 
@@ -157,19 +160,37 @@ def check_memory(tally, program):
 
 def check_touched_memory(tally, program):
     """Of the memory that is reserved for chunks, little is touched before they are taken."""
-    words = [program.path, "map", "table", program.file("table", "s: 0 320 snapshot base cow P 32\n"),
-             program.file("disks", PLACES_DISKS)]
-    requests = "".join("W s %d 1\n" % (32 * it) for it in range(10)).encode()
+    requests = "".join("W s %d 1\n" % (32 * it) for it in range(10))
     answers = "".join("%d copy base %d 32 cow %d\n%d W cow %d 1\n" % (it + 1, 32 * it, 64 + 32 * it, it + 1, 64 + 32 * it)
-                      for it in range(10)).encode()
+                      for it in range(10))
+    touched, got = memory_of(program, "VmHWM", "s: 0 320 snapshot base cow P 32\n", PLACES_DISKS, requests, answers)
+    tally.same("ten writes to a store of all places", got, 0, answers)
+    tally.holds("the memory that they touch", touched < MOST_TOUCHED, "it is %d KiB" % touched)
+
+
+def check_loaded_memory(tally, program):
+    """A load takes little more memory than its devices, disks and their names need."""
+    taken = []
+    for count in (1, 1000):
+        table = "".join("device-%d: 0 1 linear disk-%d 0\n" % (it, it) for it in range(count))
+        disks = "".join("disk-%d 1\n" % it for it in range(count))
+        size, got = memory_of(program, "VmPeak", table, disks, "R device-0 0 1\n", "1 R disk-0 0 1\n")
+        tally.same("a read of one of %d devices" % count, got, 0, "1 R disk-0 0 1\n")
+        taken.append(size)
+    more = taken[1] - taken[0]
+    tally.holds("the memory of 1,000 devices", more < MOST_LOADED, "it is %d KiB" % more)
+
+
+def memory_of(program, word, table, disks, requests, answers):
+    """How many KiB of memory the system counts under a word once these requests were answered, and what came of the call."""
+    words = [program.path, "map", "table", program.file("table", table), program.file("disks", disks)]
     ran = subprocess.Popen(words, stdin=subprocess.PIPE, stdout=subprocess.PIPE, stderr=subprocess.PIPE, bufsize=0)
-    ran.stdin.write(requests)
+    ran.stdin.write(requests.encode())
     wrote = read_soon(ran.stdout, len(answers))
     with open("/proc/%d/status" % ran.pid) as it:
-        touched = int(re.search(r"VmHWM:\s+(\d+) kB", it.read())[1])
+        size = int(re.search(word + r":\s+(\d+) kB", it.read())[1])
     rest, message = ran.communicate()
-    tally.same("ten writes to a store of all places", Outcome(ran.returncode, wrote + rest, message), 0, answers)
-    tally.holds("the memory that they touch", touched < MOST_TOUCHED, "it is %d KiB" % touched)
+    return size, Outcome(ran.returncode, wrote + rest, message)
 
 
 def check_replay_memory(tally, program):

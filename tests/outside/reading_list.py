@@ -18,9 +18,11 @@ def check(tally, top):
         return made.out.decode()
 
     printed("--check")
-    names = set(ENTRY.findall(printed("map")))
-    fewer = set(ENTRY.findall(printed("map", "--format", "table")))
-    book = printed("map", "--book")
+    names = set(ENTRY.findall(printed("map", "--whole")))
+    own = set(ENTRY.findall(printed("map")))
+    tally.holds("what map leaves to other promises", own < names and "DescribesTable" not in own, "it has %d names" % len(own))
+    fewer = set(ENTRY.findall(printed("map", "--whole", "--format", "table")))
+    book = printed("map", "--whole", "--book")
     tally.holds("what table text alone needs", fewer < names and "DescribesTable" in fewer and "DescribesGroup" not in fewer,
                 "it has %d of %d names" % (len(fewer), len(names)))
     lost = [it for it in names if it not in book]

@@ -90,10 +90,8 @@ HEADERS = [
 WRONG = [
     ("map table a b --paths", "a value is required for '--paths <PATHS>'"),
     ("map table a b --paths c --paths d", "cannot be used multiple times"),
-    ("--paths c map table a b --paths d", "unexpected argument '--paths' found: `map` alone takes it, once"),
-    ("--paths c replay table a b", "unexpected argument '--paths' found: `map` alone takes it, once"),
-    ("--paths c splitname a-b", "unexpected argument '--paths' found: `map` alone takes it, once"),
-    ("--paths c --before d map table a b --before d --paths c", "unexpected argument '--before' found"),
+    ("--paths c map table a b", "unexpected argument '--paths' found"),
+    ("--paths c replay table a b", "unexpected argument '--paths' found"),
     ("replay table a b --paths c", "unexpected argument '--paths'"),
     ("map table a b --paths -", "unexpected argument '-' found"),
     ("map table a b -- --paths c", "unexpected argument"),
@@ -169,11 +167,10 @@ def check_words(tally, program):
     put(program, "c.img", 8, [(1, 2)])
     table, disks, paths, earlier = (program.file(name, text) for name, text in (
         ("table", TABLE % (800, 8)), ("disks", DISKS % (800, 4000)), ("paths", "cow c.img\n"), ("earlier", "W s 16 1\n")))
-    rest = ["map", "table", table, disks]
-    for words in (rest + ["--paths", paths], ["--paths", paths] + rest, rest + ["--paths=" + paths], ["--paths=" + paths] + rest):
+    rest = ["table", table, disks]
+    for words in (["map", *rest, "--paths", paths], ["map", "--paths=" + paths, *rest]):
         tally.same("the words %s" % words, program.run(words, given="R s 8 1\n", folder=program.room), 0, "1 R cow 16 1\n")
-    for words in (rest + ["--paths", paths, "--before", earlier], ["--before", earlier] + rest + ["--paths", paths],
-                  ["--paths", paths, "--before", earlier] + rest):
+    for words in (["map", *rest, "--paths", paths, "--before", earlier], ["map", "--before", earlier, *rest, "--paths", paths]):
         got = program.run(words, given="R s 8 1\nR s 16 1\nR s 24 1\n", folder=program.room)
         tally.same("the words %s" % words, got, 0, "1 R cow 16 1\n2 R cow 24 1\n3 R base 24 1\n")
 

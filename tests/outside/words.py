@@ -30,7 +30,15 @@ REFUSED = [
     ["concise", "--status", "table", "TABLE", "DISKS"],
     ["--status"],
     ["--status", "table", "table", "TABLE", "DISKS"],
-    ["--status", "map", "table", "TABLE", "DISKS", "--status"],
+    ["--status", "map", "table", "TABLE", "DISKS"],
+    ["--before", "TABLE", "map", "table", "TABLE", "DISKS"],
+    ["--before=TABLE", "map", "table", "TABLE", "DISKS"],
+    ["--paths", "TABLE", "map", "table", "TABLE", "DISKS"],
+    ["help", "nonsense"],
+    ["help", "map", "field"],
+    ["help", "Field"],
+    ["help", "field", "field"],
+    ["help", "-"],
     ["map", "table", "TABLE", "DISKS", "--status", "--status"],
     ["map", "--status", "table", "TABLE", "DISKS", "--status"],
     ["map", "table", "--", "TABLE", "DISKS", "--status"],
@@ -59,7 +67,7 @@ TOLD = [
     ("table lvm a --status", "unexpected argument '--status'"),
     ("tabel lvm a", "a similar subcommand exists: 'table'"),
     ("concise tabel a b", "a similar value exists: 'table'"),
-    ("", "Usage: dmremap [OPTIONS] <COMMAND>"),
+    ("", "Usage: dmremap <COMMAND>"),
     ("map", "<FORMAT> <FILE>"),
     ("map lvm2 a", "invalid value 'lvm2' for '<FORMAT>'"),
     ("explain table a b", "unrecognized subcommand 'explain'"),
@@ -67,7 +75,10 @@ TOLD = [
     ("map lvm a -- b --status", "unexpected argument '--status'"),
     ("map table a b --status=yes", "unexpected value 'yes' for '--status'"),
     ("splitname a-b --status", "unexpected argument '--status'"),
-    ("--status map table a b --status", "unexpected argument '--status'"),
+    ("--status map table a b", "unexpected argument '--status'"),
+    ("--before c map table a b", "unexpected argument '--before'"),
+    ("--paths=c map table a b", "unexpected argument '--paths'"),
+    ("help nonsense", "unrecognized subcommand 'nonsense'\n\nWords of messages that help knows:\n  again, chunk,"),
     ("--status table lvm a", "unexpected argument '--status'"),
     ("map table a b c", "unexpected argument 'c'"),
     ("map -x table a b", "unexpected argument '-x'"),
@@ -78,13 +89,13 @@ TOLD = [
 
 # Words that ask for help, and a part of it.
 HELPED = [
-    ("--help", "Usage: dmremap [OPTIONS] <COMMAND>"),
+    ("--help", "Usage: dmremap <COMMAND>"),
     ("--help", "  splitname  Prints"),
-    ("-h", "Usage: dmremap [OPTIONS] <COMMAND>"),
+    ("-h", "Usage: dmremap <COMMAND>"),
     ("-h", "  concise    Checks"),
-    ("help", "Usage: dmremap [OPTIONS] <COMMAND>"),
+    ("help", "Usage: dmremap <COMMAND>"),
     ("help", "  6  out of memory\n\nManual: man dmremap\n"),
-    ("-h", "      --version            Print the version\n"),
+    ("-h", "      --version  Print the version\n"),
     ("help map", "map [OPTIONS] <FORMAT> <FILE> [DISKS]"),
     ("help map", "FORMAT is one of\n  lvm      the"),
     ("map --help", "map [OPTIONS] <FORMAT> <FILE> [DISKS]"),
@@ -109,7 +120,6 @@ VERSIONED = [
     ["--version"],
     ["--version", "map"],
     ["--version", "--help"],
-    ["--status", "--version", "nonsense"],
 ]
 
 # DISKS goes with tables alone.
@@ -123,7 +133,6 @@ DISKLESS = [
 
 # Words that ask for status lines, of a stack without a snapshot.
 STATUS = [
-    ["--status", "map", "table", "TABLE", "DISKS"],
     ["map", "table", "TABLE", "DISKS", "--status"],
     ["map", "--status", "table", "TABLE", "DISKS"],
     ["map", "table", "--status", "TABLE", "--", "DISKS"],

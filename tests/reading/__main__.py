@@ -3,6 +3,7 @@
     python3 tests/reading                         prints the promises, and how much each names
     python3 tests/reading PROMISE                 prints what it names, in an order to read it in
     python3 tests/reading PROMISE --book          prints that itself: the sources, and last the contracts
+    python3 tests/reading PROMISE --whole         also has what is left to other promises
     python3 tests/reading PROMISE --format FORMAT leaves out what only texts of other formats need
     python3 tests/reading --write                 writes the tables of docs/READING.md anew
     python3 tests/reading --check                 tells where docs/READING.md and docs/PROMISES.md lack something
@@ -24,7 +25,7 @@ sys.dont_write_bytecode = True
 
 import pages
 from definitions import FORMATS
-from promises import DEFINITIONS, PROMISES, contracts, counts, in_order, library_words, needed, reach
+from promises import DEFINITIONS, OWN_PROMISE, PROMISES, contracts, counts, in_order, library_words, named_only, needed, reach
 from sources import Sources
 
 TOP = os.path.dirname(os.path.dirname(os.path.dirname(os.path.abspath(__file__))))
@@ -32,11 +33,11 @@ TOP = os.path.dirname(os.path.dirname(os.path.dirname(os.path.abspath(__file__))
 
 def overview(sources):
     """The promises, a line for each."""
-    rows = ["%-10s %11s %6s  %s" % ("promise", "definitions", "lines", "what it says")]
+    rows = ["%-10s %11s %6s  %11s %6s  %s" % ("promise", "definitions", "lines", "whole", "lines", "what it says")]
     for name, _, says in PROMISES:
-        definitions, others, lines = counts(needed(sources, name))
-        rows.append("%-10s %11s %6d  %s" % (name, "%d + %d" % (definitions, others), lines, says))
-    return rows + ["", "The second number counts types, traits and constants."]
+        own, whole = [("%d + %d" % it[:2], it[2]) for it in (counts(needed(sources, name, is_whole=it)) for it in (False, True))]
+        rows.append("%-10s %11s %6d  %11s %6d  %s" % (name, *own, *whole, says))
+    return rows + ["", "The second number counts types, traits and constants. Where `whole` is more, the rest is left to other promises."]
 
 
 def listing(sources, items):
@@ -72,13 +73,15 @@ def text_of(sources, item):
     return rows
 
 
-def printed(sources, names, read_as, is_book):
+def printed(sources, names, read_as, is_book, is_whole):
     """What the promises of these names need, and the contracts themselves."""
     functions = [it for name in names for it in contracts(sources, name)]
-    items = set().union(*(needed(sources, name, read_as) for name in names)) - set(functions)
+    items = set().union(*(needed(sources, name, read_as, is_whole) for name in names)) - set(functions)
     prelude, others = library_words(items | set(functions))
+    left = ["`%s` (%s)" % (it, OWN_PROMISE[it]) for it in named_only(items | set(functions))]
     rows = ["%d definitions, and %d types, traits and constants: %d lines" % counts(items), "",
             "Of the toolchain's library: %d words of its prelude, and %s" % (prelude, ", ".join(others))]
+    rows += ["", "Only named here, and read with another promise: " + ", ".join(left)] if left else []
     rows += book(sources, items) if is_book else listing(sources, items)
     rows += ["", "The contracts:"]
     for it in functions:
@@ -100,7 +103,7 @@ def asked():
     words = argparse.ArgumentParser(description=__doc__, formatter_class=argparse.RawDescriptionHelpFormatter)
     words.add_argument("promise", nargs="?", choices=[it[0] for it in PROMISES] + ["all"], metavar="PROMISE")
     words.add_argument("--format", choices=sorted(FORMATS))
-    for it in ("--book", "--write", "--check", "--unused"):
+    for it in ("--book", "--whole", "--write", "--check", "--unused"):
         words.add_argument(it, action="store_true")
     return words.parse_args()
 
@@ -120,9 +123,9 @@ def main():
     elif words.write:
         pages.write(sources)
         rows = []
-    elif words.promise or words.format or words.book:
+    elif words.promise or words.format or words.book or words.whole:
         names = [words.promise] if words.promise not in (None, "all") else [it[0] for it in PROMISES]
-        rows = printed(sources, names, words.format, words.book)
+        rows = printed(sources, names, words.format, words.book, words.whole)
     else:
         rows = overview(sources)
     sys.stdout.buffer.write("".join(it + "\n" for it in rows).encode())

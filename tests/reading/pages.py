@@ -3,7 +3,6 @@
 import os
 import re
 
-from definitions import FORMATS
 from promises import PROMISES, counts, in_order, named, needed
 
 READING = os.path.join("docs", "READING.md")
@@ -15,19 +14,20 @@ MODULE = re.compile(r"(\w+)/([\w/]+)$")
 
 def tables(sources):
     """The tables of docs/READING.md, each by its first line."""
-    promises = [("`%s`: %s" % (name, says), "`%s`" % "`, `".join(names), needed(sources, name))
-                for name, names, says in PROMISES]
-    formats = [("`%s`" % it, needed(sources, "map", it)) for it in sorted(FORMATS, reverse=True)]
-    return {
-        "| Promise | Contracts | Definitions | Lines |\n": rows(promises),
-        "| `map` of | Definitions | Lines |\n": rows(formats),
-    }
+    promises = [("`%s`: %s" % (name, says), "`%s`" % "`, `".join(names), *counted(sources, name)) for name, names, says in PROMISES]
+    return {"| Promise | Contracts | Definitions | Lines | Whole |\n": rows(promises)}
+
+
+def counted(sources, promise):
+    """The cells of a promise: the definitions and lines of what a reader needs, and, if there are more, those with what
+    other promises have."""
+    own, whole = [counts(needed(sources, promise, is_whole=it)) for it in (False, True)]
+    return ["%d + %d" % own[:2], str(own[2]), "" if whole == own else "%d + %d, %d" % whole]
 
 
 def rows(cells):
-    """The lines of a table after its first: cells, of which the last are the counts of what a reader needs."""
-    found = ["| %s | %d + %d | %d |\n" % (" | ".join(it[:-1]), *counts(it[-1])) for it in cells]
-    return ["|%s\n" % ("---|" * (len(cells[0]) + 1))] + found
+    """The lines of a table after its first."""
+    return ["|%s\n" % ("---|" * len(cells[0]))] + ["| %s |\n" % " | ".join(it) for it in cells]
 
 
 def written(sources):
@@ -56,7 +56,8 @@ def lacks(sources):
     found = [] if written(sources) == lines_of(sources, READING) else [
         "docs/READING.md has other tables than `python3 tests/reading --write` makes"]
     for name, _, _ in PROMISES:
-        found += ["the list of %s: %s" % (name, it) for it in disorder(sources, needed(sources, name))]
+        for is_whole in (False, True):
+            found += ["the list of %s: %s" % (name, it) for it in disorder(sources, needed(sources, name, is_whole=is_whole))]
     return found + NamedContracts(sources).lacks()
 
 

@@ -5,6 +5,10 @@ from definitions import ELSEWHERE
 DEFINITIONS = ("definition", "record", "data")
 PRELUDE = "Rattle.std.specs.Prelude."
 
+# Definitions with a promise of their own, which is where they are read: another promise only names them, unless
+# all of it is asked for.
+OWN_PROMISE = {"PartsGive": "load", "IsSound": "stack", "AreLevelsEnough": "mapper"}
+
 # Each promise: what it is called here, the functions whose contracts make it, and what it says. A type stands for
 # its functions and for the traits that it implements.
 PROMISES = [
@@ -12,6 +16,7 @@ PROMISES = [
     ("before", ["map_after", "play_earlier"], "the same after earlier requests"),
     ("paths", ["map_stored", "listed_images", "check_paths"], "the same from what stores hold"),
     ("other", ["other_whole"], "the same of the other commands"),
+    ("load", ["load"], "what a source and a disk list give"),
     ("words", ["read_words"], "the command line"),
     ("streams", ["Counted", "Gathered", "PartFile"], "real files and streams"),
     ("texts", ["read_part", "parse_table", "parse_concise", "parse_disks", "parse_paths", "parse_request", "front_request",
@@ -27,7 +32,7 @@ PROMISES = [
     ("taken", ["PlainTaken", "RunTaken", "TrieTaken"], "chunks that a snapshot took"),
     ("stores", ["read_stores", "StoreRefusal::message", "stores_fit", "reads_back", "is_spelled", "ReadLog", "MemoryImages"],
      "the state that stores hold"),
-    ("run", ["Lines::next", "handle_requests", "InTurn", "Join", "run"], "lines, pieces, and a run"),
+    ("run", ["Lines::next", "handle_requests", "Exchange", "Join", "run"], "lines, pieces, and a run"),
     ("replay", ["Replay"], "answers of a replay"),
     ("alone", ["tops_are_alone", "play_goes_on", "requests_are_alone", "errors_have_causes", "nothing_is_lost"],
      "each top device alone, and where errors come from"),
@@ -51,8 +56,9 @@ def named(sources, name):
 
 
 def of_type(sources, name):
-    """The functions of a type that others may call, and its implementations of traits with what these declare."""
-    found = [it for it in sources.code_items if it.name.endswith(" for " + name)]
+    """The functions of a type that others may call, and its implementations of traits with what these declare; or the
+    implementations of a trait."""
+    found = [it for it in sources.code_items if name in it.name.split(" for ")]
     found += [it for it in sources.code_items if it.name.startswith(name + "::") and it.is_promised]
     if not found:
         raise SystemExit("there is no function or type %s" % name)
@@ -70,12 +76,22 @@ def reach(items, follows=lambda item, formats: True):
     return found
 
 
-def needed(sources, promise, read_as=None):
+def needed(sources, promise, read_as=None, is_whole=False):
     """What a promise's contracts reach, without themselves and without the laws by which an implementation keeps those
-    of its trait; where a format is given, without what only other texts need."""
+    of its trait; where a format is given, without what only other texts need. What has a promise of its own is
+    there only if all is asked for."""
+    def follows(item, formats):
+        is_here = is_whole or OWN_PROMISE.get(item.name, promise) == promise
+        return is_here and item.kind != "law" and (read_as is None or read_as in formats)
+
     functions = contracts(sources, promise)
-    found = reach(functions, lambda it, formats: it.kind != "law" and (read_as is None or read_as in formats))
-    return found - set(functions)
+    return reach(functions, follows) - set(functions)
+
+
+def named_only(items):
+    """The names among items of what is left to a promise of its own."""
+    found = {it.name for it in items}
+    return sorted({it.name for item in items for it in item.uses if it.name in OWN_PROMISE} - found)
 
 
 def counts(items):

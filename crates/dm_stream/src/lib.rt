@@ -10,8 +10,8 @@ mod requests;
 mod runs;
 
 pub use pieces::join::Join;
-pub use requests::exchange::{Exchange, InTurn};
-pub use requests::handler::{Handler, ReadsFrom};
+pub use requests::exchange::Exchange;
+pub use requests::handler::{Handler, HandlesFrom, ReadsFrom};
 pub use requests::handling::{MOST_REQUESTS, handle_requests};
 pub use requests::lines::{Lines, MOST_LINE_BYTES, Next};
 pub use runs::closing::close_and_tell;

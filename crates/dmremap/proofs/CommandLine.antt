@@ -1,17 +1,19 @@
 -- What clap's clauses say of the program's own command line.
-use Rattle.std.proofs.Common.{◌≡◌, ◌∙◌, Bool, List, Option, Result, Ok, Err, IfOk, Some, None, option_map, [], ◌&&◌, not, true, false, true≢false, ap, ap₂, refl, sym, inl, inr, cond}
-use Rattle.clap.specs.Kinds.{HasKind}
-use Rattle.clap.specs.Words.{AddsSubcommand, App, HasMatchesOf, Row, Text, app_of, fault_of, found_of, is_simple, is_simple_and_free, kind_of, rows_of, shape_of, subcommand_rows_of, with_subcommand}
+use Rattle.std.proofs.Common.{◌≡◌, ◌∙◌, Bool, List, Option, Result, Ok, Err, IfOk, Some, None, option_map, [], ◌&&◌, not, true, false, true≢false, ap, ap₂, refl, sym, subst, inl, inr, cond}
+use Rattle.clap.specs.Kinds.{HasKind, IsAmong}
+use Rattle.clap.specs.Words.{AddsSubcommand, App, HasMatchesOf, Row, Text, app_of, fault_of, is_simple, is_simple_and_free, kind_of, shape_of, subcommand_rows_of, with_subcommand}
 use Rattle.clap.specs.declared.builder.command.Command.{Command}
 use Rattle.clap.specs.declared.builder.command.Command.TheViews.{out-Command}
 use Rattle.clap.specs.declared.builder.value_parser.ValueParser.{ValueParser}
 use Rattle.clap.specs.declared.error.Error.{Error}
+use Rattle.clap.specs.declared.error.kind.ErrorKind.{ErrorKind}
+use Rattle.clap.specs.declared.error.kind.ErrorKind.TheVariants as kind
 use Rattle.clap.specs.declared.parser.matches.ArgMatches.{ArgMatches}
 use Rattle.clap.proofs.OnLiterals.{clap_on_literals}
 use Rattle.dmremap.specs.Job.{JobWords}
-use Rattle.dmremap.specs.declared.words.Lack.{Lack}
-use Rattle.dmremap.specs.Words.{HasApp, IsTaken, IsUntaken, TakesFormats, command_line, fault_from, is_memory, said_by}
-use Rattle.dmremap.specs.declared.words.WordsFault.TheVariants.{Words, Memory}
+use Rattle.dmremap.specs.Words.{HasApp, IsOfKind, IsRefusedFor, IsTaken, IsUntaken, TakesFormats, command_line, fault_from, has_lone_hyphen, is_invalid, is_memory, is_unknown, job_in, said_by}
+use Rattle.dmremap.specs.declared.words.WordsFault.{WordsFault}
+use Rattle.dmremap.specs.declared.words.WordsFault.TheVariants.{Words, Disks, Memory}
 
 -- a command that a parse reads as a plain one has no global argument
 third : (a b c d : Bool) → (a && (b && (not c && d))) ≡ true → c ≡ false
@@ -58,22 +60,46 @@ refused parser line words error formats kinds line_is = go (is_memory (kind_of e
     }
 
 -- what matches say, where there is a command
-pub said_met : {X : Type 0} (command_in : X → Text) (rows_in : X → List Row) (found : Option X) (rows : List Row) (command : Text) (given : List Row)
+pub said_met : {X : Type 0} (command_in : X → Text) (rows_in : X → List Row) (found : Option X) (command : Text) (given : List Row)
     → Some command ≡ option_map command_in found → Some given ≡ option_map (λ (p : Text × List Row). p.1) (option_map (λ x. (command_in x, rows_in x)) found)
-    → said_by rows (Some (command, given)) ≡ said_by rows (option_map (λ x. (command_in x, rows_in x)) found)
-said_met command_in rows_in None rows command given named has = cc
-said_met command_in rows_in (Some x) rows command given named has =
-    let same : command ≡ command_in x = cc in let args : given ≡ rows_in x = cc in
-    ap₂ (λ (c : Text) (g : List Row). said_by rows (Some (c, g))) same args
+    → said_by (Some (command, given)) ≡ said_by (option_map (λ x. (command_in x, rows_in x)) found)
+said_met command_in rows_in None command given named has = cc
+said_met command_in rows_in (Some x) command given named has =
+    let same : command ≡ command_in x = cc in let args : given ≡ rows_in x = cc in ap₂ job_in same args
 
 -- words that clap takes say what its matches say
-pub taken : (parser : ValueParser) (line : App) (words : List Text) (said : Result JobWords Lack) (matches : ArgMatches) → TakesFormats parser
+pub taken : (parser : ValueParser) (line : App) (words : List Text) (said : Option JobWords) (matches : ArgMatches) → TakesFormats parser
     → (is_simple_and_free line ≡ true → fault_of line words ≡ []) → HasMatchesOf line words matches
-    → said ≡ said_by (rows_of (found_of matches)) (subcommand_rows_of matches) → line ≡ command_line parser → IsTaken words said
+    → said ≡ said_by (subcommand_rows_of matches) → line ≡ command_line parser → IsTaken words said
 taken parser line words said matches formats kinds has_matches said_is line_is = record {
   parser = parser;
   formats = formats;
   taken = cc (kinds (ap is_simple_and_free line_is ∙ simple_and_free parser));
   says = let met = has_matches (ap is_simple line_is ∙ simple parser) in
-      cc (ap₂ said_by met.0 met.1);
+      cc (ap said_by met.1);
 }
+
+-- a kind that is that of an unknown command
+invalid : (k : ErrorKind) → is_invalid k ≡ true → k ≡ kind.InvalidSubcommand
+invalid kind.InvalidSubcommand is = refl
+invalid k is = absurd (true≢false (sym is))
+
+-- a fault of that kind may be told by another text
+pub retold : (words : List Text) (told fault : WordsFault) → is_unknown fault ≡ true → IsOfKind kind.InvalidSubcommand told → IsUntaken words fault → IsUntaken words told
+retold words Memory fault unknown is untaken = tt
+retold words Disks fault unknown is untaken = absurd is
+retold words (Words other) (Words error) unknown is untaken =
+    let same : kind_of error ≡ kind_of other = invalid (kind_of error) unknown ∙ sym is in
+    record {
+      parser = untaken.parser;
+      formats = untaken.formats;
+      among = subst (λ k. IsAmong k (fault_of (command_line untaken.parser) words)) same untaken.among;
+      no_memory = λ memory. untaken.no_memory (same ∙ memory);
+    }
+retold words (Words other) fault unknown is untaken = absurd (true≢false (sym unknown))
+
+-- words without a lone hyphen that clap doesn't take are refused
+pub refused_for : (words : List Text) (fault : WordsFault) → has_lone_hyphen words ≡ false → IsUntaken words fault → IsRefusedFor words fault
+refused_for words (Words error) none untaken = rw none untaken
+refused_for words Disks none untaken = absurd untaken
+refused_for words Memory none untaken = tt

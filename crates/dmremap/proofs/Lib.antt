@@ -2,6 +2,7 @@ mod CommandLine
 pub mod ExitLemmas
 pub mod LoadLemmas
 pub mod MapLemmas
+mod MessageWords
 pub mod OneOther
 pub mod OneWhole
 pub mod PrintLemmas

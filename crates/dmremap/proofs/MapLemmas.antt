@@ -3,7 +3,6 @@ use Rattle.std.proofs.Common.{◌≡◌, ◌≢◌, Bool, ℕ, List, [], Option,
 use Rattle.dm_table.specs.declared.load.load_fault.LoadFault.{LoadFault}
 use Rattle.dm_table.specs.declared.load.load_fault.LoadKind.TheVariants as kinds
 use Rattle.dm_table.specs.io.DeviceIo.{Delivery, OutputPast, written_since}
-use Rattle.dm_table.specs.io.Progress.{FailedOutput}
 use Rattle.dm_table.specs.laws.Progress.{finished_as}
 use Rattle.dm_stack.specs.Description.{Description}
 use Rattle.dm_map.specs.state.State.{State, start_state}

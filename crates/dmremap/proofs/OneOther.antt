@@ -22,7 +22,7 @@ use Rattle.dmremap.specs.declared.exit.Exit.TheVariants as exits
 use Rattle.dmremap.specs.declared.exit.Refusal.TheVariants as refusals
 use Rattle.dmremap.specs.declared.job.Format.{Format}
 use Rattle.dmremap.specs.Exit.{IsPlain, load_status}
-use Rattle.dmremap.specs.Job.{JobWords, format_of, map_words, print_words, check_words, replay_words, name_words, split_words}
+use Rattle.dmremap.specs.Job.{JobWords, format_of, map_words, print_words, check_words, replay_words, name_words, split_words, explain_words}
 use Rattle.dmremap.specs.Load.{Load, PartsGive, RefusedBy, SoundAs}
 use Rattle.dmremap.specs.OtherWhole.{ReplaysFiles, ReplaysStack, JobDoes}
 use Rattle.dmremap.specs.Printing.{IsPrinted, Prints, Refuses, ReportSays, Said, SplitSays, JobSays, devices_said, line}
@@ -50,6 +50,7 @@ one_said (check_words from) source disks a b x y =
     one_report_said y.load a b (rw (← one_load (format_of from) source disks x.load y.load x.loaded y.loaded) x.says) y.says
 one_said (name_words parts) source disks a b x y = sym x ∙ y
 one_said (split_words name) source disks a b x y = one_split_said name a b x y
+one_said (explain_words text) source disks a b x y = sym x ∙ y
 
 -- what is printed of it, and the exit
 one_printed : (Says : Said → Type 0) → ((a b : Said) → Says a → Says b → a ≡ b) → (a b : Exit) (x y : List ℕ) → IsPlain a → IsPlain b → IsPrinted Says x a → IsPrinted Says y b → (a ≡ b) × (x ≡ y)

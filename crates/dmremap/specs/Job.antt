@@ -23,6 +23,7 @@ pub data JobWords : Type 0 where
   replay_words : SourceWords → JobWords
   name_words : NameParts → JobWords
   split_words : Text → JobWords
+  explain_words : Text → JobWords
 
 -- the texts of a source
 abbrev pub source_words : Source → SourceWords
@@ -38,6 +39,7 @@ job_words (job.Check from) = check_words (source_words from)
 job_words (job.Replay from) = replay_words (source_words from)
 job_words (job.Name vg lv layer) = name_words (record { vg = vg.now; lv = lv.now; layer = option_map (λ l. l.now) layer })
 job_words (job.SplitName name) = split_words name.now
+job_words (job.Explain text) = explain_words text.now
 
 -- the source that a job loads, if it loads any
 abbrev pub source_of : JobWords → Option SourceWords
@@ -47,6 +49,7 @@ source_of (check_words from) = Some from
 source_of (replay_words from) = Some from
 source_of (name_words parts) = None
 source_of (split_words name) = None
+source_of (explain_words text) = None
 
 -- the file of a source
 abbrev pub file_of : SourceWords → Text

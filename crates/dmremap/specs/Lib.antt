@@ -1,5 +1,6 @@
 pub mod Done
 pub mod Exit
+pub mod Explanation
 pub mod Inputs
 pub mod Job
 pub mod Limits

@@ -18,7 +18,7 @@ use Rattle.dmremap.specs.declared.job.TableForm.{TableForm}
 use Rattle.dmremap.specs.declared.job.TableForm.TheVariants.{Concise, Table}
 use Rattle.dmremap.specs.declared.status.TheConstants.{STATUS_MEMORY}
 use Rattle.dmremap.specs.Exit.{refusal_status}
-use Rattle.dmremap.specs.Job.{JobWords, format_of, map_words, print_words, check_words, replay_words, name_words, split_words}
+use Rattle.dmremap.specs.Job.{JobWords, format_of, map_words, print_words, check_words, replay_words, name_words, split_words, explain_words}
 use Rattle.dmremap.specs.Load.{Load, PartsGive, RefusedBy, SoundAs}
 
 -- ---- what there is to print
@@ -77,6 +77,7 @@ JobSays (print_words form from) source disks said = FilesSay form (format_of fro
 JobSays (check_words from) source disks said = CheckSays (format_of from) source disks said
 JobSays (name_words parts) source disks said = name_said (built parts) ≡ said
 JobSays (split_words name) source disks said = SplitSays name said
+JobSays (explain_words text) source disks said = Prints text ≡ said
 
 -- ---- what was printed
 

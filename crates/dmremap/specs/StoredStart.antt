@@ -1,5 +1,5 @@
 -- From which state a run begins whose stores are read: what PATHS delivered says where disks lie, and what is held there which state that is.
-use Rattle.std.specs.Prelude.{ℕ, List, Option, None, Some, Result, Ok, Err}
+use Rattle.std.specs.Prelude.{List, Option, None, Some, Result, Ok, Err}
 use Rattle.dm_table.specs.declared.load.load_fault.LoadFault.{LoadFault}
 use Rattle.dm_table.specs.declared.load.place.Part.TheVariants.{Paths}
 use Rattle.dm_table.specs.declared.tables.disk_path.DiskPath.{DiskPath}

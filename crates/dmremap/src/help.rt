@@ -8,6 +8,8 @@ pub(crate) const ABOUT: &str =
 
 pub(crate) const NOTES: &str = "\
 `dmremap help COMMAND` has the words of a command, an example and its exit statuses.
+`dmremap help WORD` says what a word of a message means, and what to do: `dmremap help field`, or
+with all that was told, `dmremap help 'dmremap: source: field at 20'`. `dmremap help map` lists them.
 
 Exit status
   0  done, or help or the version was asked for
@@ -62,6 +64,19 @@ Lines
             from what they hold. Without this, all snapshots are taken as fresh.
 DEV, ORIGIN and STORE are a disk, or /dev/mapper/NAME for a device of FILE. KIND is P, N or K.
 A request has 1 to 1048576 sectors.
+
+Messages, of which `dmremap help WORD` says what each WORD means, and what to do
+  dmremap: source: WORD at NUMBER, dmremap: disks: WORD at NUMBER
+      read, long, text, syntax, field, name, twice, empty, gap, overlap, unknown, cycle, deep,
+      stripe, range, snapshot, store, extents, limit
+  dmremap: request N: WORD, dmremap: before: WORD at N
+      form, number, length, unknown, long, unended, many
+  dmremap: paths: WORD at LINE
+      text, syntax, field, name, twice, unknown
+  dmremap: store NAME: WORD
+      missing, read, magic, version, chunk, order, range, again
+  dmremap: requests: read, dmremap: paths: read, dmremap: paths: long, dmremap: before: read,
+  dmremap: words: disks, dmremap: output: write, dmremap: memory
 
 Exit status
   0  all requests were answered
@@ -197,8 +212,6 @@ pub(crate) const BEFORE_HELP: &str =
 
 pub(crate) const PATHS_HELP: &str =
     "Start from what the stores of snapshots hold, on the disks of this list";
-
-pub(crate) const EARLY_HELP: &str = "For `map`, whose help says what it does";
 
 pub(crate) const VERSION_HELP: &str = "Print the version";
 

@@ -68,6 +68,8 @@ pub enum Job<'a> {
     },
     /// Print the parts of the device mapper's name of a volume.
     SplitName(&'a str),
+    /// Print what is said of a word of messages.
+    Explain(&'a str),
 }
 
 impl<'a> Source<'a> {
@@ -111,7 +113,7 @@ impl<'a> Job<'a> {
             | Job::Print { source, .. }
             | Job::Check(source)
             | Job::Replay(source) => Some(source),
-            Job::Name { .. } | Job::SplitName(_) => None,
+            Job::Name { .. } | Job::SplitName(_) | Job::Explain(_) => None,
         }
     }
 }

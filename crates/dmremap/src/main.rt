@@ -10,6 +10,7 @@ ghost use Rattle.dmremap.specs.OtherWhole.{is_other};
 
 mod disk_paths;
 mod exit;
+mod explanation;
 mod file_images;
 mod help;
 mod job;
@@ -17,6 +18,7 @@ mod load;
 mod map_after;
 mod map_stored;
 mod map_whole;
+mod messages;
 mod other_whole;
 mod part_file;
 mod printing;
@@ -25,7 +27,7 @@ mod status;
 mod words;
 
 use dm_map::has_stack_room;
-use dm_stream::{Ending, InTurn};
+use dm_stream::Ending;
 use dm_table::{Counted, Gathered};
 use exit::Exit;
 use file_images::FileImages;
@@ -44,8 +46,8 @@ use words::{WordsFault, not_text, read_words};
 /// A file of the command, which is of the type of its part.
 type File<'r, P> = Counted<PartFile<'r, HostRuntime, P>>;
 
-/// The requests, which are read in turn with their answers.
-type Requests = InTurn<Counted<Stdin>>;
+/// The requests.
+type Requests = Counted<Stdin>;
 
 /// Where answers go.
 type Answers = Gathered<Counted<Stdout>>;
@@ -106,7 +108,7 @@ fn arguments_of(rt: &HostRuntime) -> Result<Vec<String>, WordsFault> {
 fn map_files(rt: &HostRuntime, source: Source<'_>, earlier: Option<&str>, status: bool) -> u8 {
     let mut file = source_at(rt, source);
     let mut disks = disks_at(rt, source);
-    let mut requests = InTurn::new(Counted::new(rt.stdin()));
+    let mut requests = Counted::new(rt.stdin());
     let mut output = Gathered::new(Counted::new(rt.stdout()));
     let mut messages = Counted::new(rt.stderr());
     match earlier {
@@ -171,7 +173,7 @@ fn map_images(
         &mut Counted::new(PartFile::new(rt, paths)),
         &mut images,
         &mut earlier,
-        &mut InTurn::new(Counted::new(rt.stdin())),
+        &mut Counted::new(rt.stdin()),
         &mut Gathered::new(Counted::new(rt.stdout())),
         &mut Counted::new(rt.stderr()),
     ))
@@ -190,7 +192,7 @@ fn do_other<'r>(rt: &'r HostRuntime, job: &'r Job<'r>) -> u8
         job,
         &mut source,
         &mut disks,
-        &mut InTurn::new(Counted::new(rt.stdin())),
+        &mut Counted::new(rt.stdin()),
         &mut Gathered::new(Counted::new(rt.stdout())),
         &mut Counted::new(rt.stderr()),
     )

@@ -46,8 +46,8 @@ use std::mem::forget;
 /// | 5 | writing or flushing the output failed |
 /// | 6 | memory ran out while loading; nothing was written or flushed |
 ///
-/// Requests and output are an exchange, as any input is with any output: no request is waited for
-/// while an answer is kept back. At most one message is written, after the output was flushed. A refused
+/// No request is waited for while the output keeps an answer back: each read requires that it has passed on all
+/// that it took, or failed to. At most one message is written, after the output was flushed. A refused
 /// load has the message of its first fault; a disk list that is missing where the format has one is refused
 /// as one that can't be read. No memory is taken once the load is done.
 ///

@@ -22,7 +22,7 @@ mod tests;
 use crate::exit::Exit;
 use crate::job::{Format, Job};
 use crate::load::load_if;
-use crate::printing::{print_name, print_parts, print_report, print_stack};
+use crate::printing::{print_name, print_parts, print_report, print_stack, print_text};
 use crate::replay_run::replay_stack;
 use dm_stream::Exchange;
 use dm_table::{Input, Output};
@@ -30,9 +30,9 @@ use std::alloc::Global;
 use std::mem::forget;
 
 /// Does what a job asks for, of any command but `map`: prints the devices of a source in a form, once they
-/// are checked as for `map`; or the report of a check; or the name of a volume, or the parts of one; or
-/// replays requests on the disks of a source, and writes for each what its sectors answer, in maximal
-/// runs, a line each. It returns the exit status.
+/// are checked as for `map`; or the report of a check; or the name of a volume, or the parts of one; or what
+/// is said of a word of messages; or replays requests on the disks of a source, and writes for each what its
+/// sectors answer, in maximal runs, a line each. It returns the exit status.
 ///
 /// | Status | When |
 /// |---|---|
@@ -134,6 +134,7 @@ fn answer<S: Input, D: Input, Q: Exchange<W>, W: Output>(
         },
         Job::Name { vg, lv, layer } => print_name(alloc, vg, lv, layer, output),
         Job::SplitName(name) => print_parts(alloc, name, output),
+        Job::Explain(text) => print_text(text.as_bytes(), output),
     }
 }
 

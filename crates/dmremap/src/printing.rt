@@ -1,4 +1,4 @@
-//! What the commands print that read no requests: what a load gives, or what a name says.
+//! What the commands print that read no requests: what a load gives, what a name says, or what is said of a word.
 //!
 //! Each writes its text and says how the command would exit; nothing is flushed here. What is printed
 //! is said in `specs/Printing.antt`.
@@ -82,7 +82,7 @@ pub(crate) fn print_parts<W: Output>(alloc: Global, name: &str, output: &mut W) 
 }
 
 /// Prints a text of whole lines.
-fn print_text<W: Output>(text: &[u8], output: &mut W) -> Exit
+pub(crate) fn print_text<W: Output>(text: &[u8], output: &mut W) -> Exit
     ensures { HasDone (IsTextPrinted text.now) (W.past output.old) (W.past output.new) result }
 {
     Exit::after(write_all(output, text))

@@ -19,7 +19,7 @@ use crate::exit::{Exit, Refusal};
 use dm_map::TrieTaken;
 use dm_replay::{Replay, ReplayFault, write_runs};
 use dm_stack::{DeviceId, Stack};
-use dm_stream::{Ending, Exchange, Handler, ReadsFrom, handle_requests};
+use dm_stream::{Ending, Exchange, Handler, HandlesFrom, ReadsFrom, handle_requests};
 use dm_table::{InFault, LoadFault, OutFault, Output, Part, Request};
 use std::alloc::Global;
 use std::marker::PhantomData;
@@ -92,14 +92,16 @@ impl<'s, W: Output> Handler for RequestPlayer<'_, 's, W> {
 impl<W: Output, Q: Exchange<W>> ReadsFrom<Q> for RequestPlayer<'_, '_, W> {
     ghost asked = { Q.past };
 
-    ghost is_out = { λ h. Q.is_out h.output.now };
-
-    fn before_read(&mut self) {
-        Q::pass_on(&mut *self.output);
-    }
+    ghost is_out = { λ h. W.is_out h.output.now };
 
     fn read(&self, requests: &mut Q, buffer: &mut [u8]) -> Result<usize, InFault> {
         requests.read(&*self.output, buffer)
+    }
+}
+
+impl<W: Output, Q: Exchange<W>> HandlesFrom<Q> for RequestPlayer<'_, '_, W> {
+    fn before_read(&mut self) {
+        self.output.drain();
     }
 }
 

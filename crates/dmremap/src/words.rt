@@ -1,25 +1,26 @@
 //! The words of the command line, as clap's builder reads them.
 //!
-//! The command line is made one word at a time, by functions that hold nothing else where memory runs out;
-//! what clap found is put into `Given`, and the job is read from there. A new command is a line in `program`
-//! and one in `job_from` or, if it loads a source, in `loading_job`. A new format is a word of `FORMATS` and
-//! of `format_named`.
+//! The command line is made one word at a time, by functions that hold nothing else where memory runs out.
+//! A new command is a line in `program` and one in `job_in` or, if it loads a source, in `loading_job`. A new
+//! format is a word of `FORMATS` and of `format_named`.
 
-ghost use Rattle.std.specs.Prelude.{◌≡◌, IfErr, IfOk, Some, false, option_map, true};
+ghost use Rattle.std.specs.Prelude.{◌≡◌, IfErr, IfOk, List, false, option_map, true};
 ghost use Rattle.clap.specs.Walk.{texts};
-ghost use Rattle.clap.specs.Words.{App, Rule, app_of, found_of, kind_of, new_app, rows_of, rule_of, subcommand_rows_of, with_rule, with_subcommand};
+ghost use Rattle.clap.specs.Words.{App, Rule, Text, app_of, first_of, found_of, kind_of, new_app, rows_of, rule_of, subcommand_rows_of, with_rule, with_subcommand};
 ghost use Rattle.clap.specs.declared.error.kind.ErrorKind.TheVariants as kind;
-ghost use Rattle.dmremap.specs.Job.{source_words};
-ghost use Rattle.dmremap.specs.Words.{HasApp, TakesFormats, bare_app, before_rule, command_line, flag_rule, format_named, format_rule, loading_app, map_app, name_app, optional_rule, paths_rule, program_app, required_rule, split_app, status_rule, version_rule, with_options};
-ghost use Rattle.dmremap.specs.Words.{both_options, given_in, given_words, has_flag, has_lone_hyphen, is_misplaced, job_from, job_said, loading_job, name_from, option_words, options_in, placed_job, said_by, source_at, source_from, source_said, split_from};
-ghost use Rattle.dmremap.specs.Words.{IsFaultOf, IsJobOf, IsOfKind, IsTaken, IsUntaken, fault_from, status_of};
+ghost use Rattle.dmremap.specs.Job.{job_words, source_words};
+ghost use Rattle.dmremap.specs.Words.{HasApp, TakesFormats, bare_app, before_rule, command_line, flag_rule, format_named, format_rule, loading_app, map_app, name_app, optional_rule, paths_rule, required_rule, split_app, status_rule, version_rule};
+ghost use Rattle.dmremap.specs.Words.{has_flag, has_lone_hyphen, job_in, loading_job, name_job, said_by, source_at, source_in, word_of};
+ghost use Rattle.dmremap.specs.Words.{IsCommandOf, IsFaultOf, IsJobOf, IsOfKind, IsRefusedFor, IsTaken, IsUntaken, explained_by, fault_from, is_unknown, status_of};
 ghost use Rattle.dmremap.specs.declared.words.WordsFault.TheVariants as fault;
 
 #[cfg(test)]
 mod tests;
 
+use crate::explanation::explanation;
 use crate::help;
 use crate::job::{Format, Job, Source, TableForm};
+use crate::messages::WORDS;
 use crate::status::{STATUS_DONE, STATUS_MEMORY, STATUS_WORDS};
 use clap::builder::ValueParser;
 use clap::error::ErrorKind;
@@ -42,92 +43,28 @@ pub enum WordsFault {
     Memory,
 }
 
-/// Why words that clap takes give no job.
-#[derive(Clone, Copy)]
-enum Lack {
-    /// An option stands where it may not. There is no other reason: clap asks for the words of a command.
-    Place(MapOption),
-    /// DISKS is missing, or there is no place for it.
-    Disks,
-}
-
-/// The options of `map`, which no other command has.
-#[derive(Clone, Copy)]
-enum MapOption {
-    /// `--status`.
-    Status,
-    /// `--before REQUESTS`.
-    Before,
-    /// `--paths PATHS`.
-    Paths,
-}
-
-/// What clap found of them in one of the places where they may stand.
-#[derive(Clone, Copy)]
-struct Options<'a> {
-    status: bool,
-    before: Option<&'a str>,
-    paths: Option<&'a str>,
-}
-
-/// What clap found in words.
-#[derive(Clone, Copy)]
-struct Given<'a> {
-    /// The options before the command.
-    early: Options<'a>,
-    command: &'a str,
-    /// The options among the words of the command.
-    options: Options<'a>,
-    format: Option<&'a str>,
-    file: Option<&'a str>,
-    disks: Option<&'a str>,
-    vg: Option<&'a str>,
-    lv: Option<&'a str>,
-    layer: Option<&'a str>,
-    name: Option<&'a str>,
-}
-
 const NOT_TEXT: &str = "invalid UTF-8 was detected in one or more arguments";
 
 const LONE_HYPHEN: &str = "unexpected argument '-' found";
 
-const WRONG_STATUS: &str = "unexpected argument '--status' found: `map` alone takes it, once";
-
-const WRONG_BEFORE: &str = "unexpected argument '--before' found: `map` alone takes it, once";
-
-const WRONG_PATHS: &str = "unexpected argument '--paths' found: `map` alone takes it, once";
-
 const FORMATS: &[&str] = &["lvm", "concise", "table"];
 
-// ---- what clap found
+// ---- what clap found, and the job that this gives
 
-/// The options of `map` that clap found.
-fn options_in<'a>(found: &ArgMatches<'a>) -> Options<'a>
-    ensures { option_words result ≡ options_in (rows_of (found_of found.now)) }
+/// The text of a word, if it was given.
+fn text_of<'a>(found: &ArgMatches<'a>, id: &str) -> Option<&'a str>
+    ensures { option_map (λ text. text.now) result ≡ first_of id.now (rows_of (found_of found.now)) }
 {
-    Options {
-        status: has_flag(found, "status"),
-        before: found.get_str("before"),
-        paths: found.get_str("paths"),
-    }
+    found.get_str(id)
 }
 
-/// What clap found in the words of a command.
-fn given_in<'a>(early: Options<'a>, command: &'a str, found: &ArgMatches<'a>) -> Given<'a>
-    ensures { given_words result
-        ≡ given_in (option_words early.entry) command.entry.now (rows_of (found_of found.now)) }
+/// The text of a word that clap asks for, which takes no words without it.
+fn word_of<'a>(found: &ArgMatches<'a>, id: &str) -> &'a str
+    ensures { result.now ≡ word_of id.now (rows_of (found_of found.now)) }
 {
-    Given {
-        early,
-        command,
-        options: options_in(found),
-        format: found.get_str("format"),
-        file: found.get_str("file"),
-        disks: found.get_str("disks"),
-        vg: found.get_str("vg"),
-        lv: found.get_str("lv"),
-        layer: found.get_str("layer"),
-        name: found.get_str("name"),
+    match text_of(found, id) {
+        Some(text) => text,
+        None => "",
     }
 }
 
@@ -135,170 +72,100 @@ fn given_in<'a>(early: Options<'a>, command: &'a str, found: &ArgMatches<'a>) ->
 fn has_flag(found: &ArgMatches<'_>, id: &str) -> bool
     ensures { result ≡ has_flag id.now (rows_of (found_of found.now)) }
 {
-    match found.get_str(id) {
+    match text_of(found, id) {
         Some(text) => text == "true",
         None => false,
     }
 }
 
-// ---- the job that this gives
-
-/// The format that a word names.
-fn format_named(word: &str) -> Option<Format>
+/// The format that a word of `FORMATS` names.
+fn format_named(word: &str) -> Format
     ensures { result ≡ format_named word.now }
 {
     match word {
-        "lvm" => Some(Format::Lvm),
-        "concise" => Some(Format::Tables(TableForm::Concise)),
-        "table" => Some(Format::Tables(TableForm::Table)),
+        "lvm" => Format::Lvm,
+        "concise" => Format::Tables(TableForm::Concise),
+        _ => Format::Tables(TableForm::Table),
+    }
+}
+
+/// The source of a format, unless its list of disks is missing or too much.
+fn source_at<'a>(format: Format, file: &'a str, disks: Option<&'a str>) -> Option<Source<'a>>
+    ensures { option_map source_words result
+        ≡ source_at format file.entry.now (option_map (λ d. d.now) disks.entry) }
+{
+    match (format, disks) {
+        (Format::Lvm, None) => Some(Source::Lvm { file }),
+        (Format::Tables(form), Some(disks)) => Some(Source::Tables { form, file, disks }),
         _ => None,
     }
 }
 
-/// The source of a format, with its list of disks if there is one.
-fn source_at<'a>(format: Format, file: &'a str, disks: Option<&'a str>) -> Result<Source<'a>, Lack>
-    ensures { source_said result
-        ≡ source_at format file.entry.now (option_map (λ d. d.now) disks.entry) }
+/// The source that the words of a command say.
+fn source_in<'a>(found: &ArgMatches<'a>) -> Option<Source<'a>>
+    ensures { option_map source_words result ≡ source_in (rows_of (found_of found.now)) }
 {
-    match format {
-        Format::Lvm => match disks {
-            Some(_) => Err(Lack::Disks),
-            None => Ok(Source::Lvm { file }),
-        },
-        Format::Tables(form) => match disks {
-            Some(disks) => Ok(Source::Tables { form, file, disks }),
-            None => Err(Lack::Disks),
-        },
-    }
-}
-
-/// The source that the words of a command give.
-fn source_from<'a>(given: Given<'a>) -> Result<Source<'a>, Lack>
-    ensures { source_said result ≡ source_from (given_words given.entry) }
-{
-    match (given.format, given.file) {
-        (Some(word), Some(file)) => match format_named(word) {
-            Some(format) => source_at(format, file, given.disks),
-            None => Err(Lack::Place(MapOption::Status)),
-        },
-        _ => Err(Lack::Place(MapOption::Status)),
-    }
+    let format = format_named(word_of(found, "format"));
+    source_at(format, word_of(found, "file"), text_of(found, "disks"))
 }
 
 /// The job of a command that loads this source.
-fn loading_job<'a>(command: &str, source: Source<'a>, options: Options<'a>) -> Result<Job<'a>, Lack>
-    ensures { job_said result
-        ≡ loading_job command.now (option_words options.entry) (source_words source.entry) }
+fn loading_job<'a>(command: &str, found: &ArgMatches<'a>, source: Source<'a>) -> Job<'a>
+    ensures { job_words result
+        ≡ loading_job command.now (rows_of (found_of found.now)) (source_words source.entry) }
 {
     match command {
-        "map" => Ok(Job::Map {
+        "map" => Job::Map {
             source,
-            paths: options.paths,
-            earlier: options.before,
-            status: options.status,
-        }),
-        "table" => Ok(Job::Print {
+            paths: text_of(found, "paths"),
+            earlier: text_of(found, "before"),
+            status: has_flag(found, "status"),
+        },
+        "table" => Job::Print {
             form: TableForm::Table,
             source,
-        }),
-        "concise" => Ok(Job::Print {
+        },
+        "concise" => Job::Print {
             form: TableForm::Concise,
             source,
-        }),
-        "check" => Ok(Job::Check(source)),
-        "replay" => Ok(Job::Replay(source)),
-        _ => Err(Lack::Place(MapOption::Status)),
-    }
-}
-
-/// The job of `name` with its words.
-fn name_from<'a>(given: Given<'a>) -> Result<Job<'a>, Lack>
-    ensures { job_said result ≡ name_from (given_words given.entry) }
-{
-    match (given.vg, given.lv) {
-        (Some(vg), Some(lv)) => Ok(Job::Name {
-            vg,
-            lv,
-            layer: given.layer,
-        }),
-        _ => Err(Lack::Place(MapOption::Status)),
-    }
-}
-
-/// The job of `splitname` with its word.
-fn split_from<'a>(given: Given<'a>) -> Result<Job<'a>, Lack>
-    ensures { job_said result ≡ split_from (given_words given.entry) }
-{
-    match given.name {
-        Some(name) => Ok(Job::SplitName(name)),
-        None => Err(Lack::Place(MapOption::Status)),
-    }
-}
-
-/// Whether an option that may stand before the command `map` or among its words stands elsewhere, or in both.
-fn is_misplaced(early: bool, own: bool, is_map: bool) -> bool
-    ensures { result ≡ is_misplaced early own is_map }
-{
-    early && (own || !is_map)
-}
-
-/// The options of both places together.
-fn both_options<'a>(early: Options<'a>, own: Options<'a>) -> Options<'a>
-    ensures { option_words result ≡ both_options (option_words early.entry) (option_words own.entry) }
-{
-    Options {
-        status: early.status || own.status,
-        before: match early.before {
-            Some(path) => Some(path),
-            None => own.before,
         },
-        paths: match early.paths {
-            Some(path) => Some(path),
-            None => own.paths,
+        "check" => Job::Check(source),
+        _ => Job::Replay(source),
+    }
+}
+
+/// The job of `name`.
+fn name_job<'a>(found: &ArgMatches<'a>) -> Job<'a>
+    ensures { job_words result ≡ name_job (rows_of (found_of found.now)) }
+{
+    Job::Name {
+        vg: word_of(found, "vg"),
+        lv: word_of(found, "lv"),
+        layer: text_of(found, "layer"),
+    }
+}
+
+/// The job of a command with these words, unless DISKS is missing or too much.
+fn job_in<'a>(command: &str, found: &ArgMatches<'a>) -> Option<Job<'a>>
+    ensures { option_map job_words result ≡ job_in command.now (rows_of (found_of found.now)) }
+{
+    match command {
+        "name" => Some(name_job(found)),
+        "splitname" => Some(Job::SplitName(word_of(found, "name"))),
+        _ => match source_in(found) {
+            Some(source) => Some(loading_job(command, found, source)),
+            None => None,
         },
     }
 }
 
-/// The job that words give in which clap found this, with no option where it may not stand.
-fn placed_job<'a>(given: Given<'a>) -> Result<Job<'a>, Lack>
-    ensures { job_said result ≡ placed_job (given_words given.entry) }
-{
-    match given.command {
-        "name" => name_from(given),
-        "splitname" => split_from(given),
-        command => match source_from(given) {
-            Ok(source) => { loading_job(command, source, both_options(given.early, given.options)) }
-            Err(lack) => Err(lack),
-        },
-    }
-}
-
-/// The job that words give in which clap found this.
-fn job_from<'a>(given: Given<'a>) -> Result<Job<'a>, Lack>
-    ensures { job_said result ≡ job_from (given_words given.entry) }
-{
-    let (early, own) = (given.early, given.options);
-    let is_map = given.command == "map";
-    if is_misplaced(early.status, own.status, is_map) {
-        return Err(Lack::Place(MapOption::Status));
-    }
-    if is_misplaced(early.before.is_some(), own.before.is_some(), is_map) {
-        return Err(Lack::Place(MapOption::Before));
-    }
-    if is_misplaced(early.paths.is_some(), own.paths.is_some(), is_map) {
-        return Err(Lack::Place(MapOption::Paths));
-    }
-    placed_job(given)
-}
-
-/// The job that the words give in which clap found these matches.
-fn said_by<'a>(matches: &ArgMatches<'a>) -> Result<Job<'a>, Lack>
-    ensures { job_said result
-        ≡ said_by (rows_of (found_of matches.now)) (subcommand_rows_of matches.now) }
+/// The job of the command that clap met, which takes no words without one.
+fn said_by<'a>(matches: &ArgMatches<'a>) -> Option<Job<'a>>
+    ensures { option_map job_words result ≡ said_by (subcommand_rows_of matches.now) }
 {
     match matches.subcommand() {
-        Some((command, found)) => { job_from(given_in(options_in(matches), command, found)) }
-        None => Err(Lack::Place(MapOption::Status)),
+        Some((command, found)) => job_in(command, found),
+        None => None,
     }
 }
 
@@ -319,6 +186,19 @@ impl WordsFault {
             }
             WordsFault::Disks => STATUS_WORDS,
             WordsFault::Memory => STATUS_MEMORY,
+        }
+    }
+
+    /// Whether a command is unknown.
+    fn is_unknown(&self) -> bool
+        ensures { result ≡ is_unknown self.now }
+    {
+        match self {
+            WordsFault::Words(error) => match error.kind() {
+                ErrorKind::InvalidSubcommand => true,
+                _ => false,
+            },
+            _ => false,
         }
     }
 
@@ -395,36 +275,20 @@ fn flag<'a>(alloc: Global, id: &'a str, action: ArgAction, help: &'a str) -> Arg
     Arg::new(alloc, id).long(id).action(action).help(help)
 }
 
-/// The flag that asks for the version. It has no short form, unlike clap's own.
-fn version_flag<'a>(alloc: Global) -> Arg<'a>
-    ensures rule { rule_of result ≡ version_rule }
-    ensures local { result.global ≡ false }
-{
-    flag(alloc, "version", ArgAction::Version, help::VERSION_HELP)
-}
-
-/// The flag that asks for status lines.
-fn status_flag<'a>(alloc: Global, help: &'a str) -> Arg<'a>
-    ensures rule { rule_of result ≡ status_rule }
-    ensures local { result.global ≡ false }
-{
-    flag(alloc, "status", ArgAction::SetTrue, help)
-}
-
 /// The option that names a file of earlier requests.
-fn before_option<'a>(alloc: Global, help: &'a str) -> Arg<'a>
+fn before_option<'a>(alloc: Global) -> Arg<'a>
     ensures rule { rule_of result ≡ before_rule }
     ensures local { result.global ≡ false }
 {
-    optional(alloc, "before", "REQUESTS", help).long("before")
+    optional(alloc, "before", "REQUESTS", help::BEFORE_HELP).long("before")
 }
 
 /// The option that names a list of paths.
-fn paths_option<'a>(alloc: Global, help: &'a str) -> Arg<'a>
+fn paths_option<'a>(alloc: Global) -> Arg<'a>
     ensures rule { rule_of result ≡ paths_rule }
     ensures local { result.global ≡ false }
 {
-    optional(alloc, "paths", "PATHS", help).long("paths")
+    optional(alloc, "paths", "PATHS", help::PATHS_HELP).long("paths")
 }
 
 /// A command with what its help says, and without words.
@@ -473,33 +337,17 @@ fn loading_command<'a>(
     with_word(command, optional(alloc, "disks", "DISKS", help::DISKS_HELP))
 }
 
-/// A command with the options of `map`, if there was memory for them.
-fn with_options<'a>(
-    alloc: Global,
-    command: Result<Command<'a>, AllocError>,
-    status_help: &'a str,
-    before_help: &'a str,
-    paths_help: &'a str,
-) -> Result<Command<'a>, AllocError>
-    ensures { (app : App) → HasApp app command.entry → HasApp (with_options app) result }
-{
-    let command = with_word(command, status_flag(alloc, status_help));
-    let command = with_word(command, before_option(alloc, before_help));
-    with_word(command, paths_option(alloc, paths_help))
-}
-
 /// `map FORMAT FILE [DISKS] [--status] [--before REQUESTS] [--paths PATHS]`.
 fn map_command<'a>(alloc: Global, parser: ValueParser<'a>) -> Result<Command<'a>, AllocError>
     ensures { HasApp (map_app parser.entry) result }
 {
     let command = loading_command(alloc, parser, "map", help::MAP_ABOUT, help::MAP_NOTES);
-    with_options(
-        alloc,
+    let command = with_word(
         command,
-        help::STATUS_HELP,
-        help::BEFORE_HELP,
-        help::PATHS_HELP,
-    )
+        flag(alloc, "status", ArgAction::SetTrue, help::STATUS_HELP),
+    );
+    let command = with_word(command, before_option(alloc));
+    with_word(command, paths_option(alloc))
 }
 
 /// `name VG LV [LAYER]`.
@@ -520,7 +368,7 @@ fn split_command<'a>(alloc: Global) -> Result<Command<'a>, AllocError>
     with_word(command, required(alloc, "name", "NAME", help::NAME_HELP))
 }
 
-/// The program without flags and commands.
+/// The program without words.
 fn bare_program<'a>(alloc: Global) -> Command<'a>
     ensures { app_of result ≡ bare_app }
 {
@@ -531,18 +379,12 @@ fn bare_program<'a>(alloc: Global) -> Command<'a>
         .disable_version_flag(true)
 }
 
-/// The program with the flags that stand before the command.
+/// The program without commands. The flag that asks for the version has no short form, unlike clap's own.
 fn program_alone<'a>(alloc: Global) -> Result<Command<'a>, AllocError>
-    ensures { HasApp program_app result }
+    ensures { HasApp (with_rule bare_app version_rule) result }
 {
-    let line = with_options(
-        alloc,
-        Ok(bare_program(alloc)),
-        help::EARLY_HELP,
-        help::EARLY_HELP,
-        help::EARLY_HELP,
-    );
-    with_word(line, version_flag(alloc))
+    let version = flag(alloc, "version", ArgAction::Version, help::VERSION_HELP);
+    with_word(Ok(bare_program(alloc)), version)
 }
 
 /// The whole command line.
@@ -602,20 +444,33 @@ fn refusal(alloc: Global, kind: ErrorKind, text: &str) -> WordsFault
     }
 }
 
+/// The refusal of a word that `help` doesn't know, with those of messages.
+fn unknown_word(alloc: Global, word: &str) -> WordsFault
+    ensures { IsOfKind kind.InvalidSubcommand result }
+{
+    match format!(in alloc;
+        "unrecognized subcommand '{word}'\n\nWords of messages that help knows:{WORDS}"
+    ) {
+        Ok(text) => refusal(alloc, ErrorKind::InvalidSubcommand, text.as_str()),
+        Err(AllocError) => WordsFault::Memory,
+    }
+}
+
+/// A fault of words, with the words of messages where `help` is asked about what it doesn't know.
+fn with_words_listed(alloc: Global, words: &[&str], fault: WordsFault) -> WordsFault
+    ensures { (texts : List Text) → IsUntaken texts fault → IsUntaken texts result }
+{
+    match (words, fault.is_unknown()) {
+        ([_, help, word], true) if *help == "help" => unknown_word(alloc, word),
+        _ => fault,
+    }
+}
+
 /// The error of clap that has this kind and this text.
 fn refusal_error(alloc: Global, kind: ErrorKind, text: &str) -> Result<clap::Error, AllocError>
     ensures { IfOk result (λ error. kind_of error ≡ kind) }
 {
     program(alloc)?.error(kind, text)
-}
-
-/// What is told of an option that stands where it may not.
-fn misplaced_text(option: MapOption) -> &'static str {
-    match option {
-        MapOption::Status => WRONG_STATUS,
-        MapOption::Before => WRONG_BEFORE,
-        MapOption::Paths => WRONG_PATHS,
-    }
 }
 
 /// Whether a word after the program's name is a hyphen alone, before the first `--`.
@@ -637,35 +492,53 @@ fn has_lone_hyphen(words: &[&str]) -> bool
 }
 
 /// What the words say that clap takes.
-fn read_taken<'a>(alloc: Global, words: &'a [&'a str]) -> Result<Result<Job<'a>, Lack>, WordsFault>
-    ensures taken { IfOk result (λ said. IsTaken (texts words.now) (job_said said)) }
+fn read_taken<'a>(alloc: Global, words: &'a [&'a str]) -> Result<Option<Job<'a>>, WordsFault>
+    ensures taken { IfOk result (λ said. IsTaken (texts words.now) (option_map job_words said)) }
     ensures untaken { IfErr result (IsUntaken (texts words.now)) }
 {
     let matches = program(alloc)?.try_get_matches_from(words)?;
     Ok(said_by(&matches))
 }
 
+/// The job of the command that the words ask for.
+fn read_command<'a>(alloc: Global, words: &'a [&'a str]) -> Result<Job<'a>, WordsFault>
+    ensures job { IfOk result (IsCommandOf (texts words.now)) }
+    ensures fault { IfErr result (IsRefusedFor (texts words.now)) }
+{
+    if has_lone_hyphen(words) {
+        return Err(refusal(alloc, ErrorKind::UnknownArgument, LONE_HYPHEN));
+    }
+    match read_taken(alloc, words) {
+        Ok(Some(job)) => Ok(job),
+        Ok(None) => Err(WordsFault::Disks),
+        Err(fault) => Err(with_words_listed(alloc, words, fault)),
+    }
+}
+
+/// What is said of the word of messages that `help` is asked about. `name` is a command, too.
+fn explained_by(words: &[&str]) -> Option<&'static str>
+    ensures { option_map (λ text. text.now) result ≡ explained_by (texts words.now) }
+{
+    match words {
+        [_, help, asked] if *help == "help" && *asked != "name" => explanation(asked),
+        _ => None,
+    }
+}
+
 /// The job that the words ask for, of which the first is the program's name. No file is opened.
+/// `help` with a word of messages is a job; with a command, as other requests for help or the version, it is
+/// a refusal with that as its text, and no words at all are one with the help.
 /// A hyphen alone, which clap would take as a value, is refused before the first `--`, whatever
 /// else the words are. DISKS that is missing, or not needed, is reported only where clap accepts the
-/// words. A request for help or the version is a refusal with that as its text, and no words at all are
-/// one with the help.
+/// words.
 /// The command line is built anew at each call, and once more for a refusal of the program's own; the words
 /// are walked twice.
 pub fn read_words<'a>(alloc: Global, words: &'a [&'a str]) -> Result<Job<'a>, WordsFault>
     ensures job { IfOk result (IsJobOf (texts words.now)) }
     ensures fault { IfErr result (IsFaultOf (texts words.now)) }
 {
-    if has_lone_hyphen(words) {
-        return Err(refusal(alloc, ErrorKind::UnknownArgument, LONE_HYPHEN));
-    }
-    match read_taken(alloc, words)? {
-        Ok(job) => Ok(job),
-        Err(Lack::Place(option)) => Err(refusal(
-            alloc,
-            ErrorKind::UnknownArgument,
-            misplaced_text(option),
-        )),
-        Err(Lack::Disks) => Err(WordsFault::Disks),
+    match explained_by(words) {
+        Some(text) => Ok(Job::Explain(text)),
+        None => read_command(alloc, words),
     }
 }

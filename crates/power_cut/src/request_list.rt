@@ -14,7 +14,7 @@ ghost use Rattle.power_cut.specs.Fault.{AreRefused};
 use crate::fault::Fault;
 use crate::owned_request::OwnedRequest;
 use dm_stack::{DeviceId, Stack};
-use dm_stream::{Ending, Handler, ReadsFrom, handle_requests};
+use dm_stream::{Ending, Handler, HandlesFrom, ReadsFrom, handle_requests};
 use dm_table::{InFault, Input, Request};
 use std::alloc::{AllocError, Global};
 
@@ -61,11 +61,13 @@ impl<R: Input> ReadsFrom<R> for RequestKeeper {
 
     ghost is_out = { λ keeper. Unit {0} };
 
-    fn before_read(&mut self) {}
-
     fn read(&self, requests: &mut R, buffer: &mut [u8]) -> Result<usize, InFault> {
         requests.read(buffer)
     }
+}
+
+impl<R: Input> HandlesFrom<R> for RequestKeeper {
+    fn before_read(&mut self) {}
 }
 
 /// The requests of an input to a stack, of which all have to be good.

@@ -63,7 +63,7 @@ TEXTS: Dict[str, str] = {
     ),
     "unknown": (
         "The line names a disk or device that isn't there. Add the disk to DISKS, or the device to FILE. For the number of a "
-        "device of FILE write `/dev/mapper/NAME;` `dmremap-tools machine` does that for a whole machine. In metadata, a "
+        "device of FILE write `/dev/mapper/NAME`; `dmremap-tools machine` does that for a whole machine. In metadata, a "
         "stripe names a physical volume, or a snapshot names a volume, that the group doesn't have: take an older copy."
     ),
     "cycle": (
@@ -108,7 +108,7 @@ TEXTS: Dict[str, str] = {
 REQUESTS: Dict[str, str] = {
     "form": (
         "It is not four fields with single spaces: R or W, a device, a sector, a number of sectors. Or the device is a path: "
-        "write NAME for `/dev/mapper/NAME,` and what `dmremap name` VG LV prints for `/dev/VG/LV.` Take comments and empty "
+        "write NAME for `/dev/mapper/NAME`, and what `dmremap name` VG LV prints for `/dev/VG/LV`. Take comments and empty "
         "lines out."
     ),
     "number": (
@@ -159,8 +159,7 @@ STORES: Dict[str, str] = {
         "The stack has no disk of that name: DISKS and, with `lvm`, the metadata have their names."
     ),
     "dmremap: paths: read, dmremap: paths: long": (
-        "The list can't be opened or read, or has more than 1,048,576 bytes.\ndmremap: store NAME: WORD\nThe store of the "
-        "snapshot NAME is refused, the first one in FILE. Nothing was answered."
+        "The list can't be opened or read, or has more than 1,048,576 bytes."
     ),
     "missing": (
         "A part of its header or of its list lies on a disk that PATHS doesn't name. Add the disk."

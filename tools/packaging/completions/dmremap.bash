@@ -19,10 +19,8 @@ _dmremap() {
             [[ ${#given[@]} -eq 0 || ${given[${#given[@]} - 1]} != [0-9] ]] || unset "given[${#given[@]} - 1]"
         elif [[ $it == -- ]]; then
             options=false
-        elif [[ $it == --status || $it == --before || $it == --paths ]] && $options; then
-            # Of all commands they go with this one.
-            commands=map
-            [[ $it == --status ]] || valued=true
+        elif [[ $it == --before || $it == --paths ]] && $options; then
+            valued=true
         elif [[ $it != -* ]] || ! $options; then
             given+=("$it")
         fi
@@ -38,7 +36,7 @@ _dmremap() {
         files=true
     elif $options && [[ $word == -* ]]; then
         case ${given[0]-} in
-            "") offered="--status --before --paths --version --help" ;;
+            "") offered="--version --help" ;;
             map) offered="--status --before --paths --help" ;;
             help) ;;
             *) offered="--help" ;;

@@ -4,7 +4,7 @@
 //! where other names are, it is at one of the next. No proof rests on that: a place with a short name says
 //! whose it is, and where none of those that are tried has the key nothing is said of the name.
 
-ghost use Rattle.std.specs.Prelude.{◌≡◌, ◌≢◌, ◌<◌, ◌≤◌, IfNone, IfOk, IfSome, List, get_or, length, take};
+ghost use Rattle.std.specs.Prelude.{◌≡◌, ◌≢◌, ◌+◌, ◌*◌, ◌^◌, ◌<◌, ◌≤◌, IfNone, IfOk, IfSome, List, get_or, length, take};
 ghost use Rattle.std.specs.List.{All, Contains};
 ghost use Rattle.dm_table.specs.declared.tables.table.DeviceSpec.{DeviceSpec};
 ghost use Rattle.dm_table.specs.words.Bytes.{code};
@@ -64,7 +64,8 @@ impl FrontNames {
     /// and 8 more, of 32 bytes.
     pub(crate) fn new(alloc: Global, devices: &[DeviceSpec]) -> Result<FrontNames, AllocError>
         requires { AreApart devices.now }
-        ensures { IfOk result (λ names. ArePlaces devices.now names.places) }
+        ensures places { IfOk result (λ names. ArePlaces devices.now names.places) }
+        ensures few { IfOk result (λ names. length names.places ≤ 8 * length devices.now + 10) }
     {
         let digits = place_digits(devices.len());
         let shift = 64 - digits;
@@ -83,8 +84,11 @@ impl FrontNames {
     #[inline(always)]
     pub(crate) fn find_short(&self, room: &[u8; ROOM], len: usize) -> Option<DeviceId>
         requires { len < ROOM }
-        ensures { IfSome result (λ device. (place : Place) × Contains self.now.places place
+        ensures found { IfSome result (λ device. (place : Place) × Contains self.now.places place
             × (place.key.len < ROOM) × IsKeyOf (take len room.now) place.key × (place.device ≡ device)) }
+        // None of the places that are tried for the name's key has it.
+        ensures none { IfNone result ((key : NameKey) × IsKeyOf (take len room.now) key
+            × All (λ place. place.key ≢ key) (tried self.now key)) }
     {
         self.find(&NameKey::short(room, len))
     }
@@ -126,6 +130,9 @@ impl FrontNames {
 fn place_digits(devices: usize) -> u32
     ensures some { 1 ≤ result }
     ensures few { result ≤ MOST_DIGITS }
+    // There are four to eight places for each device, if that isn't too many.
+    ensures enough { result < MOST_DIGITS → 4 * devices < 2 ^ result }
+    ensures most { 2 ^ result ≤ 8 * devices + 2 }
 {
     match devices.saturating_mul(4).checked_ilog2() {
         Some(digits) if digits < MOST_DIGITS => digits + 1,

@@ -18,7 +18,6 @@ ghost use Rattle.dm_table.specs.io.Progress.{HasWrittenTo, IsSameReference, Wrot
 
 use crate::pieces::disk_range::DiskRange;
 use crate::pieces::held_piece::HeldPiece;
-use crate::requests::exchange::Exchange;
 use dm_map::{Home, Piece, Sink};
 use dm_stack::{Leg, Legs, Stack};
 use dm_table::{Op, OutFault, Output};
@@ -93,13 +92,13 @@ impl<'s, W: Output> Join<'s, W> {
     }
 
     /// Has the writer pass on what it gathered, before requests are read. Nothing is written or flushed.
-    pub(crate) fn pass_on<Q: Exchange<W>>(&mut self)
+    pub(crate) fn drain(&mut self)
         ensures held { self.new.held ≡ self.old.held }
         ensures moved { HasWrittenTo W.past self.old.writer self.new.writer 0 }
         ensures written { (W.past self.new.writer.now).written ≡ (W.past self.old.writer.now).written }
-        ensures out { Q.is_out self.new.writer.now }
+        ensures out { W.is_out self.new.writer.now }
     {
-        Q::pass_on(&mut *self.writer);
+        self.writer.drain();
     }
 
     /// Ends the join, after its last request was finished, and gives its writer back as it is:

@@ -11,7 +11,7 @@ ghost use Rattle.dm_stream.specs.runs.Outcome.{device_of};
 ghost use Rattle.dm_stream.specs.requests.Requests.{NumberedRequest, numbered};
 
 use dm_stack::{DeviceId, Stack};
-use dm_table::{InFault, Request};
+use dm_table::{InFault, Input, Request};
 
 /// Who answers requests to the devices of a stack, one after the other.
 pub trait Handler {
@@ -73,14 +73,23 @@ pub trait Handler {
         → answered stack a s us b t → stopped stack b t vs fault c u → stopped stack a s (us ++ vs) fault c u };
 }
 
-/// A handler whose requests are read from `Q`. A read may have to wait, so it comes only once all answers are out.
-pub trait ReadsFrom<Q>: Handler {
+/// Who reads lines from `Q`. A read may have to wait, so it comes only once all answers are out.
+pub trait ReadsFrom<Q> {
     /// What the requests did so far, as of any input.
     ghost asked: { Q → InputPast };
 
     /// All answers were passed on, or passing them on failed.
     ghost is_out: { Self → Type 0 };
 
+    /// Reads as an input does.
+    fn read(&self, requests: &mut Q, buffer: &mut [u8]) -> Result<usize, InFault>
+        requires { is_out self.now }
+        ensures within { IfOk result (λ n. n ≤ length buffer.new) }
+        ensures past { asked requests.new ≡ after_read (asked requests.old) result buffer.new };
+}
+
+/// A handler whose requests are read from `Q`.
+pub trait HandlesFrom<Q>: Handler + ReadsFrom<Q> {
     /// No request is at hand, and reading one may have to wait: the answers gathered so far are passed on.
     /// Nothing is answered.
     fn before_read(&mut self)
@@ -88,11 +97,18 @@ pub trait ReadsFrom<Q>: Handler {
             → Self.answered stack self.old source [] self.new source }
         ensures ready { (stack : Description) (source : Self.Source)
             → Self.ready stack self.old source → Self.ready stack self.new source }
-        ensures out { is_out self.new };
+        ensures out { Self.is_out self.new };
+}
 
-    /// Reads as an input does.
-    fn read(&self, requests: &mut Q, buffer: &mut [u8]) -> Result<usize, InFault>
-        requires { is_out self.now }
-        ensures within { IfOk result (λ n. n ≤ length buffer.new) }
-        ensures past { asked requests.new ≡ after_read (asked requests.old) result buffer.new };
+/// Nobody answers the lines of an input, which may then be read at any time.
+pub(crate) struct Unanswered;
+
+impl<R: Input> ReadsFrom<R> for Unanswered {
+    ghost asked = { R.past };
+
+    ghost is_out = { λ nobody. Unit {0} };
+
+    fn read(&self, input: &mut R, buffer: &mut [u8]) -> Result<usize, InFault> {
+        input.read(buffer)
+    }
 }

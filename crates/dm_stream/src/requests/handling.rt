@@ -12,7 +12,7 @@ ghost use Rattle.dm_stream.specs.requests.Requests.{HasMet, IsAmong, Requests, a
 
 use crate::requests::batch::{Answered, answer_gathered};
 use crate::requests::front::{Front, front_of};
-use crate::requests::handler::{Handler, ReadsFrom};
+use crate::requests::handler::{Handler, HandlesFrom};
 use crate::requests::lines::{Lines, Next};
 use crate::runs::ending::{Ending, RequestWord};
 use dm_stack::Stack;
@@ -51,7 +51,7 @@ fn request_of(line: &[u8], number: u64) -> Result<Request<'_>, RequestWord>
 }
 
 /// Lets the handler know of a read that may wait: one comes where no newline is held.
-fn before_read<Q, H: ReadsFrom<Q>>(handler: &mut H, lines: &Lines)
+fn before_read<Q, H: HandlesFrom<Q>>(handler: &mut H, lines: &Lines)
     ensures answered { (stack : Description) (source : H.Source)
         → H.answered stack handler.old source [] handler.new source }
     ensures ready { (stack : Description) (source : H.Source)
@@ -91,7 +91,7 @@ fn handle_named<H: Handler>(
 ///
 /// The fault with which the handler stopped at one of the requests. Nothing is read after that.
 #[inline(never)]
-pub fn handle_requests<Q, H: ReadsFrom<Q>>(
+pub fn handle_requests<Q, H: HandlesFrom<Q>>(
     stack: &Stack,
     requests: &mut Q,
     handler: &mut H,
@@ -145,7 +145,7 @@ pub fn handle_requests<Q, H: ReadsFrom<Q>>(
             continue;
         }
         before_read::<Q, H>(handler, &lines);
-        match lines.next(requests, handler) {
+        match lines.next_for(requests, handler) {
             Next::Line(line) => match request_of(line, number) {
                 Ok(request) => {
                     if let Err(fault) = handle_named(stack, handler, &mut *source, &request) {

@@ -9,9 +9,9 @@ ghost use Rattle.std.specs.Io.BufRead.{Rests};
 ghost use Rattle.dm_table.specs.io.DeviceIo.{delivery, since};
 ghost use Rattle.dm_table.specs.io.Progress.{HasRead, IsReadOn, MetNothing};
 
-use crate::requests::handler::ReadsFrom;
+use crate::requests::handler::{ReadsFrom, Unanswered};
 use crate::requests::line_buffer::{line_len, make_room, read_after};
-use dm_table::InFault;
+use dm_table::{InFault, Input};
 use std::marker::Model;
 
 /// The most bytes of a line, without its newline.
@@ -184,10 +184,26 @@ impl Lines {
         }
     }
 
-    /// The next line, or why there is none. Only a line leaves the held bytes.
+    /// The next line of an input, or why there is none. Only a line leaves the held bytes.
     ///
     /// Cost: time linear in the bytes read, however they arrive. Takes no memory.
-    pub fn next<Q, H: ReadsFrom<Q>>(&mut self, requests: &mut Q, handler: &H) -> Next<'_>
+    pub fn next<R: Input>(&mut self, input: &mut R) -> Next<'_>
+        ensures* after { sem 𝓛 (Rests the_row self.entry (λ new.
+            new ≡ left_of (answer_of result)
+            (self.old ++ since (R.past input.old).handed (R.past input.new).handed))) }
+        // Nothing is read after an end or a fault.
+        ensures reads { IsReadOn (R.past input.old) (R.past input.new) }
+        // A line is returned, or is too long, before an end or a fault is met.
+        ensures quiet { OnLine result (MetNothing (R.past input.old) (R.past input.new)) }
+        ensures answer { answer_of result
+            ≡ next_answer (delivery (R.past input.old) (R.past input.new)).stand
+            (line_parts (self.old ++ since (R.past input.old).handed (R.past input.new).handed)) }
+    {
+        self.next_for(input, &Unanswered)
+    }
+
+    /// The same of requests that somebody answers.
+    pub fn next_for<Q, H: ReadsFrom<Q>>(&mut self, requests: &mut Q, handler: &H) -> Next<'_>
         // Nothing is read where a whole line is held, and else all answers are out.
         requires { line_parts self.old ≡ self.old ∷ [] → H.is_out handler.now }
         ensures* after { sem 𝓛 (Rests the_row self.entry (λ new.

@@ -10,7 +10,7 @@ ghost use Rattle.dm_stream.specs.runs.Outcome.{requests_outcome};
 ghost use Rattle.dm_stream.specs.runs.Run.{CanMap, IsLeft};
 ghost use Rattle.dm_table.specs.io.DeviceIo.{delivery};
 
-use crate::requests::handler::{Handler, ReadsFrom};
+use crate::requests::handler::{Handler, HandlesFrom, ReadsFrom};
 use crate::requests::handling::handle_requests;
 use crate::runs::ending::{Ending, RequestWord};
 use crate::runs::request_mapper::read_ahead;
@@ -98,11 +98,13 @@ impl<T: Taken, R: Input> ReadsFrom<R> for EarlierPlayer<'_, T> {
 
     ghost is_out = { λ h. Unit {0} };
 
-    fn before_read(&mut self) {}
-
     fn read(&self, requests: &mut R, buffer: &mut [u8]) -> Result<usize, InFault> {
         requests.read(buffer)
     }
+}
+
+impl<T: Taken, R: Input> HandlesFrom<R> for EarlierPlayer<'_, T> {
+    fn before_read(&mut self) {}
 }
 
 /// Plays requests, line by line, and answers none: the mapper's state moves on as if they had been answered.

@@ -100,8 +100,8 @@ fn write_rest<T: Taken, W: Output>(
 ///
 /// The mapper is one of this stack and has not failed; its state moves on with the requests. The output
 /// is flushed once at the end, unless a write failed; then a message of one line is written, except
-/// at `Done`. An output is not written to if there is nothing to write. Requests and output are an
-/// exchange, as any input is with any output: no request is waited for while an answer is kept back.
+/// at `Done`. An output is not written to if there is nothing to write. No request is waited for while the
+/// output keeps an answer back: each read requires that it has passed on all that it took, or failed to.
 ///
 /// Cost: time linear in the bytes read and written, plus what the mapper takes for each request. No
 /// memory is taken.

@@ -15,7 +15,7 @@ ghost use Rattle.std.proofs.Common.{refl, ◌∙◌};
 use crate::pieces::disk_range::DiskRange;
 use crate::pieces::join::Join;
 use crate::requests::exchange::Exchange;
-use crate::requests::handler::{Handler, ReadsFrom};
+use crate::requests::handler::{Handler, HandlesFrom, ReadsFrom};
 use crate::runs::ending::NotMapped;
 use dm_map::{MapFault, Mapper, Taken};
 use dm_stack::{DeviceId, Prefetched, Stack};
@@ -152,13 +152,15 @@ impl<'s, T: Taken, W: Output> Handler for RequestMapper<'_, 's, T, W> {
 impl<T: Taken, W: Output, Q: Exchange<W>> ReadsFrom<Q> for RequestMapper<'_, '_, T, W> {
     ghost asked = { Q.past };
 
-    ghost is_out = { λ h. Q.is_out h.join.writer.now };
-
-    fn before_read(&mut self) {
-        self.join.pass_on::<Q>();
-    }
+    ghost is_out = { λ h. W.is_out h.join.writer.now };
 
     fn read(&self, requests: &mut Q, buffer: &mut [u8]) -> Result<usize, InFault> {
         requests.read(&*self.join.writer, buffer)
+    }
+}
+
+impl<T: Taken, W: Output, Q: Exchange<W>> HandlesFrom<Q> for RequestMapper<'_, '_, T, W> {
+    fn before_read(&mut self) {
+        self.join.drain();
     }
 }

@@ -26,9 +26,9 @@ fault_of (Ok x) = 0
 fault_of (Err e) = 1
 
 -- how many ends the result of a read adds: one for a 0 where the slice had room
-abbrev pub end_of : {E : Type 0} → Result ℕ E → ℕ → ℕ
-end_of (Ok n) room = if n == 0 && nat_lt 0 room then 1 else 0
-end_of (Err e) room = 0
+abbrev pub ends_added : {E : Type 0} → Result ℕ E → ℕ → ℕ
+ends_added (Ok n) room = if n == 0 && nat_lt 0 room then 1 else 0
+ends_added (Err e) room = 0
 
 -- what of the waiting bytes a flush leaves waiting: all of them where it failed
 abbrev pub unflushed : {T E : Type 0} → Result T E → List ℕ → List ℕ
@@ -40,7 +40,7 @@ abbrev pub after_read : {E : Type 0} → InputPast → Result ℕ E → (slice :
 after_read past result slice = record {
   handed = past.handed ++ given result slice;
   faults = past.faults + fault_of result;
-  ends = past.ends + end_of result (length slice);
+  ends = past.ends + ends_added result (length slice);
 }
 
 -- after a write of a slice

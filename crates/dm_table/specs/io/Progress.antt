@@ -1,7 +1,7 @@
 -- How inputs and outputs moved on, told by their past: each fact once, for every contract that speaks of one.
 use Rattle.std.specs.Prelude.{◌≡◌, ◌⊎◌, ◌≤◌, ◌<◌, ◌↔◌, ◌+◌, ◌++◌, ℕ, List, [], Result, OnOk, OnErr}
 use Rattle.std.specs.Borrow.{MutBor}
-use Rattle.dm_table.specs.io.DeviceIo.{InputPast, OutputPast, end_of, fault_of, since, written_since}
+use Rattle.dm_table.specs.io.DeviceIo.{InputPast, OutputPast, ends_added, fault_of, since, written_since}
 use Rattle.dm_table.specs.io.WriteAll.{IsCutShort}
 
 -- bytes that only grew: what was there, and what came since
@@ -19,7 +19,7 @@ pub record IsReadOn (old new : InputPast) : Type 0 where
 pub record HasRead {E : Type 0} (old new : InputPast) (result : Result ℕ E) (got : List ℕ) : Type 0 where
   pub hands : new.handed ≡ old.handed ++ got
   pub fails : new.faults ≡ old.faults + fault_of result
-  pub ends_as : new.ends ≡ old.ends + end_of result 1
+  pub ends_as : new.ends ≡ old.ends + ends_added result 1
 
 -- neither a fault nor an end was met
 abbrev pub MetNothing : (old new : InputPast) → Type 0

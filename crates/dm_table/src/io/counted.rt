@@ -3,7 +3,7 @@
 //! What a proof knows of a real device is what is noted here: note each result where it is returned.
 ghost use Rattle.std.specs.Prelude.{◌≡◌, ◌+◌, ◌<◌, ◌≤◌, ◌++◌, [], length, IfOk};
 ghost use Rattle.std.specs.Io.KnownBytes.{Keeps, ReadConsumes, WriteAppends};
-ghost use Rattle.dm_table.specs.io.DeviceIo.{given, fault_of, end_of, unflushed};
+ghost use Rattle.dm_table.specs.io.DeviceIo.{given, fault_of, ends_added, unflushed};
 
 use crate::io::device_io::{InFault, Input, OutFault, Output};
 use crate::io::ghost_list::{GhostList, Tally};
@@ -52,7 +52,7 @@ impl<T: Read> Input for Counted<T> {
         ensures within { IfOk result (λ n. n ≤ length buffer.new) }
         ensures bytes { self.new.handed.items ≡ self.old.handed.items ++ given result buffer.new }
         ensures faults { self.new.read_faults ≡ self.old.read_faults + fault_of result }
-        ensures ends { self.new.ends ≡ self.old.ends + end_of result (length buffer.new) }
+        ensures ends { self.new.ends ≡ self.old.ends + ends_added result (length buffer.new) }
         // Where std knows the reader's bytes, none is lost or made up.
         ensures inner { ReadConsumes (T.remaining self.old.inner) (T.remaining self.new.inner)
             result buffer.new }
@@ -80,6 +80,8 @@ impl<T: Write> Output for Counted<T> {
       faults = c.write_faults;
       flushes = c.flushes;
     } };
+
+    ghost is_out = { λ c. Unit {0} };
 
     /// One write of the writer. Each of its errors is a fault, an interrupted call too, and so is a 0
     /// for a slice that isn't empty.
@@ -126,4 +128,7 @@ impl<T: Write> Output for Counted<T> {
             }
         }
     }
+
+    /// Nothing is gathered here.
+    fn drain(&mut self) {}
 }

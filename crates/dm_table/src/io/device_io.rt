@@ -1,5 +1,5 @@
 //! The traits of what the product reads from and writes to, and their faults.
-//! Each has one ghost member, its past: all that it did so far. So a caller's contract can speak of any
+//! Each has a ghost member, its past: all that it did so far. So a caller's contract can speak of any
 //! device. A change of a clause here is a change for every reader and writer above: check them all.
 ghost use Rattle.std.specs.Prelude.{◌≡◌, ◌<◌, ◌≤◌, length, IfOk};
 ghost use Rattle.dm_table.specs.io.DeviceIo.{InputPast, OutputPast, after_flush, after_read, after_write};
@@ -36,6 +36,9 @@ pub trait Output {
     /// writes and flushes failed, and how many flushes were asked for.
     ghost past: { Self → OutputPast };
 
+    /// It passed on all that it took, or failed to: nothing is gathered.
+    ghost is_out: { Self → Type 0 };
+
     /// Takes the first bytes of the slice, and returns how many, which is 0 only for an empty slice.
     /// A write that fails takes nothing.
     fn write(&mut self, bytes: &[u8]) -> Result<usize, OutFault>
@@ -67,6 +70,6 @@ pub trait Output {
     /// Passes on what was gathered, without a flush, as far as that succeeds. It is called before a wait.
     /// A fault that it meets is none of this call: the next write, `put` or flush fails.
     fn drain(&mut self)
-        ensures { past self.new ≡ past self.old }
-    {}
+        ensures past { past self.new ≡ past self.old }
+        ensures out { is_out self.new };
 }

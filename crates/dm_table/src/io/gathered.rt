@@ -161,6 +161,8 @@ fn move_to_front(block: &mut [u8], start: usize, end: usize)
 impl<W: Output> Output for Gathered<W> {
     ghost past = { past_of };
 
+    ghost is_out = { λ g. g.broken ≡ false → g.held ≡ [] };
+
     fn write(&mut self, bytes: &[u8]) -> Result<usize, OutFault>
         ensures within { IfOk result (λ n. n ≤ length bytes.now) }
         ensures progress { IfOk result (λ n. 0 < length bytes.now → 0 < n) }

@@ -189,6 +189,8 @@ impl ShortOut {
 impl Output for ShortOut {
     ghost past = { λ s. s.past };
 
+    ghost is_out = { λ s. Unit {0} };
+
     /// Takes the first bytes, as many as `step`, the slice and the room allow.
     fn write(&mut self, bytes: &[u8]) -> Result<usize, OutFault>
         ensures within { IfOk result (λ n. n ≤ length bytes.now) }
@@ -223,4 +225,7 @@ impl Output for ShortOut {
         self.waiting = GhostList::new();
         Ok(())
     }
+
+    /// Nothing is gathered here.
+    fn drain(&mut self) {}
 }

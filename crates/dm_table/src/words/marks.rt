@@ -2,7 +2,7 @@
 //!
 //! A text is read as its first bytes and its last ones, which may overlap, so that nothing after it is read.
 
-ghost use Rattle.std.specs.Prelude.{◌≡◌, ◌-◌, ◌*◌, ◌<◌, ◌≤◌, Bool, List, IfSome, drop, length, take};
+ghost use Rattle.std.specs.Prelude.{◌≡◌, ◌-◌, ◌*◌, ◌<◌, ◌≤◌, ◌||◌, Bool, List, IfNone, IfSome, drop, length, nat_lt, take, true};
 ghost use Rattle.dm_table.specs.words.Marks.{marks_of};
 ghost use lib.Lanes.{mask_l};
 
@@ -14,6 +14,7 @@ use std::simd::prelude::*;
 pub(crate) fn marks(of: u8, text: &[u8]) -> Option<u64>
     ensures marks { IfSome result (λ marks. marks ≡ marks_of of text.now) }
     ensures short { IfSome result (λ marks. length text.now ≤ 64) }
+    ensures none { IfNone result ((nat_lt (length text.now) 8 || nat_lt 64 (length text.now)) ≡ true) }
 {
     let len = text.len();
     if len < 8 || 64 < len {

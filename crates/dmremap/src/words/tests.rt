@@ -17,7 +17,7 @@ fn words_of<'a>(rt: &impl Abort, alloc: Global, line: &'a str) -> Vec<&'a str> {
 }
 
 /// Words, and the job that they ask for, in the words of `shown`.
-static JOBS: [(&str, &str); 23] = [
+static JOBS: [(&str, &str); 21] = [
     ("map table a.table a.disks", "map a.table a.disks"),
     ("map table -- a.table a.disks", "map a.table a.disks"),
     ("map lvm vg0.backup", "map lvm vg0.backup"),
@@ -44,10 +44,6 @@ static JOBS: [(&str, &str); 23] = [
     ),
     ("map lvm --status vg0.backup", "status of lvm vg0.backup"),
     (
-        "--status map table a.table a.disks",
-        "status of a.table a.disks",
-    ),
-    (
         "map table a.table a.disks --before a.requests",
         "map a.table a.disks after a.requests",
     ),
@@ -56,16 +52,12 @@ static JOBS: [(&str, &str); 23] = [
         "map lvm vg0.backup after a.requests",
     ),
     (
-        "--before a.requests map table a.table a.disks --status",
-        "status of a.table a.disks after a.requests",
-    ),
-    ("--before= map lvm vg0.backup", "map lvm vg0.backup after "),
-    (
         "map lvm vg0.backup --paths= --before a.requests",
         "stored map lvm vg0.backup after a.requests",
     ),
+    ("map --before= lvm vg0.backup", "map lvm vg0.backup after "),
     (
-        "--paths a.paths map table a.table a.disks --status",
+        "map table --paths a.paths a.table a.disks --status",
         "stored status of a.table a.disks",
     ),
 ];
@@ -130,6 +122,7 @@ fn shown(rt: &impl Abort, alloc: Global, job: Job<'_>) -> String {
             return text.expect(rt, "a text");
         }
         Job::SplitName(name) => return format!(in alloc; "splitname {name}").expect(rt, "a text"),
+        Job::Explain(text) => return format!(in alloc; "explain {text}").expect(rt, "a text"),
     };
     shown_source(rt, alloc, command, source, earlier)
 }
@@ -157,6 +150,6 @@ fn check_fault(rt: &impl Abort, alloc: Global, fault: &WordsFault, status: u8, p
 fn faults(rt: HostRuntime) {
     check_fault(&rt, rt.alloc(), &WordsFault::Memory, 6, "dmremap: memory");
     let fault = read_words(rt.alloc(), &[]).err().expect(&rt, "no job");
-    let usage = "Usage: dmremap [OPTIONS] <COMMAND>";
+    let usage = "Usage: dmremap <COMMAND>";
     check_fault(&rt, rt.alloc(), &fault, 2, usage);
 }

@@ -1,9 +1,7 @@
-use Rattle.std.proofs.Common.{◌≡◌, ◌≢◌, ◌∙◌, ap, refl, sym}
+use Rattle.std.proofs.Common.{◌≢◌, ◌∙◌, ap, refl, sym}
 use Rattle.dm_table.specs.declared.load.load_fault.LoadKind.TheVariants as kinds
 use Rattle.dm_table.specs.laws.Progress.{since-same}
 use Rattle.dm_stream.specs.runs.Messages.{ending_message}
-use Rattle.dm_stream.specs.runs.Earlier.{refused_ending}
-use Rattle.dm_stream.specs.declared.runs.ending.Ending.TheVariants as endings
 use Rattle.dmremap.specs.declared.exit.Exit.TheVariants as exits
 use Rattle.dmremap.specs.declared.exit.Refusal.TheVariants as refusals
 use Rattle.dmremap.specs.Exit.{exit_message, exit_status, load_status}

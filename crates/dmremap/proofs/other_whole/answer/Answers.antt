@@ -1,8 +1,9 @@
+use Rattle.std.proofs.Common.{◌≡◌, ap, sym}
 use Rattle.dm_table.specs.io.DeviceIo.{written_since}
 use Rattle.dmremap.specs.Job.{format_of, source_words}
 use Rattle.dmremap.specs.Load.{SoundAs}
-use Rattle.dmremap.specs.Printing.{ReportSays}
-use Rattle.dmremap.proofs.PrintLemmas.{asked_none, check_printed, stack_printed}
+use Rattle.dmremap.specs.Printing.{Prints, ReportSays}
+use Rattle.dmremap.proofs.PrintLemmas.{asked_none, check_printed, says_done, stack_printed}
 use Rattle.dmremap.proofs.other_whole.answer.Goals as goal
 
 pub returns-in-Ok-clause-did : goal.returns-in-Ok-clause-did
@@ -28,3 +29,8 @@ returns-in-Name-clause-did g c = record { did = rw c.in-Name.is c.print_name.ens
 
 pub returns-in-SplitName-clause-did : goal.returns-in-SplitName-clause-did
 returns-in-SplitName-clause-did g c = record { did = rw c.in-SplitName.is c.print_parts.ensures.did; writes = c.print_parts.ensures.writes }
+
+pub returns-in-Explain-clause-did : goal.returns-in-Explain-clause-did
+returns-in-Explain-clause-did g c =
+    let text = c.in-Explain.text.now in let same : Prints text ≡ Prints c.as_bytes.result.now = ap Prints (sym c.as_bytes.ensures.value) in
+    rw c.in-Explain.is (says_done (λ said. Prints text ≡ said) c.as_bytes.result.now c.print_text.result same c.print_text.ensures)

@@ -1,4 +1,4 @@
 use Rattle.dmremap.proofs.words.program_alone.Goals as goal
 
 pub returns : goal.returns
-returns c = c.with_word.ensures _ _ (c.with_options-line.ensures _ c.bare_program.ensures) c.version_flag.ensures.rule
+returns c = c.with_word.ensures _ _ c.bare_program.ensures c.flag-version.ensures.rule

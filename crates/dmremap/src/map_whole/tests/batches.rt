@@ -3,7 +3,7 @@
 
 use super::*;
 use dm_stack::{DeviceId, Stack};
-use dm_stream::{Ending, Handler, ReadsFrom, handle_requests};
+use dm_stream::{Ending, Handler, HandlesFrom, ReadsFrom, handle_requests};
 use dm_table::{InFault, Input, Request, parse_disks, parse_table};
 
 /// Devices with names of 1, 15 and 16 bytes.
@@ -76,11 +76,13 @@ impl<R: Input> ReadsFrom<R> for Counts {
 
     ghost is_out = { λ counts. Unit {0} };
 
-    fn before_read(&mut self) {}
-
     fn read(&self, requests: &mut R, buffer: &mut [u8]) -> Result<usize, InFault> {
         requests.read(buffer)
     }
+}
+
+impl<R: Input> HandlesFrom<R> for Counts {
+    fn before_read(&mut self) {}
 }
 
 #[test]

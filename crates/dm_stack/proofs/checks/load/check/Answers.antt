@@ -198,5 +198,5 @@ returns-clause-loaded c =
           c.deepest.ensures ∙ ap greatest (c.deref-3.ensures.value ∙ sym c.deref.ensures.value) ∙ deepest_is c.new-stack.result c.deref.result.now (depths_are (goal.at.returns-clause-loaded c).After-deref) ∙ ap stack_depth k.same;
       snapshots = made_ok c.snapshots.result c.in_ok-snapshots.snapshots (λ ids. ids.items ≡ snapshots (record { devices = c.args.devices.now; disks = [] })) c.in_ok-snapshots.ensures.made c.snapshots.ensures;
       texts = made_ok c.disk_texts.result c.in_ok-texts.texts (λ texts. texts.items ≡ map (λ disk. disk_text disk.name) c.args.disks.now) c.in_ok-texts.ensures.made c.disk_texts.ensures;
-      fronts = made_ok c.new.result c.in_ok-fronts.fronts (λ fronts. ArePlaces c.args.devices.now fronts.places) c.in_ok-fronts.ensures.made c.new.ensures;
+      fronts = made_ok c.new.result c.in_ok-fronts.fronts (λ fronts. ArePlaces c.args.devices.now fronts.places) c.in_ok-fronts.ensures.made c.new.ensures.places;
     }

@@ -17,7 +17,7 @@ record IsOf (c : In_ok-device) : Type 0 where
 
 is_of : (c : In_ok-device) → IsOf c
 is_of c =
-    let found = c.in_ok-device.ensures in
+    let found = c.in_ok-device.ensures.found in
     let place = found.0 in
     let of = All-contains (λ (p : Place). p.key.len < ROOM → IsPlaceOf c.self.inside.devices p) c.self.inside.fronts.places place c.self.invariant.fronts found.1 found.2 in
     let len = c.in-Some.len in

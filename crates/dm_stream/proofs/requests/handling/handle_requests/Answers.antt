@@ -85,7 +85,7 @@ lines-preserved g c =
     let so_far = after_waiting (g.met.H.Handler.answered_then_answered c.args.stack.now) turned (c.before_read.ensures.answered c.args.stack.now c.answer_gathered.new.source) in
     let h0 = (g.H.ReadsFrom.asked c.args.requests.now).handed in
     let h1 = (g.H.ReadsFrom.asked c.lines.requests).handed in
-    let h2 = (g.H.ReadsFrom.asked c.next.new.requests).handed in
+    let h2 = (g.H.ReadsFrom.asked c.next_for.new.requests).handed in
     let more = numbered c.in-Ok-request_of.request ∷ [] in
     record {
       ready = c.in_default-handle_named.ensures.ready;
@@ -97,42 +97,42 @@ lines-preserved g c =
         faults = c.in-Line.ensures.quiet.0 ∙ so_far.faults;
         ends = c.in-Line.ensures.quiet.1 ∙ so_far.ends;
         told =
-            told_turn h0 h1 h2 c.skip.new.self c.next.follows.lender-at-none c.in-Line.line.now so_far.done more (c.lines.number + c.in-Ok.batch.count + 1) _ so_far.told
+            told_turn h0 h1 h2 c.skip.new.self c.next_for.follows.lender-at-none c.in-Line.line.now so_far.done more (c.lines.number + c.in-Ok.batch.count + 1) _ so_far.told
             so_far.reads c.in-Line.ensures.reads.grows c.in-Line.ensures.answer c.in-Ok-request_of.ensures.good
-            (c.next.follows.holds-at-none ∙ rw c.in-Line.is);
+            (c.next_for.follows.holds-at-none ∙ rw c.in-Line.is);
       };
     }
 
 pub returns-in-Err-request_of-clause-answered : goal.returns-in-Err-request_of-clause-answered
 returns-in-Err-request_of-clause-answered g c =
     let turned = after_batch _ c.in-Ok.batch.len _ _ (g.met.H.Handler.answered_then_answered c.args.stack.now) c.lines.invariant.turned c.in-Ok.ensures.answered c.held-held.ensures c.skip.ensures in
-    ended (g.H.Handler.answered c.args.stack.now) (g.H.ReadsFrom.asked c.next.new.requests) (ALine c.in-Line.line.now) (ending.TheVariants.BadRequest (c.lines.number + c.in-Ok.batch.count + 1) c.in-Err-request_of.word) (g.met.H.Handler.answered_then_answered c.args.stack.now) turned (c.before_read.ensures.answered c.args.stack.now c.answer_gathered.new.source) c.in-Line.ensures.reads.grows c.in-Line.ensures.answer c.in-Err-request_of.ensures.bad
+    ended (g.H.Handler.answered c.args.stack.now) (g.H.ReadsFrom.asked c.next_for.new.requests) (ALine c.in-Line.line.now) (ending.TheVariants.BadRequest (c.lines.number + c.in-Ok.batch.count + 1) c.in-Err-request_of.word) (g.met.H.Handler.answered_then_answered c.args.stack.now) turned (c.before_read.ensures.answered c.args.stack.now c.answer_gathered.new.source) c.in-Line.ensures.reads.grows c.in-Line.ensures.answer c.in-Err-request_of.ensures.bad
 
 pub returns-in-Err-request_of-clause-met : goal.returns-in-Err-request_of-clause-met
 returns-in-Err-request_of-clause-met g c =
     let turned = after_batch _ c.in-Ok.batch.len _ _ (g.met.H.Handler.answered_then_answered c.args.stack.now) c.lines.invariant.turned c.in-Ok.ensures.answered c.held-held.ensures c.skip.ensures in
-    bad_met (g.H.ReadsFrom.asked c.args.requests.now) (g.H.ReadsFrom.asked c.next.new.requests) (c.lines.number + c.in-Ok.batch.count + 1) c.in-Err-request_of.word
+    bad_met (g.H.ReadsFrom.asked c.args.requests.now) (g.H.ReadsFrom.asked c.next_for.new.requests) (c.lines.number + c.in-Ok.batch.count + 1) c.in-Err-request_of.word
     (c.in-Line.ensures.quiet.0 ∙ turned.faults, c.in-Line.ensures.quiet.1 ∙ turned.ends)
 
 pub returns-in-End-clause-answered : goal.returns-in-End-clause-answered
 returns-in-End-clause-answered g c =
     let turned = after_batch _ c.in-Ok.batch.len _ _ (g.met.H.Handler.answered_then_answered c.args.stack.now) c.lines.invariant.turned c.in-Ok.ensures.answered c.held-held.ensures c.skip.ensures in
-    ended (g.H.Handler.answered c.args.stack.now) (g.H.ReadsFrom.asked c.next.new.requests) AnEnd ending.TheVariants.Done (g.met.H.Handler.answered_then_answered c.args.stack.now) turned (c.before_read.ensures.answered c.args.stack.now c.answer_gathered.new.source) c.in-End.ensures.reads.grows c.in-End.ensures.answer (λ rest. refl)
+    ended (g.H.Handler.answered c.args.stack.now) (g.H.ReadsFrom.asked c.next_for.new.requests) AnEnd ending.TheVariants.Done (g.met.H.Handler.answered_then_answered c.args.stack.now) turned (c.before_read.ensures.answered c.args.stack.now c.answer_gathered.new.source) c.in-End.ensures.reads.grows c.in-End.ensures.answer (λ rest. refl)
 
 pub returns-in-Unended-clause-answered : goal.returns-in-Unended-clause-answered
 returns-in-Unended-clause-answered g c =
     let turned = after_batch _ c.in-Ok.batch.len _ _ (g.met.H.Handler.answered_then_answered c.args.stack.now) c.lines.invariant.turned c.in-Ok.ensures.answered c.held-held.ensures c.skip.ensures in
-    ended (g.H.Handler.answered c.args.stack.now) (g.H.ReadsFrom.asked c.next.new.requests) AnUnended (ending.TheVariants.BadRequest (c.lines.number + c.in-Ok.batch.count + 1) word.TheVariants.Unended) (g.met.H.Handler.answered_then_answered c.args.stack.now) turned (c.before_read.ensures.answered c.args.stack.now c.answer_gathered.new.source) c.in-Unended.ensures.reads.grows c.in-Unended.ensures.answer (λ rest. refl)
+    ended (g.H.Handler.answered c.args.stack.now) (g.H.ReadsFrom.asked c.next_for.new.requests) AnUnended (ending.TheVariants.BadRequest (c.lines.number + c.in-Ok.batch.count + 1) word.TheVariants.Unended) (g.met.H.Handler.answered_then_answered c.args.stack.now) turned (c.before_read.ensures.answered c.args.stack.now c.answer_gathered.new.source) c.in-Unended.ensures.reads.grows c.in-Unended.ensures.answer (λ rest. refl)
 
 pub returns-in-Long-clause-answered : goal.returns-in-Long-clause-answered
 returns-in-Long-clause-answered g c =
     let turned = after_batch _ c.in-Ok.batch.len _ _ (g.met.H.Handler.answered_then_answered c.args.stack.now) c.lines.invariant.turned c.in-Ok.ensures.answered c.held-held.ensures c.skip.ensures in
-    ended (g.H.Handler.answered c.args.stack.now) (g.H.ReadsFrom.asked c.next.new.requests) ALong (ending.TheVariants.BadRequest (c.lines.number + c.in-Ok.batch.count + 1) word.TheVariants.Long) (g.met.H.Handler.answered_then_answered c.args.stack.now) turned (c.before_read.ensures.answered c.args.stack.now c.answer_gathered.new.source) c.in-Long.ensures.reads.grows c.in-Long.ensures.answer (λ rest. refl)
+    ended (g.H.Handler.answered c.args.stack.now) (g.H.ReadsFrom.asked c.next_for.new.requests) ALong (ending.TheVariants.BadRequest (c.lines.number + c.in-Ok.batch.count + 1) word.TheVariants.Long) (g.met.H.Handler.answered_then_answered c.args.stack.now) turned (c.before_read.ensures.answered c.args.stack.now c.answer_gathered.new.source) c.in-Long.ensures.reads.grows c.in-Long.ensures.answer (λ rest. refl)
 
 pub returns-in-ReadFault-clause-answered : goal.returns-in-ReadFault-clause-answered
 returns-in-ReadFault-clause-answered g c =
     let turned = after_batch _ c.in-Ok.batch.len _ _ (g.met.H.Handler.answered_then_answered c.args.stack.now) c.lines.invariant.turned c.in-Ok.ensures.answered c.held-held.ensures c.skip.ensures in
-    ended (g.H.Handler.answered c.args.stack.now) (g.H.ReadsFrom.asked c.next.new.requests) AFault ending.TheVariants.ReadFault (g.met.H.Handler.answered_then_answered c.args.stack.now) turned (c.before_read.ensures.answered c.args.stack.now c.answer_gathered.new.source) c.in-ReadFault.ensures.reads.grows c.in-ReadFault.ensures.answer (λ rest. refl)
+    ended (g.H.Handler.answered c.args.stack.now) (g.H.ReadsFrom.asked c.next_for.new.requests) AFault ending.TheVariants.ReadFault (g.met.H.Handler.answered_then_answered c.args.stack.now) turned (c.before_read.ensures.answered c.args.stack.now c.answer_gathered.new.source) c.in-ReadFault.ensures.reads.grows c.in-ReadFault.ensures.answer (λ rest. refl)
 
 pub returns-in-Err-handle_named-clause-stopped : goal.returns-in-Err-handle_named-clause-stopped
 returns-in-Err-handle_named-clause-stopped g c =
@@ -140,7 +140,7 @@ returns-in-Err-handle_named-clause-stopped g c =
     let so_far = after_waiting (g.met.H.Handler.answered_then_answered c.args.stack.now) turned (c.before_read.ensures.answered c.args.stack.now c.answer_gathered.new.source) in
     let first = g.H.ReadsFrom.asked c.args.requests.now in
     let mid = g.H.ReadsFrom.asked c.lines.requests in
-    let last = g.H.ReadsFrom.asked c.next.new.requests in
+    let last = g.H.ReadsFrom.asked c.next_for.new.requests in
     let more = numbered c.in-Ok-request_of.request ∷ [] in
     among first mid last c.skip.new.self (c.lines.number + c.in-Ok.batch.count + 1) so_far.done more c.in-Line.line.now _
     so_far.told so_far.reads c.in-Line.ensures.reads.grows so_far.faults so_far.ends c.in-Line.ensures.answer c.in-Ok-request_of.ensures.good

@@ -1,7 +1,7 @@
 use Rattle.std.proofs.Common.{rules, ◌≡◌, ◌<◌, ◌++◌, ℕ, zero, suc, Ok, refl, add-zero, List, length, take, drop, sym, ap, ◌∙◌, arith, length-append, length-drop, length-take}
 use Rattle.std.proofs.Math.Dec.{eqb-suc-zero}
 use Rattle.std.proofs.lemmas.Bool.{eqb-false}
-use Rattle.dm_table.specs.io.DeviceIo.{end_of}
+use Rattle.dm_table.specs.io.DeviceIo.{ends_added}
 use Rattle.dm_table.specs.declared.io.device_io.InFault.{InFault}
 use Rattle.dm_table.specs.io.ShortIo.{Supply, portion}
 use Rattle.dm_table.specs.laws.Progress.{same_input}
@@ -44,7 +44,7 @@ moves c none roomy =
     omega (arith, room_is c, c.min-n.ensures, c.min.ensures, c.self.invariant.1)
 
 -- bytes came, so no end was met
-no_end : (n room : ℕ) → (n ≡ 0 → 0 < room → ⊥) → end_of {E = InFault} (Ok n) room ≡ 0
+no_end : (n room : ℕ) → (n ≡ 0 → 0 < room → ⊥) → ends_added {E = InFault} (Ok n) room ≡ 0
 no_end zero zero moving = refl
 no_end zero (suc room) moving = absurd (moving refl (omega arith))
 no_end (suc n) room moving = rw eqb-suc-zero

@@ -1,7 +1,7 @@
 use Rattle.std.proofs.Common.{◌∙◌, ap, drop, refl}
 use Rattle.dm_table.specs.io.DeviceIo.{delivery}
 use Rattle.dm_stream.proofs.requests.Held.{line_at, after_bytes}
-use Rattle.dm_stream.proofs.requests.lines.Lines.next.Goals as goal
+use Rattle.dm_stream.proofs.requests.lines.Lines.next_for.Goals as goal
 
 pub returns-in-Line : goal.returns-in-Line
 returns-in-Line g c =

@@ -1,0 +1,405 @@
+//! What each word of a message means, its causes and what to do, as the manual says it.
+//!
+//! Made by tools/derive of the DIAGNOSTICS in docs/dmremap.1: don't edit.
+
+/// The words that are explained, in lines of their own.
+pub(crate) const WORDS: &str = "
+  again, chunk, cycle, deep, disks, empty, extents, field, form, gap, hyphen,
+  length, letter, limit, long, magic, many, memory, missing, name, not top,
+  number, order, overlap, range, read, snapshot, split, store, stripe, syntax,
+  text, twice, unended, unknown, untidy, version, write";
+
+/// Each of them, and what is said of it.
+pub(crate) static EXPLANATIONS: [(&str, &str); 38] = [
+    ("again", AGAIN),
+    ("chunk", CHUNK),
+    ("cycle", CYCLE),
+    ("deep", DEEP),
+    ("disks", DISKS),
+    ("empty", EMPTY),
+    ("extents", EXTENTS),
+    ("field", FIELD),
+    ("form", FORM),
+    ("gap", GAP),
+    ("hyphen", HYPHEN),
+    ("length", LENGTH),
+    ("letter", LETTER),
+    ("limit", LIMIT),
+    ("long", LONG),
+    ("magic", MAGIC),
+    ("many", MANY),
+    ("memory", MEMORY),
+    ("missing", MISSING),
+    ("name", NAME),
+    ("not top", NOT_TOP),
+    ("number", NUMBER),
+    ("order", ORDER),
+    ("overlap", OVERLAP),
+    ("range", RANGE),
+    ("read", READ),
+    ("snapshot", SNAPSHOT),
+    ("split", SPLIT),
+    ("store", STORE),
+    ("stripe", STRIPE),
+    ("syntax", SYNTAX),
+    ("text", TEXT),
+    ("twice", TWICE),
+    ("unended", UNENDED),
+    ("unknown", UNKNOWN),
+    ("untidy", UNTIDY),
+    ("version", VERSION),
+    ("write", WRITE),
+];
+
+const AGAIN: &str = "\
+dmremap: store NAME: again
+  A chunk is in its list twice. See `order`.
+";
+
+const CHUNK: &str = "\
+dmremap: store NAME: chunk
+  Its chunks have another size than the table says. A kernel goes by the store:
+  write its size into the table, if the table isn't the machine's.
+";
+
+const CYCLE: &str = "\
+dmremap: source: cycle at NUMBER
+  The device lies on itself, maybe by way of others. Look for a number that was
+  replaced by a wrong name.
+";
+
+const DEEP: &str = "\
+dmremap: source: deep at NUMBER
+  Devices are stacked more than 32 deep: list one in the middle as a disk, and
+  map in two runs. Or sections of metadata are more than 16 deep.
+";
+
+const DISKS: &str = "\
+dmremap: words: disks
+  DISKS is missing, or is there though the format is `lvm`. Give it, or leave it
+  out.
+";
+
+const EMPTY: &str = "\
+dmremap: source: empty at NUMBER
+dmremap: disks: empty at NUMBER
+  A device, a line, a disk or a volume of metadata has no sectors. Delete it.
+
+dmremap: name: empty
+  A part is empty. Look for a variable of the shell that has no value.
+";
+
+const EXTENTS: &str = "\
+dmremap: source: extents at NUMBER
+  Only for metadata. A physical volume is shorter than its extents, or segments
+  leave a gap, are empty or no multiple of their stripes, go past the end of a
+  physical volume, or use extents that an earlier one has. At a physical volume:
+  after `pvresize` lvm2 writes too small a size, and `dmremap-tools lvm2-text`
+  makes a copy with one that fits. At a segment, the metadata is damaged: take
+  an older copy, or another physical volume's.
+";
+
+const FIELD: &str = "\
+dmremap: source: field at NUMBER
+dmremap: disks: field at NUMBER
+  A value doesn't fit.
+  In a table: a number with a sign, a leading zero, a unit or more than 19
+  digits; an unknown target; too few or too many arguments; a snapshot of a kind
+  other than `P`, `N` and `K`. In concise text, also: MINOR is neither empty nor
+  a number, or FLAGS is neither empty, `ro` nor `rw`. In a list of disks, the
+  length is no such number. Delete devices with other targets, list them in
+  DISKS with their lengths, and name them without /dev/mapper/: answers then end
+  at them.
+  In metadata: a field that the section at that line lacks, a value of another
+  kind, a 0 where more is needed, a number from 2^63 on or of more than 19
+  digits, a second section at the top, or a segment of another type (raid, thin,
+  cache, mirror and others). `dmremap-tools lvm2-text` makes a copy without such
+  volumes, and without what lies on them. If a snapshot is being merged into its
+  origin, take the text anew after that (`lvs -a`).
+
+dmremap: paths: field at LINE
+  The offset is no multiple of 512. It counts bytes: multiply a partition's
+  first sector by 512.
+";
+
+const FORM: &str = "\
+dmremap: request N: form
+dmremap: before: form at N
+  It is not four fields with single spaces: R or W, a device, a sector, a number
+  of sectors. Or the device is a path: write NAME for `/dev/mapper/NAME`, and
+  what `dmremap name` VG LV prints for `/dev/VG/LV`. Take comments and empty
+  lines out.
+";
+
+const GAP: &str = "\
+dmremap: source: gap at NUMBER
+  The line begins after the end of the one before it, or the first one doesn't
+  begin at 0. Look for a line that is missing.
+";
+
+const HYPHEN: &str = "\
+dmremap: name: hyphen
+  A part begins with a hyphen. Look for a word that is missing.
+";
+
+const LENGTH: &str = "\
+dmremap: request N: length
+dmremap: before: length at N
+  The length is 0, or more than 1,048,576 sectors. Cut the request into several,
+  by `dmremap-tools cut`.
+";
+
+const LETTER: &str = "\
+dmremap: name: letter
+  A part has a character other than letters, digits and `+_.-`, or a layer
+  begins with an underscore. Give group and volume as two words, without paths.
+";
+
+const LIMIT: &str = "\
+dmremap: source: limit at NUMBER
+dmremap: disks: limit at NUMBER
+  A count or a number is too large: see LIMITS. Leave out devices that the
+  requests don't need. Of metadata whose stores have too many chunks in all,
+  `dmremap-tools lvm2-text` makes a copy without those that pass the limit.
+";
+
+const LONG: &str = "\
+dmremap: source: long
+dmremap: disks: long
+  The file has more than 1,048,576 bytes; there is no number. Leave out devices
+  that the requests don't need.
+
+dmremap: request N: long
+dmremap: before: long at N
+  The line has more than 4096 bytes. Look for a newline that is missing.
+
+dmremap: paths: long
+  The list can't be opened or read, or has more than 1,048,576 bytes.
+
+dmremap: name: long
+  The name has more than 127 bytes. No device can have it: take shorter parts.
+";
+
+const MAGIC: &str = "\
+dmremap: store NAME: magic
+  It is no store: it begins neither as one nor with zeros. Look at the disk, the
+  offset and the table: one of them is wrong, or the store is damaged.
+";
+
+const MANY: &str = "\
+dmremap: request N: many
+dmremap: before: many at N
+  There are more than 1,000,000,000,000 lines: make several runs of them.
+";
+
+const MEMORY: &str = "\
+dmremap: memory
+  Out of memory. Give it more, or leave devices out. The stack may be too small,
+  too: `ulimit -s` has to print 512 or more.
+";
+
+const MISSING: &str = "\
+dmremap: store NAME: missing
+  A part of its header or of its list lies on a disk that PATHS doesn't name.
+  Add the disk.
+";
+
+const NAME: &str = "\
+dmremap: source: name at NUMBER
+dmremap: disks: name at NUMBER
+  A name is empty, too long, or has a character that isn't allowed, such as
+  those that dmsetup writes as `\\x20`. A device has 1 to 127 letters, digits and
+  `#+-.:=@_`, a disk 1 to 255 characters from `!` to `~` without comma,
+  semicolon and backslash, and not below /dev/mapper/. The UUID of concise text
+  is empty, or has up to 128 of the characters of a device. Write another name,
+  everywhere.
+  In metadata, the name of a volume or of its layer would have more than 127
+  characters, with hyphens doubled: `dmremap-tools lvm2-text` makes a copy
+  without it.
+
+dmremap: paths: name at LINE
+  The first field isn't the name of a disk. Write the disk's name of DISKS, a
+  space, and the path.
+";
+
+const NOT_TOP: &str = "\
+dmremap: request N: not top
+  Only for `replay`: another device lies on that one, or no device has that
+  name. Ask for a device that no other lies on, or use `map`.
+";
+
+const NUMBER: &str = "\
+dmremap: request N: number
+dmremap: before: number at N
+  The sector or the length is no number of 1 to 19 digits, or a carriage return
+  stands at the end of the line. Take signs, units, zeros in front and carriage
+  returns out.
+";
+
+const ORDER: &str = "\
+dmremap: store NAME: order
+  The chunks of its list don't lie in the order in which a kernel puts them
+  there, or there are more than the store has room for. The store is damaged,
+  was changed meanwhile, or isn't this snapshot's.
+";
+
+const OVERLAP: &str = "\
+dmremap: source: overlap at NUMBER
+  The line begins before the end of the one before it. Look for a line that is
+  there twice, or for a wrong number.
+";
+
+const RANGE: &str = "\
+dmremap: source: range at NUMBER
+  The line goes past the end of what it names. Compare offset and length with
+  the length of that.
+
+dmremap: store NAME: range
+  A chunk of its list is past the end of the snapshot. See `order`.
+";
+
+const READ: &str = "\
+dmremap: source: read
+dmremap: disks: read
+  The file can't be opened, or reading it failed: it isn't there, it is a
+  folder, or you may not read it. `cat FILE > /dev/null` says which; there is no
+  number.
+
+dmremap: requests: read
+  Reading the standard input failed, or it is closed: see to what writes it, or
+  give a file.
+
+dmremap: paths: read
+  The list can't be opened or read, or has more than 1,048,576 bytes.
+
+dmremap: store NAME: read
+  A part of them can't be opened or read, or the image ends before it. An image
+  is a file or a block device that you may read; see that it is whole.
+
+dmremap: before: read
+  That file can't be opened, or reading it failed.
+";
+
+const SNAPSHOT: &str = "\
+dmremap: source: snapshot at NUMBER
+  The line of a snapshot or an origin is not the only one of its device, or is
+  not as long as the origin, or the chunk is no power of two from 1 to 1024. If
+  it isn't the only one, give it its own device, and put a linear line to that
+  in its place. In metadata, also: an origin or a store that is itself a
+  snapshot, and a store that is also an origin or the store of another snapshot.
+  If an origin was extended under its snapshot, make a linear device of the
+  snapshot's length on it, and name that as the origin. Of metadata,
+  `dmremap-tools lvm2-text` makes a copy without the snapshot.
+";
+
+const SPLIT: &str = "\
+dmremap: name: split
+  No group and volume have that name, as a device that isn't LVM's. Count the
+  hyphens: those of a part are doubled.
+";
+
+const STORE: &str = "\
+dmremap: source: store at NUMBER
+  A store has to be a disk, or a writable device of linear and striped lines,
+  over disks or over such devices. In a table, list the store as a disk, or
+  delete the snapshot. Of metadata, `dmremap-tools lvm2-text` makes a copy
+  without it.
+";
+
+const STRIPE: &str = "\
+dmremap: source: stripe at NUMBER
+  The line doesn't divide into stripes: there are 1 to 128 columns, the length
+  is a multiple of their number, and each one's share a multiple of the chunk,
+  which has 1 to 4,294,967,295 sectors. Compare with `dmsetup table`.
+";
+
+const SYNTAX: &str = "\
+dmremap: source: syntax at NUMBER
+dmremap: disks: syntax at NUMBER
+  The form is wrong.
+  In a table, a line is NAME: START LEN TYPE ARGS, with single spaces and a
+  newline at its end. Put NAME: in front of what `dmsetup table DEVICE` printed,
+  and delete it where it stands alone, for a device without a table. In a list
+  of disks, a line has two fields. In concise text, a device has four commas
+  before its first line, there is no semicolon after the last one, and no
+  newline but at the end; write other names for those with escapes, as `a\\,b`.
+  In metadata, a punctuation mark, string or key is missing, or there is one too
+  many; `read_ahead = -1` and decimals are refused: `dmremap-tools lvm2-text`
+  makes a copy of what lvm2 wrote without them. If the number is one more than
+  the file has lines, the end of the text is missing.
+  `syntax at 1` mostly means that FORMAT is not that of the file, or that FILE
+  and DISKS are swapped. If the file says `No devices found`, dmsetup had none
+  to print: run it on the right machine, while the devices are active.
+
+dmremap: paths: syntax at LINE
+  The line isn't a disk, a space and a path, or it is empty, or no newline ends
+  it.
+";
+
+const TEXT: &str = "\
+dmremap: source: text at NUMBER
+dmremap: disks: text at NUMBER
+  A byte that isn't allowed: in tables a tab, a carriage return or a letter
+  outside ASCII; in metadata, anything but UTF-8. In a table, `tr -d '\\r'` takes
+  carriage returns out; write spaces for tabs, and other names. Of metadata,
+  `dmremap-tools lvm2-text` makes a copy without such bytes. Metadata, which has
+  tabs, is of the FORMAT `lvm`.
+
+dmremap: paths: text at LINE
+  The line isn't UTF-8, or has a NUL. Give the image another name, or a link
+  with one.
+";
+
+const TWICE: &str = "\
+dmremap: source: twice at NUMBER
+dmremap: disks: twice at NUMBER
+  A device, a disk or a key of the metadata is there twice. In a table, keep the
+  lines of a device together, or rename one of two devices; otherwise delete one
+  of the two. Of metadata, `dmremap-tools lvm2-text` makes a copy with the one
+  that lvm2 takes.
+
+dmremap: paths: twice at LINE
+  An earlier line names the same disk. Delete one of them.
+";
+
+const UNENDED: &str = "\
+dmremap: request N: unended
+dmremap: before: unended at N
+  The last line has no newline. End it, unless it was cut off.
+";
+
+const UNKNOWN: &str = "\
+dmremap: source: unknown at NUMBER
+  The line names a disk or device that isn't there. Add the disk to DISKS, or
+  the device to FILE. For the number of a device of FILE write
+  `/dev/mapper/NAME`; `dmremap-tools machine` does that for a whole machine. In
+  metadata, a stripe names a physical volume, or a snapshot names a volume, that
+  the group doesn't have: take an older copy.
+
+dmremap: request N: unknown
+dmremap: before: unknown at N
+  No device of FILE has that name. `dmremap table` prints the names; disks are
+  none.
+
+dmremap: paths: unknown at LINE
+  The stack has no disk of that name: DISKS and, with `lvm`, the metadata have
+  their names.
+";
+
+const UNTIDY: &str = "\
+dmremap: replay: untidy
+  Two lines of the tables use the same sectors. `dmremap check` says which; use
+  `map` if that is meant.
+";
+
+const VERSION: &str = "\
+dmremap: store NAME: version
+  Its version isn't 1, the only one that is known. Look at the disk, the offset
+  and the table.
+";
+
+const WRITE: &str = "\
+dmremap: output: write
+  The output can't be written: the disk is full, or the reader of a pipe has
+  gone. Make room, or see why the reader ended.
+";
