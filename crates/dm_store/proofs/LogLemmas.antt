@@ -1,5 +1,5 @@
 -- A log with one more read.
-use Rattle.std.proofs.Common.{◌≡◌, ℕ, ◌+◌, ◌≤◌, List, [], ◌∷◌, ◌++◌, drop, length, length-drop, take, subst, arith}
+use Rattle.std.proofs.Common.{◌≡◌, ◌↔◌, ℕ, ◌+◌, ◌≤◌, List, [], ◌∷◌, ◌++◌, drop, length, length-drop, arith}
 use Rattle.std.proofs.lemmas.List.{take-append-le, take_all, drop-append-le}
 use Rattle.dm_store.specs.declared.asked.Asked.{Asked}
 use Rattle.dm_store.specs.Images.{AreRead, Contents}
@@ -15,28 +15,20 @@ unfolding given_total
 given_more [] asked = omega arith
 given_more (first ∷ later) asked = rw (given_more later asked) (omega arith)
 
--- contents that agree with one more read agree with those before, and with it
-pub agrees_split : (held : Contents) (log : List Asked) (asked : Asked) (paths path given bytes : List ℕ)
+-- contents agree with one more read exactly if they agree with those before, and with it
+pub agrees_more : (held : Contents) (log : List Asked) (asked : Asked) (paths path given bytes : List ℕ)
     → length paths ≡ path_total log → length given ≡ given_total log → length path ≡ asked.path_len → length bytes ≡ asked.len
-    → Agrees held (log ++ asked ∷ []) (paths ++ path) (given ++ bytes)
-    → Agrees held log paths given × AreRead (held path) asked.sector asked.answer bytes
+    → Agrees held (log ++ asked ∷ []) (paths ++ path) (given ++ bytes) ↔ (Agrees held log paths given × AreRead (held path) asked.sector asked.answer bytes)
 unfolding Agrees path_total given_total
-agrees_split held [] asked [] path [] bytes no_paths no_given path_len len agrees = (
-  tt,
-  subst (λ (xs : List ℕ). AreRead (held path) asked.sector asked.answer xs) (take_all asked.len bytes (omega (arith, len)))
-      (subst (λ (xs : List ℕ). AreRead (held xs) asked.sector asked.answer (take asked.len bytes)) (take_all asked.path_len path (omega (arith, path_len))) agrees.0),
-)
-agrees_split held [] asked [] path (b ∷ given) bytes no_paths no_given path_len len agrees = absurd (omega (arith, no_given))
-agrees_split held [] asked (b ∷ paths) path given bytes no_paths no_given path_len len agrees = absurd (omega (arith, no_paths))
-agrees_split held (first ∷ later) asked paths path given bytes all_paths all_given path_len len agrees =
+agrees_more held [] asked [] path [] bytes no_paths no_given path_len len =
+    rw (take_all asked.path_len path (omega (arith, path_len)), take_all asked.len bytes (omega (arith, len))) (λ agrees. (tt, agrees.0), λ both. (both.1, tt))
+agrees_more held [] asked [] path (b ∷ given) bytes no_paths no_given path_len len = absurd (omega (arith, no_given))
+agrees_more held [] asked (b ∷ paths) path given bytes no_paths no_given path_len len = absurd (omega (arith, no_paths))
+agrees_more held (first ∷ later) asked paths path given bytes all_paths all_given path_len len =
     let near : first.path_len ≤ length paths = omega (arith, all_paths) in
     let within : first.len ≤ length given = omega (arith, all_given) in
     let rest_paths : length (drop first.path_len paths) ≡ path_total later = omega (arith, all_paths, length-drop first.path_len paths) in
     let rest : length (drop first.len given) ≡ given_total later = omega (arith, all_given, length-drop first.len given) in
-    let parts = agrees_split held later asked (drop first.path_len paths) path (drop first.len given) bytes rest_paths rest path_len len
-    (subst (λ (xs : List ℕ). Agrees held (later ++ asked ∷ []) xs (drop first.len given ++ bytes)) (drop-append-le first.path_len paths path near)
-    (subst (λ (xs : List ℕ). Agrees held (later ++ asked ∷ []) (drop first.path_len (paths ++ path)) xs) (drop-append-le first.len given bytes within) agrees.1)) in
-    let here : AreRead (held (take first.path_len paths)) first.sector first.answer (take first.len given) =
-    subst (λ (xs : List ℕ). AreRead (held xs) first.sector first.answer (take first.len given)) (take-append-le first.path_len paths path near)
-    (subst (λ (xs : List ℕ). AreRead (held (take first.path_len (paths ++ path))) first.sector first.answer xs) (take-append-le first.len given bytes within) agrees.0) in
-    ((here, parts.0), parts.1)
+    let parts = agrees_more held later asked (drop first.path_len paths) path (drop first.len given) bytes rest_paths rest path_len len in
+    rw (take-append-le first.path_len paths path near, take-append-le first.len given bytes within, drop-append-le first.path_len paths path near, drop-append-le first.len given bytes within)
+    (λ agrees. let more = parts.0 agrees.1 in ((agrees.0, more.0), more.1), λ both. (both.0.0, parts.1 (both.0.1, both.1)))

@@ -1,7 +1,8 @@
 //! Images of disks: files, or parts of files, that are read by sectors of 512 bytes.
 //!
 //! What images hold can't be said beforehand. So a clause says what was seen: which contents agree with all
-//! that was read so far. If an image gives other bytes for a sector than it gave before, none do.
+//! that was read so far, and these are exactly the ones that agree with each read. If an image gives other bytes
+//! for a sector than it gave before, none do.
 
 ghost use Rattle.std.specs.Prelude.{◌≡◌, ◌<◌, ◌≤◌, ◌%◌, ◌^◌, length};
 ghost use Rattle.dm_store.specs.Images.{AreRead, Contents};
@@ -20,7 +21,8 @@ pub struct ReadFault;
 
 /// Images, each named by its path.
 pub trait Images {
-    /// Contents of all images that agree with all that was read so far.
+    /// Contents of all images that agree with all that was read so far. All contents do before the first read, and
+    /// whoever makes images promises that.
     ghost IsSeen: { Self → Contents → Type 0 };
 
     /// Reads whole sectors of the image at this path, from a sector of it on. The disk tells images apart, so
@@ -38,5 +40,7 @@ pub trait Images {
         requires near { sector < 2 ^ 53 }
         ensures still { (held : Contents) → IsSeen self.new held → IsSeen self.old held }
         ensures is { (held : Contents) → IsSeen self.new held
-            → AreRead (held path.now) sector result into.new };
+            → AreRead (held path.now) sector result into.new }
+        ensures seen { (held : Contents) → IsSeen self.old held
+            → AreRead (held path.now) sector result into.new → IsSeen self.new held };
 }

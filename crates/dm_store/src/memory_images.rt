@@ -1,6 +1,7 @@
 //! Images in memory, for tests: they end, and fail after a number of reads.
 
 ghost use Rattle.std.specs.Prelude.{◌≡◌, ◌+◌, ◌*◌, ◌<◌, OnErr, OnOk, length, slice_range};
+ghost use Rattle.dm_store.specs.Images.{Contents};
 ghost use Rattle.dm_store.specs.ReadLog.{AgreesWith};
 ghost use Rattle.dm_store.specs.declared.images.TheConstants.{SECTOR};
 
@@ -18,7 +19,9 @@ pub struct MemoryImages<'a> {
 
 impl<'a> MemoryImages<'a> {
     /// Nothing read so far.
-    pub fn new(files: &'a [(&'a str, &'a [u8])], left: usize) -> MemoryImages<'a> {
+    pub fn new(files: &'a [(&'a str, &'a [u8])], left: usize) -> MemoryImages<'a>
+        ensures { (held : Contents) → ⟦<MemoryImages<'a> as Images>⟧.IsSeen result held }
+    {
         MemoryImages {
             files,
             left,

@@ -2,7 +2,7 @@
 //!
 //! What a real image holds is known by it alone. Note each read as it is returned.
 
-ghost use Rattle.std.specs.Prelude.{◌≡◌, [], length};
+ghost use Rattle.std.specs.Prelude.{◌≡◌, ◌↔◌, [], length};
 ghost use Rattle.dm_store.specs.Images.{AreRead, Contents};
 ghost use Rattle.dm_store.specs.ReadLog.{AgreesWith};
 
@@ -37,6 +37,7 @@ impl ReadLog {
         ensures asked { result.asked ≡ [] }
         ensures paths { result.paths ≡ [] }
         ensures given { result.given ≡ [] }
+        ensures all { (held : Contents) → AgreesWith held result }
     {
         ReadLog {
             asked: GhostList::new(),
@@ -48,7 +49,7 @@ impl ReadLog {
     /// Notes a read of the image at this path.
     pub fn note(&mut self, path: &str, sector: u64, answer: Result<(), ReadFault>, bytes: &[u8])
         ensures { (held : Contents) → AgreesWith held self.new
-            → AgreesWith held self.old × AreRead (held path.now) sector answer bytes.now }
+            ↔ (AgreesWith held self.old × AreRead (held path.now) sector answer bytes.now) }
     {
         self.asked.note(&[Asked {
             path_len: path.len(),

@@ -4,7 +4,8 @@
 //! block device isn't opened: a pipe would wait for a writer. Each read names its place, and one that the image
 //! doesn't fill, since it ends before, fails.
 
-ghost use Rattle.std.specs.Prelude.{◌≡◌, ◌<◌, ◌^◌};
+ghost use Rattle.std.specs.Prelude.{◌≡◌, ◌<◌, ◌^◌, IfOk};
+ghost use Rattle.dm_store.specs.Images.{Contents};
 ghost use Rattle.dm_store.specs.ReadLog.{AgreesWith};
 
 use dm_stack::DiskId;
@@ -28,7 +29,9 @@ pub(crate) struct FileImages<'r> {
 
 impl<'r> FileImages<'r> {
     /// Images of which none is open. It fails only when out of memory.
-    pub(crate) fn new(alloc: Global, files: &'r HostRuntime) -> Result<FileImages<'r>, AllocError> {
+    pub(crate) fn new(alloc: Global, files: &'r HostRuntime) -> Result<FileImages<'r>, AllocError>
+        ensures { IfOk result (λ images. (held : Contents) → ⟦<FileImages<'r> as Images>⟧.IsSeen images held) }
+    {
         let mut open = Vec::new(alloc);
         for _ in 0..MOST_IMAGES {
             open.push(None)?;

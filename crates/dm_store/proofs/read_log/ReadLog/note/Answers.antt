@@ -1,7 +1,7 @@
-use Rattle.std.proofs.Common.{◌≡◌, ℕ, ◌+◌, List, [], ◌∷◌, ◌++◌, length, length-append, refl, sym, ap, subst, ◌∙◌}
+use Rattle.std.proofs.Common.{◌≡◌, ℕ, ◌+◌, List, ◌++◌, length, length-append, refl, sym, ap, ◌∙◌}
 use Rattle.dm_store.specs.declared.asked.Asked.{Asked}
-use Rattle.dm_store.specs.ReadLog.{Agrees, given_total, path_total}
-use Rattle.dm_store.proofs.LogLemmas.{agrees_split, given_more, path_more}
+use Rattle.dm_store.specs.ReadLog.{given_total, path_total}
+use Rattle.dm_store.proofs.LogLemmas.{agrees_more, given_more, path_more}
 use Rattle.dm_store.proofs.read_log.ReadLog.note.Goals as goal
 
 pub invariant_of-self : goal.invariant_of-self
@@ -14,11 +14,8 @@ invariant_of-self c =
     )
 
 pub returns : goal.returns
-returns c = λ held agrees.
+returns c = λ held.
     let log = c.self.inside in let path : List ℕ = c.args.path.now in let bytes : List ℕ = c.args.bytes.now in
     let asked : Asked = record { path_len = length path; sector = c.args.sector; len = length bytes; answer = c.args.answer } in
     let paths : c.note-2.new.self.items ≡ log.paths.items ++ path = c.note-2.ensures ∙ ap (λ (xs : List ℕ). log.paths.items ++ xs) c.as_bytes.ensures.value in
-    let entries = subst (λ (rs : List Asked). Agrees held rs c.note-2.new.self.items c.note-3.new.self.items) c.note.ensures agrees in
-    let named = subst (λ (xs : List ℕ). Agrees held (log.asked.items ++ asked ∷ []) xs c.note-3.new.self.items) paths entries in
-    let whole = subst (λ (xs : List ℕ). Agrees held (log.asked.items ++ asked ∷ []) (log.paths.items ++ path) xs) c.note-3.ensures named in
-    rw (← c.self.view_is) (agrees_split held log.asked.items asked log.paths.items path log.given.items bytes c.self.invariant.0 c.self.invariant.1 refl refl whole)
+    rw (← c.self.view_is, c.note.ensures, paths, c.note-3.ensures) (agrees_more held log.asked.items asked log.paths.items path log.given.items bytes c.self.invariant.0 c.self.invariant.1 refl refl)
