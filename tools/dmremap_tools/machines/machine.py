@@ -50,7 +50,7 @@ def add_words(parser: argparse.ArgumentParser) -> None:
     """Adds the four texts, and DISKS."""
     parser.add_argument("--disks", metavar="DISKS", required=True, help="the file to write DISKS to")
     parser.add_argument("--only", metavar="NAME", action="append", default=[], help="a device to keep, with all that it stands on")
-    parser.add_argument("--store", metavar="SNAPSHOT=IMAGE", action="append", default=[], help="a snapshot whose store `map --paths` will read")
+    parser.add_argument("--store", metavar="SNAPSHOT=IMAGE", action="append", default=[], help="a snapshot whose store `map --paths` reads")
     paths.add_words(parser)
     numbers.add_sector_size(parser, "with --paths, the bytes of a sector of images with an MBR, which doesn't say so")
     for name, command in (("ls", "dmsetup ls"), ("status", "dmsetup status"), ("lsblk", listings.LSBLK_COMMAND),
