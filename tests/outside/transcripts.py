@@ -17,7 +17,7 @@ BLOCK = re.compile(r"^( *)```(\w*)\n(.*?)^ *```$", re.M | re.S)
 PROMPT, MORE = "$ ", "> "
 POWER_CUT = "crates/power_cut/out/power_cut"
 # What needs debugfs.
-ABOUT_FILES, ADMINISTRATORS = ("debugfs ", "dmremap-tools files "), ":/sbin:/usr/sbin"
+ABOUT_FILES, ADMINISTRATORS = ("debugfs ", "dmremap-tools lost "), ":/sbin:/usr/sbin"
 # What stands in a manual for characters that mean something to it.
 ESCAPES = [("\\-", "-"), ("\\(aq", "'"), ("\\e", "\\")]
 

@@ -17,7 +17,7 @@ REFUSALS = (1, 2, 3, 4, 6)
 
 def add_words(parser: ArgumentParser) -> None:
     """Adds --program."""
-    parser.add_argument("--program", metavar="PROGRAM", help="which dmremap is asked; else that beside this tool, or on the path")
+    parser.add_argument("--program", metavar="PROGRAM", help="the dmremap that is asked; else the one beside this tool, or on the path")
 
 
 def dmremap(given: Optional[str]) -> str:

@@ -47,7 +47,7 @@ def add_words(parser: ArgumentParser) -> None:
     parser.add_argument("volume", metavar="GROUP/VOLUME", help="the volume, by its name")
     parser.add_argument("images", metavar="IMAGE", nargs="+", help="a file or a block device")
     rescue_map.add_words(parser)
-    parser.add_argument("--saved", metavar="FILE", help="a copy of the volume that `save` made, for the file system to be read from")
+    parser.add_argument("--saved", metavar="FILE", help="a copy of the volume that `save` made, to read the file system from")
     program.add_words(parser)
 
 

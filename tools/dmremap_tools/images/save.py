@@ -38,7 +38,7 @@ def add_words(parser: ArgumentParser) -> None:
     parser.add_argument("volume", metavar="GROUP/VOLUME", help="the volume, by its name")
     parser.add_argument("target", metavar="OUT")
     parser.add_argument("images", metavar="IMAGE", nargs="+", help="a file or a block device; or FORMAT FILE [DISKS]")
-    parser.add_argument("--map", metavar="MAP", help="a map of ddrescue, which is written, and by which a run goes on")
+    parser.add_argument("--map", metavar="MAP", help="a map of ddrescue to write; a later run reads it, and goes on")
     parser.add_argument("--allow-missing", action="store_true", help="save what is there, and end with status 0")
     parser.add_argument("--extents", metavar="EXTENTS", help="with FORMAT: what filefrag -v printed of a file")
     names.add_words(parser)

@@ -43,7 +43,7 @@ def add_words(parser: ArgumentParser) -> None:
     """Adds the arguments."""
     parser.add_argument("volume", metavar="GROUP/VOLUME", help="the volume, by its name")
     parser.add_argument("images", metavar="IMAGE", nargs="+", help="a file or a block device")
-    parser.add_argument("--socket", metavar="SOCKET", help="where the server listens, if not in a folder for temporary files")
+    parser.add_argument("--socket", metavar="SOCKET", help="where the server listens; else in a folder for temporary files")
     program.add_words(parser)
 
 

@@ -44,7 +44,7 @@ def add_words(parser: ArgumentParser) -> None:
     shown.add_argument("--clashes", action="store_true", help="every two lines that have sectors in common")
     shown.add_argument("--align", action="store_true", help="what begins at no multiple of 1 MiB, or of --to")
     parser.add_argument("--to", type=numbers.word, default=MEBIBYTE, metavar="SECTORS",
-                        help="with --align: what they are to be multiples of")
+                        help="with --align: the number whose multiples are meant")
     paths.add_words(parser)
 
 

@@ -49,10 +49,10 @@ EXAMPLE = "dmremap-tools machine --disks disks ls.txt status.txt lsblk.txt conci
 def add_words(parser: argparse.ArgumentParser) -> None:
     """Adds the four texts, and DISKS."""
     parser.add_argument("--disks", metavar="DISKS", required=True, help="the file to write DISKS to")
-    parser.add_argument("--only", metavar="NAME", action="append", default=[], help="a device that is asked for, with all that it stands on")
-    parser.add_argument("--store", metavar="SNAPSHOT=IMAGE", action="append", default=[], help="a snapshot whose store `dmremap map --paths` will read")
+    parser.add_argument("--only", metavar="NAME", action="append", default=[], help="a device to keep, with all that it stands on")
+    parser.add_argument("--store", metavar="SNAPSHOT=IMAGE", action="append", default=[], help="a snapshot whose store `map --paths` reads")
     paths.add_words(parser)
-    numbers.add_sector_size(parser, "with --paths, how many bytes a sector has where an image has an MBR, which doesn't say so")
+    numbers.add_sector_size(parser, "with --paths, the bytes of a sector of images with an MBR, which doesn't say so")
     for name, command in (("ls", "dmsetup ls"), ("status", "dmsetup status"), ("lsblk", listings.LSBLK_COMMAND),
                           ("table", "dmsetup table --concise")):
         parser.add_argument(name, metavar=name.upper(), nargs="?" if name == "lsblk" else None, help="what `%s` prints" % command)

@@ -86,12 +86,12 @@ def add_words(parser: ArgumentParser) -> None:
     parser.add_argument("--device", metavar=("NUMBER", "NAME", "SECTORS"), nargs=3, action="append", default=[],
                         help="a device: its number in the pool, a name, and its sectors")
     parser.add_argument("--external", metavar=("NUMBER", "DISK"), nargs=2, action="append", default=[],
-                        help="the external origin of a device, and as long as it")
+                        help="the external origin of a device, and just as long")
     parser.add_argument("--cache", metavar="DISK", help="the cache's data: a disk, or /dev/mapper/NAME")
     parser.add_argument("--origin", metavar="DISK", help="what is cached: the same")
     parser.add_argument("--name", metavar="NAME", help="the cached device")
     parser.add_argument("--sectors", metavar="SECTORS", type=numbers.word, help="its length")
-    parser.add_argument("--all", action="store_true", help="take all blocks of the cache for dirty")
+    parser.add_argument("--all", action="store_true", help="take all blocks of the cache as dirty")
     parts.add_words(parser)
     parser.add_argument("dump", metavar="DUMP", help="what thin_dump or cache_dump printed")
 

@@ -59,7 +59,7 @@ WRITE, WRITE_LOCKED = b"WRITE", b"WRITE_LOCKED"
 
 def add_words(parser: argparse.ArgumentParser) -> None:
     """Adds TEXT and --only."""
-    parser.add_argument("--only", metavar="NAME", action="append", default=[], help="a volume that is asked for, with its origin and its disks")
+    parser.add_argument("--only", metavar="NAME", action="append", default=[], help="a volume to keep, with its origin and its disks")
     program.add_words(parser)
     parser.add_argument("text", metavar="TEXT", help="the metadata, as vgcfgbackup writes it")
 

@@ -50,7 +50,7 @@ def add_words(parser: ArgumentParser) -> None:
     parser.add_argument("volume", metavar="VOLUME", help="the device that the file system lies on, by its name or path")
     parser.add_argument("file", metavar="FILE", nargs="?", default="-", help="what filefrag or debugfs printed; else standard input")
     kinds = parser.add_mutually_exclusive_group()
-    kinds.add_argument("--addresses", action="store_true", help="files of btrfs; VOLUME is the device of its addresses")
+    kinds.add_argument("--addresses", action="store_true", help="for files of btrfs; VOLUME is the device of its addresses")
     kinds.add_argument("--debugfs", metavar="SUPER", help="what dumpe2fs -h printed; FILE is what debugfs printed")
     parser.add_argument("--device", metavar="NAME", help="the file as a device of this name")
     parser.add_argument("--on", metavar="DISK", help="with --device: what the file system lies on, a disk or /dev/mapper/NAME")
