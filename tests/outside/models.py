@@ -340,6 +340,11 @@ def check_stores(tally, pile):
         got = pile.call("tables", "vg0", "one", "two", "--to", "made")
         tally.holds("tables without it", got.status == 0 and b"left out: old: " in got.err and why.encode() in got.err, f"{got.status}, {got.err!r}")
         shutil.rmtree(os.path.join(pile.folder, "made"))
+    many = [volume("s%d" % number, "s", linear(0, 1, ("pv0", 58)), status=HIDDEN) for number in range(101)]
+    records = [volume("snapshot%d" % number, "n", segment(0, 1, "snapshot", "chunk_size = 3", 'origin = "home"', 'cow_store = "s%d"' % number)) for number in range(101)]
+    pile.put("one", disk("a", A, text("vg0", "g", 9, "a", volume("home", "h", linear(0, 1, ("pv0", 0))), *many, *records)))
+    whys = [row["why"] for row in named(pile.scan("one")["groups"], "name", "vg0").get("volumes", []) if row["kind"] == "snapshot"]
+    tally.holds("more snapshots than are looked at", len(whys) == 101 and ["looked at together" in why for why in whys] == [False] * 100 + [True], whys)
     made(0, wiped=(0, SECTOR), key="merging_store")
     pile.refuses(tally, "a merge whose store has no header", "vg0/home", "nothing tells whether the merge ended")
 

@@ -19,6 +19,9 @@ from dmremap_tools.model.physical_volume import Text
 
 # The most sectors of an extent, and extents of a volume: more than lvm2 makes.
 MOST_EXTENT, MOST_EXTENTS = 1 << 34, 1 << 32
+# The most snapshots that are looked at together, as a program is run for each.
+MOST_SNAPSHOTS = 100
+MANY = f"no more than {MOST_SNAPSHOTS} snapshots of a group are looked at together: `save` and `serve` give it"
 # The most levels of volumes on each other, and the fields of a segment that name other volumes.
 MOST_LEVELS = 40
 LOWER = (b"stripes", b"mirrors", b"raids", b"raid0_lvs", b"origin", b"cow_store", b"merging_store", b"external_origin",
@@ -48,7 +51,7 @@ class Layout:
         self._keys = {name: f"v{number}" for number, name in enumerate(self.group.volumes)}
         deep = f"it lies on itself, or on others in more than {MOST_LEVELS} levels"
         self._whys: Dict[bytes, str] = {name: deep for name in deep_volumes(self.group)}
-        self._are_all_added = False
+        self._are_all_added, self._snapshots = False, 0
         self._devices: Dict[bytes, Device] = {}
 
     def volume(self, name: bytes) -> Device:
@@ -59,10 +62,14 @@ class Layout:
 
     def _made(self, name: bytes) -> Device:
         record = self.records.get(name)
-        if record and not record.is_merging:
-            return snapshot.device_of(self, record)
-        merging = next((record for record in self.group.records if record.is_merging and record.origin == name), None)
-        return snapshot.device_of(self, merging) if merging else self.plain(name)
+        if record is None or record.is_merging:
+            record = next((record for record in self.group.records if record.is_merging and record.origin == name), None)
+        if record is None:
+            return self.plain(name)
+        self._snapshots += 1
+        if self._snapshots > MOST_SNAPSHOTS:
+            raise Refusal(f"{self.name}/{shown(name)}", MANY)
+        return snapshot.device_of(self, record)
 
     def plain(self, name: bytes) -> Device:
         """The bytes that the segments of a volume have. All volumes that can be followed are loaded together."""
