@@ -26,7 +26,7 @@ STRIPE = 8
 
 
 def check(tally, program, top):
-    for part in (check_groups, check_partitions, check_layers, check_stores, check_levels, check_legs, check_arrays, check_lost_superblocks, check_thin, check_names, check_areas,
+    for part in (check_groups, check_partitions, check_layers, check_stores, check_levels, check_legs, check_arrays, check_nested, check_lost_superblocks, check_thin, check_names, check_areas,
                  check_saving, check_files, check_served, check_plugin, check_hostile):
         folder = os.path.join(program.room, "models")
         shutil.rmtree(folder, ignore_errors=True)
@@ -438,11 +438,11 @@ def check_legs(tally, pile):
     pile.holds(tally, "the other leg", "vg0/home", bytes(wanted), "leg0")
 
 
-def member(data, level, number, roles, events, layout=0, chunk=8, size=64, disks=None, version=2, resync=(1 << 64) - 1):
+def member(data, level, number, roles, events, layout=0, chunk=8, size=64, disks=None, version=2, resync=(1 << 64) - 1, name=b"array"):
     """A member of an md array, whose data begins at sector 64 (1.2) or 0 (1.0)."""
     start = 64 if version == 2 else 0
     place = 8 if version == 2 else (len(data) // SECTOR + 64 - 16) & ~7
-    head = struct.pack("<4L16s32sQlLQLLlLQlLLl", 0xA92B4EFC, 1, 0, 0, b"anarrayof16bytes", b"here:array", 0, level, layout, size, chunk, disks or len(roles), 0, 0, 0, 0, 0, 0, 0)
+    head = struct.pack("<4L16s32sQlLQLLlLQlLLl", 0xA92B4EFC, 1, 0, 0, name.rjust(16, b"n"), b"here:" + name, 0, level, layout, size, chunk, disks or len(roles), 0, 0, 0, 0, 0, 0, 0)
     head += struct.pack("<QQQQLL16sBBHl", start, len(data) // SECTOR, place, 0, number, 0, b"amember", 0, 0, 0, 0)
     tail = struct.pack("<QQQ", 0, events, resync)
     table = struct.pack("<%dH" % len(roles), *roles)
@@ -522,6 +522,22 @@ def check_arrays(tally, pile):
         pile.put("z%d" % number, member(half, 0, number, (0, 1), 0, layout=2, size=0))
     pile.holds(tally, "raid0 of unequal members", "md:array", striped([half[:24 * SECTOR] for half in halves], 8) + halves[1][24 * SECTOR:])
     pile.refuses(tally, "raid0 without a member", "md:array", "is missing", "z0")
+
+
+def check_nested(tally, pile):
+    """Arrays of one member that lie in each other, in as many levels as are followed, and in one more."""
+    wanted = content_of("inner", 64)
+    for count in (8, 9):
+        inner = wanted
+        for number in range(count):
+            inner = member(inner, -1, 0, (0,), 5, size=len(inner) // SECTOR, name=b"array%d" % number)
+        pile.put("disk", inner)
+        pile.holds(tally, "an array in others", "md:array1", member(wanted, -1, 0, (0,), 5, name=b"array0"))
+        if count == 8:
+            pile.holds(tally, "the innermost of 8", "md:array0", wanted)
+        else:
+            pile.refuses(tally, "the innermost of 9", "md:array0", "in 8 levels")
+    os.unlink(os.path.join(pile.folder, "disk"))
 
 
 def check_lost_superblocks(tally, pile):
