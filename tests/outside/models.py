@@ -26,7 +26,7 @@ STRIPE = 8
 
 
 def check(tally, program, top):
-    for part in (check_groups, check_partitions, check_layers, check_stores, check_legs, check_arrays, check_lost_superblocks, check_thin, check_names, check_areas,
+    for part in (check_groups, check_partitions, check_layers, check_stores, check_levels, check_legs, check_arrays, check_nested, check_lost_superblocks, check_thin, check_names, check_areas,
                  check_saving, check_files, check_served, check_plugin, check_hostile):
         folder = os.path.join(program.room, "models")
         shutil.rmtree(folder, ignore_errors=True)
@@ -282,16 +282,18 @@ def check_layers(tally, pile):
 def check_stores(tally, pile):
     """Stores on two disks, of which one is missing or ends too soon: what the list and the chunks lie on has to be there, and no more. And
     lists that no kernel writes."""
-    def made(count, chunk=1, **head):
-        """A snapshot with so many chunks in its store, of which six extents lie at the end of one disk and six on another, and its bytes."""
+    def made(count, chunk=1, wiped=(0, 0), key="cow_store", **head):
+        """A snapshot with so many chunks in its store, of which six extents lie at the end of one disk and six on another, and its bytes.
+        Some bytes of the store are wiped."""
         each, data = 32 * chunk, bytearray(A)
         pairs = [(number * 7 % (80 // chunk), 2 + number + number // each) for number in range(count)]
         content = bytearray(used.store(head.pop("pairs", pairs), chunk, 96 // chunk, **head))
         wanted, size = bytearray(extents_of(A, 0, 10)), chunk * SECTOR
         for old, new in pairs:
             content[new * size:(new + 1) * size] = wanted[old * size:(old + 1) * size] = content_of("%d in %d" % (old, new), chunk)
+        content[wiped[0]:wiped[1]] = bytes(wiped[1] - wiped[0])
         data[58 * EXTENT * SECTOR:] = content[:48 * SECTOR]
-        record = volume("snapshot0", "0", segment(0, 10, "snapshot", "chunk_size = %d" % chunk, 'origin = "home"', 'cow_store = "old"'))
+        record = volume("snapshot0", "0", segment(0, 10, "snapshot", "chunk_size = %d" % chunk, 'origin = "home"', '%s = "old"' % key))
         known = text("vg0", "g", 9, "ab", volume("home", "h", linear(0, 10, ("pv0", 0))),
                      volume("old", "o", linear(0, 6, ("pv0", 58)), linear(6, 6, ("pv1", 0)), status=HIDDEN), record)
         one = disk("a", bytes(data), known)
@@ -327,8 +329,48 @@ def check_stores(tally, pile):
         pile.refuses(tally, "a store with " + name, "vg0/old", why)
         told = named(named(pile.scan()["groups"], "name", "vg0").get("volumes", []), "name", "old")
         tally.holds("what is told of it", told.get("state") == ("invalid" if "valid" in head else "not followed") and why in str(told.get("why")), told)
-    _, wanted = made(0, magic=0)
+    _, wanted = made(0, wiped=(0, SECTOR))
     pile.holds(tally, "a store that is new", "vg0/old", wanted)
+    for name, why, count, wiped in (("a lost header", "so that it isn't new", 3, (0, 4)), ("a lost sector", "so that it isn't new", 3, (0, SECTOR)),
+                                    ("a lost entry", "goes on behind a free place", 5, (SECTOR + 16, SECTOR + 32)),
+                                    ("half an entry", "goes on behind a free place", 5, (SECTOR + 72, SECTOR + 80)),
+                                    ("a lost entry of its second area", "goes on behind a free place", 40, (34 * SECTOR + 16, 34 * SECTOR + 32))):
+        made(count, wiped=wiped)
+        pile.refuses(tally, "a store with " + name, "vg0/old", why)
+        got = pile.call("tables", "vg0", "one", "two", "--to", "made")
+        tally.holds("tables without it", got.status == 0 and b"left out: old: " in got.err and why.encode() in got.err, f"{got.status}, {got.err!r}")
+        shutil.rmtree(os.path.join(pile.folder, "made"))
+    many = [volume("s%d" % number, "s", linear(0, 1, ("pv0", 58)), status=HIDDEN) for number in range(101)]
+    records = [volume("snapshot%d" % number, "n", segment(0, 1, "snapshot", "chunk_size = 3", 'origin = "home"', 'cow_store = "s%d"' % number)) for number in range(101)]
+    pile.put("one", disk("a", A, text("vg0", "g", 9, "a", volume("home", "h", linear(0, 1, ("pv0", 0))), *many, *records)))
+    whys = [row["why"] for row in named(pile.scan("one")["groups"], "name", "vg0").get("volumes", []) if row["kind"] == "snapshot"]
+    tally.holds("more snapshots than are looked at", len(whys) == 101 and ["looked at together" in why for why in whys] == [False] * 100 + [True], whys)
+    made(0, wiped=(0, SECTOR), key="merging_store")
+    pile.refuses(tally, "a merge whose store has no header", "vg0/home", "nothing tells whether the merge ended")
+
+
+def check_levels(tally, pile):
+    """Volumes on each other in many levels, as lines of tables and as mirrors, beside one that lies on a disk."""
+    data = bytearray(A)
+    for number in range(2):
+        data[number * EXTENT * SECTOR:number * EXTENT * SECTOR + 4096] = leg_superblock(number)
+    for kind, count, is_given in (("linear", 20, True), ("linear", 150, False), ("raid1", 20, True), ("raid1", 200, False)):
+        lower = ["level%d" % number for number in range(1, count)] + ["lowest"]
+        levels = [linear(0, 1, (name, 0)) if kind == "linear" else segment(0, 1, kind, "device_count = 2", 'raids = ["meta0", "%s", "meta1", "%s"]' % (name, name))
+                  for name in lower]
+        known = text("vg0", "g", 9, "a", volume("level0", "v", levels[0]), *(volume(name, "v", level, status=HIDDEN) for name, level in zip(lower, levels[1:])),
+                     *(volume("meta%d" % number, "mn"[number], linear(0, 1, ("pv0", number)), status=HIDDEN) for number in range(2)),
+                     volume("lowest", "l", linear(0, 1, ("pv0", 10))))
+        pile.put("disk", disk("a", bytes(data), known))
+        pile.holds(tally, f"what lies below {count} levels", "vg0/lowest", extents_of(A, 10, 1))
+        if is_given:
+            pile.holds(tally, f"{count} levels", "vg0/level0", extents_of(A, 10, 1))
+        else:
+            pile.refuses(tally, f"{count} levels", "vg0/level0", "in more than 40 levels")
+            rows = {row["name"]: row["state"] for row in named(pile.scan()["groups"], "name", "vg0").get("volumes", [])}
+            tally.holds("what is told of them", rows == {"level0": "not followed", "lowest": "whole"}, rows)
+
+
 def leg_superblock(number, events=4):
     """A superblock of dm-raid, of a mirror of two."""
     clean = (1 << 64) - 1
@@ -396,11 +438,11 @@ def check_legs(tally, pile):
     pile.holds(tally, "the other leg", "vg0/home", bytes(wanted), "leg0")
 
 
-def member(data, level, number, roles, events, layout=0, chunk=8, size=64, disks=None, version=2, resync=(1 << 64) - 1):
+def member(data, level, number, roles, events, layout=0, chunk=8, size=64, disks=None, version=2, resync=(1 << 64) - 1, name=b"array"):
     """A member of an md array, whose data begins at sector 64 (1.2) or 0 (1.0)."""
     start = 64 if version == 2 else 0
     place = 8 if version == 2 else (len(data) // SECTOR + 64 - 16) & ~7
-    head = struct.pack("<4L16s32sQlLQLLlLQlLLl", 0xA92B4EFC, 1, 0, 0, b"anarrayof16bytes", b"here:array", 0, level, layout, size, chunk, disks or len(roles), 0, 0, 0, 0, 0, 0, 0)
+    head = struct.pack("<4L16s32sQlLQLLlLQlLLl", 0xA92B4EFC, 1, 0, 0, name.rjust(16, b"n"), b"here:" + name, 0, level, layout, size, chunk, disks or len(roles), 0, 0, 0, 0, 0, 0, 0)
     head += struct.pack("<QQQQLL16sBBHl", start, len(data) // SECTOR, place, 0, number, 0, b"amember", 0, 0, 0, 0)
     tail = struct.pack("<QQQ", 0, events, resync)
     table = struct.pack("<%dH" % len(roles), *roles)
@@ -480,6 +522,22 @@ def check_arrays(tally, pile):
         pile.put("z%d" % number, member(half, 0, number, (0, 1), 0, layout=2, size=0))
     pile.holds(tally, "raid0 of unequal members", "md:array", striped([half[:24 * SECTOR] for half in halves], 8) + halves[1][24 * SECTOR:])
     pile.refuses(tally, "raid0 without a member", "md:array", "is missing", "z0")
+
+
+def check_nested(tally, pile):
+    """Arrays of one member that lie in each other, in as many levels as are followed, and in one more."""
+    wanted = content_of("inner", 64)
+    for count in (8, 9):
+        inner = wanted
+        for number in range(count):
+            inner = member(inner, -1, 0, (0,), 5, size=len(inner) // SECTOR, name=b"array%d" % number)
+        pile.put("disk", inner)
+        pile.holds(tally, "an array in others", "md:array1", member(wanted, -1, 0, (0,), 5, name=b"array0"))
+        if count == 8:
+            pile.holds(tally, "the innermost of 8", "md:array0", wanted)
+        else:
+            pile.refuses(tally, "the innermost of 9", "md:array0", "in 8 levels")
+    os.unlink(os.path.join(pile.folder, "disk"))
 
 
 def check_lost_superblocks(tally, pile):

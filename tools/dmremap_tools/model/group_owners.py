@@ -13,12 +13,12 @@ from dmremap_tools.model import snapshot
 from dmremap_tools.model.device import Device, Source, joined
 from dmremap_tools.model.groups import REMOVED, Group
 from dmremap_tools.model.image import Lenient
-from dmremap_tools.model.layout import identity_of
+from dmremap_tools.model.layout import LOWER, identity_of
 from dmremap_tools.model.mapping import NoProgram
 from dmremap_tools.model.owners import Claim, Ground, Run, Step, all_of, chunks, claimed, column, gaps, unknown
 from dmremap_tools.model.parity import Shape
 from dmremap_tools.model.physical_volume import PhysicalVolume
-from dmremap_tools.model.side import LOWER, Side
+from dmremap_tools.model.side import Side
 
 # Segments that name no physical volume, and that have columns of data.
 BARE = (b"zero", b"error", b"snapshot", b"thin", b"thin-pool", b"cache", b"cache+CACHE_USES_CACHEVOL", b"cache-pool", b"integrity")

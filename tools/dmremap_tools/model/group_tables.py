@@ -51,6 +51,7 @@ class GroupTables:
         return self._plain(name, self.name_of(name))
 
     def _snapshot(self, name: bytes, record: Record) -> Dict[str, tables.Device]:
+        self._layout.volume(name)
         origin = record.origin or b""
         real, store = self.name_of(origin, "real"), self.name_of(name, "cow")
         made = {**self._plain(origin, real), **self._plain(name, store)}

@@ -4,7 +4,7 @@ Linear and striped segments are lines of a table, which dmremap maps; any other 
 own layer computes."""
 
 import contextlib
-from typing import Callable, Dict, Iterator, List, Optional, Set
+from typing import Callable, Dict, Iterator, List, Optional
 
 from dmremap_tools.base import names, tables
 from dmremap_tools.base.config_text import Node, shown
@@ -19,6 +19,13 @@ from dmremap_tools.model.physical_volume import Text
 
 # The most sectors of an extent, and extents of a volume: more than lvm2 makes.
 MOST_EXTENT, MOST_EXTENTS = 1 << 34, 1 << 32
+# The most snapshots that are looked at together, as a program is run for each.
+MOST_SNAPSHOTS = 100
+MANY = f"no more than {MOST_SNAPSHOTS} snapshots of a group are looked at together: `save` and `serve` give it"
+# The most levels of volumes on each other, and the fields of a segment that name other volumes.
+MOST_LEVELS = 40
+LOWER = (b"stripes", b"mirrors", b"raids", b"raid0_lvs", b"origin", b"cow_store", b"merging_store", b"external_origin",
+         b"thin_pool", b"metadata", b"pool", b"data", b"cache_pool", b"cache_vol", b"meta_dev", b"mirror_log", b"writecache", b"vdo_pool")
 PLAIN = (b"striped", b"linear", b"zero", b"error")
 # Each layer makes the device of a segment; it gets the layout, the volume's name, the segment and its bytes.
 Maker = Callable[["Layout", str, Segment, int], Device]
@@ -42,9 +49,9 @@ class Layout:
         self.records: Dict[bytes, Record] = {record.store: record for record in self.group.records if record.store}
         self._tables = Tables()
         self._keys = {name: f"v{number}" for number, name in enumerate(self.group.volumes)}
-        self._whys: Dict[bytes, str] = {}
-        self._are_all_added = False
-        self._open: Set[bytes] = set()
+        deep = f"it lies on itself, or on others in more than {MOST_LEVELS} levels"
+        self._whys: Dict[bytes, str] = {name: deep for name in deep_volumes(self.group)}
+        self._are_all_added, self._snapshots = False, 0
         self._devices: Dict[bytes, Device] = {}
 
     def volume(self, name: bytes) -> Device:
@@ -55,10 +62,14 @@ class Layout:
 
     def _made(self, name: bytes) -> Device:
         record = self.records.get(name)
-        if record and not record.is_merging:
-            return snapshot.device_of(self, record)
-        merging = next((record for record in self.group.records if record.is_merging and record.origin == name), None)
-        return snapshot.device_of(self, merging) if merging else self.plain(name)
+        if record is None or record.is_merging:
+            record = next((record for record in self.group.records if record.is_merging and record.origin == name), None)
+        if record is None:
+            return self.plain(name)
+        self._snapshots += 1
+        if self._snapshots > MOST_SNAPSHOTS:
+            raise Refusal(f"{self.name}/{shown(name)}", MANY)
+        return snapshot.device_of(self, record)
 
     def plain(self, name: bytes) -> Device:
         """The bytes that the segments of a volume have. All volumes that can be followed are loaded together."""
@@ -87,16 +98,11 @@ class Layout:
             raise Refusal(f"{self.name}/{shown(name)}", "the text has no such volume")
         if key in self._tables.devices:
             return key
-        if name in self._open:
-            raise Refusal(f"{self.name}/{shown(name)}", "it lies on itself")
-        self._open.add(name)
         try:
             self._tables.add(key, list(self._lines(name, self.group.volumes[name])))
         except Refusal as refusal:
             self._whys[name] = refusal.why
             raise
-        finally:
-            self._open.discard(name)
         return key
 
     def size_of(self, name: bytes) -> int:
@@ -188,6 +194,24 @@ class Deferred(Device):
 
     def _extents(self, start: int, size: int) -> Iterator[Extent]:
         return self.made().extents(start, size)
+
+
+def deep_volumes(group: Group) -> List[bytes]:
+    """The volumes that lie on others in too many levels, or on themselves."""
+    lower = {name: set(lower_in(volume)) for name, volume in group.volumes.items()}
+    found = list(lower)
+    for _ in range(MOST_LEVELS):
+        known = set(found)
+        found = [name for name in found if not known.isdisjoint(lower[name])]
+    return found
+
+
+def lower_in(volume: Volume) -> Iterator[object]:
+    """What a volume lies on, beside the numbers in its lists. A thin one has what it shares with its origin from their pool."""
+    for segment in volume.segments:
+        for key in LOWER:
+            if (key, segment.kind) != (b"origin", b"thin"):
+                yield from segment.node.values(key)
 
 
 def identity_of(node: Node) -> str:

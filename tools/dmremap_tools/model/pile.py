@@ -1,7 +1,7 @@
 """A pile of images: everything that is found in them, each image being read where labels and superblocks lie, and the whole of
 it where nothing sound is there."""
 
-from typing import Dict, List, NamedTuple, Optional, Sequence, Tuple
+from typing import Dict, List, NamedTuple, Optional, Sequence, Set, Tuple
 
 from dmremap_tools.base.refusal import Refusal
 from dmremap_tools.model import file_system, luks, md_superblock, physical_volume, searched
@@ -17,6 +17,9 @@ from dmremap_tools.model.physical_volume import PhysicalVolume
 NOTHING = "nothing is found in it"
 # The most disks, partitions and arrays that are looked at.
 MOST_SPOTS = 1 << 13
+# The most levels of arrays that are members of others.
+MOST_LEVELS = 8
+NESTED = f"its members lie on arrays in {MOST_LEVELS} levels, and no more are followed: assemble it with mdadm --readonly"
 OLD = "a member of an md array with metadata 0.90, which isn't followed: assemble copies with mdadm --readonly"
 DAMAGED = ("its md superblock at byte {} is damaged: give the other members alone, or of a mirror this image alone, or make the array anew "
            "on copies (mdadm --create --assume-clean)")
@@ -194,15 +197,15 @@ class Pile:
 
     def _assemble(self) -> None:
         """Puts the arrays together, and looks at them in turn, as one may be a member of another."""
-        done = set()
-        while True:
+        done: Set[bytes] = set()
+        for level in range(MOST_LEVELS + 1):
             waiting = [identity for identity in self._members if identity not in done]
-            if not waiting:
-                break
             for identity in waiting:
                 done.add(identity)
                 array = Array(self._members[identity])
                 self.arrays.append(array)
+                if level == MOST_LEVELS:
+                    array.refuse(NESTED)
                 newer = [spot for spot, damaged in self._damaged if damaged.set_uuid not in self._members or damaged.set_uuid == identity]
                 if newer and array.device and array.may_be_old:
                     array.refuse(MAY_BE_NEWER.format(newer[0].device.name))

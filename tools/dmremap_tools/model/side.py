@@ -7,13 +7,10 @@ from dmremap_tools.base.config_text import shown
 from dmremap_tools.base.numbers import SECTOR
 from dmremap_tools.metadata import volume_group
 from dmremap_tools.model.device import Device
-from dmremap_tools.model.layout import Layout, identity_of
+from dmremap_tools.model.layout import LOWER, Layout, identity_of
 from dmremap_tools.model.physical_volume import Text
 
 POOLS = (b"thin-pool", b"cache-pool", b"vdo-pool")
-# The fields of a segment that name other volumes.
-LOWER = (b"stripes", b"mirrors", b"raids", b"raid0_lvs", b"origin", b"cow_store", b"merging_store", b"external_origin",
-         b"thin_pool", b"metadata", b"pool", b"data", b"cache_pool", b"cache_vol", b"meta_dev", b"mirror_log", b"writecache", b"vdo_pool")
 # Sectors of a physical volume: its id, the first one, and the one after the last.
 Use = Tuple[str, int, int]
 

@@ -8,6 +8,7 @@ from dmremap_tools.base.numbers import SECTOR
 from dmremap_tools.base.refusal import Refusal
 from dmremap_tools.layers import store_states
 from dmremap_tools.metadata.volume_group import Record
+from dmremap_tools.model import store_copy
 from dmremap_tools.model.device import Device
 from dmremap_tools.model.mapping import Mapped
 
@@ -46,6 +47,9 @@ def device_of(layout: "Layout", record: Record) -> Device:
         raise Refusal(name, refusal.word == "read" and kept.lack(0, kept.size) or f"the store: {refusal.why}")
     if chunks is None:
         raise Refusal(name, INVALID)
+    fault = store_copy.fault(kept, chunk, record.is_merging)
+    if fault:
+        raise Refusal(name, fault)
     made = SnapshotDevice(name, source, NAME)
     made.chunks_used = chunks
     return made
