@@ -160,7 +160,8 @@ UNLOADED = [
     ("a short one of a device", "b: 0 60 linear base 0\ns: 0 32 snapshot /dev/mapper/b cow P 8", 2,
      SHORTER + ": put a linear device of its length on the origin, and name that as the origin: 0 32 snapshot /dev/mapper/b cow P 8"),
     ("a long one", "s: 0 65 snapshot base cow P 8", 1, "a kernel refuses it, as it is longer than its origin: see what `dmsetup table` has: 0 65 snapshot base cow P 8"),
-    ("a short origin", "o: 0 32 snapshot-origin base", 1, SHORTER + ": 0 32 snapshot-origin base"),
+    ("a short origin", "o: 0 32 snapshot-origin base", 1,
+     SHORTER + ": put a linear device of its length on the origin, and name that as the origin: 0 32 snapshot-origin base"),
     ("a long origin", "o: 0 65 snapshot-origin base", 1, "a kernel refuses it, as it is longer than its origin: see what `dmsetup table` has: 0 65 snapshot-origin base"),
     ("other lines", "s: 0 64 snapshot base cow P 8\ns: 64 8 zero", 1, "a kernel takes it beside other lines, and dmremap doesn't: give it a device of its own, "
      "and write a linear line to that here: 0 64 snapshot base cow P 8"),

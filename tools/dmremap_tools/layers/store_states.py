@@ -10,7 +10,7 @@ STATUS = re.compile(r"([^ ]+): 0 [0-9]+ snapshot (?:([0-9]+)/[0-9]+ ([0-9]+)|Inv
 REFUSED = re.compile(r"dmremap: store ([^ ]+): ([a-z]+)")
 DAMAGED = "which no kernel writes: it is damaged, was changed while it was read, or is another snapshot's"
 WHYS = {
-    "missing": "a disk that its header or its list lies on isn't here: give its path in PATHS",
+    "missing": "a disk that its header or its list lies on isn't here",
     "read": "its header or its list can't be read to its end: give whole images of the disks that it lies on",
     "magic": "it begins neither as a store nor with zeros, and a kernel refuses it: look whether the disks, their places and the tables "
              "belong together",
