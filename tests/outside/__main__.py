@@ -51,6 +51,7 @@ import machines
 import manual
 import metadata_areas
 import models
+import next_steps
 import origins
 import owners
 import pictures
@@ -94,8 +95,8 @@ PARTS = (
     ranges, snapshot_rows, snapshots, origins, kinds, replays, streams, limits, hostile, growths, help_texts, help_messages,
     launcher, building, trying, installs, documents, crate_pages, worked, manual, completions, reading_list, source_names, recipes,
     tool_requests, tool_answers, tool_documents, tool_streams, layouts, layers, explained, used, snapshot_readers, pictures,
-    trace_parts, sector_files, saves, models, owners, machines, metadata_areas, array_members, lvm2_texts, walks, lookers, refusals, halts,
-    power_cuts,
+    trace_parts, sector_files, saves, models, owners, machines, metadata_areas, array_members, lvm2_texts, walks, lookers, refusals,
+    next_steps, halts, power_cuts,
 )
 
 

@@ -25,15 +25,15 @@ def check_lists(tally, top):
     words = ["thin", "--data", "d", "--device", "1", "t", "128", "-"]
     lists = "".join(twice % (it, it - 1, it - 1) for it in range(1, 41))
     got = call(top, words, given=head + first + lists + device % 1, memory=MEMORY)
-    tally.same("lists of lists", got, 1, "refused\n", TOOL + " thin: standard input: a list of blocks is in a device twice: </device>\n")
+    tally.same("lists of lists", got, 1, "refused\n", TOOL + " thin: standard input: a list of blocks is in a device twice, make the dump anew of repaired metadata: </device>\n")
     got = call(top, words, given=head + first.replace(first.split("\n")[1] + "\n", "") + lists + device % 0, memory=MEMORY)
     tally.same("lists of empty lists", got, 0, "t,,,ro,0 128 zero\n")
-    said = "more than 4194304 runs of blocks in all: </def>"
+    said = "more than 4194304 runs of blocks in all: use `save` or `serve`"
     got = call(top, words, given=head + "".join('<def name="%d"/>' % it for it in range(200000)), memory=MEMORY)
     tally.same("many empty lists", got, 1, "refused\n", "%s thin: standard input: %s\n" % (TOOL, said))
-    for name, text, why in (("an element that doesn't end", '<superblock a="' + "x" * (4 << 20), "not what thin_dump prints: 1114112 bytes without an element"),
-                            ("elements in elements", head + "<device>" * 1000000, "it doesn't say dev_id: <device>"),
-                            ("elements that aren't known", head + "<a>" * 1000000, "an element that isn't known: <a>")):
+    for name, text, why in (("an element that doesn't end", '<superblock a="' + "x" * (4 << 20), "not what thin_dump prints, make the dump anew of repaired metadata: 1114112 bytes without an element"),
+                            ("elements in elements", head + "<device>" * 1000000, "it doesn't say dev_id, make the dump anew of repaired metadata: <device>"),
+                            ("elements that aren't known", head + "<a>" * 1000000, "an element that isn't known, make the dump anew of repaired metadata: <a>")):
         got = call(top, words, given=text, memory=MEMORY)
         tally.same(name, got, 1, "refused\n", "%s thin: standard input: %s\n" % (TOOL, why))
 

@@ -39,12 +39,12 @@ SPANS = [
             "left out: the physical volume pv1 ([unknown]), which is neither a disk nor a device here\n"),
     # A group whose key would be two words of a line, or obeyed by a terminal.
     spanned(["d 64\n", "", '"g \x1b[2J" { physical_volumes { d { pe_start = 4 } } }\n'], "d 0 4 g\\x20\\x1b[2J - label+metadata\nd 64 64 - - end\n"),
-    bad("spans", [], ["d 64\n", "", "g { physical_volumes { p { device = \"d\" } } }\n"], "3: no pe_start of p"),
-    bad("spans", [], ["d 64\n", "", "g { extent_size = 8 }\n"], "3: no physical volumes of a group"),
-    bad("spans", [], ["d 64\n", "", "g { x = \"\n"], "3:1: a string without an end"),
-    bad("spans", [], ["d 64\n", "a: 0 8 linear e 4\n"], "e: neither a disk nor a device"),
-    bad("spans", [], ["d 64 8\n", ""], "1:1: not a line of DISKS: d 64 8"),
-    bad("spans", [], ["d 64k\n", ""], "1:1: not a line of DISKS: d 64k"),
+    bad("spans", [], ["d 64\n", "", "g { physical_volumes { p { device = \"d\" } } }\n"], "3: no pe_start of p: take an older text, of /etc/lvm/archive"),
+    bad("spans", [], ["d 64\n", "", "g { extent_size = 8 }\n"], "3: no physical volumes of a group: give a text of /etc/lvm/backup, or what `metadata` prints"),
+    bad("spans", [], ["d 64\n", "", "g { x = \"\n"], "3:1: a string without an end: take the text anew, from /etc/lvm/backup"),
+    bad("spans", [], ["d 64\n", "a: 0 8 linear e 4\n"], "e: neither a disk nor a device: add it to DISKS"),
+    bad("spans", [], ["d 64 8\n", ""], "1:1: not a line of DISKS, give NAME SECTORS: d 64 8"),
+    bad("spans", [], ["d 64k\n", ""], "1:1: not a line of DISKS, give NAME SECTORS: d 64k"),
 ]
 
 # A group with volumes that FILE has and such as it hasn't, and what follows the extents of its disk.
@@ -94,12 +94,12 @@ READERS = [
          "d 0 63 o p\nd 2 2 o a\nd 2 2 p a\nd 2 2 s a\nd 2 2 t a\nd 3 3 o b\nd 3 3 p b\nd 3 3 s b\nd 3 3 t b\n"),
     good("spans", ["--align"], ["d 9999\n", "a: 0 6953 linear d 2047\nb: 0 1952 linear d 2048\n"], "a begins at sector 2047 of d\n"),
     good("spans", ["--align", "--to", "8"], ["d 99\n", "a: 0 8 linear d 0\nb: 0 8 zero\nb: 8 8 linear d 12\n"], "b begins at sector 12 of d\n"),
-    ("spans", ["--align", "--to", "0"], ["d 9\n", ""], "refused\n", "dmremap-tools spans: --to: a multiple of no sectors\n", 2),
-    lost("picture", [], ["d 4 8 a\n"], "1:1: not a line of spans: d 4 8 a"),
-    lost("picture", [], ["refused\n"], "1:1: not a line of spans: refused"),
-    lost("picture", [], ["d 8 4 a 0 linear\n"], "1:1: not a line of spans: d 8 4 a 0 linear"),
-    lost("picture", [], ["d 8 4x a 0 linear\n"], "1:1: not a whole number below 2^64: '4x'"),
-    lost("picture", [], ["a b\n"], "1:1: not a line of spans: a b"),
+    ("spans", ["--align", "--to", "0"], ["d 9\n", ""], "refused\n", "dmremap-tools spans: --to: give one sector or more\n", 2),
+    lost("picture", [], ["d 4 8 a\n"], "1:1: not a line of spans, give what `spans` prints: d 4 8 a"),
+    lost("picture", [], ["refused\n"], "1:1: not a line of spans, give what `spans` prints: refused"),
+    lost("picture", [], ["d 8 4 a 0 linear\n"], "1:1: not a line of spans, give what `spans` prints: d 8 4 a 0 linear"),
+    lost("picture", [], ["d 8 4x a 0 linear\n"], "1:1: give a whole number below 2^64, and not '4x'"),
+    lost("picture", [], ["a b\n"], "1:1: not a line of spans, give what `spans` prints: a b"),
 ]
 
 CHAIN = "".join("c%d: 0 8 linear /dev/mapper/c%d 0\n" % (it, it + 1) for it in range(40)) + "c40: 0 8 zero\n"
@@ -108,27 +108,27 @@ PICTURES = [
          "c\n+- 0 8 linear /dev/mapper/a 0\n|    a\n|    +- 0 8 striped 2 4 /dev/mapper/b 0 /dev/mapper/b 4\n"
          "|    |    b\n|    |    +- 0 8 linear d 0\n"),
     good("tree", [], ["a,,,ro,0 8 linear d 0\n"], "a\n+- 0 8 linear d 0\n"),
-    lost("tree", [], ["a: 0 8 linear /dev/mapper/b 0\nb: 0 8 linear /dev/mapper/a 0\n"], "1: devices stand on themselves, or on too many others: a"),
-    lost("tree", [], ["t: 0 8 zero\na: 0 8 linear /dev/mapper/a 0\n"], "1: devices stand on themselves, or on too many others: a"),
-    lost("tree", [], [CHAIN], "1: devices stand on themselves, or on too many others: c0"),
-    lost("tree", [], ["\n".join(CHAIN.split("\n")[::-1][1:]) + "\n"], "1: devices stand on themselves, or on too many others: c8"),
-    lost("tree", ["--dot"], ["a: 0 8 linear /dev/mapper/b 0\nb: 0 8 linear /dev/mapper/a 0\n"], "1: devices stand on themselves, or on too many others: a"),
-    bad("spans", [], ["d 8\n", "a: 0 8 linear d 0\nb: 0 8 linear /dev/mapper/b 0\n"], "2: devices stand on themselves, or on too many others: b"),
+    lost("tree", [], ["a: 0 8 linear /dev/mapper/b 0\nb: 0 8 linear /dev/mapper/a 0\n"], "1: devices stand on themselves, or on too many others, see `dmremap-tools explain`: a"),
+    lost("tree", [], ["t: 0 8 zero\na: 0 8 linear /dev/mapper/a 0\n"], "1: devices stand on themselves, or on too many others, see `dmremap-tools explain`: a"),
+    lost("tree", [], [CHAIN], "1: devices stand on themselves, or on too many others, see `dmremap-tools explain`: c0"),
+    lost("tree", [], ["\n".join(CHAIN.split("\n")[::-1][1:]) + "\n"], "1: devices stand on themselves, or on too many others, see `dmremap-tools explain`: c8"),
+    lost("tree", ["--dot"], ["a: 0 8 linear /dev/mapper/b 0\nb: 0 8 linear /dev/mapper/a 0\n"], "1: devices stand on themselves, or on too many others, see `dmremap-tools explain`: a"),
+    bad("spans", [], ["d 8\n", "a: 0 8 linear d 0\nb: 0 8 linear /dev/mapper/b 0\n"], "2: devices stand on themselves, or on too many others, see `dmremap-tools explain`: b"),
     good("tree", [], ["".join(CHAIN.splitlines(True)[9:])], "".join(
         "%sc%d\n%s+- 0 8 %s\n" % ("|    " * it, it + 9, "|    " * it, "linear /dev/mapper/c%d 0" % (it + 10) if it < 31 else "zero")
         for it in range(32))),
     good("tree", ["--dot"], ["s: 0 8 snapshot a\"b P P 8\nz: 0 8 zero\nt: 0 8 striped 2 4 d 0 d 4\n"],
          'digraph stack {\n  "disk a\\"b" [shape=box]\n  "s" -> "disk a\\"b" [label="origin 0+8"]\n  "disk P" [shape=box]\n'
          '  "s" -> "disk P" [label="store 0+8"]\n  "s"\n  "z"\n  "disk d" [shape=box]\n  "t" -> "disk d" [label="striped 0+8"]\n  "t"\n}\n'),
-    lost("tree", [], ["a 0 8 zero\n"], "1:1: not table text: a 0 8 zero"),
-    lost("tree", ["--dot"], ["a 0 8 zero\n"], "1:1: not table text: a 0 8 zero"),
+    lost("tree", [], ["a 0 8 zero\n"], "1:1: not table text, give NAME: START LENGTH TARGET ..: a 0 8 zero"),
+    lost("tree", ["--dot"], ["a 0 8 zero\n"], "1:1: not table text, give NAME: START LENGTH TARGET ..: a 0 8 zero"),
 ]
 
 STORES = [
     good("store", ["--size", "1"], ["R a 0 800\nW a 0 9\nW b 8 8\nW a 16 8\n"], "a 3 40 16\nb 1 24 16\n"),
     good("store", ["--kind", "N", "--chunk", "4", "--size", "1"], ["W a 3 2\n"], "a 2 8 0\n"),
-    lost("store", ["--size", "1"], ["W a 0 8\nx\n"], "1:2: not a request: x"),
-    lost("store", ["--size", "1"], ["W a 0 18446744073709551615\n"], "1:1: the chunks lie too far apart to be counted in 256 MiB"),
+    lost("store", ["--size", "1"], ["W a 0 8\nx\n"], "1:2: not a request, give R or W, a device, a sector and how many: x"),
+    lost("store", ["--size", "1"], ["W a 0 18446744073709551615\n"], "1:1: the chunks lie too far apart to be counted in 256 MiB: give a larger --chunk"),
 ]
 
 ROWS = SPANS + READERS + PICTURES + STORES

@@ -85,7 +85,7 @@ def check_full(tally, program, top):
         odd = ["\ufeff" + it.replace("\n", "\r\n") for it in ("".join(requests) or "R o 0 1\n", table, disks)]
         tally.same("the same with carriage returns", full(*odd), 0, wanted if requests else full("R o 0 1\n", table, disks).out)
     table, disks = "s: 0 8 snapshot base cow P 8\n", "base 8\ncow 24\n"
-    ended = "dmremap-tools store: %s: it ends with status 3\n" % program.path
+    ended = "dmremap-tools store: %s: it ends with status 3: see what it said\n" % program.path
     got = full("W s 0 1\nW s 0\n", table, disks)
     tally.same("a store and a bad request", got, 1, "", "dmremap: request 2: form\n" + ended)
     got = full("W s 0 1\nW s 0 1", table, disks)
@@ -94,9 +94,9 @@ def check_full(tally, program, top):
         given = ["W s 0 1\n", table, disks]
         given[place] = "BZh"
         path = os.path.join(program.room, "full", name)
-        tally.same("stores by a compressed %s" % name, full(*given), 1, "", "dmremap-tools store: %s: it is compressed (bzip2)\n" % path)
+        tally.same("stores by a compressed %s" % name, full(*given), 1, "", "dmremap-tools store: %s: it is compressed (bzip2): unpack it\n" % path)
     got = full("W a 0 1\n", "a: 0 8 zero\n", "")
-    tally.same("no store", got, 1, "", "dmremap-tools store: %s: it has no snapshot\n" % program.file("full/table", ""))
+    tally.same("no store", got, 1, "", "dmremap-tools store: %s: it has no snapshot: give the tables of one\n" % program.file("full/table", ""))
     got = tool_calls.call(top, ["store", "table", "none", "none", "--program", os.path.join(program.room, "none")])
     tally.same("stores of no table", got, 1, "", "dmremap-tools store: none: No such file or directory\n")
     for words, usage, why in (

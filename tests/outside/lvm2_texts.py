@@ -27,7 +27,7 @@ def check(tally, program, top):
     for names, text, changes, messages, table in ONLY:
         check_row(tally, program, top, "only " + " ".join(names), text, changes, messages, table, ["--only=" + it for it in names])
     got = tool_calls.call(top, ["lvm2-text", "--program", program.path, "--only", "x", program.file("lvm2/text", BARE)])
-    tally.same("only a volume that isn't there", got, 1, "", "dmremap-tools lvm2-text: %s: no volume x\n" % program.file("lvm2/text", BARE))
+    tally.same("only a volume that isn't there", got, 1, "", "dmremap-tools lvm2-text: %s: no volume x: give a name that the text has\n" % program.file("lvm2/text", BARE))
     for name in PLAIN:
         check_same(tally, program, top, name, read(os.path.join(top, "examples", name)))
         for seed in range(SEEDS):
@@ -193,7 +193,7 @@ def check_large(tally, program, top):
     tally.same("a text that is nested deeply", got, 0, BARE + "\n",
                "text:%d: left out: a: lvm2 reads one section of a text, the first\n" % (1 + BARE.count("\n")))
     tally.same("an end that is missing deep inside", copied(program, top, "a {" * 30000), 1, "",
-               refused(":1: the end is missing: a, line 1, isn't closed"))
+               refused(":1: the end is missing: a, line 1, isn't closed: take the text anew, from /etc/lvm/backup"))
     many = GROUP % "".join(other("l%d" % it, "zero", more="\t\t\tread_ahead = -1\n") for it in range(1000))
     got = copied(program, top, many)
     tally.holds("a group of a thousand volumes", got.status == 0 and got.out.decode() == many.replace("\t\t\tread_ahead = -1\n", "\n")

@@ -183,19 +183,19 @@ ONLY = [
     machine(ALL.replace("cow: 0 64 linear", "cow: 0 64 thin"), LOWER_OUT[:LOWER_OUT.index("cow")], only=["base"]),
     machine(ALL.replace("cow: 0 64 linear 8:1 16", "cow: 0 64 thin 8:1 16"), LOWER_OUT[:LOWER_OUT.index("cow")] + SNAP_OUT.replace("mapper/cow", "dm-1"),
             "left out: cow (thin), the disk /dev/dm-1\n", SDA1 + "/dev/dm-1 64\n", only=["snap"]),
-    ("machine", WORDS + ["--only", "x"], [NUMBERS, FRESH, SIZES, ALL], "refused\n", "--only: no device x", 1, None),
-    ("machine", WORDS + ["--store", "x=cow.img"], [NUMBERS, FRESH, SIZES, ALL], "refused\n", "--store: no snapshot x", 1, None),
-    ("machine", WORDS + ["--store", "base=cow.img"], [NUMBERS, FRESH, SIZES, ALL], "refused\n", "--store: no snapshot base", 1, None),
+    ("machine", WORDS + ["--only", "x"], [NUMBERS, FRESH, SIZES, ALL], "refused\n", "--only: no device x: give a name that LS has", 1, None),
+    ("machine", WORDS + ["--store", "x=cow.img"], [NUMBERS, FRESH, SIZES, ALL], "refused\n", "--store: no snapshot x: give a name that LS has", 1, None),
+    ("machine", WORDS + ["--store", "base=cow.img"], [NUMBERS, FRESH, SIZES, ALL], "refused\n", "--store: no snapshot base: give a name that LS has", 1, None),
 ]
 
 # Texts with a byte order mark and carriage returns, and such as are no texts.
 WRAPPED = [
     machine(ALL.replace("\n", "\r\n"), LOWER_OUT + SNAP_OUT + ORIG_OUT, names="\ufeff" + NUMBERS.replace("\n", "\r\n"),
             status=FRESH.replace("\n", "\r\n"), sizes=SIZES.replace("\n", "\r\n")),
-    no_machine(ALL, "1: it is compressed (gzip)", names=b"\x1f\x8b\x08\0"),
-    no_machine(ALL, "2: it is UTF-16, and not UTF-8", status=b"\xff\xfea\0"),
-    no_machine(ALL, "3: it is no text", sizes=b"8:1\0\n"),
-    no_machine(b"BZh91AY", "4: it is compressed (bzip2)"),
+    no_machine(ALL, "1: it is compressed (gzip): unpack it", names=b"\x1f\x8b\x08\0"),
+    no_machine(ALL, "2: it is UTF-16: make it UTF-8 by `iconv -f UTF-16 -t UTF-8`", status=b"\xff\xfea\0"),
+    no_machine(ALL, "3: it is no text: see by `file` what it is", sizes=b"8:1\0\n"),
+    no_machine(b"BZh91AY", "4: it is compressed (bzip2): unpack it"),
 ]
 
 REFUSED = [
@@ -208,9 +208,9 @@ REFUSED = [
     no_machine("No devices found\n", "4: not what `dmsetup table` prints of devices"),
     no_machine("0 16 linear 8:1 0\n", "4: not what `dmsetup table` prints of devices"),
     no_machine("base,,0,xx,0 16 linear 8:1 0\n", "4: not what `dmsetup table` prints of devices"),
-    no_machine("a: 0 8 thin 8:1 0\n", "left out: a (thin)\n4: no device is left that dmremap can follow", names=names_of("a")),
+    no_machine("a: 0 8 thin 8:1 0\n", "left out: a (thin)\n4: no device is left that dmremap can follow: see above what was left out", names=names_of("a")),
     no_machine("a,,1,rw,0 8 zero \nb,,2,rw,0 8 zero \n", "left out: device 1 of 4, which `dmsetup ls` has not: a,,1,rw,0 8 zero "
-               "\\nb,,2,rw,0 8 zero \nleft out: a (no table)\n4: no device is left that dmremap can follow", names=names_of("a")),
+               "\\nb,,2,rw,0 8 zero \nleft out: a (no table)\n4: no device is left that dmremap can follow: see above what was left out", names=names_of("a")),
 ]
 
 ROWS = SNAPSHOTS + TARGETS + NAMES + LENGTHS + ONLY + WRAPPED + REFUSED

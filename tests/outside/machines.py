@@ -102,10 +102,10 @@ def check_images(tally, program, top):
             ("8:1", "sda.img", [], None, sda % "8:1 is"), ("8:16", "sda.img", [], 2048, ""),
             ("259:1", "sda.img", [], None, sda % "259:1 may be"), ("259:1", "sda.img?offset=32768", [], 1936, ""),
             ("8:1", "sda.img?offset=32768", [], 1936, ""),
-            ("8:1", "sda.img?offset=512", [], None, "sda.img: neither a partition nor a physical volume begins at byte 512"),
+            ("8:1", "sda.img?offset=512", [], None, "sda.img: neither a partition nor a physical volume begins at byte 512: see `scan` for where some do"),
             ("8:1", "sda.img", [DEVICES + "8:1 991232 sda1 sda\n"], 1936, ""), ("8:1", "sda.img", [DEVICES + "8:1 1048576 sda1 sda\n"], 2048, ""),
             ("8:1", "sda.img", [small], None, sda % "8:1 is"),
-            ("8:1", "sda.img?offset=32768", [small], None, "sda.img?offset=32768: lsblk says that 8:1 has 1000 sectors, and there it has 1936"),
+            ("8:1", "sda.img?offset=32768", [small], None, "sda.img?offset=32768: lsblk says that 8:1 has 1000 sectors, and there it has 1936: give its own image"),
             ("8:1", "mbr.img?offset=4096", [], 100, ""), ("8:1", "mbr.img?offset=32768", ["--sector-size", "4096"], 800, "")):
         program.file("machines/paths", "%s %s\n" % (number, image))
         with contextlib.suppress(FileNotFoundError):
@@ -130,7 +130,7 @@ def check_containers(tally, program, top):
     disk = 8192 * 512
     first, second = containers.version_1(64).ljust(disk, b"\0"), containers.version_2().ljust(disk, b"\0")
     whole = physical_volumes.gpt((64, 127), (128, 4223)).ljust(128 * 512, b"\0") + containers.version_2()
-    damaged, unsaid = "its header of LUKS is damaged", "its header of LUKS doesn't say where the data is"
+    damaged, unsaid = "its header of LUKS is damaged: restore it in a copy by `cryptsetup luksHeaderRestore`", "its header of LUKS doesn't say where the data is: see `cryptsetup luksDump`"
     for name, content, version, start, sectors, why in [
         ("version 1", first, 1, 64, None, None),
         ("version 2", second, 2, 256, None, None),
@@ -149,7 +149,7 @@ def check_containers(tally, program, top):
         ("two headers that are damaged", containers.flipped(containers.flipped(second, 300), containers.SIZE + 300), 2, None, None, damaged),
         ("a header that belongs elsewhere", containers.header(b"LUKS", containers.SIZE, containers.text_of()).ljust(disk, b"\0"), 2, None, None, damaged),
         ("a length of 0", containers.version_2(size="0").ljust(disk, b"\0"), 2, None, None, unsaid),
-        ("one that is encrypted anew", containers.version_2(segments=2), 2, None, None, "it has 2 segments, as while it is being encrypted anew: crypt, crypt"),
+        ("one that is encrypted anew", containers.version_2(segments=2), 2, None, None, "it has 2 segments, as while it is being encrypted anew (crypt, crypt): end that by `cryptsetup reencrypt`"),
         ("no segments", containers.version_2(json=b"{}"), 2, None, None, unsaid),
         ("an odd offset", containers.version_2(size="511"), 2, None, None, unsaid),
     ]:

@@ -230,7 +230,7 @@ REFUSED = [
     ("an image of VMDK", b"KDMV" + bytes(8188), "there is no label in the first four sectors" + NOT_FOUND
      + ": it is an image of VMDK: convert it with qemu-img convert -O raw"),
     ("an image that is compressed", b"\x28\xb5\x2f\xfd" + bytes(8188), "there is no label in the first four sectors" + NOT_FOUND
-     + ": it is compressed (zstd)"),
+     + ": it is compressed (zstd): unpack it"),
     ("an encrypted disk", b"LUKS\xba\xbe" + bytes(8186), "there is no label in the first four sectors" + NOT_FOUND
      + ": it is encrypted with LUKS: open it with cryptsetup, and take what is opened"),
 ]
@@ -371,7 +371,7 @@ NO_PLACES = [
      "at byte 8192 belongs at byte 4096, so a physical volume begins at byte 8192 (sector 16)" + NOT_FOUND + LABELLED % (8192, 8192)),
     ("a partition before the volume", disk_of(mbr((0x8E, 64, 256)), (72, ONE_AREA)), ["head?offset=32768"], "there is no label in the first four sectors; the "
      "metadata area at byte 8192 belongs at byte 4096, so a physical volume begins at byte 36864 (sector 72)" + NOT_FOUND + LABELLED % (36864, 36864)),
-    ("a start after the end", ONE_AREA, ["head?offset=1048576"], "it ends before byte 1048576"),
+    ("a start after the end", ONE_AREA, ["head?offset=1048576"], "it ends before byte 1048576: give a lower offset, or more of the disk"),
     ("a GPT whose copies are both damaged", with_flip(with_flip(WITH_BACKUP, SECTOR + 72), len(WITH_BACKUP) - SECTOR + 72), [],
      DAMAGED_GPT + LABELLED % (65536, 65536)),
     ("a member of an array without a volume", md_member(bytes(8192), 16), [], "there is no label in the first four sectors" + NOT_FOUND + FROM_FIRST),
@@ -404,14 +404,14 @@ def check_files(tally, program, command):
         for words in ([], ["--list"]):
             tally.same("%s of %s" % (words, name), command.run(*words, name), 1, "", SAID + "%s: %s\n" % (name, message))
     program.file("head", "")
-    tally.same("the text of an empty file", command.run("head"), 1, "", SAID + "head: it is empty\n")
+    tally.same("the text of an empty file", command.run("head"), 1, "", SAID + "head: it is empty: give the image of a disk\n")
     program.file("head", with_flip(ONE_AREA, FIRST + SECTOR))
     tally.same("a damaged text, as from a shell", command.run("head"), 1, "", SAID + "head: " + ONE + "the sum of its text is wrong" + LISTED + "\n")
     program.file("head", ONE_AREA)
     found = refusal_of(command.path)
     tally.holds("the text of an unreadable file", found == command.path + ": Permission denied", "it is refused with %r" % found)
     tally.same("the text of a pipe", command.run("-", given=ONE_AREA), 1, "",
-               SAID + "standard input: no file or disk, of which each byte can be read: a pipe, maybe\n")
+               SAID + "standard input: no file or disk, of which each byte can be read: write what comes to a file\n")
     with open(command.path, "rb") as given:
         tally.same("the text of standard input", command.run("-", stdin=given), 0, TEXT[:-1])
     with open("/dev/full", "wb") as full:
@@ -462,8 +462,8 @@ def check_texts(tally, command, group):
     nowhere = with_bytes(lost, SECTOR, bytes(SECTOR))
     cut = listed.replace("2 - Tue Nov 14 22:13:20 2023", "2 - cut")
     tally.same("the texts of an area that nothing tells of", texts(nowhere, "--list"), 0, cut)
-    rows = [("--at", FIRST + VALID, "the text at that place is cut"), ("--at", FIRST + OLD + 1, "there is no text at that place"),
-            ("--seqno", 2, "the text with the seqno 2 is cut"), ("--seqno", 3, "there is no text with the seqno 3")]
+    rows = [("--at", FIRST + VALID, "the text at that place is cut: see with --list which are whole"), ("--at", FIRST + OLD + 1, "there is no text at that place: see the places with --list"),
+            ("--seqno", 2, "the text with the seqno 2 is cut: see with --list which are whole"), ("--seqno", 3, "there is no text with the seqno 3: see those there are with --list")]
     for word, place, message in rows:
         tally.same("the text with %s %d" % (word, place), texts(nowhere, word, str(place)), 1, "", SAID + "head: %s\n" % message)
     twice = with_bytes(lost, FIRST + SECTOR, old.replace(b"AAAAAA", b"CCCCCC"))
@@ -471,7 +471,7 @@ def check_texts(tally, command, group):
                "seqno 13, at the bytes %d, %d: take one with --at BYTE\n" % (FIRST + SECTOR, FIRST + OLD))
     again = with_bytes(lost, FIRST + SECTOR, old)
     tally.same("one text that is there twice", texts(again, "--seqno", "13"), 0, old)
-    tally.same("the texts of no area", texts(bytes(8192), "--list"), 1, "", SAID + "head: there is no text of a group\n")
+    tally.same("the texts of no area", texts(bytes(8192), "--list"), 1, "", SAID + "head: there is no text of a group: take another physical volume, or a file in /etc/lvm/archive\n")
     escapes = with_bytes(lost, FIRST + OLD, old.replace(b"AAAAAA", b"A\x1b[7mA"))
     tally.same("a text with an escape", texts(escapes, "--list"), 0, listed.replace("AAAAAA", "A\\x1b[7mA"))
     # A text whose end another one has taken is no whole one, though a time follows.
@@ -480,7 +480,7 @@ def check_texts(tally, command, group):
     tally.holds("a text that another one cuts", [it.split(" - ")[1] for it in lines] == [
         "cut", "Tue Nov 14 22:13:20 2023", "Tue Nov 14 22:13:20 2023"], "the list is %r" % lines)
     for name, filler in HOSTILE:
-        tally.same("the texts of " + name, texts(bytes(FIRST) + filler, "--list"), 1, "", SAID + "head: there is no text of a group\n")
+        tally.same("the texts of " + name, texts(bytes(FIRST) + filler, "--list"), 1, "", SAID + "head: there is no text of a group: take another physical volume, or a file in /etc/lvm/archive\n")
 
 
 def no_group(head):

@@ -739,7 +739,7 @@ def check_saving(tally, pile):
     pile.put("out", b"mine")
     got = pile.call("save", "vg0/home", "out", "one")
     with open(os.path.join(pile.folder, "out"), "rb") as there:
-        tally.holds("a file that is there", got.status == 1 and there.read() == b"mine" and b"it is there already" in got.err, got.err)
+        tally.holds("a file that is there", got.status == 1 and there.read() == b"mine" and b"it is there already: give another name, or remove it first" in got.err, got.err)
     os.unlink(os.path.join(pile.folder, "out"))
     size = len(wanted)
     with open(os.path.join(pile.folder, "one"), "rb") as image:
@@ -785,7 +785,7 @@ def check_files(tally, pile):
             read[int(number)] += image.read(int(count) * SECTOR)
     tally.holds("what is read by them", read == {1: HOME, 2: WIDE}, answers.err)
     got = pile.call("tables", "vg-0", "one", "two", "--to", "made")
-    tally.holds("tables that are there", got.status == 1 and b"it is there already" in got.err, got.err)
+    tally.holds("tables that are there", got.status == 1 and b"it is there already: give another folder, or remove it first" in got.err, got.err)
     shutil.rmtree(made)
     whole = len(disk("a", A, known))
     bad = (DATA + 5 * EXTENT) * SECTOR

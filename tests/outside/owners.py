@@ -114,7 +114,7 @@ HELD = [
                                                   "disk 48 16 = parity of md:" + ARRAY]),
     ("a container", KEYED[:64 << 9], ["disk 0 32 = LUKS1 header", "disk 32 32 = LUKS1 data, encrypted"]),
     ("a container whose header is damaged", containers.flipped(containers.version_2()[:1 << 14], 300),
-     ["disk 0 32 = LUKS2 container: its header of LUKS is damaged"]),
+     ["disk 0 32 = LUKS2 container: its header of LUKS is damaged: restore it in a copy by `cryptsetup luksHeaderRestore`"]),
     ("nothing that is known", b"x" * (64 << 9), ["disk 0 64 = unknown: nothing is found in it"]),
     ("nothing", bytes(64 << 9), ["disk 0 64 = unknown: nothing is found in it"]),
     ("swap", bytes(4086) + b"SWAPSPACE2" + bytes(4096), ["disk 0 16 = swap"]),
@@ -147,8 +147,8 @@ def check_words(tally, pile):
     tally.same("who has a sector of a kernel's log", got, 0, "sda 9 1 = sda:1 1 = unknown: nothing is found in it\n", "left out: 1 lines of a kernel's log that name no sector\n")
     pile.put("map", b"0x0 ?\n0x0 0x1200 +\n0x1200 0x100 -\n0x1300 0xB500 +\n")
     tally.same("who has what a map lacks", asked(pile, "", "sda", "--map", "sda=map"), 0, "sda 9 1 = sda:1 1 = unknown: nothing is found in it\n")
-    for given, why in [("sdb 1\n", "sdb: no image that is given is called so, and no partition or array of one"), ("sda\n", "standard input:1: neither IMAGE FIRST nor IMAGE FIRST COUNT: sda"),
-                       ("sda 1 0\n", "standard input:1: neither IMAGE FIRST nor IMAGE FIRST COUNT: sda 1 0"), ("sda 1 x\n", "standard input:1: neither IMAGE FIRST nor IMAGE FIRST COUNT: sda 1 x")]:
+    for given, why in [("sdb 1\n", "sdb: no image is called so, and no partition or array of one: see `scan` for their names"), ("sda\n", "standard input:1: give IMAGE FIRST or IMAGE FIRST COUNT, and not: sda"),
+                       ("sda 1 0\n", "standard input:1: give IMAGE FIRST or IMAGE FIRST COUNT, and not: sda 1 0"), ("sda 1 x\n", "standard input:1: give IMAGE FIRST or IMAGE FIRST COUNT, and not: sda 1 x")]:
         tally.same("who has %r" % given, asked(pile, given, "sda"), 1, "", "dmremap-tools owner: %s\n" % why)
     tally.holds("a map of no image", asked(pile, "", "sda", "--map", "sdb=map").status == 2, "it is taken")
 

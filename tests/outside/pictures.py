@@ -21,9 +21,9 @@ sda 1000 1000 - - end
 """
 ORIGINS = "o 0 10 s 0 origin\no 0 10 t 0 origin\no 0 10 u 0 snapshot-origin\no 10 10 - - end\n"
 PICTURES = [
-    lost("picture", [], ["a 0 8 b 0 linear\n"], "1: a has no end, or a range past it"),
-    lost("picture", [], ["a 0 8 b 0 linear\na 4 4 - - end\n"], "1: a has no end, or a range past it"),
-    lost("picture", [], ["a 8 9 b 0 linear\na 0 8 b 0 linear\na 9 9 - - end\n"], "1: the ranges of a aren't sorted"),
+    lost("picture", [], ["a 0 8 b 0 linear\n"], "1: a has no end, or a range past it: give what `spans` prints"),
+    lost("picture", [], ["a 0 8 b 0 linear\na 4 4 - - end\n"], "1: a has no end, or a range past it: give what `spans` prints"),
+    lost("picture", [], ["a 8 9 b 0 linear\na 0 8 b 0 linear\na 9 9 - - end\n"], "1: the ranges of a aren't sorted: give what `spans` prints"),
 ]
 DISKS = "sda 1500\nsdb 150\n"
 MEMORY = 100 << 20
@@ -162,7 +162,7 @@ def check_costs(tally, program, top):
     tally.holds("a plot of many disks", got.status == 0 and picture_in(path).count("<image ") == 1024, "status %s, %r" % (got.status, got.err))
     program.file("pieces", "".join(rows))
     got = call(top, ["report", *PLOT, "disks", "pieces"], folder=program.room, memory=MEMORY)
-    tally.same("a plot of too many disks", got, 1, "", "dmremap-tools report: pieces: pieces on more than 1024 disks, which is too many for a picture\n")
+    tally.same("a plot of too many disks", got, 1, "", "dmremap-tools report: pieces: pieces on more than 1024 disks, too many for a picture: give those of fewer\n")
     program.file("times", "0\n1\n999999999999999\n")
     program.file("pieces", "1 R d0 0 8\n2 R d1 0 8\n3 R d2 0 8\n")
     got = call(top, ["report", "--times", "times", *PLOT, "disks", "pieces"], folder=program.room)

@@ -225,7 +225,7 @@ def check_labels(tally, program, top):
     for name, image, begin, what in (
             ("both", below + PHYSICAL, None, BOTH), ("a partition beside a label", below + PHYSICAL, 40, None),
             ("a label beside a partition", above + BESIDE, 0, None),
-            ("another label", below + PHYSICAL, 0, "it isn't p, whose id is %s: its own is %s" % (OWN, OTHER)),
+            ("another label", below + PHYSICAL, 0, "it isn't p, whose id is %s, but has the id %s: give the path of that" % (OWN, OTHER)),
             ("no label", gpt + plain, None, UNLABELLED), ("a partition without a label", gpt + plain, 40, None),
             ("a label elsewhere", gpt + plain + bytes(8 * SECTOR) + PHYSICAL, None,
              UNLABELLED + "; the label of one that begins at byte 53248 is sound: give it as IMAGE?offset=53248"),
@@ -264,7 +264,7 @@ def check_file(tally, program, top):
     wanted = (volume[26 * SECTOR:30 * SECTOR] + bytes(4 * SECTOR) + volume[2 * SECTOR:12 * SECTOR])[:9000]
     tally.holds("what it has", read(disks.target("file")) == wanted, "it is another")
     two = program.file("save/extents", extents + extents.split("\n", 1)[1])
-    tally.same("two files", disks.save(top, "files", "--extents", two), 1, "", "dmremap-tools save: %s: more than one file\n" % two)
+    tally.same("two files", disks.save(top, "files", "--extents", two), 1, "", "dmremap-tools save: %s: more than one file: give the extents of one\n" % two)
 
 
 def check_odd_file(tally, program, top):
@@ -313,13 +313,13 @@ def check_refusals(tally, program, top):
     os.symlink("behind", disks.target("link"))
     said = "dmremap-tools save: %s\n"
     rows = [
-        ("there", [], 1, "%s: it is there already" % disks.target("there")),
-        ("link", [], 1, "%s: it is there already" % disks.target("link")),
+        ("there", [], 1, "%s: it is there already: give another name, or remove it first" % disks.target("there")),
+        ("link", [], 1, "%s: it is there already: give another name, or remove it first" % disks.target("link")),
         ("no/where", [], 5, "%s: No such file or directory" % disks.target("no/where")),
-        ("new", ["--map", program.file("save/m", "x\n")], 1, "%s:1: not a map of ddrescue" % disks.target("m")),
-        ("new", ["--map", program.file("save/m2", "0x0 ?\n0x0 0x200 +\n")], 1, "%s: a map of another file than one of 24576 bytes" % disks.target("m2")),
+        ("new", ["--map", program.file("save/m", "x\n")], 1, "%s:1: not a map of ddrescue: give another file as --map" % disks.target("m")),
+        ("new", ["--map", program.file("save/m2", "0x0 ?\n0x0 0x200 +\n")], 1, "%s: a map of another file than one of 24576 bytes: give its own" % disks.target("m2")),
         ("new", ["--map", program.file("save/m3", "0x0 ?\n0x0 0x6000 ?\n")], 5, "%s: No such file or directory" % disks.target("new")),
-        ("there", ["--map", disks.target("m3")], 1, "%s: it isn't the file that was begun: it has 0 bytes and not 24576" % disks.target("there")),
+        ("there", ["--map", disks.target("m3")], 1, "%s: it isn't the file that was begun: it has 0 bytes and not 24576: give that, or another --map" % disks.target("there")),
         ("new", ["--map", disks.target("")], 5, "%s: Is a directory" % disks.target("")),
         ("new", ["--map", disks.target("link")], 5, "%s: No such file or directory" % disks.target("link")),
         ("new", ["--map", "/proc/none"], 5, "/proc/none: No such file or directory"),
@@ -328,10 +328,10 @@ def check_refusals(tally, program, top):
     program.file("save/path", "a %s\n" % packed)
     program.file("save/table", TABLE.replace("error", "zero"))
     got = tool_calls.call(top, ["save", "--program", program.path, "--paths", disks.target("path"), "v", disks.target("new"), *disks.source])
-    tally.holds("an image that is compressed", got.status == 1 and b"packed: it is compressed (xz); give --map" in got.err, "status %s, %r" % (got.status, got.err))
+    tally.holds("an image that is compressed", got.status == 1 and b"packed: it is compressed (xz): unpack it; give --map" in got.err, "status %s, %r" % (got.status, got.err))
     listed = program.file("save/path", "a x\n/dev/b y\n")
     got = tool_calls.call(top, ["save", "--program", program.path, "--paths", listed, "v", disks.target("new"), *disks.source])
-    tally.same("a path of no disk", got, 1, "", said % "%s: no disk is called /dev/b" % listed)
+    tally.same("a path of no disk", got, 1, "", said % "%s: no disk is called /dev/b: give a name that the tables have" % listed)
     odd = [program.file("save/" + it, b"\xef\xbb\xbf" + read(path).replace(b"\n", b"\r\n")) for it, path in zip(("t", "d"), disks.source[1:])]
     got = tool_calls.call(top, ["save", *disks.words, "v", disks.target("new"), "table", *odd])
     tally.same("saving by texts with carriage returns", got, 0)
@@ -344,7 +344,7 @@ def check_refusals(tally, program, top):
         tally.holds("what is left of " + name, name == "there" or not os.path.exists(disks.target(name)), "it is there")
     tally.holds("what is behind the link", not os.path.exists(disks.target("behind")), "it was made")
     got = tool_calls.call(top, ["save", *disks.words, "w", disks.target("new"), *disks.source])
-    tally.same("saving no device", got, 1, "", said % "%s: no device w" % disks.source[1])
+    tally.same("saving no device", got, 1, "", said % "%s: no device w: `dmremap table` prints their names" % disks.source[1])
     dies = program.file("save/dies", '#!/bin/sh\n[ "$1" = map ] && { %s "$@" | head -n 2; kill -9 $$; }\nexec %s "$@"\n' % (program.path, program.path))
     os.chmod(dies, 0o755)
     got = tool_calls.call(top, ["save", "--program", dies, *disks.words[2:], "v", disks.target("new"), *disks.source])
@@ -356,7 +356,7 @@ def check_refusals(tally, program, top):
         tally.holds("what that leaves", not os.path.exists(disks.target("-")) and not os.path.exists(disks.target("new")), "it is there")
     table = program.file("save/wrong", "v: 0 8 linear d 0\n")
     got = tool_calls.call(top, ["save", *disks.words, "v", disks.target("new"), "table", table, disks.source[2]])
-    tally.same("saving what doesn't load", got, 1, "", "dmremap: source: unknown at 1\n" + said % "%s: it ends with status 1" % program.path)
+    tally.same("saving what doesn't load", got, 1, "", "dmremap: source: unknown at 1\n" + said % "%s: it ends with status 1: see what it said" % program.path)
 
 
 READ_TOO = "%s: it is read, too: give another file to write"
@@ -372,7 +372,7 @@ def check_outputs(tally, program, top):
     begun = program.file("save/begun map", "0x0 ?\n0x0 0x8000 ?\n")
     program.file("save/long", "v: 0 64 linear b 0\n")
     rows = [
-        ("the map as its target", "one", ["--map", disks.target("../save/one")], "%s: two outputs can't be one file" % disks.target("one")),
+        ("the map as its target", "one", ["--map", disks.target("../save/one")], "%s: two outputs can't be one file: give another name" % disks.target("one")),
         ("the map over a disk", "one", ["--map", image], READ_TOO % image),
         ("the map over a table", "one", ["--map", disks.source[1]], READ_TOO % disks.source[1]),
     ]

@@ -213,13 +213,13 @@ def check_xfs(tally, program, top):
     """An XFS file system: its files, the files of its inodes, and data whose inode is lost. btrfs is named."""
     image = program.file("btrfs.img", bytes(65536 + 64) + b"_BHRfS_M")
     got = files(program, top, [(0, 1)], image)
-    tally.same("files of btrfs", got, 1, "", "dmremap-tools lost: %s: it is btrfs, whose files have no places on a device that debugfs "
-               "or xfs_db tells\n" % image)
+    tally.same("files of btrfs", got, 1, "", "dmremap-tools lost: %s: it is btrfs, whose files have no places: see "
+               "`btrfs inspect-internal logical-resolve`\n" % image)
     lost = [it for it in ("mkfs.xfs", "xfs_db") if not found(it)]
     if not found("xfs_db"):
         image = program.file("xfs.head", b"XFSB".ljust(4096, b"\0"))
         tally.same("files of XFS without xfs_db", files(program, top, [(0, 1)], image), 1, "",
-                   "dmremap-tools lost: %s: it is XFS, which xfs_db of xfsprogs reads, and that isn't here\n" % image)
+                   "dmremap-tools lost: %s: it is XFS, which xfs_db reads, and that isn't here: install xfsprogs\n" % image)
     if lost:
         tally.skip("files of XFS", "there is no " + lost[0])
         return
@@ -252,7 +252,7 @@ def check_damaged_xfs(tally, program, top, image):
         head = file.read(4096)
     cut = program.file("cut.img", head)
     got = files(program, top, [(0, 8)], cut)
-    begins = ("dmremap-tools lost: %s: xfs_db says: " % cut).encode()
+    begins = ("dmremap-tools lost: %s: xfs_db says: ; see `xfs_repair -n`" % cut).encode()
     tally.holds("files of an XFS that is cut", (got.status, got.out) == (1, b"") and got.err.startswith(begins), got.err)
     dice = random.Random(1)
     for _ in range(10):

@@ -162,8 +162,8 @@ def check_not_read(case):
     case.put("n", BELOW + SNAPSHOTS[0].replace(" P ", " N "))
     for name, words, source, why in (
             ("one that is invalid", ["--paths", "invalid.img.paths"], SOURCE, INVALID), ("one whose disk isn't here", [], SOURCE, NOT_HERE),
-            ("one whose disk is a pipe", ["--paths", "pipe.paths"], SOURCE, "pipe: neither a file nor a disk"),
-            ("one whose disk is a device of zeros", ["--paths", "zero.paths"], SOURCE, "/dev/zero: neither a file nor a disk"),
+            ("one whose disk is a pipe", ["--paths", "pipe.paths"], SOURCE, "pipe: neither a file nor a disk: give the path of one"),
+            ("one whose disk is a device of zeros", ["--paths", "zero.paths"], SOURCE, "/dev/zero: neither a file nor a disk: give the path of one"),
             ("one that isn't persistent", PATHS, ["table", "n", "disks"], "the store of s1: it isn't persistent, so no disk says what is in it; --fresh takes it as new")):
         for command, more, given in (("save", ["s1", "out", *source], ""), ("extents", ["s1", *source], ""), ("dd", source, "R s1 0 8\n")):
             got = case.call(command, *words, *more, given=given)
@@ -216,7 +216,7 @@ def check_extents(case):
     case.put("lines.disks", DISKS + "f 2097152\n")
     case.tally.same("extents of other lines", case.call("extents", "v", "table", "lines", "lines.disks"), 0,
                     "0 16 d 0\n16 8 zero\n24 1 d 16\n25 1 e 17\n26 2 error\n28 2097152 f 0\n")
-    case.tally.same("extents of no device", case.call("extents", "w", "table", "lines", "lines.disks"), 1, "", TOOL + " extents: lines: no device w\n")
+    case.tally.same("extents of no device", case.call("extents", "w", "table", "lines", "lines.disks"), 1, "", TOOL + " extents: lines: no device w: `dmremap table` prints their names\n")
 
 
 def check_elsewhere(case):

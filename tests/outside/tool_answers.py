@@ -17,7 +17,7 @@ FIGURES = ("total - drop 1 1 512\ntotal - error 1 9 4608\ntotal - zero 1 4 2048\
            f"length sda R 2 1 {BAR}\nlength sda R 8 1 {BAR}\nlength sdb W 1 1 {BAR}\nlength sdb W 2 1 {BAR}\nlength sdb W 8 1 {BAR}\nsplit 1 2\n")
 # The lower requests that make the same of the disks, otherwise cut and in another order.
 LOWER = "W sdb 3 2\nR sda 8 4\nR sda 12 4\nR sda 0 3\nW sdb 16 8\nW sdb 16 1\n"
-OTHER = "it isn't what was answered: %d sectors were answered only, and %d are only in it"
+OTHER = "it isn't what was answered: %d sectors were answered only, and %d are only in it; the lines that are printed say which"
 
 
 def some(total, length, *rest):
@@ -37,21 +37,21 @@ ANSWERED = [
     good("report", [], [ANSWERS + "7 R a 0 1\n7 R b 0 1\n7 W a 0 1\n"],
          FIGURES.replace("total sda", "total a R 1 1 512\ntotal a W 1 1 512\ntotal b R 1 1 512\ntotal sda").replace(
              "length sda R 2", f"length a R 1 1 {BAR}\nlength a W 1 1 {BAR}\nlength b R 1 1 {BAR}\nlength sda R 2").replace("split 1 2\n", "seek a 1\nsplit 1 2\nsplit 3 1\n")),
-    lost("report", [], ["2 R a 0 1\n1 R a 0 1\n"], "1:2: out of order: 1 R a 0 1"),
-    lost("report", [], ["1 zero 1\n3 copy a 0 1 b 0\n2 error 1\n"], "1:3: out of order: 2 error 1"),
+    lost("report", [], ["2 R a 0 1\n1 R a 0 1\n"], "1:2: out of order, give the answers as `dmremap map` prints them: 1 R a 0 1"),
+    lost("report", [], ["1 zero 1\n3 copy a 0 1 b 0\n2 error 1\n"], "1:3: out of order, give the answers as `dmremap map` prints them: 2 error 1"),
     good("report", [], ["1 R a 0 8\n2 R b 0 1\n3 W a 108 8\n4 R a 16 1\n5 copy a 900 1 a 9\n"],
          f"total a R 3 10 5120\ntotal a W 2 9 4608\ntotal b R 1 1 512\nlength a R 1 2 {BAR}\nlength a R 8 1 {BAR[:20]}\nlength a W 1 1 {BAR[:20]}\n"
          f"length a W 8 1 {BAR[:20]}\nlength b R 1 1 {BAR[:20]}\nseek a 100\nsplit 1 4\n"),
     good("report", [], [b"1 R \xffa\xe4 0 8\n"], b"total \xffa\xe4 R 1 8 4096\nlength \xffa\xe4 R 8 1 " + BAR.encode() + b"\nsplit 1 1\n"),
     # Times, of which one goes back.
     good("report", ["--times", "2"], ["1 zero 1\n2 zero 1\n4 zero 1\n", "5.5\n6\n8\n7.25\n"], "total - zero 3 3 1536\ntime 2.5\n"),
-    lost("report", ["--times", "2"], ["1 R a 0 1\n2 R b 0 1\n", "0.5\n"], "1:2: no time of the request: 2 R b 0 1"),
-    lost("report", ["--times", "2"], ["1 R a 0 1\n2 R b 0 1\n", "0.5\nrefused\n"], "1:2: no time of the request: 2 R b 0 1"),
-    lost("report", ["--disks", "2"], ["1 R a 0 8\n2 zero 8\n2 copy a 0 8 b 0\n", "a 8\n"], "1:3: DISKS has no b: 2 copy a 0 8 b 0"),
-    lost("report", ["--disks", "2"], ["1 R a 0 8\n2 fill 2 a 7\n", "a 8\n"], "1:2: past the end of the disk: 2 fill 2 a 7"),
+    lost("report", ["--times", "2"], ["1 R a 0 1\n2 R b 0 1\n", "0.5\n"], "1:2: no time of the request, give what `trace --times` wrote: 2 R b 0 1"),
+    lost("report", ["--times", "2"], ["1 R a 0 1\n2 R b 0 1\n", "0.5\nrefused\n"], "1:2: no time of the request, give what `trace --times` wrote: 2 R b 0 1"),
+    lost("report", ["--disks", "2"], ["1 R a 0 8\n2 zero 8\n2 copy a 0 8 b 0\n", "a 8\n"], "1:3: DISKS has no b, give those of the answers: 2 copy a 0 8 b 0"),
+    lost("report", ["--disks", "2"], ["1 R a 0 8\n2 fill 2 a 7\n", "a 8\n"], "1:2: past the end of the disk, give the DISKS of the answers: 2 fill 2 a 7"),
     ("report", ["--plot", "3"], [ANSWERS], "", "dmremap-tools report: --plot needs --disks\n", 2),
-    lost("report", ["--disks", "2"], ["1 R a 0 8\n", b"\xfd7zXZ\0\n"], "2: it is compressed (xz)"),
-    lost("report", ["--disks", "2"], ["1 R a 0 8\n", b"sda\0 1\n"], "2: it is no text"),
+    lost("report", ["--disks", "2"], ["1 R a 0 8\n", b"\xfd7zXZ\0\n"], "2: it is compressed (xz): unpack it"),
+    lost("report", ["--disks", "2"], ["1 R a 0 8\n", b"sda\0 1\n"], "2: it is no text: see by `file` what it is"),
     # What a trace of the disks has.
     good("report", ["--compare", "2"], [ANSWERS, LOWER], FIGURES),
     lost("report", ["--compare", "2"], [ANSWERS, LOWER + "W sdb 0 4\n"], "2: " + OTHER % (0, 4), FIGURES + "unanswered W sdb 0 4 1\n"),
@@ -59,8 +59,8 @@ ANSWERED = [
          FIGURES + "untraced R sda 0 1 1\nunanswered R sda 3 1 1\n"),
     lost("report", ["--compare", "2"], ["1 W a 0 4\n2 W a 0 4\n3 W a 2 2\n", "W a 0 4\nR a 0 4\n"], "2: " + OTHER % (6, 4),
          f"total a W 3 10 5120\nlength a W 2 1 {BAR[:20]}\nlength a W 4 2 {BAR}\nseek a 3\nsplit 1 3\nunanswered R a 0 4 1\nuntraced W a 0 2 1\nuntraced W a 2 2 2\n"),
-    lost("report", ["--compare", "2"], ["1 W a 0 4\n", "W a 0\n"], "2:1: not R or W, a disk, a sector and how many: W a 0"),
-    lost("report", ["--compare", "2"], ["1 W a 0 4\n", "W a 0 0\n"], "2:1: no sectors: W a 0 0"),
+    lost("report", ["--compare", "2"], ["1 W a 0 4\n", "W a 0\n"], "2:1: give R or W, a disk, a sector and how many, and not: W a 0"),
+    lost("report", ["--compare", "2"], ["1 W a 0 4\n", "W a 0 0\n"], "2:1: no sectors, leave such lines out: W a 0 0"),
     lost("report", ["--compare", "2"], ["".join("%d W a %d 1\n" % (it, 3 * it) for it in range(1, 1 << 19)) + f"{1 << 19} W a 0 2\n{1 << 19} W a 9999999 1\n", "R a 0 9999999\n"],
          "2: it differs from the answers at more than 1048576 places at once: compare traces of the same minutes, or shorter ones"),
 ]
@@ -71,7 +71,7 @@ NO_PIECES = [REPLAYED, "", "1 R a 0", "1 R a 0 0", "0 R a 0 1", "1 R a 0 x", "1 
 
 def check(tally, program, top):
     check_rows(tally, program, top, ANSWERED)
-    check_rows(tally, program, top, [lost("report", [], ["1 R /a 0 1\n" + it + "\n"], "1:2: not a piece of an answer: " + it) for it in NO_PIECES])
+    check_rows(tally, program, top, [lost("report", [], ["1 R /a 0 1\n" + it + "\n"], "1:2: not a piece of an answer, give what `dmremap map` prints: " + it) for it in NO_PIECES])
     check_blocks(tally, program, top)
     check_costs(tally, program, top)
     check_dd(tally, program, top)
@@ -163,12 +163,12 @@ DD = [
     ([], "R v 0 7\n", 0, "set -e\ndd if='it'\\''s' bs=512 skip=2 count=3 status=none\ndd if='/dev/zero' bs=512 skip=0 count=4 status=none\n", ""),
     (["--paths", "here"], "R w 0 3\nR v 0 1\n", 0, "set -e\ndd if='/dev/sdx' bs=512 skip=3 count=3 status=none\ndd if='it'\\''s' bs=512 skip=2 count=1 status=none\n", ""),
     (["--paths", "placed"], "R w 0 3\n", 0, "set -e\ndd if='/dev/sdx' bs=512 skip=5 count=3 status=none\n", ""),
-    (["--paths", "within"], "R w 0 3\n", 1, "set -e\nrefused\n", "--paths: a begins at byte 100, within a sector"),
-    ([], "W w 0 3\n", 1, "set -e\nrefused\n", "PROGRAM:1: a write, and no --image: 1 W a 3 3"),
-    (["--image", "i"], "R v 7 3\n", 1, "set -e\nrefused\n", "PROGRAM:1: no sectors: 1 error 3"),
-    (["--paths", "twice"], "R w 0 1\n", 1, "refused\n", "twice:2: named before: a c"),
-    (["--paths", "half"], "R w 0 1\n", 1, "refused\n", "half:1: not NAME PATH: a"),
-    ([], "R w 0\n", 1, "refused\n", "standard input:1: not a request: R w 0"),
+    (["--paths", "within"], "R w 0 3\n", 1, "set -e\nrefused\n", "--paths: a begins at byte 100, within a sector: give a multiple of 512"),
+    ([], "W w 0 3\n", 1, "set -e\nrefused\n", "PROGRAM:1: a write, give --image: 1 W a 3 3"),
+    (["--image", "i"], "R v 7 3\n", 1, "set -e\nrefused\n", "PROGRAM:1: no sectors of a disk, leave them out: 1 error 3"),
+    (["--paths", "twice"], "R w 0 1\n", 1, "refused\n", "twice:2: named before, give each name and path once: a c"),
+    (["--paths", "half"], "R w 0 1\n", 1, "refused\n", "half:1: not a line of PATHS, give NAME PATH: a"),
+    ([], "R w 0\n", 1, "refused\n", "standard input:1: not a request, give R or W, a device, a sector and how many: R w 0"),
     (["--image", "-"], "", 2, "refused\n", "'-' is no file to write: give it a name"),
 ]
 

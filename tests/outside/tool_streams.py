@@ -396,7 +396,7 @@ def check_outputs(tally, top, folder):
     tally.holds("a link that was given", is_so and bytes_of(os.path.join(folder, "precious")).count(b"."), "status %s, %r" % (got.status, got.err))
     with open(os.path.join(folder, "both"), "wb") as both:
         got = call(top, ["trace", "--times", "both", "ls.txt", "vg0.table", "another name"], folder=folder, stdout=both.fileno())
-    tally.same("a file beside that is standard output", got, 2, "", TOOL + " trace: both: standard output goes there, too\n")
+    tally.same("a file beside that is standard output", got, 2, "", TOOL + " trace: both: standard output goes there, too: give another file\n")
     for name, why in ("", "No such file or directory"), ("none/", "Is a directory"), ("none/it", "No such file or directory"), (".", "Is a directory"):
         got = call(top, ["trace", "--times", name, "ls.txt", "vg0.table", "another name"], folder=folder)
         tally.same("a file beside that is %r" % name, got, FULL, "refused\n", "%s trace: %s: %s\n" % (TOOL, name, why))
@@ -471,7 +471,7 @@ def check_killed(tally, top, folder):
                     "status %s, %r" % (got.status, got.err))
         tally.holds("what is said of it", name != "-" or got.err.decode() == "%s save: %s\n" % (TOOL, NO_FILE), got.err)
     got = call(top, ["dd", "--program", "./dmremap", "table", "-", "snap.disks"], folder=folder)
-    tally.same("requests and tables from one input", got, 2, "refused\n", TOOL + " dd: standard input can't be two files\n")
+    tally.same("requests and tables from one input", got, 2, "refused\n", TOOL + " dd: standard input can't be two files: give the path of one\n")
 
 
 def check_long(tally, top, folder, commands):
@@ -504,7 +504,7 @@ def check_words(tally, top):
         got = call(top, words)
         is_so = (got.status, got.out) == (2, b"refused\n" * (words[0] == "cut")) and got.err.decode().endswith("\n%s %s: %s\n" % (TOOL, words[0], reason))
         tally.holds(" ".join(words), is_so, "%s, %r, %r" % (got.status, got.out, got.err))
-    tally.same("two files from one input", call(top, ["report", "--times", "-", "-"]), 2, "", TOOL + " report: standard input can't be two files\n")
+    tally.same("two files from one input", call(top, ["report", "--times", "-", "-"]), 2, "", TOOL + " report: standard input can't be two files: give the path of one\n")
     got = run(tool(top) + ["--help"])
     tally.holds("--help", got.status == 0 and b"\nanswers:\n" in got.out and got.err == b"", "%s, %r" % (got.status, got.err))
 

@@ -116,7 +116,7 @@ def check_refused(case):
         case.put("image", content)
         case.refused(name, where + why)
     case.put("image", b"BZh" + store(PAIRS))
-    case.refused("a compressed image", "image: it is compressed (bzip2)")
+    case.refused("a compressed image", "image: it is compressed (bzip2): unpack it")
     case.put("image", store(PAIRS))
     missing = "a disk that its header or its list lies on isn't here (%s)" + NEXT
     case.put("away", "cow nothing\n")
@@ -125,11 +125,11 @@ def check_refused(case):
     os.mkfifo(os.path.join(case.folder, "pipe"))
     for path in "pipe", "/dev/zero":
         case.put("away", "cow %s\n" % path)
-        case.refused("a store in " + path, path + ": neither a file nor a disk", ["--paths", "away"])
+        case.refused("a store in " + path, path + ": neither a file nor a disk: give the path of one", ["--paths", "away"])
     case.put("away", "cow image?offset=100\n")
-    case.refused("a place within a sector", "--paths: cow begins at byte 100, within a sector", ["--paths", "away"])
+    case.refused("a place within a sector", "--paths: cow begins at byte 100, within a sector: give a multiple of 512", ["--paths", "away"])
     case.put("away", "cows image\n")
-    case.refused("a path of no disk", "away: no disk is called cows", ["--paths", "away"])
+    case.refused("a path of no disk", "away: no disk is called cows: give a name that the tables have", ["--paths", "away"])
     case.put("away", b"cow b\xff\n")
     os.symlink("image", os.path.join(os.fsencode(case.folder), b"b\xff"))
     case.refused("a path that isn't UTF-8", "%s: dmremap: paths: text at 1" % case.program.path, ["--paths", "away"])
@@ -146,22 +146,23 @@ UNLOADED = [
     ("kind p", "s: 0 64 snapshot base cow p 8", 1, "a kernel takes this kind for P, and dmremap doesn't: write P: 0 64 snapshot base cow p 8"),
     ("kind n", "s: 0 64 snapshot base cow n 8", 1, "a kernel takes this kind for N, and dmremap doesn't: write N: 0 64 snapshot base cow n 8"),
     ("kind NO", "s: 0 64 snapshot base cow NO 8", 1, "a kernel takes this kind for N, and dmremap doesn't: write N: 0 64 snapshot base cow NO 8"),
-    ("another kind", "s: 0 64 snapshot base cow Persistent 8", 1, "a kernel refuses this kind of store: 0 64 snapshot base cow Persistent 8"),
+    ("another kind", "s: 0 64 snapshot base cow Persistent 8", 1, "a kernel refuses this kind of store: write that which `dmsetup table` has: 0 64 snapshot base cow Persistent 8"),
     ("features", "s: 0 64 snapshot base cow P 8 1 discard_zeroes_cow", 1, "a kernel takes features of a snapshot, which change discards alone, and dmremap "
      "takes none: let the line end after the chunk: 0 64 snapshot base cow P 8 1 discard_zeroes_cow"),
-    ("a merge", "s: 0 64 snapshot-merge base cow P 8", 1, "a kernel writes this snapshot back to its origin as it goes, which dmremap can't follow: "
+    ("a merge", "s: 0 64 snapshot-merge base cow P 8", 1, "a kernel writes this snapshot back to its origin as it goes, which dmremap can't follow: take the tables when it is done: "
      "0 64 snapshot-merge base cow P 8"),
     ("a chunk of 0", "s: 0 64 snapshot base cow P 0", 1, "a kernel takes a chunk of 0 for 32 sectors: write 32: 0 64 snapshot base cow P 0"),
-    ("a chunk of 3", "s: 0 64 snapshot base cow P 3", 1, "a kernel refuses this chunk: 0 64 snapshot base cow P 3"),
-    ("a chunk of 2048", "s: 0 64 snapshot base cow P 2048", 1, "a kernel takes this chunk, and dmremap none of more than 1024 sectors: 0 64 snapshot base cow P 2048"),
-    ("a chunk of 4096", "s: 0 64 snapshot base cow P 4096", 1, "a kernel takes this chunk, and dmremap none of more than 1024 sectors: 0 64 snapshot base cow P 4096"),
-    ("a chunk of 2 GiB", "s: 0 64 snapshot base cow P 4194304", 1, "a kernel refuses this chunk: 0 64 snapshot base cow P 4194304"),
+    ("a chunk of 3", "s: 0 64 snapshot base cow P 3", 1, "a kernel refuses this chunk: write that which `dmsetup table` has: 0 64 snapshot base cow P 3"),
+    ("a chunk of 2048", "s: 0 64 snapshot base cow P 2048", 1, "a kernel takes this chunk, and dmremap none of more than 1024 sectors: read it through a kernel: 0 64 snapshot base cow P 2048"),
+    ("a chunk of 4096", "s: 0 64 snapshot base cow P 4096", 1, "a kernel takes this chunk, and dmremap none of more than 1024 sectors: read it through a kernel: 0 64 snapshot base cow P 4096"),
+    ("a chunk of 2 GiB", "s: 0 64 snapshot base cow P 4194304", 1, "a kernel refuses this chunk: write that which `dmsetup table` has: 0 64 snapshot base cow P 4194304"),
     ("a short one", "s: 0 32 snapshot base cow P 8", 1, SHORTER + ": put a linear device of its length on the origin, and name that as the origin: 0 32 snapshot base cow P 8"),
     ("a short one of a device", "b: 0 60 linear base 0\ns: 0 32 snapshot /dev/mapper/b cow P 8", 2,
      SHORTER + ": put a linear device of its length on the origin, and name that as the origin: 0 32 snapshot /dev/mapper/b cow P 8"),
-    ("a long one", "s: 0 65 snapshot base cow P 8", 1, "a kernel refuses it, as it is longer than its origin: 0 65 snapshot base cow P 8"),
-    ("a short origin", "o: 0 32 snapshot-origin base", 1, SHORTER + ": 0 32 snapshot-origin base"),
-    ("a long origin", "o: 0 65 snapshot-origin base", 1, "a kernel refuses it, as it is longer than its origin: 0 65 snapshot-origin base"),
+    ("a long one", "s: 0 65 snapshot base cow P 8", 1, "a kernel refuses it, as it is longer than its origin: see what `dmsetup table` has: 0 65 snapshot base cow P 8"),
+    ("a short origin", "o: 0 32 snapshot-origin base", 1,
+     SHORTER + ": put a linear device of its length on the origin, and name that as the origin: 0 32 snapshot-origin base"),
+    ("a long origin", "o: 0 65 snapshot-origin base", 1, "a kernel refuses it, as it is longer than its origin: see what `dmsetup table` has: 0 65 snapshot-origin base"),
     ("other lines", "s: 0 64 snapshot base cow P 8\ns: 64 8 zero", 1, "a kernel takes it beside other lines, and dmremap doesn't: give it a device of its own, "
      "and write a linear line to that here: 0 64 snapshot base cow P 8"),
     ("a store of zeros", "z: 0 64 zero\ns: 0 64 snapshot base /dev/mapper/z P 8", 2, "a kernel takes a store of zeros, which keeps nothing, so that it is fresh each "
@@ -181,18 +182,18 @@ UNLOADED = [
 # Edits of a group, line by line, and the same.
 COPY = "; dmremap-tools lvm2-text makes a copy without it"
 RECORDS = [
-    ("a merge", [(45, "cow_store", "merging_store")], 39, "a kernel writes this snapshot back to its origin as it goes, which dmremap can't follow" + COPY),
-    ("a chunk of 4096", [(43, "8", "4096")], 39, "a kernel takes this chunk, and dmremap none of more than 1024 sectors"),
+    ("a merge", [(45, "cow_store", "merging_store")], 39, "a kernel writes this snapshot back to its origin as it goes, which dmremap can't follow: take the tables when it is done" + COPY),
+    ("a chunk of 4096", [(43, "8", "4096")], 39, "a kernel takes this chunk, and dmremap none of more than 1024 sectors: read it through a kernel"),
     ("a short one", [(41, "25", "24")], 39, SHORTER + COPY),
-    ("a long one", [(41, "25", "26")], 39, "a kernel refuses it, as it is longer than its origin"),
+    ("a long one", [(41, "25", "26")], 39, "a kernel refuses it, as it is longer than its origin: see what `dmsetup table` has"),
     ("a store of zeros", [(31, "striped", "zero")], 39, "a kernel takes a store of zeros, which keeps nothing, and refuses one whose list fails to be read" + COPY),
     ("a store that fails", [(31, "striped", "error")], 39, "a kernel takes a store of zeros, which keeps nothing, and refuses one whose list fails to be read" + COPY),
     ("too many places", [(8, "1050624", "999999999"), (10, "128", "9000"), (30, "2", "8000")], 39,
      "a kernel takes stores of any length, and dmremap counts 4194304 places for chunks in all" + COPY),
     ("a store on another type", [(31, "striped", "raid1")], 31, "dmremap can't follow what stands there" + COPY),
     ("a negative number", [(4, "8192", "8192 read_ahead = -1")], 4, "dmremap can't follow what stands there" + COPY),
-    ("a store that is the origin", [(45, "snap", "lv0")], 39, "lvm2 writes no such record of a snapshot"),
-    ("no chunk", [(43, "chunk_size = 8", "")], 39, "lvm2 writes no such record of a snapshot"),
+    ("a store that is the origin", [(45, "snap", "lv0")], 39, "lvm2 writes no such record of a snapshot: take an older text, from /etc/lvm/archive"),
+    ("no chunk", [(43, "chunk_size = 8", "")], 39, "lvm2 writes no such record of a snapshot: take an older text, from /etc/lvm/archive"),
 ]
 
 

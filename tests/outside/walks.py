@@ -220,7 +220,7 @@ def check_walk(tally, program, top, dice):
     program.file("walk/empty", "")
     program.file("walk/lacking", "".join("%s %s\n" % it for it in zip(HINTS, ("a.img", "empty", "c.img"))))
     got = tool_calls.call(top, ["save", "--program", program.path, "--paths", "lacking", "vg-home", "gaps", "lvm", "vg.backup"], folder=folder)
-    is_told = b"nothing says which disk it is: empty: it is empty\n" in got.err and b"vg-home: empty: it ends before sector " in got.err
+    is_told = b"nothing says which disk it is: empty: it is empty: give the image of a disk\n" in got.err and b"vg-home: empty: it ends before sector " in got.err
     is_refused = got.status == 1 and is_told and not os.path.exists(os.path.join(folder, "gaps"))
     tally.holds("a volume of a disk without an image", is_refused, "%s, %r" % (got.status, got.err))
     disk_image = importlib.import_module("dmremap_tools.base.disk_image")
@@ -228,11 +228,11 @@ def check_walk(tally, program, top, dice):
     disk_image.Image.read = lambda image, at, count: unreadable(image) if image.path == "b.img" else plain(image, at, count)
     got = tool_calls.call(top, ["save", "--program", program.path, "--paths", "paths", "vg-home", "third", "lvm", "vg.backup"], folder=folder)
     disk_image.Image.read = plain
-    is_told = b"nothing says which disk it is: b.img: byte 0 and those after it can't be read: Input/output error\n" in got.err
+    is_told = b"nothing says which disk it is: b.img: byte 0 and those after it can't be read (Input/output error): take an image of it by ddrescue\n" in got.err
     tally.holds("a volume of a disk without a label", got.status == 0 and is_told and read(os.path.join(folder, "third")) == bytes(wanted), "%r" % got.err)
     program.file("walk/exchanged", "".join("%s %s\n" % it for it in zip(HINTS, NAMES[1:])))
     got = tool_calls.call(top, ["save", "--program", program.path, "--paths", "exchanged", "vg-home", "other", "lvm", "vg.backup"], folder=folder)
-    tally.same("a volume out of other images", got, 1, "", "dmremap-tools save: b.img: it isn't /dev/sda1, whose id is %s: its own is %s\n" % (dashed(IDS[0]), dashed(IDS[1])))
+    tally.same("a volume out of other images", got, 1, "", "dmremap-tools save: b.img: it isn't /dev/sda1, whose id is %s, but has the id %s: give the path of that\n" % (dashed(IDS[0]), dashed(IDS[1])))
     owned = tool("owner", *NAMES, "--map", "c.img=c.map").splitlines()
     tally.holds("who has the sectors that are lost", len(owned) == len(rescue.split("-")) - 1 and all("= vg/home" in line for line in owned), owned)
     named = set(tool("lost", "vg/home", *NAMES, "--map", "c.img=c.map").replace(": ", " ").split())
@@ -244,7 +244,7 @@ def check_walk(tally, program, top, dice):
 
 def unreadable(image):
     """What a read of an image with a bad first sector raises."""
-    raise importlib.import_module("dmremap_tools.base.disk_image").Unreadable(image.path, "byte 0 and those after it can't be read: Input/output error")
+    raise importlib.import_module("dmremap_tools.base.disk_image").Unreadable(image.path, "byte 0 and those after it can't be read (Input/output error): take an image of it by ddrescue")
 
 
 def dumped(folder, name):

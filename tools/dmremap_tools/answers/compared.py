@@ -15,7 +15,7 @@ class Compared:
 
     def __init__(self, path: str) -> None:
         self._source = streams.Lines(path)
-        self._rows = requests.read(self._source, AsTheyAre(), "not R or W, a disk, a sector and how many")
+        self._rows = requests.read(self._source, AsTheyAre(), "give R or W, a disk, a sector and how many, and not")
         # By R or W and the disk: how many more times a sector was answered than the one before it, where that differs.
         self._steps: Dict[str, Dict[int, int]] = defaultdict(dict)
         # How many sectors were answered that LOWER didn't have yet.
@@ -41,14 +41,14 @@ class Compared:
                 sectors[side] += (end - start) * abs(times)
         if any(sectors.values()):
             raise Refusal(self._source.name, "it isn't what was answered: {untraced} sectors were answered only, and {unanswered} are only "
-                          "in it".format(**sectors))
+                          "in it; the lines that are printed say which".format(**sectors))
 
     def _take(self) -> bool:
         """Takes the next line of LOWER, and says whether there is one."""
         what, disk, start, count = next(self._rows, ("", "", 0, 0))
         if what:
             if not count:
-                self._source.refuse_line("no sectors")
+                self._source.refuse_line("no sectors, leave such lines out")
             self._add(f"{what} {disk}", start, start + count, -1)
             self._ahead -= count
         return bool(what)

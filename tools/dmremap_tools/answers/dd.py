@@ -53,7 +53,7 @@ class Writer:
     def take(self, piece: pieces.Piece) -> None:
         """Writes the line for a piece."""
         if piece.what == "error" or (piece.what in ("W", "drop") and self.image is None):
-            self.source.refuse_line("no sectors" if piece.what == "error" else "a write, and no --image")
+            self.source.refuse_line("no sectors of a disk, leave them out" if piece.what == "error" else "a write, give --image")
         if piece.what == "copy":
             self._line(piece.count, *self._read(piece.disk, piece.start, piece.count), *self._place(piece.to, piece.to_start))
         elif piece.what == "fill":

@@ -36,7 +36,7 @@ class Taken:
 
     def lines(self) -> Iterator[str]:
         """The requests, as dmremap reads them."""
-        for operation, name, first, count in requests.read(self._source, names.Names(), "not a request"):
+        for operation, name, first, count in requests.read(self._source, names.Names(), requests.NO_REQUEST):
             self.devices.add(name)
             self.are_writes |= operation == "W"
             yield "%s %s %d %d\n" % (operation, name, first, count)

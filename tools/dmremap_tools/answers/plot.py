@@ -104,7 +104,7 @@ class Fields:
             disk = use[2:]
             if disk not in self._fields:
                 if len(self._fields) == MOST_FIELDS:
-                    raise Refusal(source.name, f"pieces on more than {MOST_FIELDS} disks, which is too many for a picture")
+                    raise Refusal(source.name, f"pieces on more than {MOST_FIELDS} disks, too many for a picture: give those of fewer")
                 self._fields[disk] = Field(self._sizes[disk])
             counts, begin = self._fields[disk].cells(column)
             cells[use] = counts, begin + (ROWS if use[0] == "W" else 0)

@@ -169,8 +169,9 @@ def check_disks(source: pieces.Answers, sizes: Dict[str, int], uses: Sequence[st
     lengths = {}
     for use in set(uses):
         if use[2:] not in sizes:
-            source.refuse_where("DISKS has no " + quoting.shown(use[2:]), lambda it: use[2:] in (it.disk, it.to))
+            source.refuse_where(f"DISKS has no {quoting.shown(use[2:])}, give those of the answers", lambda it: use[2:] in (it.disk, it.to))
         lengths[use] = sizes[use[2:]]
     if any(map(gt, ends, map(lengths.__getitem__, uses))):
-        source.refuse_where("past the end of the disk", lambda it: bool(it.disk) and it.start + it.count > sizes[it.disk]
+        source.refuse_where("past the end of the disk, give the DISKS of the answers",
+                            lambda it: bool(it.disk) and it.start + it.count > sizes[it.disk]
                             or bool(it.to) and it.to_start + it.count > sizes[it.to])

@@ -131,7 +131,7 @@ def placed(todo: List[Extent], answers: pieces.Answers) -> Iterator[Tuple[int, p
         while at < end:
             piece = next(rest, None)
             if piece is None or piece.request != number or piece.what not in READ or piece.count > end - at:
-                answers.refuse("request %d is not answered as it was asked" % number)
+                answers.refuse("request %d is not answered as it was asked: give this version's dmremap as --program" % number)
             yield at, piece
             at += piece.count
 
@@ -140,7 +140,7 @@ def whole(loaded: Stack, volume: str, name: str) -> Tuple[int, List[Extent]]:
     """The length of a volume in bytes, and all of it as one extent. `name` is what FILE is called."""
     device = loaded.by_path().get(names.MAPPER + volume)
     if device is None:
-        raise Refusal(streams.name_of(name), "no device " + volume)
+        raise Refusal(streams.name_of(name), f"no device {volume}: `dmremap table` prints their names")
     return device.end() * numbers.SECTOR, [Extent(0, 0, device.end())]
 
 
@@ -149,7 +149,7 @@ def extents_of(path: str) -> Tuple[int, List[Extent]]:
     reader = filefrag.Reader(streams.Lines(path))
     extents = [Extent(*it) for it in reader.extents()]
     if reader.files > 1:
-        raise Refusal(reader.source.name, "more than one file")
+        raise Refusal(reader.source.name, "more than one file: give the extents of one")
     return reader.size, extents
 
 

@@ -59,10 +59,10 @@ class SavedMap:
         source = streams.Lines(_opening(self._path or ""), is_written=True)
         rows = (it for it in source if it and not it.startswith("#"))
         if not rescue_map.CURRENT.fullmatch(next(rows, "")):
-            source.refuse("not a map of ddrescue")
+            source.refuse("not a map of ddrescue: give another file as --map")
         areas = list(rescue_map.areas_in(source, rows))
         if (areas[0].begin, areas[-1].end) != (0, self._size) if areas else self._size:
-            raise Refusal(quoting.shown(self._path or ""), "a map of another file than one of %d bytes" % self._size)
+            raise Refusal(quoting.shown(self._path or ""), "a map of another file than one of %d bytes: give its own" % self._size)
         return areas
 
 

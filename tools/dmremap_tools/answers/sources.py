@@ -69,7 +69,7 @@ def opened(path: str) -> int:
     kind = os.fstat(descriptor).st_mode
     if not stat.S_ISREG(kind) and not stat.S_ISBLK(kind):
         os.close(descriptor)
-        raise Refusal(quoting.shown(path), "neither a file nor a disk")
+        raise Refusal(quoting.shown(path), "neither a file nor a disk: give the path of one")
     written.note_input(descriptor)
     disk_image.check_form(descriptor, quoting.shown(path))
     return descriptor

@@ -21,7 +21,8 @@ class Target:
             self._descriptor = self._place.go_on() if is_begun else self._place.begin()
             found = os.fstat(self._descriptor)
             if is_begun and (found.st_size != size or not stat.S_ISREG(found.st_mode)):
-                raise Refusal(self._place.shown, "it isn't the file that was begun: it has %d bytes and not %d" % (found.st_size, size))
+                raise Refusal(self._place.shown, "it isn't the file that was begun: it has %d bytes and not %d: give that, or another --map"
+                              % (found.st_size, size))
             os.ftruncate(self._descriptor, size)
         except (OSError, OverflowError) as fault:
             self._place.fail(fault)

@@ -20,6 +20,8 @@ STRINGS = {b'"': re.compile(rb'"[^"\\]*(?:\\.[^"\\]*)*"', re.S), b"'": re.compil
 WORDS = re.compile(rb"[^ \t\n\v\f\r#={}]+")
 OCTAL = re.compile(rb"([+-]?)0([0-7]*)")
 MOST_DIGITS = 20
+# What to do about a text that breaks off, or isn't lvm2's.
+ANEW = "take the text anew, from /etc/lvm/backup"
 # How many keys and values a text has at most, as each takes some hundred bytes of memory; and in how many bytes lines are counted
 # at a time.
 MOST_PARTS, BLOCK = 150000, 1 << 16
@@ -162,7 +164,7 @@ class Document:
     def _close(self, opened: List[Node], end: int) -> None:
         """Closes the section that was opened last, whose brace ends here."""
         if len(opened) == 1:
-            raise self.refused(end - 1, "a brace that closes nothing")
+            raise self.refused(end - 1, "a brace that closes nothing: " + ANEW)
         opened.pop().end = end
 
     def _odd_step(self, opened: List[Node], at: int) -> Optional[int]:
@@ -170,8 +172,8 @@ class Document:
         kind, start, end = self._token(at, False)
         if kind == END:
             if len(opened) > 1:
-                raise self.refused(start, "the end is missing: %s, line %d, isn't closed"
-                                   % (shown(opened[-1].key), self.line_at(opened[-1].start)))
+                raise self.refused(start, "the end is missing: %s, line %d, isn't closed: %s"
+                                   % (shown(opened[-1].key), self.line_at(opened[-1].start), ANEW))
             return None
         self.count_part(start)
         node = Node(self, self._key(kind, start, end), start, start, end, len(opened), False)
@@ -186,7 +188,7 @@ class Document:
             if is_word_between(self.content, node.end):
                 self.tight.append(node.end)
         else:
-            raise self.refused(node.value_at, "neither a brace nor an equals sign after %s" % shown(node.key))
+            raise self.refused(node.value_at, "neither a brace nor an equals sign after %s: %s" % (shown(node.key), ANEW))
         return node.end
 
     def _token(self, at: int, may_be_value: bool) -> Token:
@@ -200,7 +202,7 @@ class Document:
         if first in STRINGS:
             string = STRINGS[first].match(self.content, at)
             if not string:
-                raise self.refused(at, "a string without an end")
+                raise self.refused(at, "a string without an end: " + ANEW)
             return (DOUBLE if first == b'"' else SINGLE), at, string.end()
         number = NUMBERS.match(self.content, at) if may_be_value else None
         if number:
@@ -217,10 +219,10 @@ class Document:
     def _key(self, kind: str, start: int, end: int) -> bytes:
         """The key that a token is."""
         if kind not in (KEY, DOUBLE, SINGLE):
-            raise self.refused(start, "no key: %s" % shown(self.content[start:end]))
+            raise self.refused(start, "no key, %s: %s" % (ANEW, shown(self.content[start:end])))
         key = unquoted(kind, self.content[start:end])
         if not key or b"/" in key:
-            raise self.refused(start, "a key that lvm2 never writes: %s" % shown(self.content[start:end]))
+            raise self.refused(start, "a key that lvm2 never writes, %s: %s" % (ANEW, shown(self.content[start:end])))
         return key
 
     def values_at(self, at: int) -> Tuple[List[Item], int]:
@@ -248,7 +250,7 @@ class Document:
             return Item(None, kind, start, end)
         if kind in (DOUBLE, SINGLE, BARE):
             return Item(unquoted(kind, text), kind, start, end)
-        raise self.refused(start, "no value: %s" % (shown(text) if kind != END else "the end"))
+        raise self.refused(start, "no value, %s: %s" % (ANEW, shown(text) if kind != END else "the end"))
 
 
 def unquoted(kind: str, text: bytes) -> bytes:

@@ -40,7 +40,8 @@ class Image:
                 parts.append(part)
                 left -= len(part)
         except OSError as fault:
-            raise Unreadable(self.path, "byte %d and those after it can't be read: %s" % (self.base + at, streams.why(fault)))
+            raise Unreadable(self.path, "byte %d and those after it can't be read (%s): take an image of it by ddrescue"
+                             % (self.base + at, streams.why(fault)))
         return b"".join(parts)
 
     def next_data(self, at: int) -> int:
@@ -60,7 +61,7 @@ def length_of(file: BinaryIO, path: str) -> int:
     try:
         return file.seek(0, 2)
     except OSError:
-        raise Refusal(path, "no file or disk, of which each byte can be read: a pipe, maybe")
+        raise Refusal(path, "no file or disk, of which each byte can be read: write what comes to a file")
 
 
 def open_image(path: str) -> Image:
@@ -73,7 +74,7 @@ def open_image(path: str) -> Image:
     written.note_input(file.fileno())
     image = Image(file, name)
     if not image.size:
-        raise Unreadable(name, "it is empty")
+        raise Unreadable(name, "it is empty: give the image of a disk")
     return image
 
 
@@ -105,7 +106,7 @@ def other_form(beginning: bytes) -> str:
     """What is said of an image with this beginning, if it is compressed or of another form, or nothing."""
     compression = plain_text.compression(beginning)
     if compression:
-        return "it is compressed (%s)" % compression
+        return "it is compressed (%s): unpack it" % compression
     form = next((form for magic, form in FORMS.items() if beginning.startswith(magic)), "")
     return form and "it is an image of %s: convert it with qemu-img convert -O raw" % form
 

@@ -17,5 +17,5 @@ def each(path: str) -> Iterator[Tuple[str, int]]:
         name, _, length = row.partition(" ")
         sectors = numbers.read(length)
         if sectors is None or not names.DISK.fullmatch(name):
-            source.refuse("not a line of DISKS: " + quoting.shown(row))
+            source.refuse("not a line of DISKS, give NAME SECTORS: " + quoting.shown(row))
         yield name, sectors

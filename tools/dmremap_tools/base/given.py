@@ -25,7 +25,7 @@ class Given(NamedTuple):
     def fault(self) -> Optional[str]:
         """What is wrong with these words, or None."""
         if self.form not in FORMATS:
-            return "a format is table, concise or lvm"
+            return "give table, concise or lvm as the format"
         return "give DISKS, or leave it out with lvm" if (self.form == "lvm") == (self.disks is not None) else None
 
     def words(self) -> List[str]:

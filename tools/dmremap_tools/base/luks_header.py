@@ -52,7 +52,7 @@ def container_in(image: Image) -> Container:
         return Container(_text(head[168:208]), start, None, _end_of_keys(head))
     headers = headers_in(image)
     if not headers:
-        raise Refusal(image.path, "its header of LUKS is damaged")
+        raise Refusal(image.path, "its header of LUKS is damaged: restore it in a copy by `cryptsetup luksHeaderRestore`")
     newest = max(headers, key=lambda it: it.sequence)
     if newest is not headers[0]:
         streams.tell("%s: its second header of LUKS is newer: that is read" % image.path)
@@ -107,7 +107,7 @@ def _container_of(image: Image, header: Header) -> Container:
         described = [(str(it["type"]), str(it["offset"]), str(it["size"])) for it in said["segments"].values()]
         keys = numbers.read(str(said.get("config", {}).get("keyslots_size", 0)))
     except (ValueError, KeyError, TypeError, AttributeError, RecursionError):
-        raise Refusal(image.path, "its header of LUKS doesn't say where the data is")
+        raise Refusal(image.path, "its header of LUKS doesn't say where the data is: see `cryptsetup luksDump`")
     found = _one_segment(image, _text(header.head[168:208]), described)
     return found._replace(header=-(-(2 * header.size + (keys or 0)) // SECTOR))
 
@@ -115,11 +115,11 @@ def _container_of(image: Image, header: Header) -> Container:
 def _one_segment(image: Image, uuid: str, segments: "list[tuple[str, str, str]]") -> Container:
     """The container of one segment, which is a type, and an offset and a size in bytes."""
     if len(segments) != 1 or segments[0][0] != "crypt":
-        raise Refusal(image.path, "it has %d segments, as while it is being encrypted anew: %s"
+        raise Refusal(image.path, "it has %d segments, as while it is being encrypted anew (%s): end that by `cryptsetup reencrypt`"
                       % (len(segments), ", ".join(kind[:16] for kind, _, _ in segments[:4])))
     start, length = numbers.read(segments[0][1]), numbers.read(segments[0][2])
     if start is None or start % SECTOR or length is not None and (length == 0 or length % SECTOR) or length is None and segments[0][2] != "dynamic":
-        raise Refusal(image.path, "its header of LUKS doesn't say where the data is")
+        raise Refusal(image.path, "its header of LUKS doesn't say where the data is: see `cryptsetup luksDump`")
     return Container(uuid, start // SECTOR, length // SECTOR if length is not None else None)
 
 

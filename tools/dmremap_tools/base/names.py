@@ -68,7 +68,7 @@ class Names:
         if name is None:
             name = self.known(path, place)
             if not FORM.fullmatch(name):
-                place.refuse("no name of a device: '%s'" % quoting.shown(path))
+                place.refuse("no name of a device, give it as dmsetup ls prints it: '%s'" % quoting.shown(path))
             if len(self._found) == MOST_KEPT:
                 self._found.clear()
             self._found[path] = name

@@ -30,7 +30,7 @@ def word(text: str) -> int:
     """The same for a word of a command line."""
     value = read(text)
     if value is None:
-        raise argparse.ArgumentTypeError("not a whole number below 2^64: '%s'" % quoting.shown(text))
+        raise argparse.ArgumentTypeError("give a whole number below 2^64, and not '%s'" % quoting.shown(text))
     return value
 
 
@@ -48,7 +48,7 @@ def check_sector_size(size: Optional[int]) -> None:
 def check_length(option: str, sectors: int) -> int:
     """Refuses the length of a device that an option says, if none is as long."""
     if not 0 < sectors <= LONGEST_DEVICE:
-        raise WrongWords("%s: a device has from 1 to 2^50 sectors, and not %d" % (option, sectors))
+        raise WrongWords("%s: give from 1 to 2^50 sectors, and not %d" % (option, sectors))
     return sectors
 
 

@@ -23,7 +23,7 @@ class Place(NamedTuple):
     def check_sectors(self, disk: str) -> None:
         """Refuses a place within a sector of its file, for this disk."""
         if self.start % SECTOR:
-            raise Refusal("--paths", f"{quoting.shown(disk)} begins at byte {self.start}, within a sector")
+            raise Refusal("--paths", f"{quoting.shown(disk)} begins at byte {self.start}, within a sector: give a multiple of 512")
 
 
 def place_of(path: str) -> Place:
@@ -47,9 +47,9 @@ def read(path: str, form: "Pattern[str] | None" = None) -> Dict[str, str]:
     for line in source:
         name, _, place = line.partition(" ")
         if not name or not place or "\0" in line or (form and not form.fullmatch(place)):
-            source.refuse("not NAME PATH: " + quoting.shown(line))
+            source.refuse("not a line of PATHS, give NAME PATH: " + quoting.shown(line))
         if name in found or place in taken:
-            source.refuse("named before: " + quoting.shown(line))
+            source.refuse("named before, give each name and path once: " + quoting.shown(line))
         found[name] = place
         taken.add(place)
     return found
@@ -65,4 +65,4 @@ def check_known(where: Optional[str], named: Iterable[str], disks: Container[str
     name on this machine."""
     for name in named:
         if name not in disks:
-            raise Refusal(streams.name_of(where or "--paths"), "no disk is called " + quoting.shown(name))
+            raise Refusal(streams.name_of(where or "--paths"), f"no disk is called {quoting.shown(name)}: give a name that the tables have")

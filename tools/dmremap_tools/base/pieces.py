@@ -100,7 +100,7 @@ class Answers(streams.Lines):
             nonlocal last
             before, last = last, piece.request
             return piece.request < before
-        self.refuse_where("out of order", is_early)
+        self.refuse_where("out of order, give the answers as `dmremap map` prints them", is_early)
 
     def _piece(self, fields: "Tuple[str, ...] | str") -> Optional[Piece]:
         """The piece that a line is, or None for a status."""
@@ -116,7 +116,7 @@ class Answers(streams.Lines):
             return None
         piece = _piece_of(line)
         if not piece or not piece.request or not piece.count or max(piece.start, piece.to_start) + piece.count > numbers.LIMIT:
-            self.refuse_line("not a piece of an answer")
+            self.refuse_line("not a piece of an answer, give what `dmremap map` prints")
         return piece
 
 

@@ -14,9 +14,9 @@ def check_kind(name: str, beginning: bytes) -> None:
     """Refuses an input that is compressed, or of another encoding."""
     kind = compression(beginning)
     if kind:
-        raise Refusal(name, "it is compressed (%s)" % kind)
+        raise Refusal(name, "it is compressed (%s): unpack it" % kind)
     if beginning.startswith(WIDE):
-        raise Refusal(name, "it is UTF-16, and not UTF-8")
+        raise Refusal(name, "it is UTF-16: make it UTF-8 by `iconv -f UTF-16 -t UTF-8`")
 
 
 def compression(beginning: bytes) -> str:
@@ -33,7 +33,7 @@ def begun(name: str, beginning: bytes) -> bytes:
     """The beginning of a text without a byte order mark; what is no text is refused."""
     check_kind(name, beginning)
     if is_binary(beginning):
-        raise Refusal(name, "it is no text")
+        raise Refusal(name, "it is no text: see by `file` what it is")
     return beginning[len(MARK):] if beginning.startswith(MARK) else beginning
 
 

@@ -74,7 +74,7 @@ def _asked(words: Sequence[str], most: int, given: Optional[int], said: Optional
     try:
         printed = child.stdout.read(most + 1)
         if len(printed) > most:
-            raise Refusal(quoting.shown(words[0]), "it printed more than %d bytes" % most)
+            raise Refusal(quoting.shown(words[0]), "it printed more than %d bytes: ask for less at once" % most)
         status = child.wait()
     finally:
         if child.poll() is None:
@@ -85,7 +85,7 @@ def _asked(words: Sequence[str], most: int, given: Optional[int], said: Optional
 
 def fail(name: str, status: int) -> NoReturn:
     """Refuses what a program refused, as it ended with this status. Other ways to end are a failure of its output."""
-    why = "its output failed" if status == OUTPUT_FAILED else "it ends with status %d" % status
+    why = "its output failed" if status == OUTPUT_FAILED else "it ends with status %d: see what it said" % status
     if status in REFUSALS:
         raise Refusal(quoting.shown(name), why)
     raise streams.OutputFailed("%s: %s" % (quoting.shown(name), why if status >= 0 else "it was ended by signal %d" % -status))

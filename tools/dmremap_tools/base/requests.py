@@ -9,6 +9,7 @@ MOST = 1 << 20
 # What is longer than 2 PiB is no length of anything: it would be cut into more than four million requests.
 LONGEST = 1 << 42
 TOO_LONG = "longer than 2 PiB"
+NO_REQUEST = "not a request, give R or W, a device, a sector and how many"
 _LIMIT, _write = numbers.LIMIT, streams.out.write
 # What to do, a device, and two numbers, as they mostly are.
 _MOST_LINES = re.compile(r"^([RW]) (\S+) %s %s$" % (numbers.SHORT, numbers.SHORT), re.M)
@@ -40,11 +41,11 @@ def write(source: streams.Lines, operation: str, name: str, first: int, count: i
         _write(f"{operation} {name} {first} {count}\n")
         return 1
     if count == 0:
-        source.refuse_line("no sectors")
+        source.refuse_line("no sectors, give at least one")
     if first + count > _LIMIT:
-        source.refuse_line("it goes past sector 2^64")
+        source.refuse_line("it goes past sector 2^64, give fewer")
     if count > LONGEST:
-        source.refuse_line(TOO_LONG)
+        source.refuse_line(f"{TOO_LONG}, give it in parts")
     for at, part in parts(first, count):
         _write("%s %s %d %d\n" % (operation, name, at, part))
     return -(-count // MOST)
@@ -53,12 +54,12 @@ def write(source: streams.Lines, operation: str, name: str, first: int, count: i
 def write_bytes(source: streams.Lines, operation: str, name: str, begin: int, count: int) -> None:
     """The same for all sectors that some bytes touch."""
     if count == 0:
-        source.refuse_line("no bytes")
+        source.refuse_line("no bytes, give at least one")
     write(source, operation, name, *numbers.sectors_touched(begin, count))
 
 
 def sectors_of(source: streams.Lines, block: int) -> int:
     """How many sectors a block of so many bytes has."""
     if block % numbers.SECTOR or not block:
-        source.refuse(f"blocks of {block} bytes, which are no whole sectors")
+        source.refuse(f"blocks of {block} bytes, which are no whole sectors: give a multiple of 512")
     return block // numbers.SECTOR

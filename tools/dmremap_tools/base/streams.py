@@ -18,8 +18,8 @@ MOST_PARTS, LONG_PART = 1 << 10, 1 << 10
 LONGEST_LINE = 1 << 16
 MOST_TEXT = 64 << 20
 SPOILED = "refused\n"
-UNENDED = "the text ends within a line: "
-NO_NUMBER = "not a whole number below 2^64: '%s'"
+UNENDED = "the text ends within a line, give all of it: "
+NO_NUMBER = "give a whole number below 2^64, and not '%s'"
 # What takes the line of progress away on a terminal.
 CLEARED = "\r\033[K"
 
@@ -116,7 +116,7 @@ class Lines:
                 rest += chunk
             if len(rest) > LONGEST_LINE:
                 self.number += 1
-                self.refuse(f"a line of more than {LONGEST_LINE} bytes")
+                self.refuse(f"a line of more than {LONGEST_LINE} bytes: give a text with shorter ones")
         if rest:
             self.number += 1
             self.refuse(UNENDED + quoting.shown(rest.decode("utf-8", "surrogateescape")))
@@ -196,7 +196,7 @@ def read_bytes(path: str, most: int = MOST_TEXT) -> bytes:
         found.append(chunk)
         size += len(chunk)
         if size > most:
-            raise Refusal(name_of(path), f"it has more than {most} bytes")
+            raise Refusal(name_of(path), f"it has more than {most} bytes: give a smaller one")
     return b"".join(found)
 
 
@@ -305,7 +305,7 @@ def take_input() -> int:
     """The descriptor of standard input, which only one can read."""
     global _is_input_taken
     if _is_input_taken:
-        raise WrongWords("standard input can't be two files")
+        raise WrongWords("standard input can't be two files: give the path of one")
     _is_input_taken = True
     written.note_input(0)
     return 0

@@ -97,7 +97,7 @@ def _concise(name_of_text: str, rows: List[str]) -> List[Device]:
         place = "%s:%d" % (name_of_text, number)
         name, *fields = row.split(",")
         if len(fields) < 4 or fields[2] not in ("", "ro", "rw"):
-            raise Refusal(place, "not a device of concise text: " + quoting.shown(row))
+            raise Refusal(place, "not a device of concise text, take what `dmremap concise` prints: " + quoting.shown(row))
         device = Device(name, fields[2])
         device.lines += [line_of(place, it) for it in fields[3:]]
         devices.append(device)
@@ -110,7 +110,7 @@ def _table(name_of_text: str, rows: List[str]) -> List[Device]:
         place = "%s:%d" % (name_of_text, number)
         name, is_named, line = row.partition(": ")
         if not name or not is_named:
-            raise Refusal(place, "not table text: " + quoting.shown(row))
+            raise Refusal(place, "not table text, give NAME: START LENGTH TARGET ..: " + quoting.shown(row))
         if not devices or devices[-1].name != name:
             devices.append(Device(name))
         devices[-1].lines.append(line_of(place, line))
@@ -122,11 +122,11 @@ def line_of(place: str, text: str) -> Line:
     words = text.split(" ")
     start, length = [numbers.read(it) for it in words[:2]] if len(words) > 2 else (None, None)
     if start is None or length is None:
-        raise Refusal(place, "not a line of a table: " + quoting.shown(text))
+        raise Refusal(place, "not a line of a table, give START LENGTH TARGET ..: " + quoting.shown(text))
     line = Line(start, length, words[2], words[3:])
     fault = line.fault()
     if fault:
-        raise Refusal(place, "%s: %s" % (fault, quoting.shown(text)))
+        raise Refusal(place, "%s, see `dmremap-tools explain`: %s" % (fault, quoting.shown(text)))
     return line
 
 

@@ -179,7 +179,7 @@ class Place:
 
     def refuse_there(self) -> NoReturn:
         """Refuses it, as something is there."""
-        raise Refusal(self.shown, "it is there already")
+        raise Refusal(self.shown, "it is there already: give another name, or remove it first")
 
     def refuse(self) -> NoReturn:
         """Refuses it, as it is read."""
@@ -219,11 +219,12 @@ class Place:
         if self.known is not None and self.known in _inputs:
             self.refuse()
         if any(it._key == self._key or it.known == self.known is not None for it in _places if self._key is not None):
-            raise WrongWords("%s: two outputs can't be one file" % self.shown)
+            raise WrongWords("%s: two outputs can't be one file: give another name" % self.shown)
         for descriptor in (1, 2):
             with contextlib.suppress(OSError):
                 if self.known is not None and identity(os.fstat(descriptor)) == self.known:
-                    raise WrongWords("%s: standard %s goes there, too" % (self.shown, "output" if descriptor == 1 else "error"))
+                    raise WrongWords("%s: standard %s goes there, too: give another file"
+                                     % (self.shown, "output" if descriptor == 1 else "error"))
 
     def _take_after(self, found: os.stat_result) -> None:
         """Gives what is made the mode and the owner of the one whose place it takes, where there is leave to."""

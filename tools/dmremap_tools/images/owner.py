@@ -49,7 +49,7 @@ def run(words: Namespace) -> None:
     for query in queries:
         device = next(iter(spots_named(pile, query.name)), None)
         if device is None:
-            raise Refusal(quoting.shown(query.name), "no image that is given is called so, and no partition or array of one")
+            raise Refusal(quoting.shown(query.name), "no image is called so, and no partition or array of one: see `scan` for their names")
         inside, end = device.size // SECTOR, query.first + query.count
         found = ways(owners.on(device), query.first, min(end, inside)) if query.first < inside else iter(())
         for way in found:

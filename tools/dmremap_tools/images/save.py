@@ -53,7 +53,7 @@ def run(words: Namespace) -> Optional[int]:
         return by_tables.run(words)
     for option in ("extents", "paths", "ls", "fresh"):
         if getattr(words, option):
-            raise WrongWords(f"--{option} is for FORMAT FILE [DISKS]", USAGE)
+            raise WrongWords(f"--{option} is for FORMAT FILE [DISKS]: leave it out", USAGE)
     mapping.use(words.program)
     pile = Pile(words.images)
     copy = Copy(target_of(pile, words.volume), words.target, words.map, words.allow_missing)

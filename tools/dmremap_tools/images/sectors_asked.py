@@ -52,5 +52,5 @@ def asked(source: streams.Lines, row: str, unit: int) -> Optional[Query]:
     if match and match[3] != "0":
         return Query(match[1], *numbers.sectors_touched(source.whole(match[2]) * unit, source.whole(match[3] or "1") * unit))
     if not KERNEL_LINE.fullmatch(row):
-        source.refuse("neither IMAGE FIRST nor IMAGE FIRST COUNT: " + quoting.shown(row))
+        source.refuse("give IMAGE FIRST or IMAGE FIRST COUNT, and not: " + quoting.shown(row))
     return None

@@ -81,7 +81,7 @@ def serve(command: List[str], socket: str) -> None:
             streams.out.write(f"{uri}\n" + LINES.format(uri=uri))
             streams.flush()
         if child.wait():
-            raise Refusal("nbdkit", f"it ended with status {child.returncode}")
+            raise Refusal("nbdkit", f"it ended with status {child.returncode}: see what it said above")
     finally:
         if child.poll() is None:
             child.terminate()

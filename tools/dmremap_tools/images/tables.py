@@ -57,7 +57,7 @@ def write(made: GroupTables, folder: str) -> None:
         raise streams.OutputFailed(f"{quoting.shown(folder)}: {streams.why(fault)}")
     for path in (file, disks, paths):
         if os.path.lexists(path):
-            raise Refusal(quoting.shown(path), "it is there already")
+            raise Refusal(quoting.shown(path), "it is there already: give another folder, or remove it first")
     put(file, [tables.text_of(list(made.devices.values()), False)])
     put(disks, [f"{name} {made.sectors_of(name)}\n" for name in made.disks])
     put(paths, [f"{name} {os.path.abspath(image.path)}\n" for name, image in made.disks.items()])

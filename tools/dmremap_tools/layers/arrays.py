@@ -29,7 +29,7 @@ class Array:
     def __init__(self, members: Sequence[Member], disks: Dict[str, str], sizes: Dict[str, int]) -> None:
         for path in [*disks, *sizes]:
             if path not in (it.path for it in members):
-                raise Refusal(quoting.shown(path), "no member of the array has this path")
+                raise Refusal(quoting.shown(path), "no member of the array has this path: give one that `mdadm --examine` printed")
         self.by_role, self.count = examine.by_role(members)
         self.there = list(self.by_role.values())
         self.level = examine.same(self.there, "Raid Level")
@@ -47,7 +47,7 @@ class Array:
     def member(self, role: int) -> Member:
         """The member that has this role, which is refused if it is missing."""
         if role not in self.by_role:
-            self.refuse("device %d of the array is missing" % role)
+            self.refuse("device %d of the array is missing: add what `mdadm --examine` prints of it" % role)
         return self.by_role[role]
 
     def disk(self, role: int) -> str:
@@ -63,7 +63,7 @@ class Array:
         """The member that has a column of data beside parity."""
         role = (_role_of_raid5 if self.level == "raid5" else _role_of_raid6)(self.layout, self.count, row, column)
         if role is None:
-            self.refuse("no layout of %s that is known: %s" % (self.level, quoting.shown(self.layout)))
+            self.refuse("no layout of %s that is known (%s): %s" % (self.level, quoting.shown(self.layout), examine.START))
         return role
 
     def beginning(self, role: int) -> Tuple[str, int]:
@@ -101,14 +101,14 @@ class Array:
     def _chunk(self) -> int:
         match = examine.CHUNK.fullmatch(examine.same(self.there, "Chunk Size"))
         if not match or not int(match[1]):
-            self.refuse("no size of chunks")
+            self.refuse("no size of chunks: " + examine.ANEW)
         return 2 * int(match[1])
 
     def _copies(self) -> Copies:
         said = dict(it.split("=", 1) for it in self.layout.split(", ") if "=" in it)
         near, far = said.get("near", "1"), said.get("far", said.get("offset", "1"))
         if not (near + far).isdecimal() or len(near + far) > 6 or not 0 < int(near) * int(far) <= self.count or not said:
-            self.refuse("no layout of raid10: " + quoting.shown(self.layout))
+            self.refuse("no layout of raid10 (%s): %s" % (quoting.shown(self.layout), examine.ANEW))
         return Copies(int(near), int(far), "offset" in said)
 
 
@@ -147,7 +147,8 @@ def _zones(array: Array) -> Iterator[tables.Line]:
         longer = [role for role in size if size[role] > row]
         end = min(size[role] for role in longer)
         if row and array.layout not in ("original", "alternate") and len(longer) > 1:
-            array.refuse("members of several lengths, and no layout that is said: a kernel refuses it unless it is told one")
+            array.refuse("members of several lengths, and no layout that is said: write it by `mdadm --assemble --update=layout-original`, "
+                         "or -alternate for one that was written to since Linux 3.14")
         # The original layout goes on with the number of the chunk in the array.
         turn = start // array.chunk % len(longer) if array.layout == "original" else 0
         yield _striped(array, start, (end - row) * len(longer), longer[turn:] + longer[:turn], row)
@@ -159,7 +160,7 @@ def _striped(array: Array, start: int, length: int, roles: Sequence[int], row: i
     if len(roles) == 1:
         return tables.Line(start, length, "linear", spots)
     if len(roles) > tables.MOST_COLUMNS:
-        array.refuse("more than %d columns, which dmremap doesn't take" % tables.MOST_COLUMNS)
+        array.refuse("more than %d columns, which dmremap doesn't take: %s" % (tables.MOST_COLUMNS, examine.START))
     return tables.Line(start, length, "striped", [str(len(roles)), str(array.chunk), *spots])
 
 
@@ -179,7 +180,7 @@ def _rows_of_copies(array: Array, copy: Optional[int]) -> Iterator[tables.Line]:
         array.refuse("raid10 of %d devices with the layout %s, which no table can say: follow the answers with --follow"
                      % (array.count, array.layout))
     if copy is not None and copy >= near * far:
-        array.refuse("it has %d copies, counted from 0" % (near * far))
+        array.refuse("it has %d copies, counted from 0: give a lower --copy" % (near * far))
     if far > 1:
         for each in range(far) if copy is None else [copy]:
             roles = [(it + each) % array.count for it in range(array.count)]

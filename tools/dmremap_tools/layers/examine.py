@@ -20,6 +20,8 @@ FEATURES = re.compile(r"0x([0-9a-f]{1,8})")
 # Bits of the feature map that don't change where data lies: a bitmap, bad blocks, a layout of raid0 that is said.
 BAD_BLOCKS = 0x8
 HARMLESS = 0x1 | BAD_BLOCKS | 0x1000
+# What to do about a text with faults, and about an array that no table says.
+ANEW, START = "make the text anew by `mdadm --examine`", "start it by `mdadm --assemble --readonly`"
 CHANGING = ("Reshape pos'n", "Delta Devices", "New Level", "New Layout", "New Chunksize", "Recovery Offset")
 JOURNAL = ("Journal Offset", "Journal")
 MOST_DEVICES = 4096
@@ -42,7 +44,7 @@ class Member:
         for key in keys:
             if key in self.fields:
                 return self.fields[key]
-        self.refuse("nothing is said of '%s' of %s" % (keys[0], quoting.shown(self.path)))
+        self.refuse("nothing is said of '%s' of %s: %s" % (keys[0], quoting.shown(self.path), ANEW))
 
     def is_old(self) -> bool:
         """Whether its metadata is 0.90, which counts in KiB, and has no offset."""
@@ -53,7 +55,7 @@ class Member:
         text = self.get(*keys)
         match = AMOUNT.fullmatch(text)
         if not match:
-            self.refuse("no number: %s : %s" % (keys[0], quoting.shown(text)))
+            self.refuse("no number, %s: %s : %s" % (ANEW, keys[0], quoting.shown(text)))
         return int(match[1])
 
     def data_offset(self) -> int:
@@ -76,7 +78,7 @@ class Member:
         """How often the array had changed when it was written last."""
         text = self.get("Events")
         if not EVENTS.fullmatch(text):
-            self.refuse("no number: Events : " + quoting.shown(text))
+            self.refuse("no number, %s: Events : %s" % (ANEW, quoting.shown(text)))
         return [int(it) for it in text.split(".")]
 
     def is_dropped(self, role: int) -> bool:
@@ -91,13 +93,14 @@ class Member:
     def check(self) -> None:
         """Refuses it if its sum is wrong, or data lies elsewhere than its fields say."""
         if not self.get("Checksum").endswith(" - correct"):
-            self.refuse("its sum is wrong")
+            self.refuse("its sum is wrong: leave it out, or " + ANEW)
         features = FEATURES.fullmatch(self.fields.get("Feature Map", "0x0"))
         others = int(features[1], 16) & ~HARMLESS if features else HARMLESS
         if any(it in self.fields for it in JOURNAL) or others & 0x200:
-            self.refuse("it has a journal, where the newest data may be")
+            self.refuse("it has a journal, where the newest data may be: " + START)
         if others or any(it in self.fields for it in CHANGING):
-            self.refuse("it is being reshaped or rebuilt, or has features that aren't known: feature map " + quoting.shown(self.fields.get("Feature Map", "0x0")))
+            self.refuse("it is being reshaped or rebuilt, or has features that aren't known (feature map %s): %s"
+                        % (quoting.shown(self.fields.get("Feature Map", "0x0")), START))
         if features and int(features[1], 16) & BAD_BLOCKS:
             streams.tell("%s has bad blocks: a kernel reads another copy there" % quoting.shown(self.path))
 
@@ -114,9 +117,9 @@ def read(path: str) -> List[Member]:
         elif found and device:
             found[-1].states[device[1]] = int(device[2]), device[3]
         elif row.strip() and not DEVICE_HEAD.fullmatch(row):
-            raise Refusal("%s:%d" % (streams.name_of(path), number), "not a line of `mdadm --examine`: " + quoting.shown(row))
+            raise Refusal("%s:%d" % (streams.name_of(path), number), "not a line of `mdadm --examine`, leave it out: " + quoting.shown(row))
     if not found:
-        raise Refusal(streams.name_of(path), "no member of an array")
+        raise Refusal(streams.name_of(path), "no member of an array: " + ANEW)
     return found
 
 
@@ -124,7 +127,7 @@ def same(members: Sequence[Member], *keys: str) -> str:
     """What all members say of a field."""
     values = {it.get(*keys) for it in members}
     if len(values) > 1:
-        members[0].refuse("the members differ in '%s': %s" % (keys[0], quoting.shown(", ".join(sorted(values)))))
+        members[0].refuse("the members differ in '%s' (%s): give those of one array" % (keys[0], quoting.shown(", ".join(sorted(values)))))
     return values.pop()
 
 
@@ -135,9 +138,9 @@ def by_role(members: Sequence[Member]) -> Tuple[Dict[int, Member], int]:
     same(members, "Raid Devices")
     count, version = members[0].number("Raid Devices"), same(members, "Version")
     if version not in ("1.0", "1.1", "1.2") and not OLD_VERSION.fullmatch(version):
-        members[0].refuse("metadata of version %s, and only 0.90 and 1.0 to 1.2 are known" % quoting.shown(version))
+        members[0].refuse("metadata of version %s, and only 0.90 and 1.0 to 1.2 are known: %s" % (quoting.shown(version), START))
     if not 0 < count <= MOST_DEVICES:
-        members[0].refuse("no array has %d devices" % count)
+        members[0].refuse("no array has %d devices: %s" % (count, ANEW))
     newest, found = max(it.events() for it in members), {}
     for it in members:
         it.check()
@@ -147,10 +150,10 @@ def by_role(members: Sequence[Member]) -> Tuple[Dict[int, Member], int]:
         elif it.events() != newest:
             streams.tell("left out: %s, which was away when others changed" % quoting.shown(it.path))
         elif role in found:
-            it.refuse("%s is device %d as well" % (quoting.shown(found[role].path), role))
+            it.refuse("%s is device %d as well: leave one of them out" % (quoting.shown(found[role].path), role))
         else:
             found[role] = it
-    return _without_dropped(found) or members[0].refuse("no member of it is active"), count
+    return _without_dropped(found) or members[0].refuse("no member of it is active: give those that are, or " + START), count
 
 
 def _without_dropped(found: Dict[int, Member]) -> Dict[int, Member]:

@@ -61,7 +61,7 @@ def _pairs(given: List[str], form: str) -> Dict[str, str]:
     for word in given:
         path, _, value = word.partition("=")
         if not path or not value or path in found:
-            raise WrongWords("not %s, or twice: %s" % (form, quoting.shown(word)), "usage: " + form)
+            raise WrongWords("give %s, each once, and not %s" % (form, quoting.shown(word)), "usage: " + form)
         found[path] = value
     return found
 
@@ -70,9 +70,9 @@ def follow(array: arrays.Array, disk: str, copy: "int | None", source: pieces.An
     """Prints answers with the pieces on a disk followed on."""
     near, far, _ = array.copies
     if array.level not in (*arrays.PARITY, "raid10"):
-        array.refuse("--follow isn't for %s, of which there is a table" % quoting.shown(array.level))
+        array.refuse("--follow isn't for %s: make its table with --name" % quoting.shown(array.level))
     if copy is not None and copy >= near * far:
-        array.refuse("it has %d copies, counted from 0" % (near * far))
+        array.refuse("it has %d copies, counted from 0: give a lower --copy" % (near * far))
     for piece in source:
         if disk not in (piece.disk, piece.to):
             is_move = piece.what in ("R", "W")
@@ -80,11 +80,11 @@ def follow(array: arrays.Array, disk: str, copy: "int | None", source: pieces.An
                                else source.line) + "\n")
             continue
         if piece.what not in ("R", "W") or piece.what == "W" and array.level in arrays.PARITY:
-            source.refuse_line("on %s only reads are followed" % quoting.shown(disk))
+            source.refuse_line("on %s only reads are followed, leave others out" % quoting.shown(disk))
         if piece.count > requests.MOST:
-            source.refuse_line("longer than a request is")
+            source.refuse_line("longer than a request is, give what `dmremap map` prints")
         if piece.start + piece.count > array.sectors:
-            source.refuse_line("%s has %d sectors" % (quoting.shown(disk), array.sectors))
+            source.refuse_line("%s has %d sectors, make the answers with that in DISKS" % (quoting.shown(disk), array.sectors))
         runs = _joined(_read(array, piece, copy or 0) if piece.what == "R" else _written(array, piece))
         words = "%d %s " % (piece.request, piece.what)
         while True:

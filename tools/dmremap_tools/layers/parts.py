@@ -24,7 +24,7 @@ def part_of(words: Namespace) -> Optional[Tuple[int, int]]:
 def disk_in(word: str, option: str) -> str:
     """A disk or a device of another text, as lines name it."""
     if not names.DISK.fullmatch(word) and not (word.startswith(names.MAPPER) and names.FORM.fullmatch(word[len(names.MAPPER):])):
-        raise Refusal(option, "no name of a disk: '%s'" % quoting.shown(word))
+        raise Refusal(option, "no name of a disk, give one without spaces, commas and semicolons: '%s'" % quoting.shown(word))
     return word
 
 
@@ -38,9 +38,9 @@ def device_of(name: str, flags: str, lines: Iterable[tables.Line], part: Optiona
                           "ask for a part, with --part START SECTORS" % (MOST_LINES, MOST_TEXT))
         device.lines.append(line)
     if not device.lines:
-        raise Refusal(device.name, "it has no sectors")
+        raise Refusal(device.name, "it has no sectors: give the whole text of it")
     if part is not None and part[0] >= device.end():
-        raise WrongWords("--part: %s has %d sectors, and the part begins at sector %d" % (device.name, device.end(), part[0]))
+        raise WrongWords("--part: %s has %d sectors, and the part begins at sector %d: begin lower" % (device.name, device.end(), part[0]))
     return device
 
 

@@ -10,15 +10,15 @@ from dmremap_tools.metadata.volume_group import Group, Record, Volume
 SAID = re.compile(r"dmremap: source: (text|field|syntax|extents|snapshot|store|limit) at ([0-9]{1,20})\n")
 LOST = "put a disk in the place of what is lost: in FILE write `linear lost 0` for `error`, and in DISKS `lost` with that line's length"
 
-MERGING = "a kernel writes this snapshot back to its origin as it goes, which dmremap can't follow"
+MERGING = "a kernel writes this snapshot back to its origin as it goes, which dmremap can't follow: take the tables when it is done"
 OVERFLOWS = "a kernel lets reads of kind PO go on when the store is full, and dmremap has no such kind; write P, whose stores are the same"
-ANOTHER_KIND = "a kernel refuses this kind of store"
+ANOTHER_KIND = "a kernel refuses this kind of store: write that which `dmsetup table` has"
 FEATURES = "a kernel takes features of a snapshot, which change discards alone, and dmremap takes none: let the line end after the chunk"
 BESIDE = "a kernel takes it beside other lines, and dmremap doesn't: give it a device of its own, and write a linear line to that here"
 NO_CHUNK = "a kernel takes a chunk of 0 for 32 sectors: write 32"
-WRONG_CHUNK = "a kernel refuses this chunk"
-LONG_CHUNK = "a kernel takes this chunk, and dmremap none of more than %d sectors" % store_places.MOST_IN_CHUNK
-LONGER = "a kernel refuses it, as it is longer than its origin"
+WRONG_CHUNK = "a kernel refuses this chunk: write that which `dmsetup table` has"
+LONG_CHUNK = "a kernel takes this chunk, and dmremap none of more than %d sectors: read it through a kernel" % store_places.MOST_IN_CHUNK
+LONGER = "a kernel refuses it, as it is longer than its origin: see what `dmsetup table` has"
 SHORTER = "a kernel takes it, though it is shorter than its origin, and dmremap doesn't"
 ORIGIN_BETWEEN = SHORTER + ": put a linear device of its length on the origin, and name that as the origin"
 PLACES = "a kernel takes stores of any length, and dmremap counts %d places for chunks in all" % store_places.MOST
@@ -34,7 +34,7 @@ STORES = {"zero": "a kernel takes a store of zeros, which keeps nothing, so that
                              "what the origin is of, which reads the same"}
 COPY = "; dmremap-tools lvm2-text makes a copy without it"
 OF_STORE = {"store": NOTHING_KEPT, "limit": PLACES}
-ODD_RECORD = "lvm2 writes no such record of a snapshot"
+ODD_RECORD = "lvm2 writes no such record of a snapshot: take an older text, from /etc/lvm/archive"
 OTHER_COPY = "dmremap can't follow what stands there; dmremap-tools lvm2-text makes a copy without it"
 
 
@@ -110,7 +110,7 @@ class Rows:
             return why
         if int(row.words[1]) > self._length(row.words[3]):
             return LONGER
-        return ORIGIN_BETWEEN if row.target == "snapshot" else SHORTER
+        return ORIGIN_BETWEEN
 
     def _why_store(self, row: Row) -> Optional[str]:
         for lower in self._below([row.words[4]]):

@@ -77,7 +77,7 @@ class ExtSystem:
         if failed:
             raise failed
         reason = "; ".join(map(quoting.shown, complaints[:MOST_COMPLAINTS])) or "not enough"
-        raise Refusal(quoting.shown(image), "debugfs says: " + reason)
+        raise Refusal(quoting.shown(image), "debugfs says: %s; see `e2fsck -n`" % reason)
 
     def _find_inodes(self, debugfs: Debugfs, blocks: List[int], complaints: List[str]) -> bool:
         """Finds the inode of each of these blocks that has one, unless there is no answer about some. Adds what debugfs
@@ -100,7 +100,7 @@ class ExtSystem:
             for block, first, end in run.parts(self.sectors):
                 found.update(filter(self._layout.is_file, self._layout.inodes_at(block, first, end) or ()))
             if len(found) > MOST_INODES:
-                raise Refusal(asked.volume, "more than %d inodes are lost" % MOST_INODES)
+                raise Refusal(asked.volume, "more than %d inodes are lost: ask for the maps of fewer images" % MOST_INODES)
         return sorted(found)
 
     def _used(self, request: str, answer: Pattern[str], numbers: Sequence[int]) -> Set[int]:

@@ -33,9 +33,9 @@ def run(words: argparse.Namespace) -> None:
         begun = started.start(words, source, [name], room)
         device = begun.loaded.by_path().get(names.MAPPER + name)
         if device is None:
-            raise Refusal(streams.name_of(words.file), "no device " + name)
+            raise Refusal(streams.name_of(words.file), f"no device {name}: `dmremap table` prints their names")
         if device.end() > requests.LONGEST:
-            raise Refusal(streams.name_of(words.file), "%s is %s" % (name, requests.TOO_LONG))
+            raise Refusal(streams.name_of(words.file), "%s is %s: give `dmremap map` requests for parts of it" % (name, requests.TOO_LONG))
         asked = ("R %s %d %d\n" % (name, at, count) for at, count in requests.parts(0, device.end()))
         with Mapped(begun.words, asked) as mapped:
             write(mapped.answers)

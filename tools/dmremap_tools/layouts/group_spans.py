@@ -38,7 +38,7 @@ def physical_volumes(path: str, named: Collection[str]) -> Iterator[PhysicalVolu
     top = config_text.Document(streams.name_of(path), streams.read_bytes(path)).top
     groups = [group for group in map(Group, top.sections()) if group.physicals]
     if not groups:
-        raise Refusal(streams.name_of(path), "no physical volumes of a group")
+        raise Refusal(streams.name_of(path), "no physical volumes of a group: give a text of /etc/lvm/backup, or what `metadata` prints")
     for group in groups:
         found = {key: PhysicalVolume(word_of(key), word_of(node.value(b"device", bytes) or b"no path"), node.value(b"id", bytes),
                                      own(path, group, node))
@@ -55,7 +55,7 @@ def own(path: str, group: Group, node: Node) -> List[Taken]:
     """What a physical volume has for itself: before its extents, and after them, where a second area may lie."""
     start, count, size = (node.value(it, int) for it in (b"pe_start", b"pe_count", b"dev_size"))
     if start is None or start < 0:
-        raise Refusal(streams.name_of(path), "no pe_start of " + config_text.shown(node.key))
+        raise Refusal(streams.name_of(path), "no pe_start of %s: take an older text, of /etc/lvm/archive" % config_text.shown(node.key))
     name = word_of(group.name)
     found = [Taken(0, start, name, "-", "label+metadata")]
     if count is not None and count >= 0 and size is not None and group.extent_size:

@@ -94,11 +94,11 @@ def read(path: str) -> Dict[str, Bar]:
             bar.size = span.end
         elif span.first < span.end:
             if bar.ranges and span.first < bar.ranges[-1].span.first:
-                raise Refusal(streams.name_of(path), "the ranges of %s aren't sorted" % quoting.shown(span.on))
+                raise Refusal(streams.name_of(path), "the ranges of %s aren't sorted: give what `spans` prints" % quoting.shown(span.on))
             bar.add(span)
     for bar in bars.values():
         if not bar.size or any(it.span.end > bar.size for it in bar.ranges):
-            raise Refusal(streams.name_of(path), "%s has no end, or a range past it" % quoting.shown(bar.on))
+            raise Refusal(streams.name_of(path), "%s has no end, or a range past it: give what `spans` prints" % quoting.shown(bar.on))
     return bars
 
 

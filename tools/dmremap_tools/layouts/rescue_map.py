@@ -29,7 +29,7 @@ def areas_in(source: streams.Lines, rows: Iterator[str]) -> Iterator[Area]:
         match = AREA.fullmatch(row)
         begin, size = (int(it, 0) for it in match.groups()[:2]) if match else (0, 0)
         if not match or not size or end not in (None, begin) or begin + size > numbers.LIMIT:
-            source.refuse("not the area that comes next: " + quoting.shown(row))
+            source.refuse("not the area that comes next, give the map as ddrescue wrote it: " + quoting.shown(row))
         end = begin + size
         yield Area(begin, end, match[3])
 
@@ -49,7 +49,7 @@ def unread_in(given: Sequence[str], images: Sequence[str]) -> Dict[str, List[Tup
         source = streams.Lines(map_path)
         rows = (row for row in source if row and not row.startswith("#"))
         if not CURRENT.fullmatch(next(rows, "")):
-            source.refuse("not a map of ddrescue")
+            source.refuse("not a map of ddrescue: give the file that it wrote")
         found[path] = [(area.begin // numbers.SECTOR * numbers.SECTOR, -(-area.end // numbers.SECTOR) * numbers.SECTOR)
                        for area in areas_in(source, rows) if area.status != FINISHED]
     return found

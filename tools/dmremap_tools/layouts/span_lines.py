@@ -28,10 +28,10 @@ def spans_in(path: str) -> Iterator[Span]:
     for row in source:
         fields = row.split(" ")
         if len(fields) != 6 or "" in fields:
-            source.refuse("not a line of spans: " + quoting.shown(row))
+            source.refuse("not a line of spans, give what `spans` prints: " + quoting.shown(row))
         on, first, end, device, start, kind = fields
         span = Span(on, source.whole(first), source.whole(end), device, start, kind)
         if span.first > span.end:
-            source.refuse("not a line of spans: " + quoting.shown(row))
+            source.refuse("not a line of spans, give what `spans` prints: " + quoting.shown(row))
         yield span
     source.tell_if_none()

@@ -51,7 +51,7 @@ def add_words(parser: ArgumentParser) -> None:
 def run(words: Namespace) -> None:
     """Prints the ranges, or what is asked of them."""
     if words.to == 0:
-        raise WrongWords("--to: a multiple of no sectors")
+        raise WrongWords("--to: give one sector or more")
     devices = stacked.devices_in(words.file)
     spans = Spans(disks.read(words.disks), devices)
     if not devices and not spans.disks:
@@ -138,7 +138,7 @@ class Spans:
         for line in device.lines:
             for place, (lower, first, count) in enumerate(line.spans()):
                 if lower not in self._sizes:
-                    raise Refusal(quoting.shown(lower), "neither a disk nor a device")
+                    raise Refusal(quoting.shown(lower), "neither a disk nor a device: add it to DISKS")
                 kind = line.target if line.target != "snapshot" else ("origin", "store")[place]
                 end = self._sizes[lower] if count is None else first + count
                 self._add(Span(lower, first, end, device.name, str(line.start), kind))

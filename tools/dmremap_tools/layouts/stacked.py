@@ -6,7 +6,7 @@ from dmremap_tools.base import names, quoting, streams, tables
 from dmremap_tools.base.refusal import Refusal
 
 DEEPEST = 32
-TOO_DEEP = "devices stand on themselves, or on too many others: "
+TOO_DEEP = "devices stand on themselves, or on too many others, see `dmremap-tools explain`: %s"
 
 
 def devices_in(path: str) -> List[tables.Device]:
@@ -18,7 +18,7 @@ def devices_in(path: str) -> List[tables.Device]:
     levels: Dict[str, int] = {}
     for top in lowers:
         if top not in levels and not is_low(top, lowers, levels):
-            raise Refusal(streams.name_of(path), TOO_DEEP + quoting.shown(top[len(names.MAPPER):]))
+            raise Refusal(streams.name_of(path), TOO_DEEP % quoting.shown(top[len(names.MAPPER):]))
     return devices
 
 

@@ -70,7 +70,7 @@ def places_of(loaded: stack.Stack, name: str) -> Iterator[str]:
     served = {line.words[0] for device in loaded.devices for line in device.lines if line.target == "snapshot-origin"}
     snapshots = [(device, line.words) for device in loaded.devices for line in device.lines if line.target == "snapshot"]
     if not snapshots:
-        raise Refusal(name, "it has no snapshot")
+        raise Refusal(name, "it has no snapshot: give the tables of one")
     for device, (origin, store, kind, chunk) in snapshots:
         chunks = -(-device.end() // int(chunk))
         places = lengths[store] // int(chunk) if kind == "N" else store_places.places(int(chunk), lengths[store])

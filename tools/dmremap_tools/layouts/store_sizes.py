@@ -3,7 +3,7 @@
 import re
 from typing import Dict, Tuple
 
-from dmremap_tools.base import names, numbers, quoting, streams
+from dmremap_tools.base import names, numbers, requests, streams
 from dmremap_tools.base.refusal import WrongWords
 
 REQUEST = re.compile("([RW]) (%s) (%s) (%s)" % (names.FORM.pattern, numbers.FORM.pattern, numbers.FORM.pattern))
@@ -15,16 +15,16 @@ AREAS = ("P", "K")
 def write(path: str, chunk: int, kind: str) -> None:
     """Counts the chunks of each device, and prints them."""
     if chunk == 0 or chunk & (chunk - 1):
-        raise WrongWords(f"a chunk is a power of two: {chunk}")
+        raise WrongWords(f"--chunk: give a power of two, and not {chunk}")
     source = streams.Lines(path)
     taken = Chunks()
     for line in source:
         match = REQUEST.fullmatch(line)
         if not match:
-            source.refuse("not a request: " + quoting.shown(line))
+            source.refuse_line(requests.NO_REQUEST)
         first, count = int(match[3]), int(match[4])
         if match[1] == "W" and count and not taken.take(match[2], first // chunk, (first + count - 1) // chunk + 1):
-            source.refuse("the chunks lie too far apart to be counted in %d MiB" % (MOST_PAGES * PAGE >> 20))
+            source.refuse("the chunks lie too far apart to be counted in %d MiB: give a larger --chunk" % (MOST_PAGES * PAGE >> 20))
     source.tell_if_none()
     for name, count in taken.counts().items():
         own = (count // (32 * chunk) + 2) * chunk if kind in AREAS else 0

@@ -20,11 +20,11 @@ def system_in(image: str, asked: AskedRuns) -> "ext_system.ExtSystem | XfsSystem
     is_btrfs, is_xfs = read_at(descriptor, at + BTRFS_AT, len(BTRFS)) == BTRFS, read_at(descriptor, at, len(XFS)) == XFS
     os.close(descriptor)
     if is_btrfs:
-        raise Refusal(quoting.shown(image), "it is btrfs, whose files have no places on a device that debugfs or xfs_db tells")
+        raise Refusal(quoting.shown(image), "it is btrfs, whose files have no places: see `btrfs inspect-internal logical-resolve`")
     if not is_xfs:
         return ext_system.ExtSystem(image, asked, list(ext_system.tries()))
     if program.found(XFS_DB) == XFS_DB:
-        raise Refusal(quoting.shown(image), "it is XFS, which xfs_db of xfsprogs reads, and that isn't here")
+        raise Refusal(quoting.shown(image), "it is XFS, which xfs_db reads, and that isn't here: install xfsprogs")
     if at:
         raise Refusal(quoting.shown(image), "it is XFS, and xfs_db reads no file system within a file: `losetup -r -o %d`" % at)
     return XfsSystem(place.path, asked)

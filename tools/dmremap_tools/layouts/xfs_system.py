@@ -98,7 +98,7 @@ class XfsSystem:
         """The path of each of these inodes that has one. A line that nobody can foretell stands between two answers, as a
         name may hold whatever looks like an answer. Where xfs_db complains, a folder above may be lost: ?/PATH."""
         if len(inodes) > MOST_BLOCKS:
-            raise Refusal(quoting.shown(self._image), "more than %d inodes" % MOST_BLOCKS)
+            raise Refusal(quoting.shown(self._image), "more than %d inodes: ask for the maps of fewer images" % MOST_BLOCKS)
         mark = os.urandom(16).hex()
         printed, complaints = self._ask(["blockget -n"] + ["echo %s\nncheck -i %d" % (mark, it) for it in inodes] if inodes else [])
         found = {}
@@ -123,7 +123,7 @@ class XfsSystem:
 
     def _refuse(self, complaints: Sequence[str]) -> NoReturn:
         reason = "; ".join(map(quoting.shown, complaints[:MOST_COMPLAINTS])) or "not enough"
-        raise Refusal(quoting.shown(self._image), "xfs_db says: " + reason)
+        raise Refusal(quoting.shown(self._image), "xfs_db says: %s; see `xfs_repair -n`" % reason)
 
 
 def status(image: str) -> os.stat_result:

@@ -26,6 +26,7 @@ LENGTH = re.compile(r"\s*length (\d{1,20}) owner \d+ stripe_len (\d{1,20}) type 
 COUNT = re.compile(r"\s*num_stripes (\d{1,5}) sub_stripes (\d{1,5})")
 STRIPE = re.compile(r"\s*stripe \d+ devid (\d{1,20}) offset (\d{1,20})")
 PARITY = ("RAID5", "RAID6")
+ANEW = "make the text anew by `btrfs inspect-internal dump-tree -t chunk`"
 
 
 class Chunk:
@@ -43,7 +44,7 @@ class Chunk:
 
     def sectors(self, count: int) -> int:
         """Bytes as sectors."""
-        return count // numbers.SECTOR if count % numbers.SECTOR == 0 else self.refuse("no whole sectors: %d bytes" % count)
+        return count // numbers.SECTOR if count % numbers.SECTOR == 0 else self.refuse("no whole sectors (%d bytes): %s" % (count, ANEW))
 
     def take(self, row: str) -> None:
         """Takes what a line says of it."""
@@ -58,13 +59,13 @@ class Chunk:
     def line(self, disks: Dict[str, str], copy: int) -> tables.Line:
         """Its line, of this copy."""
         if not self.length or not self.stripes or len(self.stripes) != self.count:
-            self.refuse("a stripe of the chunk at %d is missing" % self.start)
+            self.refuse("a stripe of the chunk at %d is missing: %s" % (self.start, ANEW))
         if self.profile in PARITY:
             streams.tell("left out: the chunk at %d, which is of %s" % (self.start, self.profile))
             return tables.Line(self.sectors(self.start), self.sectors(self.length), "error", [])
         copies = self.copies()
         if copy >= copies > 1:
-            self.refuse("the chunk at %d has %d copies, counted from 0" % (self.start, copies))
+            self.refuse("the chunk at %d has %d copies, counted from 0: give a lower --copy" % (self.start, copies))
         columns = [self.stripes[copy % copies]]
         if self.profile in ("RAID0", "RAID10"):
             columns = self.stripes[copy % copies::copies]
@@ -79,7 +80,7 @@ class Chunk:
 
     def _spot(self, disks: Dict[str, str], device: str, offset: int) -> List[str]:
         if device not in disks:
-            self.refuse("device %s of the file system isn't given" % device)
+            self.refuse("device %s of the file system isn't given: add --device %s DISK" % (device, device))
         return [disks[device], str(self.sectors(offset))]
 
 
@@ -98,10 +99,10 @@ def run(words: Namespace) -> None:
     disks = {number: parts.disk_in(disk, "--device") for number, disk in words.device}
     chunks = sorted(read(words.chunks), key=lambda it: it.start)
     if not chunks:
-        raise Refusal(streams.name_of(words.chunks), "no chunks of a btrfs file system")
+        raise Refusal(streams.name_of(words.chunks), "no chunks of a btrfs file system: " + ANEW)
     device = parts.device_of(words.name, "", lines_of(chunks, disks, words.copy), parts.part_of(words))
     if words.copy >= max(1, *(it.copies() for it in chunks)):
-        raise Refusal(streams.name_of(words.chunks), "no chunk has a copy %d, counted from 0" % words.copy)
+        raise Refusal(streams.name_of(words.chunks), "no chunk has a copy %d, counted from 0: give a lower --copy" % words.copy)
     streams.out.write(tables.text_of([device], False))
 
 
@@ -149,7 +150,7 @@ def read(path: str) -> List[Chunk]:
         elif is_chunk:
             found[-1].take(row)
     if found and not blocks.are_whole():
-        source.refuse("the tree of chunks isn't all there")
+        source.refuse("the tree of chunks isn't all there: " + ANEW)
     return found
 
 
@@ -159,7 +160,7 @@ def lines_of(chunks: List[Chunk], disks: Dict[str, str], copy: int) -> Iterator[
     for chunk in chunks:
         line = chunk.line(disks, copy)
         if line.start < end:
-            chunk.refuse("it begins before the end of another")
+            chunk.refuse("it begins before the end of another: " + ANEW)
         if line.start > end:
             yield tables.Line(end, line.start - end, "error", [])
         yield line

@@ -67,7 +67,7 @@ def check_single(path: str, where: str, blocks: "array.array[int]") -> None:
     last = None
     for block in sorted(blocks):
         if block == last:
-            raise Refusal(streams.name_of(path), "block %d of the %s is there twice" % (block, where))
+            raise Refusal(streams.name_of(path), "block %d of the %s is there twice: %s" % (block, where, dumps.ANEW))
         last = block
 
 

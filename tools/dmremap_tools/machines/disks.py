@@ -30,5 +30,5 @@ def _read(path: str) -> Tuple[Document, List[Tuple[str, Node]]]:
     group = next(iter(document.top.sections()), None)
     physicals = sections_in(group, b"physical_volumes") if group else []
     if not physicals:
-        raise Refusal(document.path, "no physical volumes of a group")
+        raise Refusal(document.path, "no physical volumes of a group: give a text of /etc/lvm/backup, or what `metadata` prints")
     return document, list(zip(disk_names(physicals), physicals))

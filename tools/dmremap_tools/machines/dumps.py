@@ -9,6 +9,8 @@ from dmremap_tools.base.refusal import Refusal
 
 # How many bytes the text has at most from the beginning of an element to the next one.
 MOST_BETWEEN = 1 << 20
+# What to do about any of its faults.
+ANEW = "make the dump anew of repaired metadata"
 
 
 class Element(NamedTuple):
@@ -25,7 +27,7 @@ class Element(NamedTuple):
             self.refuse("it doesn't say " + key)
         value = numbers.read(self.said[key])
         if value is None:
-            self.refuse(streams.NO_NUMBER % quoting.shown(self.said[key]))
+            self.refuse(f"{key} is no whole number below 2^64")
         return value
 
     def block_size(self, key: str) -> int:
@@ -35,7 +37,7 @@ class Element(NamedTuple):
     def refuse(self, reason: str) -> NoReturn:
         """Refuses the element."""
         said = "".join(f' {key}="{value}"' for key, value in self.said.items())
-        raise Refusal(self.name, f"{reason}: " + quoting.shown(f"<{'/' * self.is_end}{self.tag}{said}>"))
+        raise Refusal(self.name, f"{reason}, {ANEW}: " + quoting.shown(f"<{'/' * self.is_end}{self.tag}{said}>"))
 
 
 class Gathered:
@@ -69,7 +71,7 @@ class Gathered:
 
     def refuse(self, found: str) -> NoReturn:
         """Refuses what was found."""
-        raise Refusal(self._name, f"not what {self._tool} prints: {quoting.shown(found)}")
+        raise Refusal(self._name, f"not what {self._tool} prints, {ANEW}: {quoting.shown(found)}")
 
 
 def elements(path: str, tool: str) -> Iterator[Element]:
@@ -81,7 +83,8 @@ def elements(path: str, tool: str) -> Iterator[Element]:
         try:
             parser.feed(chunk) if chunk else parser.close()
         except ElementTree.ParseError as fault:
-            raise Refusal(f"{name}:{fault.position[0]}", f"not what {tool} prints, or its end is missing: {quoting.shown(fault.msg)}")
+            why = f"not what {tool} prints, or its end is missing, {ANEW}: {quoting.shown(fault.msg)}"
+            raise Refusal(f"{name}:{fault.position[0]}", why)
         between = 0 if gathered.elements else between + len(chunk)
         if between > MOST_BETWEEN:
             gathered.refuse(f"{between} bytes without an element")

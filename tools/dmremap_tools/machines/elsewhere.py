@@ -47,12 +47,12 @@ def run(words: argparse.Namespace) -> None:
     devices, is_concise = tables.read(words.file)
     name = streams.name_of(words.file)
     if not devices:
-        raise Refusal(name, "no text")
+        raise Refusal(name, "no text: give what `dmremap concise` prints")
     if not is_concise and not words.losetup:
-        raise Refusal(name + ":1", "not what ./dmremap concise prints")
+        raise Refusal(name + ":1", "not what `dmremap concise` prints: give that")
     for device in devices:
         if not names.FORM.fullmatch(words.prefix + device.name):
-            raise Refusal(name, "no name of a device: " + quoting.shown(words.prefix + device.name))
+            raise Refusal(name, "no name of a device, give another --prefix: " + quoting.shown(words.prefix + device.name))
     if words.losetup:
         streams.out.write("".join(losetup(name, it, path_of) for it in devices))
     else:
@@ -97,7 +97,7 @@ class Moved:
     def _is_missing(self, disk: str) -> bool:
         """Whether a disk has no path, which may be refused."""
         if disk not in self._path_of and not self._target:
-            raise Refusal(self._source, "no path of the disk " + quoting.shown(disk))
+            raise Refusal(self._source, "no path of the disk %s: add it to PATHS" % quoting.shown(disk))
         return disk not in self._path_of
 
     def _lower(self, lower: str, stand_ins: StandIns) -> str:
@@ -114,7 +114,7 @@ def losetup(source: str, device: tables.Device, path_of: Optional[Dict[str, str]
         return ""
     disk = line.words[0]
     if not names.DISK.fullmatch(disk) or (path_of is not None and disk not in path_of):
-        raise Refusal(source + ":1", "no path of the disk " + quoting.shown(disk))
+        raise Refusal(source + ":1", "no path of the disk %s: add it to PATHS" % quoting.shown(disk))
     place = paths.place_of("IMAGE" if path_of is None else path_of[disk])
     image = "IMAGE" if path_of is None else quoting.for_shell(place.path)
     return "losetup -r -o %d --sizelimit %d -f --show %s # %s: %s\n" % (

@@ -123,7 +123,7 @@ def leave_others(devices: Dict[str, Found], wanted: List[str]) -> None:
     waiting, asked = [], set()
     for name in wanted:
         if name not in of:
-            raise Refusal("--only", "no device %s" % quoting.shown(name))
+            raise Refusal("--only", "no device %s: give a name that LS has" % quoting.shown(name))
         waiting.append(of[name].number)
     while waiting:
         number = waiting.pop()

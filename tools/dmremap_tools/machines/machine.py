@@ -74,7 +74,7 @@ def run(words: argparse.Namespace) -> None:
     kept, disks = stack.with_names()
     say_left_out(stack, disks)
     if not kept:
-        raise Refusal(streams.name_of(words.table), "no device is left that dmremap can follow")
+        raise Refusal(streams.name_of(words.table), "no device is left that dmremap can follow: see above what was left out")
     beside.write("".join("%s %d\n" % it for it in disks.items()))
     streams.out.write(tables.text_of(kept, is_concise))
 
@@ -83,7 +83,7 @@ def check_stores(given: List[str], devices: Dict[str, Found]) -> None:
     """Refuses stores that are given of no snapshot, as that which was meant would be left out."""
     for name in (it.partition("=")[0] for it in given):
         if not any(it.origins and it.name == name for it in devices.values()):
-            raise Refusal("--store", "no snapshot " + quoting.shown(name))
+            raise Refusal("--store", "no snapshot %s: give a name that LS has" % quoting.shown(name))
 
 
 def lengths_of(words: argparse.Namespace) -> Tuple[Dict[str, Optional[int]], Dict[str, str]]:
@@ -106,7 +106,8 @@ def length_in(path: str, number: str, known: Optional[int], sector: int) -> int:
     length = sectors_at(place, sector)
     if place.is_said or length == known:
         if known not in (None, length):
-            raise Refusal(quoting.shown(path), "lsblk says that %s has %d sectors, and there it has %d" % (quoting.shown(number), known, length))
+            raise Refusal(quoting.shown(path), "lsblk says that %s has %d sectors, and there it has %d: give its own image"
+                          % (quoting.shown(number), known, length))
         return length
     kind, partitions = partitioned(disk_image.raw_image(place.path), sector)
     if known is not None and known in (it.size // numbers.SECTOR for it in partitions):

@@ -27,7 +27,7 @@ class StandIns:
         for disk, start, count in line.spans():
             if not disk.startswith(names.MAPPER) and is_missing(disk):
                 if count is None:
-                    raise Refusal(self._source, "a snapshot needs the disk %s: it can't be missing" % quoting.shown(disk))
+                    raise Refusal(self._source, "a snapshot needs the disk %s: give its path in PATHS" % quoting.shown(disk))
                 self._lose(disk, start + count)
 
     def _lose(self, disk: str, end: int) -> None:

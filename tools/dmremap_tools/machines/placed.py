@@ -29,7 +29,7 @@ def by_ids(text: Optional[str], places: Dict[str, Place], sizes: Dict[str, int],
         wanted = {name for name, place in places.items() if place.path == path}
         lost = [identity for identity, name in named.items() if volumes and name in wanted and identity not in volumes]
         if lost:
-            raise Refusal(quoting.shown(path), "it isn't %s, whose id is %s: its own is %s"
+            raise Refusal(quoting.shown(path), "it isn't %s, whose id is %s, but has the id %s: give the path of that"
                           % (quoting.shown(named[lost[0]]), shown(lost[0]), " or ".join(map(shown, volumes))))
         for identity in volumes:
             name = named.get(identity)
@@ -37,7 +37,7 @@ def by_ids(text: Optional[str], places: Dict[str, Place], sizes: Dict[str, int],
                 found[name] = Place(path, volumes[identity])
                 decided.add(name)
         if path in bare and path not in (it.path for it in found.values()):
-            raise Refusal(quoting.shown(path), "no physical volume of the group is in it that isn't elsewhere: none of its labels has such an id")
+            raise Refusal(quoting.shown(path), "no physical volume of the group is in it that isn't elsewhere: leave it out")
     for name in places:
         if name in sizes and name not in decided and not places[name].is_said:
             check_partition(name, places[name].path, sizes[name])
@@ -104,5 +104,5 @@ def sectors_at(place: Place, sector: int = SECTOR) -> int:
     sizes = [it.size for it in table.partitions if it.start == place.start] if table else []
     sizes += [label.size] if label else []
     if not sizes:
-        raise Refusal(image.path, "neither a partition nor a physical volume begins at byte %d" % place.start)
+        raise Refusal(image.path, "neither a partition nor a physical volume begins at byte %d: see `scan` for where some do" % place.start)
     return sizes[0] // SECTOR

@@ -77,7 +77,7 @@ class Runs:
 
     def _check(self, element: dumps.Element) -> None:
         if len(self) > MOST_RUNS:
-            element.refuse(f"more than {MOST_RUNS} runs of blocks")
+            raise Refusal(element.name, f"more than {MOST_RUNS} runs of blocks: use `save` or `serve`")
 
 
 def add_words(parser: ArgumentParser) -> None:
@@ -118,7 +118,7 @@ def thin_devices(words: Namespace) -> List[tables.Device]:
     made = []
     for number, name, sectors in wanted:
         if number not in pool.devices:
-            raise Refusal(streams.name_of(words.dump), f"it has no device {number}")
+            raise Refusal(streams.name_of(words.dump), f"it has no device {number}: give a dev_id that it has")
         lines = lines_of(name, pool.devices[number], pool.block, sectors, data, external.get(number))
         made.append(parts.device_of(name, "ro", lines, parts.part_of(words)))
     return made
@@ -194,7 +194,7 @@ class Pool:
         """Refuses more runs than fit into memory."""
         self._runs += count
         if self._runs > MOST_TOGETHER:
-            element.refuse(f"more than {MOST_TOGETHER} runs of blocks in all")
+            raise Refusal(element.name, f"more than {MOST_TOGETHER} runs of blocks in all: use `save` or `serve`")
 
 
 def lines_of(name: str, runs: Runs, block: int, sectors: int, data: str, external: Optional[str]) -> Iterator[tables.Line]:
@@ -203,7 +203,7 @@ def lines_of(name: str, runs: Runs, block: int, sectors: int, data: str, externa
     for number, place, count in runs.in_order():
         first, end = number * block, min((number + count) * block, sectors)
         if first < at:
-            raise Refusal(quoting.shown(name), f"block {number} of a device is there twice")
+            raise Refusal(quoting.shown(name), f"block {number} of a device is there twice: {dumps.ANEW}")
         if first >= sectors:
             break
         if at < first:

@@ -35,7 +35,7 @@ import tempfile
 from typing import Dict, List
 
 from dmremap_tools.base import program, quoting, streams
-from dmremap_tools.base.config_text import Document, Node, shown
+from dmremap_tools.base.config_text import ANEW, Document, Node, shown
 from dmremap_tools.base.refusal import Refusal
 from dmremap_tools.metadata.followed import NOT_ASKED, judge, leave_others
 from dmremap_tools.metadata.mending import LIST, ONE, Mending, mend_section
@@ -69,13 +69,13 @@ def run(words: argparse.Namespace) -> None:
     content = streams.read_bytes(words.text, MOST_TEXT)
     name = streams.name_of(words.text)
     if content.count(b"\n") > MOST_COPY:
-        raise Refusal(name, "it has more than %d lines, all of which the copy would have, and dmremap takes as many bytes" % MOST_COPY)
+        raise Refusal(name, "it has more than %d lines, and dmremap takes as many bytes: give the text of one group" % MOST_COPY)
     copy = Mending(Document(name, content[len(MARK):] if content.startswith(MARK) else content))
     drop_twice(copy)
     group = Group(group_of(copy))
     for name in words.only:
         if os.fsencode(name) not in group.volumes:
-            raise Refusal(copy.document.path, "no volume %s" % quoting.shown(name))
+            raise Refusal(copy.document.path, "no volume %s: give a name that the text has" % quoting.shown(name))
     if words.only:
         leave_others(group, [os.fsencode(it) for it in words.only])
     drop_volumes(copy, group)
@@ -127,7 +127,7 @@ def group_of(copy: Mending) -> Node:
     top = copy.document.top
     sections = top.sections()
     if not sections or sections[0].child(b"physical_volumes") is None:
-        raise Refusal(copy.document.path, "no metadata of a group: there is no section with physical_volumes")
+        raise Refusal(copy.document.path, "no metadata of a group: give a text of /etc/lvm/backup, or what `metadata` prints")
     for node in sections[1:]:
         copy.drop(node, shown(node.key), "lvm2 reads one section of a text, the first")
     top.children = [it for it in top.children or () if it.children is None or it is sections[0]]
@@ -138,8 +138,8 @@ def drop_volumes(copy: Mending, group: Group) -> None:
     """Leaves out the volumes that can't stay."""
     for volume in group.volumes.values():
         if volume.node.value(b"segment_count", int) not in (None, len(volume.segments)):
-            raise copy.document.refused(volume.node.start, "%s: segment_count isn't the number of its segments, %d"
-                                        % (shown(volume.name), len(volume.segments)))
+            raise copy.document.refused(volume.node.start, "%s: segment_count isn't the number of its segments, %d: %s"
+                                        % (shown(volume.name), len(volume.segments), ANEW))
     judge(group)
     for volume in group.volumes.values():
         if volume.why == NOT_ASKED:
@@ -149,7 +149,7 @@ def drop_volumes(copy: Mending, group: Group) -> None:
     say_kept(copy, group)
     if group.volumes and all(it.why for it in group.volumes.values()):
         copy.tell()
-        raise Refusal(copy.document.path, "nothing is left: dmremap can follow none of its volumes")
+        raise Refusal(copy.document.path, "nothing is left, as dmremap can follow none of its volumes: use `save`, `serve` or `machine`")
 
 
 def leave_physicals(copy: Mending, group: Group) -> None:

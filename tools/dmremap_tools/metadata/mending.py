@@ -4,7 +4,7 @@ import re
 from typing import Collection, Dict, List, Optional, Tuple
 
 from dmremap_tools.base import streams
-from dmremap_tools.base.config_text import BARE, DECIMAL, DOUBLE, NUMBER, SINGLE, Document, Item, Node, shown
+from dmremap_tools.base.config_text import ANEW, BARE, DECIMAL, DOUBLE, NUMBER, SINGLE, Document, Item, Node, shown
 from dmremap_tools.metadata.text_copy import UNKNOWN, Copy, newlines
 
 # What dmremap takes for a key, a number and a string, and how many sections it takes inside each other.
@@ -68,7 +68,7 @@ def is_as_read(field: Node, fields: Dict[bytes, str]) -> bool:
 def mend_key(copy: Mending, node: Node) -> None:
     """Writes a key without quotes."""
     if not WORD.match(node.key):
-        raise copy.document.refused(node.start, "no name that lvm2 gives: %s" % shown(node.key))
+        raise copy.document.refused(node.start, "no name that lvm2 gives, %s: %s" % (ANEW, shown(node.key)))
     quote = copy.document.content[node.start:node.start + 1]
     if quote in (b'"', b"'"):
         end = copy.document.content.index(quote, node.start + 1) + 1
@@ -105,7 +105,7 @@ def mend_item(copy: Mending, node: Node, item: Item) -> None:
     text = copy.document.content[item.start:item.end]
     if item.kind in (NUMBER, DECIMAL):
         if not isinstance(item.value, int) or item.value < 0:
-            raise copy.document.refused(item.start, "%s can't have this number: %s" % (shown(node.key), shown(text)))
+            raise copy.document.refused(item.start, "%s can't have this number, %s: %s" % (shown(node.key), ANEW, shown(text)))
         if not DIGITS.match(text):
             copy.put(node, item, b"%d" % item.value, "lvm2 reads %s as %d" % (shown(text), item.value))
     elif not QUOTED.match(text):

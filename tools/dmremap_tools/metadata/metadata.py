@@ -75,7 +75,7 @@ def volumes_in(place: Place) -> List[Image]:
     """The physical volumes in a HEAD, or the one that begins at a place in it."""
     disk = open_image(place.path)
     if place.start >= disk.size:
-        raise Refusal(disk.path, "it ends before byte %d" % place.start)
+        raise Refusal(disk.path, "it ends before byte %d: give a lower offset, or more of the disk" % place.start)
     parts = [disk.part(place.start, disk.size)] if place.is_said else chosen_parts(disk)
     return [taken_from_array(it) for it in parts]
 

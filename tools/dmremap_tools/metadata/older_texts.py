@@ -40,7 +40,7 @@ def texts_in(image: Image) -> List[Text]:
         found += texts_of_ring(image.base + start + SECTOR, image.read(start + SECTOR, size - SECTOR))
     found = found or texts_of_ring(image.base, image.read(0, HEAD), False)
     if not found:
-        raise Refusal(image.path, "there is no text of a group")
+        raise Refusal(image.path, "there is no text of a group: take another physical volume, or a file in /etc/lvm/archive")
     return found
 
 
@@ -82,9 +82,9 @@ def text_at(image: Image, place: int) -> bytes:
     """The text at this byte."""
     found = [it for it in texts_in(image) if it.beginning.at == place]
     if not found:
-        raise Refusal(image.path, "there is no text at that place")
+        raise Refusal(image.path, "there is no text at that place: see the places with --list")
     if found[0].content is None:
-        raise Refusal(image.path, "the text at that place is cut")
+        raise Refusal(image.path, "the text at that place is cut: see with --list which are whole")
     return found[0].content
 
 
@@ -92,10 +92,10 @@ def text_with(image: Image, seqno: int) -> bytes:
     """The text with this number."""
     found = [it for it in texts_in(image) if it.beginning.seqno == seqno]
     if not found:
-        raise Refusal(image.path, "there is no text with the seqno %d" % seqno)
+        raise Refusal(image.path, "there is no text with the seqno %d: see those there are with --list" % seqno)
     whole = {it.content for it in found if it.content is not None}
     if not whole:
-        raise Refusal(image.path, "the text with the seqno %d is cut" % seqno)
+        raise Refusal(image.path, "the text with the seqno %d is cut: see with --list which are whole" % seqno)
     if len(whole) > 1:
         raise Refusal(image.path, "there are several texts with the seqno %d, at the bytes %s: take one with --at BYTE"
                       % (seqno, quoting.some([str(it.beginning.at) for it in found])))

@@ -22,7 +22,7 @@ def add_words(parser: ArgumentParser) -> None:
 def run(words: Namespace) -> None:
     """Cuts them as they come."""
     source = streams.Lines(words.file)
-    form = "not R or W, a device, an offset and a length" if words.bytes else "not a request"
+    form = "give R or W, a device, an offset and a length, and not" if words.bytes else requests.NO_REQUEST
     for asked in requests.read(source, names.Names(words.ls), form):
         (requests.write_bytes if words.bytes else requests.write)(source, *asked)
     source.tell_if_none()

@@ -11,6 +11,7 @@ ENTRY = re.compile(r"([0-9]+)/ *([0-9]+) +([0-9]+)/ *([0-9]+) (.*)")
 LEAF = re.compile(r" *([0-9]+) - +([0-9]+) +([0-9]+) - +([0-9]+) +([0-9]+)( Uninit)?")
 INNER = re.compile(r" *[0-9]+ - +[0-9]+ +[0-9]+ +[0-9]+")
 MOST_LEVELS = 64
+ANEW = "make the text anew by `debugfs -R 'ex /FILE' IMAGE`"
 
 
 class ExtentList:
@@ -32,39 +33,39 @@ class ExtentList:
         for line in self.source:
             if HEAD.fullmatch(line):
                 if self._is_listed:
-                    self.source.refuse("more than one file")
+                    self.source.refuse("more than one file: give the list of one")
                 self._is_listed = True
             else:
                 yield from self._take(line.strip(" "))
         if any(self._left.values()):
-            self.source.refuse("entries are missing at the end")
+            self.source.refuse("entries are missing at the end, " + ANEW)
         if not self._is_listed:
-            self.source.refuse("no list of extents: only files with extents have one")
+            self.source.refuse("no list of extents, which only files with extents have: " + ANEW)
 
     def _take(self, line: str) -> Iterator[Tuple[int, int, int]]:
         """Takes a line of the list."""
         found = ENTRY.fullmatch(line) if self._is_listed else None
         if not found:
-            self.source.refuse("not a line of ex: " + quoting.shown(line))
+            self.source.refuse("not a line of ex, %s: %s" % (ANEW, quoting.shown(line)))
         level, depth, number, all_of_it = map(self.source.whole, found.groups()[:4])
         if level > depth or depth > MOST_LEVELS:
-            self.source.refuse("not a line of ex: " + quoting.shown(line))
+            self.source.refuse("not a line of ex, %s: %s" % (ANEW, quoting.shown(line)))
         if number != (self._seen[level] if self._left.get(level) else 0) + 1 or number > all_of_it:
-            self.source.refuse("an entry is missing: " + quoting.shown(line))
+            self.source.refuse("an entry is missing, %s: %s" % (ANEW, quoting.shown(line)))
         self._seen[level], self._left[level] = number, all_of_it - number
         leaf = LEAF.fullmatch(found[5])
         if leaf:
             yield from self._leaf(leaf, line, level == depth)
         elif level == depth or not INNER.fullmatch(found[5]):
-            self.source.refuse("not a line of ex: " + quoting.shown(line))
+            self.source.refuse("not a line of ex, %s: %s" % (ANEW, quoting.shown(line)))
 
     def _leaf(self, found: Match[str], line: str, is_deepest: bool) -> Iterator[Tuple[int, int, int]]:
         first, last, start, end, length = map(self.source.whole, found.groups()[:5])
         if not is_deepest or first < self._after:
-            self.source.refuse("out of order: " + quoting.shown(line))
+            self.source.refuse("out of order, %s: %s" % (ANEW, quoting.shown(line)))
         self._after = last + 1
         if self._after - first != length or end + 1 - start != length:
-            self.source.refuse("ends and length differ: " + quoting.shown(line))
+            self.source.refuse("ends and length differ, %s: %s" % (ANEW, quoting.shown(line)))
         if found[6]:
             streams.tell("unwritten, so that it reads as zeros: " + quoting.shown(line))
             return
@@ -80,5 +81,5 @@ def block_of(path: str) -> int:
         if match:
             block = source.whole(match[1])
     if block is None:
-        source.refuse("no line 'Block size' of dumpe2fs")
+        source.refuse("no line 'Block size': give what `dumpe2fs -h` prints")
     return block

@@ -41,6 +41,7 @@ KNOWN = {"ef53", "58465342"}
 BTRFS = {"9123683e"}
 PLACED = {"", "last", "eof", "merged", "shared", "unwritten"}
 MOST_SPARE = 1 << 24
+ANEW = "make the text anew by `filefrag -s -v -b512`"
 # The sector of the file, that of the device, and how many there are.
 Extent = Tuple[int, int, int]
 
@@ -110,9 +111,9 @@ class Reader:
             else:
                 self.take_other(self.source.line)
         if self.opened:
-            self.source.refuse("the end is missing of: " + quoting.shown(self.opened))
+            self.source.refuse("the end is missing, %s: %s" % (ANEW, quoting.shown(self.opened)))
         if not self.files:
-            self.source.refuse("no file")
+            self.source.refuse("no file: " + ANEW)
 
     def take_other(self, line: str) -> None:
         """Takes a line that is no extent."""
@@ -121,14 +122,15 @@ class Reader:
             self._take_file(size, line)
         elif kind:
             if kind[1] not in self.known:
-                self.source.refuse_line("not btrfs" if self.known is BTRFS else "neither ext2, ext3, ext4 nor XFS")
+                self.source.refuse_line("not btrfs, leave out --addresses" if self.known is BTRFS
+                                        else "neither ext2, ext3, ext4 nor XFS, see `btrfs` and --addresses")
             self.is_known = True
         elif self.opened and FOUND.search(line):
             if not self.is_last and (self.count or not NONE_FOUND.search(line)):
-                self.source.refuse_line("an extent is missing before")
+                self.source.refuse_line("an extent is missing before, " + ANEW)
             self.opened = ""
         elif not GROUPS.fullmatch(line) and not (self.opened and HEAD.fullmatch(line)):
-            self.source.refuse_line("not a line of filefrag -v")
+            self.source.refuse_line("not a line of filefrag -v, " + ANEW)
 
     def take_extent(self, number: int, first: int, last: int, start: int, end: int, length: int, flags: List[str]) -> Iterator[Extent]:
         """Takes an extent: from the block `first` to `last` of the file, from `start` to `end` of the device."""
@@ -150,14 +152,14 @@ class Reader:
 
     def _take_file(self, found: Match[str], line: str) -> None:
         if not self.is_known or self.opened:
-            self.source.refuse_line("the line comes too early")
+            self.source.refuse_line("the line comes too early, " + ANEW)
         self.size, blocks, self.block = map(self.source.whole, found.groups())
         if not 0 <= blocks * self.block - self.size < MOST_SPARE:
-            self.source.refuse_line("bytes and blocks differ")
+            self.source.refuse_line("bytes and blocks differ, " + ANEW)
         self.opened = line
         self.count = self.after = 0
         self.is_last = False
         self.files += 1
 
     def _refuse(self, reason: str) -> NoReturn:
-        self.source.refuse("%s: %s" % (reason, quoting.shown(self.source.line.lstrip(" "))))
+        self.source.refuse("%s, %s: %s" % (reason, ANEW, quoting.shown(self.source.line.lstrip(" "))))

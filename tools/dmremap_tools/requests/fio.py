@@ -58,7 +58,7 @@ class Reader:
     def end(self) -> None:
         """Refuses an empty log, and tells what was left out."""
         if not self.version:
-            self.source.refuse("the log is empty")
+            self.source.refuse("the log is empty: give what fio wrote")
         self.kept.tell()
         if self.trims:
             streams.tell("left out: %d trims" % self.trims)
@@ -66,7 +66,7 @@ class Reader:
             streams.tell("no request came to a device of the tables")
 
     def _refuse_line(self) -> NoReturn:
-        self.source.refuse_line("not a line of a log" if self.version else "not the first line of a log")
+        self.source.refuse_line("not a line of a log, leave it out" if self.version else "not the first line of a log, give what fio wrote")
 
 
 def _is_passed_over(what: str, count: int) -> bool:

@@ -14,7 +14,8 @@ class Kept:
         self.names = set(disks.read(path)) if are_disks else {it.name for it in tables.read(path)[0]}
         self._left: Dict[str, int] = {}
         if not self.names:
-            raise Refusal(streams.name_of(path), "no %s in it" % ("disk" if are_disks else "device"))
+            why = "no disk in it: give lines NAME SECTORS" if are_disks else "no device in it: give what `dmremap table` prints"
+            raise Refusal(streams.name_of(path), why)
 
     def leave(self, to: str, is_known: bool = True) -> None:
         """Counts a request that is left out, as the list of numbers or else the tables lack what it goes to."""

@@ -99,7 +99,7 @@ class Reader:
     def take_other(self, line: str) -> None:
         """Takes a line that isn't of the usual form of blkparse."""
         if LOST.fullmatch(line):
-            self.source.refuse_line("events were lost")
+            self.source.refuse_line("events were lost, trace again with larger buffers")
         if EVENT in line:
             self._take_event(*line.split(EVENT, 1))
             return
@@ -112,12 +112,12 @@ class Reader:
             if len(fields) > 3 and fields[2] == "+":
                 self.take(queued[1], fields[0], self.source.whole(fields[1]), self.source.whole(fields[3]), queued[2])
             elif len(fields) < 2 or not fields[1].startswith("["):
-                self.source.refuse_line("not a form of the event")
+                self.source.refuse_line("not a form of the event, trace with `blkparse`")
 
     def end(self) -> None:
         """Refuses a text without events, and tells how many lines were passed over."""
         if not self.events:
-            self.source.refuse("no request in the trace")
+            self.source.refuse("no request in the trace: give what `blkparse` prints of the devices")
         if self._passed:
             streams.tell("left out: %d lines that tell of no request" % self._passed)
 
@@ -128,7 +128,7 @@ class Reader:
             del before[-1]
         is_whole = len(fields) > 4 and DEVICE.fullmatch(fields[0]) and fields[3] == "+"
         if not is_whole or not before or not TIME.fullmatch(before[-1]):
-            self.source.refuse_line("not a form of the event")
+            self.source.refuse_line("not a form of the event, trace with `blkparse`")
         if fields[4] != "0":
             first, count = self.source.whole(fields[2]), self.source.whole(fields[4])
             self.take(fields[0], fields[1], first, count, before[-1].rstrip(":"))
@@ -155,7 +155,7 @@ class RequestMaker(Reader):
         elif NEITHER.fullmatch(what):
             self._dropped += 1
         else:
-            self.source.refuse_line("neither a read nor a write")
+            self.source.refuse_line("neither a read nor a write, leave it out")
 
     def end(self) -> None:
         """The same, and tells what else was left out."""
