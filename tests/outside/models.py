@@ -754,7 +754,12 @@ def check_saving(tally, pile):
     with open(os.path.join(pile.folder, "out"), "rb") as saved:
         tally.holds("a run that goes on", got.status == 0 and saved.read() == wanted, got.err)
     os.unlink(os.path.join(pile.folder, "out"))
+    got = pile.call("save", "vg0/home", "out", "one", "--map", "map")
+    tally.holds("a map without its file", got.status == 1 and b"the map says that it was begun, and it isn't there" in got.err, got.err)
     os.unlink(os.path.join(pile.folder, "map"))
+    got = pile.call("save", "vg0/home", "out", "one", "--map", "one=map")
+    is_kept = not any(os.path.exists(os.path.join(pile.folder, name)) for name in ("out", "map", "one=map"))
+    tally.holds("the map of an image", got.status == 2 and b"--map MAP is a file that save writes" in got.err and is_kept, got.err)
     got = pile.call("save", "vg0/home", "no/where", "one")
     tally.holds("a file in no folder", got.status == 5, got.err)
     os.rename(os.path.join(pile.folder, "one"), os.path.join(pile.folder, "table"))

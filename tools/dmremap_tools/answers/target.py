@@ -17,6 +17,8 @@ class Target:
         self._place, self._size, self._is_begun = written.Place(path, is_word=False), size, is_begun
         if not is_begun:
             self._place.check_new()
+        elif not os.path.lexists(path):
+            raise Refusal(self._place.shown, "the map says that it was begun, and it isn't there: give a --map that isn't there either")
         try:
             self._descriptor = self._place.go_on() if is_begun else self._place.begin()
             found = os.fstat(self._descriptor)

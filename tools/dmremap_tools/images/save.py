@@ -48,6 +48,8 @@ def add_words(parser: ArgumentParser) -> None:
 def run(words: Namespace) -> Optional[int]:
     """Saves it by tables, or out of the images."""
     form, *others = words.images
+    if words.map is not None and words.map.partition("=")[0] in words.images and "=" in words.map:
+        raise WrongWords("--map MAP is a file that save writes: give the maps of images to lost or owner", USAGE)
     if form in given.FORMATS and 1 <= len(others) <= 2:
         words.form, words.file, words.disks = form, others[0], others[1] if len(others) == 2 else None
         return by_tables.run(words)
