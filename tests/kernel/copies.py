@@ -9,5 +9,5 @@ TOOL = os.path.join(os.path.dirname(os.path.abspath(__file__)), "..", "..", "dmr
 
 def copy_of(program, path):
     """The path of a copy, or none where the command says that nothing is left, and what it says."""
-    made = run([TOOL, "lvm2-text", path])
+    made = run([TOOL, "lvm2-text", "--program", program.path, path])
     return None if made.status else program.file("copy", made.out), made.err.decode()
