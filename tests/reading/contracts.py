@@ -50,7 +50,7 @@ class Place(Scope):
         if self.trait and name in self.trait.members:
             return self.trait
         # The two ends of a quote such as ⟦<Type as Trait>⟧, which names both as the code does.
-        quoted = re.match(r"⟦<(\w+)$|(\w+)>⟧$", name)
+        quoted = re.match(r"⟦<(\w+)(?:<'\w+>)?$|(\w+)>⟧$", name)
         if quoted:
             return self.code_meaning([quoted[1] or quoted[2]])
         importing = self.nearest(name)
