@@ -729,6 +729,10 @@ def check_areas(tally, pile):
         two([older, old], [older, old, new], (1, pattern))
         for volume_name in ("home", "other"):
             pile.refuses(tally, "two areas, of which the newer one is damaged", "vg0/" + volume_name, "disk has " + name)
+        got = pile.call("tables", "vg0", "disk", "--to", "made")
+        tally.holds("tables by them", got.status == 1 and b"disk has " + name.encode() in got.err, f"{got.status}, {got.err!r}")
+        got = tool_calls.call(pile.top, ["owner", "--program", pile.program.path, "disk"], given="disk %d\n" % (DATA + 60 * EXTENT), folder=pile.folder)
+        tally.holds("what no volume has by them", got.status == 0 and b"unknown: no volume of vg0 has it, but disk has " + name.encode() in got.out, f"{got.out!r}, {got.err!r}")
     os.unlink(os.path.join(pile.folder, "disk"))
 
 
