@@ -345,6 +345,8 @@ def check_stores(tally, pile):
     pile.put("one", disk("a", A, text("vg0", "g", 9, "a", volume("home", "h", linear(0, 1, ("pv0", 0))), *many, *records)))
     whys = [row["why"] for row in named(pile.scan("one")["groups"], "name", "vg0").get("volumes", []) if row["kind"] == "snapshot"]
     tally.holds("more snapshots than are looked at", len(whys) == 101 and ["looked at together" in why for why in whys] == [False] * 100 + [True], whys)
+    made(0, valid=0x4000001)
+    pile.refuses(tally, "a store with a damaged header", "vg0/old", "says neither that it is valid")
     made(0, wiped=(0, SECTOR), key="merging_store")
     pile.refuses(tally, "a merge whose store has no header", "vg0/home", "nothing tells whether the merge ended")
 
