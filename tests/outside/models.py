@@ -345,6 +345,8 @@ def check_stores(tally, pile):
     pile.put("one", disk("a", A, text("vg0", "g", 9, "a", volume("home", "h", linear(0, 1, ("pv0", 0))), *many, *records)))
     whys = [row["why"] for row in named(pile.scan("one")["groups"], "name", "vg0").get("volumes", []) if row["kind"] == "snapshot"]
     tally.holds("more snapshots than are looked at", len(whys) == 101 and ["looked at together" in why for why in whys] == [False] * 100 + [True], whys)
+    made(0, valid=0x4000001)
+    pile.refuses(tally, "a store with a damaged header", "vg0/old", "says neither that it is valid")
     made(0, wiped=(0, SECTOR), key="merging_store")
     pile.refuses(tally, "a merge whose store has no header", "vg0/home", "nothing tells whether the merge ended")
 
@@ -729,6 +731,10 @@ def check_areas(tally, pile):
         two([older, old], [older, old, new], (1, pattern))
         for volume_name in ("home", "other"):
             pile.refuses(tally, "two areas, of which the newer one is damaged", "vg0/" + volume_name, "disk has " + name)
+        got = pile.call("tables", "vg0", "disk", "--to", "made")
+        tally.holds("tables by them", got.status == 1 and b"disk has " + name.encode() in got.err, f"{got.status}, {got.err!r}")
+        got = tool_calls.call(pile.top, ["owner", "--program", pile.program.path, "disk"], given="disk %d\n" % (DATA + 60 * EXTENT), folder=pile.folder)
+        tally.holds("what no volume has by them", got.status == 0 and b"unknown: no volume of vg0 has it, but disk has " + name.encode() in got.out, f"{got.out!r}, {got.err!r}")
     os.unlink(os.path.join(pile.folder, "disk"))
 
 

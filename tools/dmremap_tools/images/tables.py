@@ -37,6 +37,8 @@ def run(words: Namespace) -> None:
     if len(groups) > 1:
         raise Refusal(quoting.shown(words.group), "several groups or sides of one are called so: say the id, or give the images of one side")
     group = groups[0]
+    if group.doubt:
+        raise Refusal(quoting.shown(words.group), group.doubt)
     made = GroupTables(group.side.layout())
     for volume in group.volumes:
         if volume.side is group.side and not volume.is_removed:

@@ -75,7 +75,7 @@ class Above(NamedTuple):
 class Stack:
     """The volumes of a text, from below."""
 
-    def __init__(self, side: Side) -> None:
+    def __init__(self, side: Side, doubt: Optional[str]) -> None:
         self.side, self.group = side, side.group
         self.extent = side.group.extent_size or 0
         self._above: Dict[bytes, List[Above]] = {}
@@ -83,7 +83,7 @@ class Stack:
         self._visible = set(side.visible())
         self._stores = {record.store: record for record in side.group.records}
         # Why nobody can be sure what is free.
-        self.doubt: Optional[str] = None if self.extent > 0 else "the text says no size of extents"
+        self.doubt: Optional[str] = doubt if self.extent > 0 else "the text says no size of extents"
         for name, volume in side.group.volumes.items():
             for segment in volume.segments:
                 self._add(name, segment)
@@ -224,8 +224,8 @@ class Groups:
     """All groups, to be asked for the sectors of physical volumes."""
 
     def __init__(self, groups: Sequence[Group]) -> None:
-        sides = {id(group.side): group.side for group in groups if group.state != REMOVED}
-        self._stacks = [Stack(side) for side in sides.values()]
+        sides = {id(group.side): group for group in groups if group.state != REMOVED}
+        self._stacks = [Stack(group.side, group.doubt) for group in sides.values()]
         self._removed: Dict[str, List[Claim]] = {}
         for volume in (volume for group in groups for volume in group.volumes if volume.is_removed):
             for identity, first, end in volume.side.uses(volume.key):

@@ -12,6 +12,7 @@ from dmremap_tools.model.device import Device, Gap
 
 LOST = "the store: its header is zeros, and what follows isn't, so that it isn't new: save the origin, or give an older image of its disk"
 UNKNOWN = "the store: its header is zeros, and nothing tells whether the merge ended: give an older image of its disk"
+ODD = f"the store: its header says neither that it is valid nor that it isn't, {DAMAGED}: give an older image of its disk"
 BROKEN = f"the store: its list goes on behind a free place, {DAMAGED}: give an older image of its disk"
 
 
@@ -29,13 +30,15 @@ def copy(store: Device, chunk: int, path: str) -> None:
 
 
 def fault(store: Device, chunk: int, is_merging: bool) -> Optional[str]:
-    """Why a store that dmremap takes is none that a kernel leaves: it writes the header of a new one at once, and nothing behind
-    the first free place of the list."""
+    """Why a store that dmremap takes as valid is none that a kernel leaves: it writes the header of a new one at once, with a 1 for
+    valid, and nothing behind the first free place of the list."""
     is_new = False
     for start, _, content in parts(store, chunk):
         is_new = is_new if start else not any(content[:4])
         if is_new and (is_merging or any(content)):
             return UNKNOWN if is_merging else LOST
+        if not start and not is_new and content[4:8] != b"\1\0\0\0":
+            return ODD
         used = len(content.rstrip(b"\0")) + 15 & ~15
         if start and 0 in struct.unpack_from(f"<{used // 8}Q", content)[1::2]:
             return BROKEN
