@@ -1,3 +1,4 @@
+pub mod AskedLemmas
 mod CommandLine
 pub mod ExitLemmas
 pub mod LoadLemmas

@@ -15,7 +15,7 @@ ghost use Rattle.dm_store.specs.Images.{Contents};
 ghost use Rattle.dmremap.specs.declared.job.Format.{Format};
 ghost use Rattle.dmremap.specs.declared.status.TheConstants.{STATUS_MEMORY, STATUS_WRITE_FAULT};
 ghost use Rattle.dmremap.specs.Inputs.{IsReadOnIf, IsUnasked, delivered_if, delivery_if};
-ghost use Rattle.dmremap.specs.StoredStart.{stored_start};
+ghost use Rattle.dmremap.specs.StoredStart.{AreImagesRead, ArePlayedIf, EarlierReadIf, PathsRead, stored_start};
 ghost use Rattle.dmremap.specs.Streams.{MessagesTold, OutputWritten, RequestsRead};
 ghost use Rattle.dmremap.specs.Whole.{GiveFrom, IsFailedFrom, IsRunFrom, Start, Whole, earlier_from};
 
@@ -96,6 +96,18 @@ pub fn map_stored<
     ensures disks_read_on { IsReadOnIf D.past disks.old disks.new }
     ensures paths_read_on { IsReadOn (P.past paths.old) (P.past paths.new) }
     ensures earlier_read_on { IsReadOnIf B.past earlier.old earlier.new }
+    // The list of paths is not asked for where the load is refused, nor the images where that list is.
+    ensures paths { PathsRead format
+        (delivery (S.past source.old) (S.past source.new)) (delivery_if D.past disks.old disks.new)
+        (P.past paths.old) (P.past paths.new) }
+    ensures images_read { AreImagesRead format
+        (delivery (S.past source.old) (S.past source.new)) (delivery_if D.past disks.old disks.new)
+        (delivery (P.past paths.old) (P.past paths.new)) images.old images.new }
+    // Nor are earlier requests where a store is refused or any of that, and nothing is asked after a bad one.
+    ensures earlier { (held : Contents) → I.IsSeen images.new held
+        → EarlierReadIf B.past (stored_start (delivery (P.past paths.old) (P.past paths.new)) held) format
+        (delivery (S.past source.old) (S.past source.new)) (delivery_if D.past disks.old disks.new)
+        earlier.old earlier.new }
     // The status says how requests were read, what came of the output, and that a failed output was told.
     ensures requests { RequestsRead result (Q.past requests.old) (Q.past requests.new) }
     ensures output { OutputWritten result (W.past output.old) (W.past output.new) }
@@ -138,6 +150,7 @@ fn play_if<'s, B: Input>(
     requires { CanMap stack.now mapper.old }
     ensures going { CanMap stack.now mapper.new }
     ensures read_on { IsReadOnIf B.past earlier.old earlier.new }
+    ensures asked { ArePlayedIf B.past mapper.old.state stack.now earlier.old earlier.new }
     ensures played { HasPlayed (earlier_from mapper.old.state stack.now
         (delivered_if B.past earlier.old earlier.new)) mapper.new.state result }
 {

@@ -1,4 +1,4 @@
-use Rattle.std.proofs.Common.{◌≢◌, ◌∙◌, ap, refl, sym}
+use Rattle.std.proofs.Common.{◌≢◌, ◌∙◌, ap, inl, inr, refl, sym}
 use Rattle.dm_table.specs.declared.load.load_fault.LoadKind.TheVariants as kinds
 use Rattle.dm_table.specs.laws.Progress.{since-same}
 use Rattle.dm_stream.specs.runs.Messages.{ending_message}
@@ -8,6 +8,7 @@ use Rattle.dmremap.specs.Exit.{exit_message, exit_status, load_status}
 use Rattle.dmremap.specs.StoredStart.{start_at, start_over}
 use Rattle.dmremap.specs.Whole.{Refuses}
 use Rattle.dmremap.proofs.ExitLemmas.{never_memory, ran_requests, read_on_none, refused_load, refused_output, refused_told, unasked_requests}
+use Rattle.dmremap.proofs.AskedLemmas.{played_if, unasked_if}
 use Rattle.dmremap.proofs.MapLemmas.{ran_failed_from, ran_from, ran_output, refused_after_from, refused_from, refused_start}
 use Rattle.dmremap.proofs.OneWhole.{one_from}
 use Rattle.dmremap.proofs.map_stored.map_stored.Goals as goal
@@ -145,3 +146,63 @@ returns-in-Err-play_if-clause-output g c = refused_output _ (refusals.Earlier c.
 
 pub returns-in-Err-play_if-clause-one : goal.returns-in-Err-play_if-clause-one
 returns-in-Err-play_if-clause-one g c = one_from
+
+-- ---- what was asked for
+
+pub returns-in-Err-clause-paths : goal.returns-in-Err-clause-paths
+returns-in-Err-clause-paths g c = inl refl
+
+pub returns-in-Err-clause-images_read : goal.returns-in-Err-clause-images_read
+returns-in-Err-clause-images_read g c = inl refl
+
+pub returns-in-Err-clause-earlier : goal.returns-in-Err-clause-earlier
+returns-in-Err-clause-earlier g c = λ held seen. unasked_if _ _ _ _ _ c.args.earlier.now
+
+pub returns-in-Err-load_images-clause-paths : goal.returns-in-Err-load_images-clause-paths
+returns-in-Err-load_images-clause-paths g c = inr (c.in-Ok.stack, c.in-Ok.ensures.gives.sound)
+
+pub returns-in-Err-load_images-clause-images_read : goal.returns-in-Err-load_images-clause-images_read
+returns-in-Err-load_images-clause-images_read g c = inl refl
+
+pub returns-in-Err-load_images-clause-earlier : goal.returns-in-Err-load_images-clause-earlier
+returns-in-Err-load_images-clause-earlier g c = λ held seen. unasked_if _ _ _ _ _ c.args.earlier.now
+
+pub returns-in-Err-new-clause-paths : goal.returns-in-Err-new-clause-paths
+returns-in-Err-new-clause-paths g c = inr (c.in-Ok.stack, c.in-Ok.ensures.gives.sound)
+
+pub returns-in-Err-new-clause-images_read : goal.returns-in-Err-new-clause-images_read
+returns-in-Err-new-clause-images_read g c = inl refl
+
+pub returns-in-Err-new-clause-earlier : goal.returns-in-Err-new-clause-earlier
+returns-in-Err-new-clause-earlier g c = λ held seen. unasked_if _ _ _ _ _ c.args.earlier.now
+
+pub returns-in-Err-read_stores-clause-paths : goal.returns-in-Err-read_stores-clause-paths
+returns-in-Err-read_stores-clause-paths g c = inr (c.in-Ok.stack, c.in-Ok.ensures.gives.sound)
+
+pub returns-in-Err-read_stores-clause-images_read : goal.returns-in-Err-read_stores-clause-images_read
+returns-in-Err-read_stores-clause-images_read g c = inr (c.in-Ok.stack, c.in-Ok.ensures.gives.sound, (_, c.in-Ok-load_images.ensures.given))
+
+pub returns-in-Err-read_stores-clause-earlier : goal.returns-in-Err-read_stores-clause-earlier
+returns-in-Err-read_stores-clause-earlier g c = λ held seen. unasked_if _ _ _ _ _ c.args.earlier.now
+
+pub returns-in-Ok-play_if-clause-paths : goal.returns-in-Ok-play_if-clause-paths
+returns-in-Ok-play_if-clause-paths g c = inr (c.in-Ok.stack, c.in-Ok.ensures.gives.sound)
+
+pub returns-in-Ok-play_if-clause-images_read : goal.returns-in-Ok-play_if-clause-images_read
+returns-in-Ok-play_if-clause-images_read g c = inr (c.in-Ok.stack, c.in-Ok.ensures.gives.sound, (_, c.in-Ok-load_images.ensures.given))
+
+pub returns-in-Ok-play_if-clause-earlier : goal.returns-in-Ok-play_if-clause-earlier
+returns-in-Ok-play_if-clause-earlier g c = λ held seen.
+    let begins = ap (start_over held c.in-Ok.stack) c.in-Ok-load_images.ensures.given ∙ ap (start_at c.in-Ok.stack) (sym (c.in_default.ensures.stored held seen)) in
+    played_if _ _ _ _ _ c.in-Ok.stack c.read_stores.new.mapper.state _ _ c.in-Ok.ensures.gives.sound begins c.play_if.ensures.asked
+
+pub returns-in-Err-play_if-clause-paths : goal.returns-in-Err-play_if-clause-paths
+returns-in-Err-play_if-clause-paths g c = inr (c.in-Ok.stack, c.in-Ok.ensures.gives.sound)
+
+pub returns-in-Err-play_if-clause-images_read : goal.returns-in-Err-play_if-clause-images_read
+returns-in-Err-play_if-clause-images_read g c = inr (c.in-Ok.stack, c.in-Ok.ensures.gives.sound, (_, c.in-Ok-load_images.ensures.given))
+
+pub returns-in-Err-play_if-clause-earlier : goal.returns-in-Err-play_if-clause-earlier
+returns-in-Err-play_if-clause-earlier g c = λ held seen.
+    let begins = ap (start_over held c.in-Ok.stack) c.in-Ok-load_images.ensures.given ∙ ap (start_at c.in-Ok.stack) (sym (c.in_default.ensures.stored held seen)) in
+    played_if _ _ _ _ _ c.in-Ok.stack c.read_stores.new.mapper.state _ _ c.in-Ok.ensures.gives.sound begins c.play_if.ensures.asked
