@@ -41,7 +41,6 @@ class Way(NamedTuple):
     count: int
     steps: Tuple[Step, ...]
 
-
     def goes_on(self, other: "Way") -> bool:
         """Whether another way is the same of the sectors after these."""
         moved = [step._replace(sector=None if step.sector is None else step.sector + self.count) for step in self.steps]
