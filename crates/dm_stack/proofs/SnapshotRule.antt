@@ -8,13 +8,13 @@ use Rattle.std.proofs.lemmas.Option.{slice_get_past}
 use Rattle.dm_table.specs.declared.tables.table.Line.{Line}
 use Rattle.dm_table.specs.declared.tables.table.Target.{Target}
 use Rattle.dm_table.specs.declared.tables.table.Target.TheVariants as targets
-use Rattle.dm_stack.specs.declared.lines.found_line.FoundLine.{FoundLine}
-use Rattle.dm_stack.specs.declared.lines.found_line.FoundSnapshot.{FoundSnapshot}
-use Rattle.dm_stack.specs.declared.lines.found_line.FoundTarget.TheVariants as found
-use Rattle.dm_stack.specs.lines.Below.{found_at, found_line, found_target, holds, line_of}
+use Rattle.dm_stack.specs.declared.lines.resolved_line.ResolvedLine.{ResolvedLine}
+use Rattle.dm_stack.specs.declared.lines.resolved_line.ResolvedSnapshot.{ResolvedSnapshot}
+use Rattle.dm_stack.specs.declared.lines.resolved_line.ResolvedTarget.TheVariants as found
+use Rattle.dm_stack.specs.lines.Below.{found_at, resolved_line, resolved_target, holds, line_of}
 use Rattle.dm_stack.specs.Description.{Description, device_len, end_of, lines_at, lower_len, lower_of}
 use Rattle.dm_stack.specs.checks.Snapshots.{AreSnapshots, IsSnapshot, has_snapshot, is_snapshot, snapshots}
-use Rattle.dm_stack.specs.lines.Over.{found_snapshot}
+use Rattle.dm_stack.specs.lines.Over.{resolved_snapshot}
 use Rattle.dm_stack.specs.checks.Soundness.{IsSound, is_bad_chunk, is_bad_snapshot}
 use Rattle.dm_stack.proofs.checks.LayoutLemmas.{AreInRow}
 use Rattle.dm_stack.proofs.lines.Members.{in_range, kept}
@@ -48,11 +48,11 @@ one_of stack count (line ∷ lines) good is = by_part (one_of stack count lines 
 
 -- the target of a snapshot's line, by ids
 pub record IsOver (stack : Description) (target : Target) : Type 0 where
-  pub snapshot : FoundSnapshot
-  pub is : found_target stack target ≡ found.Snapshot snapshot
+  pub snapshot : ResolvedSnapshot
+  pub is : resolved_target stack target ≡ found.Snapshot snapshot
 
 over : (stack : Description) (target : Target) → is_snapshot target ≡ true → IsOver stack target
-over stack (targets.Snapshot origin store kind chunk) is = record { snapshot = found_snapshot stack origin store kind chunk; is = refl }
+over stack (targets.Snapshot origin store kind chunk) is = record { snapshot = resolved_snapshot stack origin store kind chunk; is = refl }
 over stack _ is = absurd cc
 
 -- the only line of a device
@@ -78,7 +78,7 @@ pub record IsSnapshotLine (stack : Description) (device : ℕ) : Type 0 where
   pub line : Line
   pub only : lines_at stack device ≡ line ∷ []
   pub over : is_snapshot line.target ≡ true
-  pub at : found_at stack device 0 ≡ Some (record { start = 0; len = device_len stack device; target = found_target stack line.target })
+  pub at : found_at stack device 0 ≡ Some (record { start = 0; len = device_len stack device; target = resolved_target stack line.target })
 
 is_whole : (stack : Description) (device : ℕ) (lines : List Line) → IsSound stack → device < length stack.devices → lines_at stack device ≡ lines → AreInRow 0 lines → IsOnly lines → IsSnapshotLine stack device
 is_whole stack device lines sound within are row alone =
@@ -115,17 +115,17 @@ each_snapshot stack sound device within is =
 
 -- A device whose first sector lies in a snapshot's line has one
 
-target_over : (stack : Description) (target : Target) (snapshot : FoundSnapshot) → found_target stack target ≡ found.Snapshot snapshot → is_snapshot target ≡ true
+target_over : (stack : Description) (target : Target) (snapshot : ResolvedSnapshot) → resolved_target stack target ≡ found.Snapshot snapshot → is_snapshot target ≡ true
 target_over stack (targets.Snapshot origin store kind chunk) snapshot is = refl
 target_over stack _ snapshot is = absurd cc
 
-pub any_found : (stack : Description) (test : Line → Bool) (lines : List Line) (line : FoundLine) (snapshot : FoundSnapshot) → option_map (found_line stack) (find test lines) ≡ Some line → line.target ≡ found.Snapshot snapshot → has_snapshot lines ≡ true
+pub any_found : (stack : Description) (test : Line → Bool) (lines : List Line) (line : ResolvedLine) (snapshot : ResolvedSnapshot) → option_map (resolved_line stack) (find test lines) ≡ Some line → line.target ≡ found.Snapshot snapshot → has_snapshot lines ≡ true
 any_found stack test [] line snapshot at is = absurd cc
 any_found stack test (first ∷ lines) line snapshot at is = by_test (λ e. any_found stack test lines line snapshot e is) (test first) at
   where
-    by_test : (option_map (found_line stack) (find test lines) ≡ Some line → has_snapshot lines ≡ true) → (b : Bool) → option_map (found_line stack) (cond b (Some first) (find test lines)) ≡ Some line → has_snapshot (first ∷ lines) ≡ true
+    by_test : (option_map (resolved_line stack) (find test lines) ≡ Some line → has_snapshot lines ≡ true) → (b : Bool) → option_map (resolved_line stack) (cond b (Some first) (find test lines)) ≡ Some line → has_snapshot (first ∷ lines) ≡ true
     by_test more true e =
-        let same : found_target stack first.target ≡ line.target = cc in
+        let same : resolved_target stack first.target ≡ line.target = cc in
         or_left (is_snapshot first.target) (has_snapshot lines) (target_over stack first.target snapshot (same ∙ is))
     by_test more false e = or_right (is_snapshot first.target) (has_snapshot lines) (more e)
 

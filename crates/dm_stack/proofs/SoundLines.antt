@@ -15,11 +15,11 @@ use Rattle.dm_table.specs.declared.tables.table.Use.TheVariants.{Own}
 use Rattle.dm_table.specs.declared.tables.table.DeviceSpec.{DeviceSpec}
 use Rattle.dm_table.specs.declared.tables.disk.Disk.{Disk}
 use Rattle.dm_table.specs.declared.load.load_fault.LoadKind.TheVariants.{Limit, Empty, Stripe, Range, Snapshot, Store}
-use Rattle.dm_stack.specs.declared.lines.found_line.FoundLine.{FoundLine}
+use Rattle.dm_stack.specs.declared.lines.resolved_line.ResolvedLine.{ResolvedLine}
 use Rattle.dm_stack.specs.Description.{Description, lines_at, lines_or_none, end_of, device_len, lower_len, lower_of}
-use Rattle.dm_stack.specs.lines.Below.{holds, line_of, found_line, found_columns, found_target, found_at, LiesIn, AreStripes, IsOriginSound, IsSnapshotSound, IsTargetSound}
+use Rattle.dm_stack.specs.lines.Below.{holds, line_of, resolved_line, resolved_columns, resolved_target, found_at, LiesIn, AreStripes, IsOriginSound, IsSnapshotSound, IsTargetSound}
 use Rattle.dm_stack.specs.declared.checks.limits.TheConstants.{MOST_LENGTH}
-use Rattle.dm_stack.specs.lines.Over.{found_snapshot, snapshots_over}
+use Rattle.dm_stack.specs.lines.Over.{resolved_snapshot, snapshots_over}
 use Rattle.dm_stack.specs.checks.Soundness.{all_lines, is_large, without_lines, empty_in, misplaced_in, is_bad_chunk, is_bad_snapshot, is_bad_stripe, has_bad_store, has_bad_stripes, is_past, passes_end, bad_snapshots_in, IsSound}
 use Rattle.dm_table.specs.tables.Span.{column_span, target_spans}
 use Rattle.dm_stack.proofs.checks.HandedOn.{line_within}
@@ -89,13 +89,13 @@ positive (suc n) e = omega arith
 share : (n m : ℕ) → (n % m == 0) ≡ true → n ≡ m * (n / m)
 share n m e = let none : n % m ≡ 0 = eqb-true _ _ e in let sum : m * (n / m) + n % m ≡ n = div-add-mod n m in omega (arith, none, sum)
 
-columns_inside : (stack : Description) (len : ℕ) (columns : List Column) → list_any (is_past stack) (map (column_span len) columns) ≡ false → AllByRecursion (λ column. LiesIn stack column.to column.offset len) (found_columns stack columns)
+columns_inside : (stack : Description) (len : ℕ) (columns : List Column) → list_any (is_past stack) (map (column_span len) columns) ≡ false → AllByRecursion (λ column. LiesIn stack column.to column.offset len) (resolved_columns stack columns)
 columns_inside stack len [] e = tt
 columns_inside stack len (column ∷ columns) e =
     let parts = or_parts (is_past stack (column_span len column)) _ e in
     (ltb-false _ _ parts.0, columns_inside stack len columns parts.1)
 
-stripes_sound : (stack : Description) (len chunk : ℕ) (columns : List Column) → is_bad_stripe len chunk (length columns) ≡ false → list_any (is_past stack) (map (column_span (len / length columns)) columns) ≡ false → AreStripes stack len chunk (found_columns stack columns)
+stripes_sound : (stack : Description) (len chunk : ℕ) (columns : List Column) → is_bad_stripe len chunk (length columns) ≡ false → list_any (is_past stack) (map (column_span (len / length columns)) columns) ≡ false → AreStripes stack len chunk (resolved_columns stack columns)
 stripes_sound stack len chunk columns good inside =
     let a = or_parts (length columns == 0) _ good in
     let b = or_parts (nat_lt 128 (length columns)) _ a.1 in
@@ -104,7 +104,7 @@ stripes_sound stack len chunk columns good inside =
     let f = or_parts (not (len % length columns == 0)) (not ((len / length columns) % chunk == 0)) d.1 in
     let some : 0 < length columns = positive (length columns) a.0 in
     let few : length columns ≤ 128 = ltb-false _ _ b.0 in
-    let same : length (found_columns stack columns) ≡ length columns = length-map columns _ in
+    let same : length (resolved_columns stack columns) ≡ length columns = length-map columns _ in
     record {
       some = rw same some;
       few = rw same few;
@@ -123,7 +123,7 @@ pub record IsWhole (stack : Description) (id : ℕ) (line : Line) : Type 0 where
   pub len : line.len ≡ device_len stack id
 
 snapshot_sound : (stack : Description) (id lines : ℕ) (line : Line) (origin store : DevRef) (kind : StoreKind) (chunk : ℕ) → (lines ≡ 1 → IsWhole stack id line) → is_bad_snapshot stack lines line.len (targets.Snapshot origin store kind chunk) ≡ false → has_bad_store stack (targets.Snapshot origin store kind chunk) ≡ false
-    → IsSnapshotSound stack id line.start line.len (found_snapshot stack origin store kind chunk)
+    → IsSnapshotSound stack id line.start line.len (resolved_snapshot stack origin store kind chunk)
 snapshot_sound stack id lines line origin store kind chunk whole good stored =
     let a = or_parts (not (lines == 1)) (is_bad_chunk chunk || not (line.len == lower_len stack (lower_of stack origin))) good in
     let b = or_parts (is_bad_chunk chunk) (not (line.len == lower_len stack (lower_of stack origin))) a.1 in
@@ -150,7 +150,7 @@ row_sound : (stack : Description) (to : DevRef) (offset len : ℕ) → list_any 
 row_sound stack to offset len inside = ltb-false _ _ (or_parts (is_past stack (record { to = to; offset = offset; len = Some len; kind = Own })) false inside).0
 
 target_sound : (stack : Description) (id lines : ℕ) (line : Line) (target : Target) → (lines ≡ 1 → IsWhole stack id line) → has_bad_stripes line target ≡ false → list_any (is_past stack) (target_spans line.len target) ≡ false → is_bad_snapshot stack lines line.len target ≡ false → has_bad_store stack target ≡ false
-    → IsTargetSound stack id line.start line.len (found_target stack target)
+    → IsTargetSound stack id line.start line.len (resolved_target stack target)
 target_sound stack id lines line (targets.Striped chunk columns) whole good inside fitting stored = stripes_sound stack line.len chunk columns good inside
 target_sound stack id lines line (targets.Snapshot origin store kind chunk) whole good inside fitting stored = snapshot_sound stack id lines line origin store kind chunk whole fitting stored
 target_sound stack id lines line (targets.Origin origin) whole good inside fitting stored = origin_sound stack id lines line origin whole fitting
@@ -218,7 +218,7 @@ whole_line stack id test lines line are row e one =
     record { from = start; len = omega (arith, start, end) }
 
 -- a line that has a sector, and is sound
-pub record HoldsSoundly (stack : Description) (device : ℕ) (line : FoundLine) (sector : ℕ) : Type 0 where
+pub record HoldsSoundly (stack : Description) (device : ℕ) (line : ResolvedLine) (sector : ℕ) : Type 0 where
   pub from : line.start ≤ sector
   pub before : sector < line.start + line.len
   pub small : line.start + line.len ≤ MOST_LENGTH
@@ -226,7 +226,7 @@ pub record HoldsSoundly (stack : Description) (device : ℕ) (line : FoundLine) 
 
 -- the line that a search finds is that of the sector, and sound
 pub record IsFound (stack : Description) (id sector : ℕ) : Type 0 where
-  pub line : FoundLine
+  pub line : ResolvedLine
   pub is : found_at stack id sector ≡ Some line
   pub soundly : HoldsSoundly stack id line sector
 
@@ -243,7 +243,7 @@ sector_found stack id sector sound within inside =
     let g = found (λ line. has_bad_store stack line.target ≡ false) (holds sector) d.it.lines h.line s.stored h.is in
     let parts = and_parts (nat_le h.line.start sector) (nat_lt sector (h.line.start + h.line.len)) a.0 in
     record {
-      line = found_line stack h.line;
+      line = resolved_line stack h.line;
       is = cc;
       soundly = record {
         from = leb-true _ _ parts.0;

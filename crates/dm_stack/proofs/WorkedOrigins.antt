@@ -10,8 +10,8 @@ use Rattle.dm_table.specs.declared.tables.table.Target.{Target}
 use Rattle.dm_table.specs.declared.tables.table.Target.TheVariants as targets
 use Rattle.dm_table.specs.declared.tables.table.Use.TheVariants.{Own, Reading, Serving}
 use Rattle.dm_stack.specs.declared.claims.claim.Claim.{Claim}
-use Rattle.dm_stack.specs.declared.lines.found_line.FoundOver.{FoundOver}
-use Rattle.dm_stack.specs.declared.lines.found_line.FoundTarget.TheVariants as found
+use Rattle.dm_stack.specs.declared.lines.resolved_line.ResolvedOver.{ResolvedOver}
+use Rattle.dm_stack.specs.declared.lines.resolved_line.ResolvedTarget.TheVariants as found
 use Rattle.dm_stack.specs.declared.checks.graph.TheConstants.{MOST_DEPTH}
 use Rattle.dm_stack.specs.declared.id.Lower.TheVariants.{Device, Disk}
 use Rattle.dm_stack.specs.lines.Below.{IsError, Lies, below, found_at}
@@ -42,7 +42,7 @@ sample = record {
   disks = disk 48 16 ∷ disk 49 32 ∷ disk 50 16 ∷ disk 51 32 ∷ [];
 }
 
-abbrev served : List FoundOver
+abbrev served : List ResolvedOver
 served = record { device = 1; snapshot = record { origin = Disk 0; store = Disk 1; kind = Persistent; chunk = 8 } } ∷ record { device = 3; snapshot = record { origin = Disk 0; store = Disk 2; kind = Persistent; chunk = 4 } } ∷ []
 
 origin_line : found_at sample 0 3 ≡ Some (record { start = 0; len = 16; target = found.Origin (record { to = Disk 0; over = served }) })

@@ -1,4 +1,3 @@
--- Of names: their keys, and which of them are told apart.
-pub mod ApartLemmas
+-- Of names: their keys, and where they stand.
 pub mod KeyLemmas
 pub mod NameLemmas

@@ -1,32 +1,27 @@
 -- What a stack keeps beside its description.
 use Rattle.std.specs.Prelude.{◌≡◌, ℕ, ◌^◌, ◌≤◌, List, map}
 use Rattle.dm_table.specs.declared.tables.table.DeviceSpec.{DeviceSpec}
-use Rattle.dm_stack.specs.declared.lines.found_table.FoundDevice.{FoundDevice}
+use Rattle.dm_stack.specs.declared.lines.resolved_table.ResolvedDevice.{ResolvedDevice}
 use Rattle.dm_stack.specs.Description.{Description, end_of}
-use Rattle.dm_stack.specs.lines.Below.{found_line}
-use Rattle.dm_stack.specs.names.FrontNames.{ArePlaces}
-use Rattle.dm_stack.specs.declared.names.front_names.Place.{Place}
+use Rattle.dm_stack.specs.lines.Below.{resolved_line}
 use Rattle.dm_stack.specs.checks.Soundness.{IsSound}
-use Rattle.dm_stack.specs.names.DiskText.{disk_text}
 use Rattle.dm_stack.specs.checks.Snapshots.{snapshots}
 use Rattle.dm_stack.specs.checks.Depth.{stack_depth}
 
 -- a device with ids for names
-abbrev pub found_device : Description → DeviceSpec → FoundDevice
-found_device stack device = record { end = end_of device.lines; ro = device.ro; table = map (found_line stack) device.lines }
+abbrev pub resolved_device : Description → DeviceSpec → ResolvedDevice
+resolved_device stack device = record { end = end_of device.lines; ro = device.ro; table = map (resolved_line stack) device.lines }
 
 -- how many sectors a device or a disk has
 pub record IsLength (len : ℕ) : Type 0 where
   pub some : 1 ≤ len
   pub small : len ≤ 2 ^ 50
 
--- a sound description, with its names, its devices by ids, its depth, its snapshots, the texts of its disks and the places of its names
-pub record IsLoaded (stack : Description) (devices disks : List (List ℕ)) (by_ids : List FoundDevice) (deepest : ℕ) (over : List ℕ) (with_spaces : List (List ℕ)) (places : List Place) : Type 0 where
+-- a sound description, with its names, its devices by ids, its depth and its snapshots
+pub record IsLoaded (stack : Description) (devices disks : List (List ℕ)) (by_ids : List ResolvedDevice) (deepest : ℕ) (over : List ℕ) : Type 0 where
   pub sound : IsSound stack
   pub device_names : devices ≡ map (λ device. device.name) stack.devices
   pub disk_names : disks ≡ map (λ disk. disk.name) stack.disks
-  pub found : by_ids ≡ map (found_device stack) stack.devices
+  pub found : by_ids ≡ map (resolved_device stack) stack.devices
   pub depth : deepest ≡ stack_depth stack
   pub snapshots : over ≡ snapshots stack
-  pub texts : with_spaces ≡ map (λ disk. disk_text disk.name) stack.disks
-  pub fronts : ArePlaces stack.devices places

@@ -1,4 +1,2 @@
--- The names of devices and disks: indexed, found where they stand in a text, and as lines have them.
-pub mod DiskText
-pub mod FrontNames
+-- The names of devices and disks: indexed, and found where they stand in a text.
 pub mod NameIndex

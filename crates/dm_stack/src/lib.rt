@@ -18,15 +18,13 @@ pub use checks::paths::check_paths;
 pub use claims::clash::Clash;
 pub use id::{DeviceId, DiskId, Lower};
 pub use lines::chunk_size::ChunkSize;
-pub use lines::divisor::Divisor;
-pub use lines::found_columns::{FoundColumn, FoundColumns};
-pub use lines::found_line::{Found, FoundLine, FoundOrigin, FoundOver, FoundSnapshot, FoundTarget};
 pub use lines::leg::{Beneath, Leg};
 pub use lines::legs::Legs;
 pub use lines::prefetched::Prefetched;
+pub use lines::resolved_line::{
+    Found, ResolvedLine, ResolvedOrigin, ResolvedOver, ResolvedSnapshot, ResolvedTarget,
+};
 pub use lines::store_layout::{allocated, metadata, place, place_count, places_are_apart};
 pub use looker::Looker;
-pub use names::disk_text::DiskText;
-pub use names::letter::Letter;
 pub use report::check_report;
 pub use stack::Stack;

@@ -2,15 +2,15 @@
 
 pub mod chunk_size;
 pub mod divisor;
-pub mod found_columns;
-pub mod found_line;
-pub mod found_table;
 pub mod leg;
 pub mod legs;
 pub mod line_search;
 pub mod over;
 pub mod prefetched;
 pub mod resolve;
+pub mod resolved_columns;
+pub mod resolved_line;
+pub mod resolved_table;
 pub mod span;
 pub mod store_layout;
 pub mod stripe_position;

@@ -2,7 +2,7 @@
 //!
 //! A line is found in no other way, so a bound on a looker's count is one on the work of mapping.
 //! No call hands out the stack, and a looker is not copied: its count is that of all its searches.
-//! Whoever has the line of an origin has its snapshots too (`FoundOrigin::over`), without a search.
+//! Whoever has the line of an origin has its snapshots too (`ResolvedOrigin::over`), without a search.
 
 ghost use Rattle.std.specs.Prelude.{◌≡◌, ◌+◌, ◌-◌, ◌*◌, ◌<◌, ◌≤◌, length};
 ghost use Rattle.dm_stack.specs.lines.Below.{IsLineOf};
@@ -15,8 +15,8 @@ ghost use Rattle.dm_stack.specs.checks.Soundness.{IsSound};
 ghost use Rattle.dm_stack.specs.lines.LineSearch.{binary_digits};
 
 use crate::id::{DeviceId, DiskId};
-use crate::lines::found_line::Found;
 use crate::lines::line_search::LastLine;
+use crate::lines::resolved_line::Found;
 use crate::stack::Stack;
 use std::marker::Model;
 

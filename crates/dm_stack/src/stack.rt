@@ -7,14 +7,13 @@ ghost use Rattle.std.specs.Prelude.{◌≡◌, ◌≢◌, ℕ, ◌+◌, ◌<◌,
 ghost use Rattle.std.specs.Prelude.{◌∷◌, ◌++◌, List, Option, Some, drop, is_none, length, position, take, true};
 ghost use Rattle.dm_table.specs.words.Bytes.{code};
 ghost use Rattle.dm_table.specs.words.Name.{is_device_name, is_disk_name};
-ghost use Rattle.dm_stack.specs.lines.Below.{found_lines, IsLineOf};
+ghost use Rattle.dm_stack.specs.lines.Below.{resolved_lines, IsLineOf};
 ghost use Rattle.dm_stack.specs.claims.Claims.{AreTops, IsFirstClash, IsThere, IsTidy, IsTop, claims};
 ghost use Rattle.dm_stack.specs.Description.{Description, described, device_len, disk_len, is_ro_at, is_same};
 ghost use Rattle.dm_stack.specs.Description.{name_at, disk_name_at, lines_at};
 ghost use Rattle.dm_stack.specs.checks.Depth.{IsDeeperByOne};
 ghost use Rattle.dm_stack.specs.Stack.{IsLength};
 ghost use Rattle.dm_stack.specs.checks.StoreLimit.{all_places};
-ghost use Rattle.dm_stack.specs.names.DiskText.{disk_text};
 ghost use Rattle.dm_stack.specs.checks.Snapshots.{snapshots};
 ghost use Rattle.dm_stack.specs.checks.Depth.{stack_depth};
 ghost use Rattle.dm_stack.specs.checks.Snapshots.{AreSnapshots};
@@ -36,16 +35,13 @@ use crate::claims::claim::{claims, is_named, unclaimed};
 use crate::claims::clash::Clash;
 use crate::claims::tidy::first_clash;
 use crate::id::{DeviceId, DiskId};
-use crate::lines::found_line::Found;
-use crate::lines::found_table::FoundDevice;
 use crate::lines::line_search::{LastLine, find};
 use crate::lines::prefetched::Prefetched;
-use crate::names::disk_text::DiskText;
-use crate::names::front_names::FrontNames;
+use crate::lines::resolved_line::Found;
+use crate::lines::resolved_table::ResolvedDevice;
 use crate::names::indexed::Indexed;
 use crate::names::name_index::NameIndex;
-use crate::names::name_key::{ROOM, first_space};
-use dm_table::{DeviceSpec, Disk, Listed, LoadFault, Reserved, are_same};
+use dm_table::{DeviceSpec, Disk, Listed, LoadFault, Reserved};
 use std::alloc::{AllocError, Global};
 use std::marker::Model;
 
@@ -56,11 +52,9 @@ pub struct Stack {
     disks: Listed<Disk>,
     device_names: NameIndex,
     disk_names: NameIndex,
-    found: Reserved<FoundDevice>,
+    found: Reserved<ResolvedDevice>,
     depth: u32,
     snapshots: Reserved<DeviceId>,
-    texts: Reserved<DiskText>,
-    fronts: FrontNames,
 }
 
 impl Model for Stack {
@@ -72,8 +66,7 @@ impl Model for Stack {
     ghost view = { λ stack. record { devices = stack.devices; disks = stack.disks } };
 
     ghost invariant = { λ stack. IsLoaded (described stack.devices stack.disks)
-        stack.device_names stack.disk_names stack.found.items stack.depth stack.snapshots.items
-        stack.texts.items stack.fronts.places };
+        stack.device_names stack.disk_names stack.found.items stack.depth stack.snapshots.items };
 }
 
 impl Stack {
@@ -110,9 +103,9 @@ impl Stack {
     /// them. `Memory`, with the number 0, means that memory was refused; it says nothing of the lists.
     ///
     /// Cost: near-linear in the lines and their columns, the devices and the disks, with memory for
-    /// a copy of each name and each line, 128 to 256 bytes more for each device, and 16 KiB; for each line of
-    /// an origin a walk over the snapshots, with memory for those of the origin; where devices are too deep,
-    /// a search of what one reaches for each of them in turn.
+    /// a copy of each name and each line, 128 to 256 bytes more for each device and each disk, and 16 KiB; for
+    /// each line of an origin a walk over the snapshots, with memory for those of the origin; where devices are
+    /// too deep, a search of what one reaches for each of them in turn.
     pub fn load(
         alloc: Global,
         devices: Vec<DeviceSpec>,
@@ -142,8 +135,6 @@ impl Stack {
             found: Reserved::from_vec(checked.found),
             depth: checked.depth,
             snapshots: Reserved::from_vec(checked.snapshots),
-            texts: Reserved::from_vec(checked.texts),
-            fronts: checked.fronts,
         })
     }
 
@@ -188,30 +179,10 @@ impl Stack {
         ensures space { IfSome result
             (λ found. text.now ≡ take found.1 text.now ++ code " " ∷ drop (found.1 + 1) text.now) }
     {
-        let room = text.first_chunk::<ROOM>()?;
-        let Some(len) = first_space(room) else {
-            return self.long_front(text);
-        };
-        let device = self.fronts.find_short(room, len)?;
-        Some((device, len))
-    }
-
-    /// The same for a name of 16 bytes or more.
-    #[inline(never)]
-    fn long_front(&self, text: &[u8]) -> Option<(DeviceId, usize)>
-        ensures device { IfSome result (λ found.
-            position (λ device. is_same device.name (take found.1 text.now)) self.now.devices ≡ Some found.0) }
-        ensures name { IfSome result (λ found. is_device_name (take found.1 text.now) ≡ true) }
-        ensures space { IfSome result
-            (λ found. text.now ≡ take found.1 text.now ++ code " " ∷ drop (found.1 + 1) text.now) }
-    {
-        let (device, len) = self.fronts.find_long(text)?;
-        let spec = self.devices.as_slice().get(device.index())?;
-        if are_same(spec.name.as_str().as_bytes(), &text[..len]) {
-            Some((device, len))
-        } else {
-            None
-        }
+        let (index, len) = self.device_names.find_in_text(text)?;
+        // It has the form of a device's name by its type.
+        let _name = self.devices.as_slice()[index].name.as_str();
+        Some((DeviceId::new(index), len))
     }
 
     /// Whether `prefetch` is worth its time for some device: one that is a snapshot, or has more than three
@@ -377,15 +348,6 @@ impl Stack {
         self.disks.as_slice()[disk.index()].name.as_str()
     }
 
-    /// The name of a disk of the stack and a space, as lines have them.
-    #[inline(always)]
-    pub fn disk_text(&self, disk: DiskId) -> &DiskText
-        requires { disk < length self.now.disks }
-        ensures text { result.now ≡ disk_text (disk_name_at self.now disk) }
-    {
-        &self.texts[disk.index()]
-    }
-
     /// The description, with its names indexed.
     fn indexed(&self) -> Indexed<'_>
         ensures description { result ≡ self.now }
@@ -401,11 +363,11 @@ impl Stack {
 
     /// A device with ids for names: its end, whether it is read-only, and its lines in their order.
     #[inline(always)]
-    fn found(&self, device: DeviceId) -> &FoundDevice
+    fn found(&self, device: DeviceId) -> &ResolvedDevice
         requires { device < length self.now.devices }
         ensures end { result.now.end ≡ device_len self.now device }
         ensures ro { result.now.ro ≡ is_ro_at self.now device }
-        ensures lines { result.now.table ≡ found_lines self.now device }
+        ensures lines { result.now.table ≡ resolved_lines self.now device }
         ensures sound { IsSound self.now }
     {
         &self.found[device.index()]

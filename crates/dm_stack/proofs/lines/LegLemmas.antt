@@ -3,9 +3,9 @@ use Rattle.std.proofs.Common.{◌≡◌, ℕ, zero, suc, ◌+◌, ◌-◌, ◌^�
 use Rattle.std.specs.Prelude.{min, slice_get}
 use Rattle.std.proofs.lemmas.Bool.{and_parts}
 use Rattle.std.proofs.lemmas.Option.{slice_get_cases}
-use Rattle.dm_stack.specs.declared.lines.found_columns.FoundColumn.{FoundColumn}
-use Rattle.dm_stack.specs.declared.lines.found_line.FoundTarget.{FoundTarget}
-use Rattle.dm_stack.specs.declared.lines.found_line.FoundTarget.TheVariants as found
+use Rattle.dm_stack.specs.declared.lines.resolved_columns.ResolvedColumn.{ResolvedColumn}
+use Rattle.dm_stack.specs.declared.lines.resolved_line.ResolvedTarget.{ResolvedTarget}
+use Rattle.dm_stack.specs.declared.lines.resolved_line.ResolvedTarget.TheVariants as found
 use Rattle.dm_stack.specs.declared.id.Lower.{Lower}
 use Rattle.dm_stack.specs.declared.id.Lower.TheVariants.{Device, Disk}
 use Rattle.dm_stack.specs.declared.lines.leg.Beneath.{Beneath}
@@ -14,7 +14,7 @@ use Rattle.dm_stack.specs.declared.lines.leg.Leg.{Leg}
 use Rattle.dm_stack.specs.declared.lines.stripe_position.StripePosition.{StripePosition}
 use Rattle.dm_stack.specs.lines.Below.{Below, Lies, IsZero, IsError, below_column, below_plain, chunk_at, column_of, in_column, has_state, AreStripes, IsTargetSound}
 use Rattle.dm_stack.specs.Description.{Description, disk_len, lower_len}
-use Rattle.dm_stack.specs.lines.FoundColumns.{are_on_disks, is_disk}
+use Rattle.dm_stack.specs.lines.ResolvedColumns.{are_on_disks, is_disk}
 use Rattle.dm_stack.specs.lines.Leg.{after_leg, has_disk_columns, AreInside, AreLeft, AreOnDisks, GoesOn, HasSectors, IsBeneath, IsLeg, LegsView, LiesOnDisk}
 use Rattle.dm_stack.specs.lines.StripePosition.{IsStripePosition}
 use Rattle.dm_stack.proofs.InStack.{disk_there, lower_small}
@@ -22,16 +22,16 @@ use Rattle.dm_stack.proofs.lines.StripeLemmas.{below_chunk, column_got, column_i
 
 -- Sectors that a line has
 
-later_sectors : (target : FoundTarget) (distance m n : ℕ) → m ≤ n → HasSectors target distance n → HasSectors target (distance + m) (n - m)
+later_sectors : (target : ResolvedTarget) (distance m n : ℕ) → m ≤ n → HasSectors target distance n → HasSectors target (distance + m) (n - m)
 later_sectors target distance m n few has = record { stack = has.stack; sound = has.sound; device = has.device; start = has.start; line_len = has.line_len; lies = has.lies; inside = omega (arith, few, has.inside); small = has.small }
 
-pub shorter : (target : FoundTarget) (distance m n : ℕ) (row : ℕ → Below) → m ≤ n → GoesOn target distance n row → GoesOn target distance m row
+pub shorter : (target : ResolvedTarget) (distance m n : ℕ) (row : ℕ → Below) → m ≤ n → GoesOn target distance n row → GoesOn target distance m row
 shorter target distance m n row few on = record { plain = on.plain; below = λ i within. on.below i (omega (arith, few, within)); chunk = λ i within. on.chunk i (omega (arith, few, within)) }
 
 -- One row of sectors
 
 -- a target that lies in one row, and has no chunks, has one leg for all the sectors
-pub row_leg : (target : FoundTarget) (to : Lower) (offset distance most : ℕ) → 1 ≤ most → has_state target ≡ false → ((d : ℕ) → below_plain target d ≡ Lies to (offset + d)) → ((d : ℕ) → chunk_at target d ≡ None)
+pub row_leg : (target : ResolvedTarget) (to : Lower) (offset distance most : ℕ) → 1 ≤ most → has_state target ≡ false → ((d : ℕ) → below_plain target d ≡ Lies to (offset + d)) → ((d : ℕ) → chunk_at target d ≡ None)
     → IsLeg target distance most (record { below = beneath.Lies to (offset + distance); len = most })
 row_leg target to offset distance most some plain below chunk = record {
   some = some;
@@ -47,7 +47,7 @@ row_leg target to offset distance most some plain below chunk = record {
 
 -- Stripes
 
-pub column_small : (chunk_size distance n : ℕ) (columns : List FoundColumn) (position : StripePosition) (column : FoundColumn) → 1 ≤ n → HasSectors (found.Striped chunk_size columns) distance n → IsStripePosition chunk_size (length columns) distance position
+pub column_small : (chunk_size distance n : ℕ) (columns : List ResolvedColumn) (position : StripePosition) (column : ResolvedColumn) → 1 ≤ n → HasSectors (found.Striped chunk_size columns) distance n → IsStripePosition chunk_size (length columns) distance position
     → column ≡ get_or columns position.column column → column.offset + (position.chunk_start + position.past) ≤ 2 ^ 50
 column_small chunk_size distance n columns position column some has at read =
     let stripes : AreStripes has.stack has.line_len chunk_size columns = has.lies in
@@ -56,7 +56,7 @@ column_small chunk_size distance n columns position column some has at read =
     let small = lower_small has.stack column.to has.sound in
     omega (arith, inside, small, at.chunk_start, at.past)
 
-pub striped_leg : (chunk_size distance most n sector : ℕ) (columns : List FoundColumn) (position : StripePosition) (column : FoundColumn) → 1 ≤ most → HasSectors (found.Striped chunk_size columns) distance most → IsStripePosition chunk_size (length columns) distance position
+pub striped_leg : (chunk_size distance most n sector : ℕ) (columns : List ResolvedColumn) (position : StripePosition) (column : ResolvedColumn) → 1 ≤ most → HasSectors (found.Striped chunk_size columns) distance most → IsStripePosition chunk_size (length columns) distance position
     → column ≡ get_or columns position.column column → sector ≡ column.offset + (position.chunk_start + position.past) → n ≡ min most (chunk_size - position.past) → IsLeg (found.Striped chunk_size columns) distance most (record { below = beneath.Lies column.to sector; len = n })
 striped_leg chunk_size distance most n sector columns position column some has at read sector_is len_is =
     let stripes : AreStripes has.stack has.line_len chunk_size columns = has.lies in
@@ -74,7 +74,7 @@ striped_leg chunk_size distance most n sector columns position column some has a
     }
 
 -- what is left after one
-pub striped_next : (chunk_size distance most n : ℕ) (columns : List FoundColumn) (position next : StripePosition) → n ≤ most → n ≡ min most (chunk_size - position.past) → HasSectors (found.Striped chunk_size columns) distance most
+pub striped_next : (chunk_size distance most n : ℕ) (columns : List ResolvedColumn) (position next : StripePosition) → n ≤ most → n ≡ min most (chunk_size - position.past) → HasSectors (found.Striped chunk_size columns) distance most
     → IsStripePosition chunk_size (length columns) (distance + (chunk_size - position.past)) next → AreLeft chunk_size columns next (distance + n) (most - n)
 striped_next chunk_size distance most n columns position next within len_is has at = record {
   there = later_sectors (found.Striped chunk_size columns) distance n most within has;
@@ -89,10 +89,10 @@ row_inside stack len distance offset sector lower to there inside is =
     let lower_is : lower ≡ to = cc in let at : offset + distance ≡ sector = cc in
     rw (← lower_is) (omega (arith, there, inside, at))
 
-pub plain_inside : (stack : Description) (device start len distance : ℕ) (target : FoundTarget) (to : Lower) (sector : ℕ) → IsTargetSound stack device start len target → distance < len → has_state target ≡ false → below_plain target distance ≡ Lies to sector → sector < lower_len stack to
+pub plain_inside : (stack : Description) (device start len distance : ℕ) (target : ResolvedTarget) (to : Lower) (sector : ℕ) → IsTargetSound stack device start len target → distance < len → has_state target ≡ false → below_plain target distance ≡ Lies to sector → sector < lower_len stack to
 plain_inside stack device start len distance (found.Striped chunk_size columns) to sector sound inside plain is = column_of_sector (slice_get columns (column_of chunk_size (length columns) distance)) refl is
   where
-    column_of_sector : (column : Option FoundColumn) → slice_get columns (column_of chunk_size (length columns) distance) ≡ column → below_column column (in_column chunk_size (length columns) distance) ≡ Lies to sector → sector < lower_len stack to
+    column_of_sector : (column : Option ResolvedColumn) → slice_get columns (column_of chunk_size (length columns) distance) ≡ column → below_column column (in_column chunk_size (length columns) distance) ≡ Lies to sector → sector < lower_len stack to
     column_of_sector None at e = absurd cc
     column_of_sector (Some column) at e =
         let lower_is : column.to ≡ to = cc in let sector_is : column.offset + in_column chunk_size (length columns) distance ≡ sector = cc in
@@ -102,24 +102,24 @@ plain_inside stack device start len distance (found.Striped chunk_size columns) 
 plain_inside stack device start len distance target to sector sound inside plain is = first_of (search row_inside, cc)
 
 -- a device or a disk that it lies on is no longer than a line may be
-pub lies_small : (target : FoundTarget) (to : Lower) (sector distance n : ℕ) → has_state target ≡ false → below_plain target distance ≡ Lies to sector → 1 ≤ n → HasSectors target distance n → sector ≤ 2 ^ 50
+pub lies_small : (target : ResolvedTarget) (to : Lower) (sector distance n : ℕ) → has_state target ≡ false → below_plain target distance ≡ Lies to sector → 1 ≤ n → HasSectors target distance n → sector ≤ 2 ^ 50
 lies_small target to sector distance n plain is some has =
     let inside = plain_inside has.stack has.device has.start has.line_len distance target to sector has.lies (omega (arith, some, has.inside)) plain is in
     let small = lower_small has.stack to has.sound in
     omega (arith, inside, small)
 
-leg_inside : (stack : Description) (device start len distance most n : ℕ) (target : FoundTarget) (below : Beneath) → 1 ≤ n → n ≤ most → IsBeneath target distance n below → IsTargetSound stack device start len target → distance + most ≤ len → AreInside stack n below
+leg_inside : (stack : Description) (device start len distance most n : ℕ) (target : ResolvedTarget) (below : Beneath) → 1 ≤ n → n ≤ most → IsBeneath target distance n below → IsTargetSound stack device start len target → distance + most ≤ len → AreInside stack n below
 leg_inside stack device start len distance most n target (beneath.Lies to sector) some few is sound inside =
     let last = plain_inside stack device start len (distance + (n - 1)) target to (sector + (n - 1)) sound (omega (arith, some, few, inside)) is.plain (is.below (n - 1) (omega (arith, some))) in
     omega (arith, last, some)
 leg_inside stack device start len distance most n target below some few is sound inside = tt
 
-pub leg_lies_inside : (stack : Description) (device start len distance most : ℕ) (target : FoundTarget) (leg : Leg) → IsLeg target distance most leg → IsTargetSound stack device start len target → distance + most ≤ len → AreInside stack leg.len leg.below
+pub leg_lies_inside : (stack : Description) (device start len distance most : ℕ) (target : ResolvedTarget) (leg : Leg) → IsLeg target distance most leg → IsTargetSound stack device start len target → distance + most ≤ len → AreInside stack leg.len leg.below
 leg_lies_inside stack device start len distance most target leg is sound inside = leg_inside stack device start len distance most leg.len target leg.below is.some is.within is.is sound inside
 
 -- Legs on disks
 
-column_disk : (columns : List FoundColumn) (i : ℕ) (column : FoundColumn) → are_on_disks columns ≡ true → slice_get columns i ≡ Some column → is_disk column.to ≡ true
+column_disk : (columns : List ResolvedColumn) (i : ℕ) (column : ResolvedColumn) → are_on_disks columns ≡ true → slice_get columns i ≡ Some column → is_disk column.to ≡ true
 column_disk [] i column each e = absurd cc
 column_disk (c ∷ cs) zero column each e =
     let here = (and_parts (is_disk c.to) (are_on_disks cs) each).0 in let same : c ≡ column = cc in rw same at here
@@ -135,7 +135,7 @@ on_a_disk : (to : Lower) (sector : ℕ) → is_disk to ≡ true → IsOnADisk (L
 on_a_disk (Device device) sector is = absurd cc
 on_a_disk (Disk disk) sector is = record { disk = disk; sector = sector; is = refl }
 
-pub sector_on_disk : (stack : Description) (device start len distance : ℕ) (target : FoundTarget) → IsTargetSound stack device start len target → has_disk_columns target ≡ true → IsOnADisk (below_plain target distance)
+pub sector_on_disk : (stack : Description) (device start len distance : ℕ) (target : ResolvedTarget) → IsTargetSound stack device start len target → has_disk_columns target ≡ true → IsOnADisk (below_plain target distance)
 sector_on_disk stack device start len distance (found.Striped chunk_size columns) sound each =
     let i = column_of chunk_size (length columns) distance in
     let some = sound.some in
@@ -147,11 +147,11 @@ sector_on_disk stack device start len distance (found.Striped chunk_size columns
 sector_on_disk stack device start len distance target sound each = absurd cc
 
 -- the first sector of a row
-row_first : (target : FoundTarget) (distance n : ℕ) (row : ℕ → Below) → 1 ≤ n → GoesOn target distance n row → below_plain target distance ≡ row 0
+row_first : (target : ResolvedTarget) (distance n : ℕ) (row : ℕ → Below) → 1 ≤ n → GoesOn target distance n row → below_plain target distance ≡ row 0
 row_first target distance n row some on = let e : distance ≡ distance + 0 = omega arith in ap (below_plain target) e ∙ on.below 0 (omega (arith, some))
 
 -- where the first sector lies on a disk, the row does
-rows_on_disk : (target : FoundTarget) (distance n : ℕ) (below : Beneath) → 1 ≤ n → IsBeneath target distance n below → has_disk_columns target ≡ true → IsOnADisk (below_plain target distance) → LiesOnDisk below
+rows_on_disk : (target : ResolvedTarget) (distance n : ℕ) (below : Beneath) → 1 ≤ n → IsBeneath target distance n below → has_disk_columns target ≡ true → IsOnADisk (below_plain target distance) → LiesOnDisk below
 rows_on_disk target distance n (beneath.Lies (Disk disk) sector) some is each first = tt
 rows_on_disk target distance n (beneath.Lies (Device device) sector) some is each first = let here = row_first target distance n (λ i. Lies (Device device) (sector + i)) some is in absurd cc
 rows_on_disk target distance n beneath.Zeros some is each first = let here = row_first target distance n (λ i. IsZero) some is in absurd cc

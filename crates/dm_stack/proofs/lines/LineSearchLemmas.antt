@@ -12,8 +12,8 @@ use Rattle.dm_table.specs.load.LoadFault.{faults_by}
 use Rattle.dm_table.specs.declared.load.load_fault.LoadKind.TheVariants.{Limit}
 use Rattle.dm_table.specs.declared.tables.table.DeviceSpec.{DeviceSpec}
 use Rattle.dm_table.specs.declared.tables.table.Line.{Line}
-use Rattle.dm_stack.specs.declared.lines.found_line.FoundLine.{FoundLine}
-use Rattle.dm_stack.specs.lines.Below.{found_at, found_line, found_lines, line_of}
+use Rattle.dm_stack.specs.declared.lines.resolved_line.ResolvedLine.{ResolvedLine}
+use Rattle.dm_stack.specs.lines.Below.{found_at, resolved_line, resolved_lines, line_of}
 use Rattle.dm_stack.specs.Description.{Description, device_len, end_of, lines_at}
 use Rattle.dm_stack.specs.lines.LineSearch.{EndsAreSmall, EndsAt, IsLast, StartsAfter, StartsBy, binary_digits, digits_to}
 use Rattle.dm_stack.specs.declared.lines.line_search.LastLine.{LastLine}
@@ -75,31 +75,31 @@ more-few k all total some within = rw (twice k) (omega (arith, within, mul-le-mu
 
 -- Starts
 
-pub starts_by : (lines : List FoundLine) (index sector : ℕ) (line : FoundLine) → index < length lines → (get_or lines index line).start ≤ sector → StartsBy lines index sector
+pub starts_by : (lines : List ResolvedLine) (index sector : ℕ) (line : ResolvedLine) → index < length lines → (get_or lines index line).start ≤ sector → StartsBy lines index sector
 starts_by lines index sector line within from = rw (slice_get-get_or lines index line within) from
 
-pub starts_after : (lines : List FoundLine) (index sector : ℕ) (line : FoundLine) → index < length lines → sector < (get_or lines index line).start → StartsAfter lines index sector
+pub starts_after : (lines : List ResolvedLine) (index sector : ℕ) (line : ResolvedLine) → index < length lines → sector < (get_or lines index line).start → StartsAfter lines index sector
 starts_after lines index sector line within before = rw (slice_get-get_or lines index line within) before
 
 -- Lines in a row
 
 -- a line that starts at a sector or before it starts after the end of those before it
-past_end : (stack : Description) (end : ℕ) (lines : List Line) (index sector : ℕ) → AreInRow end lines → StartsBy (map (found_line stack) lines) index sector → end ≤ sector
+past_end : (stack : Description) (end : ℕ) (lines : List Line) (index sector : ℕ) → AreInRow end lines → StartsBy (map (resolved_line stack) lines) index sector → end ≤ sector
 past_end stack end [] index sector row from = absurd from
 past_end stack end (line ∷ lines) zero sector row from = omega (arith, row.0, from)
 past_end stack end (line ∷ lines) (suc index) sector row from =
     let past = past_end stack (line.start + line.len) lines index sector row.1 from in omega (arith, row.0, past)
 
-held : (stack : Description) (line : Line) (lines : List Line) (sector : ℕ) → line.start ≤ sector → sector < line.start + line.len → Some (found_line stack line) ≡ option_map (found_line stack) (line_of (line ∷ lines) sector)
+held : (stack : Description) (line : Line) (lines : List Line) (sector : ℕ) → line.start ≤ sector → sector < line.start + line.len → Some (resolved_line stack line) ≡ option_map (resolved_line stack) (line_of (line ∷ lines) sector)
 held stack line lines sector from before = rw (holds_from line sector from before)
 
-not_held : (stack : Description) (line : Line) (lines : List Line) (sector : ℕ) → line.start + line.len ≤ sector → option_map (found_line stack) (line_of (line ∷ lines) sector) ≡ option_map (found_line stack) (line_of lines sector)
+not_held : (stack : Description) (line : Line) (lines : List Line) (sector : ℕ) → line.start + line.len ≤ sector → option_map (resolved_line stack) (line_of (line ∷ lines) sector) ≡ option_map (resolved_line stack) (line_of lines sector)
 not_held stack line lines sector past = rw (holds_none line sector past)
 
 -- the line that starts at a sector or before it, where the next one starts after it, has the sector
 in_row_held : (stack : Description) (end : ℕ) (lines : List Line) (index sector : ℕ) → AreInRow end lines → sector < end_of lines
-    → StartsBy (map (found_line stack) lines) index sector → StartsAfter (map (found_line stack) lines) (suc index) sector
-    → slice_get (map (found_line stack) lines) index ≡ option_map (found_line stack) (line_of lines sector)
+    → StartsBy (map (resolved_line stack) lines) index sector → StartsAfter (map (resolved_line stack) lines) (suc index) sector
+    → slice_get (map (resolved_line stack) lines) index ≡ option_map (resolved_line stack) (line_of lines sector)
 in_row_held stack end [] index sector row inside from next = absurd from
 in_row_held stack end (line ∷ []) zero sector row inside from next = held stack line [] sector from inside
 in_row_held stack end (line ∷ []) (suc index) sector row inside from next = absurd from
@@ -111,8 +111,8 @@ in_row_held stack end (line ∷ other ∷ lines) (suc index) sector row inside f
 
 -- what comes right after a line is in the next one
 in_row_next : (stack : Description) (end : ℕ) (lines : List Line) (index sector : ℕ) → AreInRow end lines → AllByRecursion (λ line. (line.len == 0) ≡ false) lines → sector < end_of lines
-    → EndsAt (map (found_line stack) lines) index sector
-    → StartsBy (map (found_line stack) lines) (suc index) sector × StartsAfter (map (found_line stack) lines) (suc (suc index)) sector
+    → EndsAt (map (resolved_line stack) lines) index sector
+    → StartsBy (map (resolved_line stack) lines) (suc index) sector × StartsAfter (map (resolved_line stack) lines) (suc (suc index)) sector
 in_row_next stack end [] index sector row filled inside ends = absurd ends
 in_row_next stack end (line ∷ []) zero sector row filled inside ends = absurd (omega (arith, inside, ends))
 in_row_next stack end (line ∷ []) (suc index) sector row filled inside ends = absurd ends
@@ -161,11 +161,11 @@ few_halvings stack id comparisons sound within few =
     let digits = most_digits (length (lines_at stack id)) 17 (omega (arith, lines)) in
     omega (arith, few, digits)
 
-first_from : (stack : Description) (lines : List Line) (sector : ℕ) → AreInRow 0 lines → sector < end_of lines → StartsBy (map (found_line stack) lines) 0 sector
+first_from : (stack : Description) (lines : List Line) (sector : ℕ) → AreInRow 0 lines → sector < end_of lines → StartsBy (map (resolved_line stack) lines) 0 sector
 first_from stack [] sector row inside = absurd (omega (arith, inside))
 first_from stack (line ∷ lines) sector row inside = omega (arith, row.0)
 
-pub first_starts : (stack : Description) (id sector : ℕ) → IsSound stack → id < length stack.devices → sector < device_len stack id → StartsBy (found_lines stack id) 0 sector
+pub first_starts : (stack : Description) (id sector : ℕ) → IsSound stack → id < length stack.devices → sector < device_len stack id → StartsBy (resolved_lines stack id) 0 sector
 first_starts stack id sector sound within inside =
     let d = there stack.devices id within in
     let same = sym (lines_there stack id d.it d.at) in
@@ -174,7 +174,7 @@ first_starts stack id sector sound within inside =
     inside
 
 pub line_there : (stack : Description) (id index sector : ℕ) → IsSound stack → id < length stack.devices → sector < device_len stack id
-    → StartsBy (found_lines stack id) index sector → StartsAfter (found_lines stack id) (suc index) sector → slice_get (found_lines stack id) index ≡ found_at stack id sector
+    → StartsBy (resolved_lines stack id) index sector → StartsAfter (resolved_lines stack id) (suc index) sector → slice_get (resolved_lines stack id) index ≡ found_at stack id sector
 line_there stack id index sector sound within inside from next =
     let d = there stack.devices id within in
     let same = sym (lines_there stack id d.it d.at) in
@@ -183,8 +183,8 @@ line_there stack id index sector sound within inside from next =
     inside from next
 
 -- a sector at the end of the line of an index is in the next one
-next_there : (stack : Description) (id index sector : ℕ) → IsSound stack → id < length stack.devices → sector < device_len stack id → EndsAt (found_lines stack id) index sector
-    → StartsBy (found_lines stack id) (suc index) sector × StartsAfter (found_lines stack id) (suc (suc index)) sector
+next_there : (stack : Description) (id index sector : ℕ) → IsSound stack → id < length stack.devices → sector < device_len stack id → EndsAt (resolved_lines stack id) index sector
+    → StartsBy (resolved_lines stack id) (suc index) sector × StartsAfter (resolved_lines stack id) (suc (suc index)) sector
 next_there stack id index sector sound within inside ends =
     let d = there stack.devices id within in
     let same = sym (lines_there stack id d.it d.at) in
@@ -193,29 +193,29 @@ next_there stack id index sector sound within inside ends =
     (lines_filled stack id sound within) inside ends
 
 pub next_after : (stack : Description) (last : LastLine) (id sector : ℕ) → IsSound stack → id < length stack.devices → sector < device_len stack id → IsLast stack last → last.device ≡ id → last.end ≡ sector
-    → StartsBy (found_lines stack id) (last.index + 1) sector × StartsAfter (found_lines stack id) (last.index + 2) sector
+    → StartsBy (resolved_lines stack id) (last.index + 1) sector × StartsAfter (resolved_lines stack id) (last.index + 2) sector
 next_after stack last id sector sound within inside is here at =
     let small = device_small stack id sound within in
     let ends = is (omega (arith, at, inside, small)) in
-    let there = subst (λ (d : ℕ). EndsAt (found_lines stack d) last.index last.end) here ends in
-    let next = next_there stack id last.index sector sound within inside (subst (λ (s : ℕ). EndsAt (found_lines stack id) last.index s) at there) in
+    let there = subst (λ (d : ℕ). EndsAt (resolved_lines stack d) last.index last.end) here ends in
+    let next = next_there stack id last.index sector sound within inside (subst (λ (s : ℕ). EndsAt (resolved_lines stack id) last.index s) at there) in
     let one : suc last.index ≡ last.index + 1 = omega arith in
     let two : suc (suc last.index) ≡ last.index + 2 = omega arith in
-    (subst (λ (n : ℕ). StartsBy (found_lines stack id) n sector) one next.0, subst (λ (n : ℕ). StartsAfter (found_lines stack id) n sector) two next.1)
+    (subst (λ (n : ℕ). StartsBy (resolved_lines stack id) n sector) one next.0, subst (λ (n : ℕ). StartsAfter (resolved_lines stack id) n sector) two next.1)
 
 -- another line of a device that becomes the last one
-pub last_kept : (stack : Description) (id : ℕ) (old new : LastLine) → IsLast stack old → (new ≡ old) ⊎ ((new.device ≡ id) × EndsAt (found_lines stack id) new.index new.end) → IsLast stack new
+pub last_kept : (stack : Description) (id : ℕ) (old new : LastLine) → IsLast stack old → (new ≡ old) ⊎ ((new.device ≡ id) × EndsAt (resolved_lines stack id) new.index new.end) → IsLast stack new
 last_kept stack id old new is (inl same) = rw same is
 last_kept stack id old new is (inr found) = λ small. rw found.0 found.1
 
-small_found : (stack : Description) (lines : List Line) → AllByRecursion (λ line. is_large line ≡ false) lines → AllByRecursion (λ line. line.start + line.len ≤ 2 ^ 50) (map (found_line stack) lines)
+small_found : (stack : Description) (lines : List Line) → AllByRecursion (λ line. is_large line ≡ false) lines → AllByRecursion (λ line. line.start + line.len ≤ 2 ^ 50) (map (resolved_line stack) lines)
 small_found stack [] small = tt
 small_found stack (line ∷ lines) small = (line_within line small.0, small_found stack lines small.1)
 
 -- no line ends beyond the greatest length
-pub small_there : (stack : Description) (id : ℕ) → IsSound stack → id < length stack.devices → EndsAreSmall (found_lines stack id)
+pub small_there : (stack : Description) (id : ℕ) → IsSound stack → id < length stack.devices → EndsAreSmall (resolved_lines stack id)
 small_there stack id sound within =
     let d = there stack.devices id within in
-    All-from_recursion (λ line. line.start + line.len ≤ 2 ^ 50) (found_lines stack id)
+    All-from_recursion (λ line. line.start + line.len ≤ 2 ^ 50) (resolved_lines stack id)
     (small_found stack (lines_at stack id)
     (subst (λ (ls : List Line). AllByRecursion (λ line. is_large line ≡ false) ls) (sym (lines_there stack id d.it d.at)) (device_sound stack id d.it sound d.at).small))

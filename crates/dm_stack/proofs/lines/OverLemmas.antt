@@ -9,15 +9,15 @@ use Rattle.dm_table.specs.declared.tables.table.DevRef.{DevRef}
 use Rattle.dm_table.specs.declared.tables.table.Line.{Line}
 use Rattle.dm_table.specs.declared.tables.table.Target.{Target}
 use Rattle.dm_table.specs.declared.tables.table.Target.TheVariants as targets
-use Rattle.dm_stack.specs.declared.lines.found_line.FoundLine.{FoundLine}
-use Rattle.dm_stack.specs.declared.lines.found_line.FoundOver.{FoundOver}
-use Rattle.dm_stack.specs.declared.lines.found_line.FoundSnapshot.{FoundSnapshot}
-use Rattle.dm_stack.specs.declared.lines.found_line.FoundTarget.TheVariants as found
+use Rattle.dm_stack.specs.declared.lines.resolved_line.ResolvedLine.{ResolvedLine}
+use Rattle.dm_stack.specs.declared.lines.resolved_line.ResolvedOver.{ResolvedOver}
+use Rattle.dm_stack.specs.declared.lines.resolved_line.ResolvedSnapshot.{ResolvedSnapshot}
+use Rattle.dm_stack.specs.declared.lines.resolved_line.ResolvedTarget.TheVariants as found
 use Rattle.dm_stack.specs.declared.id.Lower.{Lower}
-use Rattle.dm_stack.specs.lines.Below.{found_at, found_line, found_target, holds}
+use Rattle.dm_stack.specs.lines.Below.{found_at, resolved_line, resolved_target, holds}
 use Rattle.dm_stack.specs.Description.{Description, device_len, is_same_lower, lines_at, lower_of}
 use Rattle.dm_stack.specs.checks.Snapshots.{has_snapshot, is_snapshot}
-use Rattle.dm_stack.specs.lines.Over.{all_over, device_over, found_snapshot, over_of, snapshots_over}
+use Rattle.dm_stack.specs.lines.Over.{all_over, device_over, resolved_snapshot, over_of, snapshots_over}
 use Rattle.dm_stack.specs.checks.Soundness.{IsSound}
 use Rattle.dm_stack.proofs.claims.MeetLemmas.{same_is, self_same}
 use Rattle.dm_stack.proofs.lines.Members.{flat_part, flat_there, in_range, kept, kept_parts, none_there, only, only_there, range_within}
@@ -34,8 +34,8 @@ unfolding all_over
 all_is stack = refl
 
 -- the line of an origin, by ids
-pub origin_is : (stack : Description) (origin : DevRef) (to : Lower) (all over : List FoundOver) → to ≡ lower_of stack origin → all ≡ all_over stack → over ≡ filter (λ one. is_same_lower one.snapshot.origin to) all
-    → found.Origin (record { to = to; over = over }) ≡ found_target stack (targets.Origin origin)
+pub origin_is : (stack : Description) (origin : DevRef) (to : Lower) (all over : List ResolvedOver) → to ≡ lower_of stack origin → all ≡ all_over stack → over ≡ filter (λ one. is_same_lower one.snapshot.origin to) all
+    → found.Origin (record { to = to; over = over }) ≡ resolved_target stack (targets.Origin origin)
 origin_is stack origin to all over at are is =
     let served : over ≡ snapshots_over stack to = cc (is, are, over_is stack to) in
     rw (served, at)
@@ -43,18 +43,18 @@ origin_is stack origin to all over at are is =
 -- From the list to the devices
 
 -- the target of a line that is this snapshot
-record IsTargetOf (stack : Description) (device : ℕ) (target : Target) (one : FoundOver) : Type 0 where
+record IsTargetOf (stack : Description) (device : ℕ) (target : Target) (one : ResolvedOver) : Type 0 where
   here : one.device ≡ device
   over : is_snapshot target ≡ true
-  is : found_target stack target ≡ found.Snapshot one.snapshot
+  is : resolved_target stack target ≡ found.Snapshot one.snapshot
 
-target_one : (stack : Description) (device : ℕ) (target : Target) (one : FoundOver) → Contains (over_of stack device target) one → IsTargetOf stack device target one
+target_one : (stack : Description) (device : ℕ) (target : Target) (one : ResolvedOver) → Contains (over_of stack device target) one → IsTargetOf stack device target one
 target_one stack device (targets.Snapshot origin store kind chunk) one named =
-    let same = only one (record { device = device; snapshot = found_snapshot stack origin store kind chunk }) named in
+    let same = only one (record { device = device; snapshot = resolved_snapshot stack origin store kind chunk }) named in
     record { here = cc; over = refl; is = cc (same) }
 target_one stack device _ one named = absurd (none_there one named)
 
-has_one : (stack : Description) (device : ℕ) (lines : List Line) (one : FoundOver) → Contains (flat_map (λ line. over_of stack device line.target) lines) one → has_snapshot lines ≡ true
+has_one : (stack : Description) (device : ℕ) (lines : List Line) (one : ResolvedOver) → Contains (flat_map (λ line. over_of stack device line.target) lines) one → has_snapshot lines ≡ true
 has_one stack device [] one named = absurd (none_there one named)
 has_one stack device (line ∷ lines) one named = by_part (has_one stack device lines one) (Contains-append_cases (over_of stack device line.target) (flat_map (λ line. over_of stack device line.target) lines) one named)
   where
@@ -64,11 +64,11 @@ has_one stack device (line ∷ lines) one named = by_part (has_one stack device 
     by_part more (inr later) = or_right (is_snapshot line.target) (has_snapshot lines) (more later)
 
 -- a device that is this snapshot, all of it
-pub record IsSnapshotDevice (stack : Description) (one : FoundOver) : Type 0 where
+pub record IsSnapshotDevice (stack : Description) (one : ResolvedOver) : Type 0 where
   pub there : one.device < length stack.devices
   pub line : found_at stack one.device 0 ≡ Some (record { start = 0; len = device_len stack one.device; target = found.Snapshot one.snapshot })
 
-over_device : (stack : Description) (device : ℕ) (one : FoundOver) → IsSound stack → device < length stack.devices → Contains (device_over stack device) one → IsSnapshotDevice stack one
+over_device : (stack : Description) (device : ℕ) (one : ResolvedOver) → IsSound stack → device < length stack.devices → Contains (device_over stack device) one → IsSnapshotDevice stack one
 over_device stack device one sound within named =
     let line = snapshot_line stack sound device within (has_one stack device (lines_at stack device) one named) in
     let alone : device_over stack device ≡ over_of stack device line.line.target =
@@ -81,41 +81,41 @@ over_device stack device one sound within named =
     }
 
 -- each snapshot of an origin is the whole of its device, with that origin
-pub over_sound : (stack : Description) (to : Lower) (one : FoundOver) → IsSound stack → Contains (snapshots_over stack to) one → IsSnapshotDevice stack one × (one.snapshot.origin ≡ to)
+pub over_sound : (stack : Description) (to : Lower) (one : ResolvedOver) → IsSound stack → Contains (snapshots_over stack to) one → IsSnapshotDevice stack one × (one.snapshot.origin ≡ to)
 over_sound stack to one sound named =
-    let passes = kept_parts (λ (o : FoundOver). is_same_lower o.snapshot.origin to) (all_over stack) one (rw (← over_is) at named) in
+    let passes = kept_parts (λ (o : ResolvedOver). is_same_lower o.snapshot.origin to) (all_over stack) one (rw (← over_is) at named) in
     let by = flat_part (device_over stack) (range_with_len 0 (length stack.devices)) one (rw all_is passes.0) in
     (over_device stack by.by one sound (range_within (length stack.devices) by.by by.there) by.given, same_is one.snapshot.origin to passes.1)
 
 -- From a device to the list
 
-target_all : (stack : Description) (device : ℕ) (target : Target) (snapshot : FoundSnapshot) → found_target stack target ≡ found.Snapshot snapshot → Contains (over_of stack device target) (record { device = device; snapshot = snapshot })
+target_all : (stack : Description) (device : ℕ) (target : Target) (snapshot : ResolvedSnapshot) → resolved_target stack target ≡ found.Snapshot snapshot → Contains (over_of stack device target) (record { device = device; snapshot = snapshot })
 target_all stack device (targets.Snapshot origin store kind chunk) snapshot is =
-    let same : found_snapshot stack origin store kind chunk ≡ snapshot = cc in
+    let same : resolved_snapshot stack origin store kind chunk ≡ snapshot = cc in
     only_there (record { device = device; snapshot = snapshot }) _ (cc)
 target_all stack device _ snapshot is = absurd cc
 
-found_over : (stack : Description) (device : ℕ) (test : Line → Bool) (lines : List Line) (line : FoundLine) (snapshot : FoundSnapshot) → option_map (found_line stack) (find test lines) ≡ Some line → line.target ≡ found.Snapshot snapshot
+resolved_over : (stack : Description) (device : ℕ) (test : Line → Bool) (lines : List Line) (line : ResolvedLine) (snapshot : ResolvedSnapshot) → option_map (resolved_line stack) (find test lines) ≡ Some line → line.target ≡ found.Snapshot snapshot
     → Contains (flat_map (λ l. over_of stack device l.target) lines) (record { device = device; snapshot = snapshot })
-found_over stack device test [] line snapshot at is = absurd cc
-found_over stack device test (first ∷ lines) line snapshot at is = by_test (λ e. found_over stack device test lines line snapshot e is) (test first) at
+resolved_over stack device test [] line snapshot at is = absurd cc
+resolved_over stack device test (first ∷ lines) line snapshot at is = by_test (λ e. resolved_over stack device test lines line snapshot e is) (test first) at
   where
-    one : FoundOver
+    one : ResolvedOver
     one = record { device = device; snapshot = snapshot }
 
-    by_test : (option_map (found_line stack) (find test lines) ≡ Some line → Contains (flat_map (λ l. over_of stack device l.target) lines) one) → (b : Bool) → option_map (found_line stack) (cond b (Some first) (find test lines)) ≡ Some line
+    by_test : (option_map (resolved_line stack) (find test lines) ≡ Some line → Contains (flat_map (λ l. over_of stack device l.target) lines) one) → (b : Bool) → option_map (resolved_line stack) (cond b (Some first) (find test lines)) ≡ Some line
         → Contains (flat_map (λ l. over_of stack device l.target) (first ∷ lines)) one
     by_test more true e =
-        let same : found_target stack first.target ≡ line.target = cc in
+        let same : resolved_target stack first.target ≡ line.target = cc in
         Contains-append_left (over_of stack device first.target) (flat_map (λ l. over_of stack device l.target) lines) one (target_all stack device first.target snapshot (same ∙ is))
     by_test more false e = Contains-append_right (over_of stack device first.target) (flat_map (λ l. over_of stack device l.target) lines) one (more e)
 
 -- a snapshot is among those of its origin
-pub over_all : (stack : Description) (device : ℕ) (line : FoundLine) (snapshot : FoundSnapshot) → found_at stack device 0 ≡ Some line → line.target ≡ found.Snapshot snapshot → Contains (snapshots_over stack snapshot.origin) (record { device = device; snapshot = snapshot })
+pub over_all : (stack : Description) (device : ℕ) (line : ResolvedLine) (snapshot : ResolvedSnapshot) → found_at stack device 0 ≡ Some line → line.target ≡ found.Snapshot snapshot → Contains (snapshots_over stack snapshot.origin) (record { device = device; snapshot = snapshot })
 over_all stack device line snapshot at is =
-    let one : FoundOver = record { device = device; snapshot = snapshot } in
+    let one : ResolvedOver = record { device = device; snapshot = snapshot } in
     let lines = lines_at stack device in
     let within = lines_within stack device (any_found stack (holds 0) lines line snapshot at is) in
     let all : Contains (all_over stack) one =
-    rw all_is at (flat_there (device_over stack) (range_with_len 0 (length stack.devices)) device one (in_range (length stack.devices) device within) (found_over stack device (holds 0) lines line snapshot at is)) in
-    rw (← over_is stack snapshot.origin) (kept (λ (o : FoundOver). is_same_lower o.snapshot.origin snapshot.origin) (all_over stack) one (self_same snapshot.origin) all)
+    rw all_is at (flat_there (device_over stack) (range_with_len 0 (length stack.devices)) device one (in_range (length stack.devices) device within) (resolved_over stack device (holds 0) lines line snapshot at is)) in
+    rw (← over_is stack snapshot.origin) (kept (λ (o : ResolvedOver). is_same_lower o.snapshot.origin snapshot.origin) (all_over stack) one (self_same snapshot.origin) all)

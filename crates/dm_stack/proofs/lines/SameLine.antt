@@ -3,9 +3,9 @@ use Rattle.std.proofs.Common.{◌≡◌, ℕ, ◌+◌, ◌<◌, ◌≤◌, Bool,
 use Rattle.std.specs.Prelude.{◌&&◌, nat_le, option_map}
 use Rattle.std.proofs.lemmas.Bool.{le-ltb}
 use Rattle.dm_table.specs.declared.tables.table.Line.{Line}
-use Rattle.dm_stack.specs.declared.lines.found_line.FoundLine.{FoundLine}
+use Rattle.dm_stack.specs.declared.lines.resolved_line.ResolvedLine.{ResolvedLine}
 use Rattle.dm_stack.specs.Description.{Description, lines_at}
-use Rattle.dm_stack.specs.lines.Below.{holds, line_of, found_line, found_at, IsLineOf}
+use Rattle.dm_stack.specs.lines.Below.{holds, line_of, resolved_line, found_at, IsLineOf}
 use Rattle.dm_stack.specs.checks.Soundness.{IsSound}
 use Rattle.dm_stack.proofs.checks.LayoutLemmas.{AreInRow}
 use Rattle.dm_stack.proofs.SoundLines.{HoldsSoundly, holds_from, there, device_sound, lines_there}
@@ -58,12 +58,12 @@ mapped : {X Y : Type 0} (f : X → Y) (o : Option X) (y : Y) → option_map f o 
 mapped f (Some x) y is = record { x = x; is = refl; value = cc }
 mapped f None y is = absurd cc
 
-pub same_found : (stack : Description) (id sector other : ℕ) (line : FoundLine) → IsSound stack → id < length stack.devices → found_at stack id sector ≡ Some line → line.start ≤ other → other < line.start + line.len → found_at stack id other ≡ Some line
+pub same_found : (stack : Description) (id sector other : ℕ) (line : ResolvedLine) → IsSound stack → id < length stack.devices → found_at stack id sector ≡ Some line → line.start ≤ other → other < line.start + line.len → found_at stack id other ≡ Some line
 same_found stack id sector other line sound within is from before =
     let d = there stack.devices id within in
     let s = device_sound stack id d.it sound d.at in
     let lines = lines_there stack id d.it d.at in
-    let m = mapped (found_line stack) (line_of (lines_at stack id) sector) line is in
+    let m = mapped (resolved_line stack) (line_of (lines_at stack id) sector) line is in
     let start : m.x.start ≡ line.start = cc (m.value) in
     let len : m.x.len ≡ line.len = cc (m.value) in
     let held : line_of d.it.lines sector ≡ Some m.x = cc in
@@ -71,12 +71,12 @@ same_found stack id sector other line sound within is from before =
     cc
 
 -- so what a search finds is the line of its sector
-pub found_line_of : (stack : Description) (id sector : ℕ) (line : FoundLine) → IsSound stack → id < length stack.devices → found_at stack id sector ≡ Some line → HoldsSoundly stack id line sector → IsLineOf stack id line sector
-found_line_of stack id sector line sound within is holds = record {
+pub resolved_line_of : (stack : Description) (id sector : ℕ) (line : ResolvedLine) → IsSound stack → id < length stack.devices → found_at stack id sector ≡ Some line → HoldsSoundly stack id line sector → IsLineOf stack id line sector
+resolved_line_of stack id sector line sound within is holds = record {
   from = holds.from;
   before = holds.before;
   is = record { small = holds.small; target = holds.target; all = λ other from before. same_found stack id sector other line sound within is from before };
 }
 
-pub found_of : (stack : Description) (id sector : ℕ) (line : FoundLine) → IsLineOf stack id line sector → found_at stack id sector ≡ Some line
+pub found_of : (stack : Description) (id sector : ℕ) (line : ResolvedLine) → IsLineOf stack id line sector → found_at stack id sector ≡ Some line
 found_of stack id sector line of = of.is.all sector of.from of.before

@@ -6,7 +6,7 @@ use Rattle.std.specs.List.{AllByRecursion}
 use Rattle.std.proofs.lemmas.Nat.{div-add-mod', div-mul-add, mod-mul-add, row_fits}
 use Rattle.std.proofs.lemmas.Option.{slice_get_read}
 use Rattle.std.proofs.Math.Nat.{div-lt_iff_lt-mul}
-use Rattle.dm_stack.specs.declared.lines.found_columns.FoundColumn.{FoundColumn}
+use Rattle.dm_stack.specs.declared.lines.resolved_columns.ResolvedColumn.{ResolvedColumn}
 use Rattle.dm_stack.specs.Description.{Description, lower_len}
 use Rattle.dm_stack.specs.lines.Below.{AreStripes, column_of, in_column, below_stripes, Lies}
 use Rattle.dm_stack.specs.declared.lines.stripe_position.StripePosition.{StripePosition}
@@ -44,13 +44,13 @@ at_index P (y ∷ ys) zero x each e = let same : y ≡ x = cc in rw (← same) e
 at_index P (y ∷ ys) (suc i) x each e = at_index P ys i x each.1 e
 
 -- the column of a sector, as one of the columns
-pub column_got : (chunk_size distance : ℕ) (columns : List FoundColumn) (column : FoundColumn) → 0 < length columns → column ≡ get_or columns (column_of chunk_size (length columns) distance) column → slice_get columns (column_of chunk_size (length columns) distance) ≡ Some column
+pub column_got : (chunk_size distance : ℕ) (columns : List ResolvedColumn) (column : ResolvedColumn) → 0 < length columns → column ≡ get_or columns (column_of chunk_size (length columns) distance) column → slice_get columns (column_of chunk_size (length columns) distance) ≡ Some column
 column_got chunk_size distance columns column some e =
     let position : column_of chunk_size (length columns) distance < length columns = omega arith in
     slice_get_read columns (length columns) _ column refl position e
 
 -- a sector of a striped line is one of those that its column names
-pub column_inside : (stack : Description) (len chunk_size distance index : ℕ) (columns : List FoundColumn) (column : FoundColumn) → AreStripes stack len chunk_size columns → distance < len → slice_get columns index ≡ Some column
+pub column_inside : (stack : Description) (len chunk_size distance index : ℕ) (columns : List ResolvedColumn) (column : ResolvedColumn) → AreStripes stack len chunk_size columns → distance < len → slice_get columns index ≡ Some column
     → column.offset + in_column chunk_size (length columns) distance + (chunk_size - distance % chunk_size) ≤ lower_len stack column.to
 column_inside stack len chunk_size distance index columns column stripes inside is =
     let share = at_index (λ c. c.offset + stripes.column_len ≤ lower_len stack c.to) columns index column stripes.inside is in
@@ -58,7 +58,7 @@ column_inside stack len chunk_size distance index columns column stripes inside 
     omega (arith, share, room)
 
 -- what lies below a sector of what is left of a chunk
-pub below_chunk : (chunk_size distance i : ℕ) (columns : List FoundColumn) (column : FoundColumn) (position : StripePosition) → 0 < length columns → 0 < chunk_size → IsStripePosition chunk_size (length columns) distance position
+pub below_chunk : (chunk_size distance i : ℕ) (columns : List ResolvedColumn) (column : ResolvedColumn) (position : StripePosition) → 0 < length columns → 0 < chunk_size → IsStripePosition chunk_size (length columns) distance position
     → i < chunk_size - position.past → column ≡ get_or columns position.column column → below_stripes chunk_size columns (distance + i) ≡ Lies column.to (column.offset + (position.chunk_start + position.past) + i)
 below_chunk chunk_size distance i columns column position some chunk_some at within is =
     let left : i < chunk_size - distance % chunk_size = omega (arith, within, at.past) in

@@ -1,12 +1,14 @@
 -- Keys of names: what is kept of sixteen bytes, and that a key is of one name.
-use Rattle.std.proofs.Common.{◌≡◌, ℕ, zero, suc, ◌+◌, ◌-◌, ◌%◌, ◌/◌, ◌^◌, ◌<◌, ◌≤◌, not, Bool, true, false, List, [], ◌∷◌, ◌++◌, get_or, length, map, take, drop, replicate, refl, sym, ap, ◌∙◌, arith, bit_and}
-use Rattle.std.specs.List.{All, Contains, prefix_len, slice_range}
+use Rattle.std.proofs.Common.{◌≡◌, ℕ, zero, suc, ◌+◌, ◌-◌, ◌%◌, ◌^◌, ◌<◌, not, cond, Bool, true, false, List, [], ◌∷◌, ◌++◌, Some, get_or, length, map, take, drop, replicate, refl, sym, ap, ◌∙◌, arith, bit_and}
+use Rattle.std.specs.Int.{to_le_bytes, w64}
+use Rattle.std.specs.List.{All, list_any, prefix_len, slice_get, slice_range}
 use Rattle.std.proofs.Math.Seq.{take-append_seam}
-use Rattle.std.proofs.lemmas.List.{drop_more, length-drop, take-append-drop, take_all}
-use Rattle.std.proofs.lemmas.List.Elements.{All-contains_itself, All-drop, All-same, All-take}
-use Rattle.std.proofs.lemmas.Nat.{and_le_r, and_mask, shr_below}
+use Rattle.std.proofs.lemmas.List.{drop_more, take-append-drop}
+use Rattle.std.proofs.lemmas.List.Elements.{All-drop, All-same, All-take, All-weaker}
+use Rattle.std.proofs.lemmas.Nat.{and_le_r, and_mask}
 use lib.Lanes.{mask_l, zip2}
-use Rattle.dm_stack.specs.names.FrontNames.{IsKeyOf}
+use Rattle.dm_stack.specs.names.NameIndex.{ArePlaces, IsKeyOf, IsPlaceOf}
+use Rattle.dm_stack.specs.declared.names.name_index.Place.{Place}
 use Rattle.dm_stack.specs.declared.names.name_key.NameKey.{NameKey}
 
 -- What is kept
@@ -51,32 +53,41 @@ same_name one other key a b =
     ∙ ap (take (length other)) (sym a.bytes ∙ b.bytes)
     ∙ take-append_seam other zeros
 
--- The first place of a key
-
--- a word that is shifted to some binary digits has no more of them
-pub shifted : (x digits : ℕ) → 1 ≤ digits → digits ≤ 13 → x % 2 ^ 64 / 2 ^ ((64 - digits) % 64) < 2 ^ digits
-shifted x digits some few =
-    let sum : digits + (64 - digits) ≡ 64 = omega (arith, few) in
-    let by : (64 - digits) % 64 ≡ 64 - digits = omega (arith, some, few) in
-    let word : x % 2 ^ 64 < 2 ^ (digits + (64 - digits)) = rw sum (omega arith) in
-    rw by (shr_below (x % 2 ^ 64) digits (64 - digits) word)
-
 -- Parts of a list
 
--- each of a part of a list is in it
-pub part_of : {X : Type 0} (xs ahead part : List X) (from n : ℕ) → ahead ≡ slice_range xs from (length xs) → part ≡ slice_range ahead 0 n → All (Contains xs) part
-part_of xs ahead part from n is_ahead is_part =
-    All-same (Contains xs) part (slice_range ahead 0 n) is_part
-    (All-take (Contains xs) (n - 0) ahead
-    (All-same (Contains xs) ahead (slice_range xs from (length xs)) is_ahead
-    (All-take (Contains xs) (length xs - from) (drop from xs) (All-drop (Contains xs) from xs (All-contains_itself xs)))))
-
--- the first eight from an index on
-pub part_at : {X : Type 0} (xs ahead part : List X) (from : ℕ) → ahead ≡ slice_range xs from (length xs) → part ≡ slice_range ahead 0 8 → part ≡ take 8 (drop from xs)
-part_at xs ahead part from is_ahead is_part =
-    is_part ∙ ap (take 8) (is_ahead ∙ take_all (length xs - from) (drop from xs) (let len = length-drop from xs in omega (arith, len)))
+-- what each of a list is, each of a part of it is
+pub part_of : {X : Type 0} (P : X → Type 0) (xs ahead part : List X) (from n : ℕ) → All P xs → ahead ≡ slice_range xs from (length xs) → part ≡ slice_range ahead 0 n → All P part
+part_of P xs ahead part from n all is_ahead is_part =
+    All-same P part (slice_range ahead 0 n) is_part
+    (All-take P (n - 0) ahead
+    (All-same P ahead (slice_range xs from (length xs)) is_ahead
+    (All-take P (length xs - from) (drop from xs) (All-drop P from xs all))))
 
 -- a space where it stands
 pub space_cut : (text : List ℕ) (len : ℕ) → len < length text → get_or text len 0 ≡ 32 → text ≡ take len text ++ 32 ∷ drop (len + 1) text
 space_cut text len within is =
     rw (← (drop_more text len 0 within ∙ ap (λ (byte : ℕ). byte ∷ drop (len + 1) text) is)) (sym (take-append-drop len text))
+
+-- Places of names
+
+slice_get_more : {X : Type 0} (xs ys : List X) (i : ℕ) (x : X) → slice_get xs i ≡ Some x → slice_get (xs ++ ys) i ≡ Some x
+slice_get_more [] ys i x e = absurd cc
+slice_get_more (first ∷ xs) ys zero x e = e
+slice_get_more (first ∷ xs) ys (suc i) x e = slice_get_more xs ys i x e
+
+-- a place stays one as names are added
+pub places_more : (names more : List (List ℕ)) (places : List Place) → ArePlaces names places → ArePlaces (names ++ more) places
+places_more names more places all =
+    All-weaker (λ (place : Place). place.key.len < 16 → IsPlaceOf names place) (λ (place : Place). place.key.len < 16 → IsPlaceOf (names ++ more) place)
+    (λ place of short. let is = of short in record { name = is.name; key = is.key; found = slice_get_more names more place.number is.name is.found }) places all
+
+pub last_of : (names : List (List ℕ)) (name : List ℕ) → slice_get (names ++ name ∷ []) (length names) ≡ Some name
+last_of [] name = refl
+last_of (first ∷ names) name = last_of names name
+
+-- the keys of a set after one is added that was not there
+pub key_added : {X : Type 0} (eq : X → X → Bool) (keys after : List X) (key : X) (new : Bool) → new ≡ true → new ≡ not (list_any (eq key) keys) → after ≡ cond (list_any (eq key) keys) keys (keys ++ key ∷ []) → after ≡ keys ++ key ∷ []
+key_added eq keys after key new is added e = by_test (list_any (eq key) keys) (sym is ∙ added) e where
+  by_test : (there : Bool) → true ≡ not there → after ≡ cond there keys (keys ++ key ∷ []) → after ≡ keys ++ key ∷ []
+  by_test true added e = absurd cc
+  by_test false added e = e

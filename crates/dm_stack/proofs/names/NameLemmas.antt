@@ -66,10 +66,20 @@ place_distinct name (first ∷ keys) (suc number) key apart at is =
     rw (other, place_distinct name keys number key (IsDistinct-tail _ first keys apart) at is) (omega arith)
 
 pub found_distinct : {A : Type 0} (name : List ℕ) (keys : List (String A)) (number : ℕ) (key : String A) → IsDistinct (λ one other. is_same (string_bytes one) (string_bytes other)) keys → slice_get keys number ≡ Some key → string_bytes key ≡ name
-    → Some number ≡ position (λ other. is_same other name) (map string_bytes keys)
+    → position (λ other. is_same other name) (map string_bytes keys) ≡ Some number
 found_distinct name keys number key apart at is =
     let below : number < length (map string_bytes keys) = rw (length-map keys string_bytes) (slice_get_within keys number key at) in
     rw (place_distinct name keys number key apart at is, lt-ltb number (length (map string_bytes keys)) below) refl
+
+-- the same of the names themselves
+pub named_distinct : {A : Type 0} (name : List ℕ) (keys : List (String A)) (number : ℕ) → IsDistinct (λ one other. is_same (string_bytes one) (string_bytes other)) keys → slice_get (map string_bytes keys) number ≡ Some name
+    → position (λ other. is_same other name) (map string_bytes keys) ≡ Some number
+named_distinct name keys number apart at =
+    let key = key_at keys number name at in found_distinct name keys number key.0 apart key.1 key.2 where
+      key_at : {A : Type 0} (keys : List (String A)) (number : ℕ) (name : List ℕ) → slice_get (map string_bytes keys) number ≡ Some name → (key : String A) × (slice_get keys number ≡ Some key) × (string_bytes key ≡ name)
+      key_at [] number name at = absurd cc
+      key_at (key ∷ keys) zero name at = (key, refl, cc)
+      key_at (key ∷ keys) (suc number) name at = key_at keys number name at
 
 -- Names that stand twice
 

@@ -4,9 +4,9 @@ use Rattle.std.specs.List.{All, Contains, list_any, range_with_len}
 use Rattle.dm_table.specs.declared.tables.table.Line.{Line}
 use Rattle.dm_table.specs.declared.tables.table.Target.{Target}
 use Rattle.dm_table.specs.declared.tables.table.Target.TheVariants as targets
-use Rattle.dm_stack.specs.declared.lines.found_line.FoundLine.{FoundLine}
-use Rattle.dm_stack.specs.declared.lines.found_line.FoundSnapshot.{FoundSnapshot}
-use Rattle.dm_stack.specs.declared.lines.found_line.FoundTarget.TheVariants as found
+use Rattle.dm_stack.specs.declared.lines.resolved_line.ResolvedLine.{ResolvedLine}
+use Rattle.dm_stack.specs.declared.lines.resolved_line.ResolvedSnapshot.{ResolvedSnapshot}
+use Rattle.dm_stack.specs.declared.lines.resolved_line.ResolvedTarget.TheVariants as found
 use Rattle.dm_stack.specs.Description.{Description, device_len, lines_at}
 use Rattle.dm_stack.specs.lines.Below.{found_at}
 
@@ -26,10 +26,10 @@ snapshots stack = filter (λ device. has_snapshot (lines_at stack device)) (rang
 -- a device that is all of a snapshot: that is its line, from 0 to its end
 pub record IsSnapshot (stack : Description) (device : ℕ) : Type 0 where
   pub there : device < length stack.devices
-  pub snapshot : FoundSnapshot
+  pub snapshot : ResolvedSnapshot
   pub line : found_at stack device 0 ≡ Some (record { start = 0; len = device_len stack device; target = found.Snapshot snapshot })
 
 -- such are these devices, and all whose first sector lies in a snapshot's line are among them
 pub record AreSnapshots (stack : Description) (devices : List ℕ) : Type 0 where
   pub each : All (IsSnapshot stack) devices
-  pub among : (device : ℕ) (line : FoundLine) (snapshot : FoundSnapshot) → found_at stack device 0 ≡ Some line → line.target ≡ found.Snapshot snapshot → Contains devices device
+  pub among : (device : ℕ) (line : ResolvedLine) (snapshot : ResolvedSnapshot) → found_at stack device 0 ≡ Some line → line.target ≡ found.Snapshot snapshot → Contains devices device

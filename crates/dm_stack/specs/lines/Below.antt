@@ -6,15 +6,15 @@ use Rattle.dm_table.specs.declared.tables.table.Target.{Target}
 use Rattle.dm_table.specs.declared.tables.table.Target.TheVariants as targets
 use Rattle.dm_table.specs.declared.tables.table.Line.{Line}
 use Rattle.dm_stack.specs.declared.id.Lower.{Lower}
-use Rattle.dm_stack.specs.declared.lines.found_columns.FoundColumn.{FoundColumn}
-use Rattle.dm_stack.specs.declared.lines.found_line.FoundOrigin.{FoundOrigin}
-use Rattle.dm_stack.specs.declared.lines.found_line.FoundSnapshot.{FoundSnapshot}
-use Rattle.dm_stack.specs.declared.lines.found_line.FoundTarget.{FoundTarget}
-use Rattle.dm_stack.specs.declared.lines.found_line.FoundTarget.TheVariants as found
-use Rattle.dm_stack.specs.declared.lines.found_line.FoundLine.{FoundLine}
+use Rattle.dm_stack.specs.declared.lines.resolved_columns.ResolvedColumn.{ResolvedColumn}
+use Rattle.dm_stack.specs.declared.lines.resolved_line.ResolvedOrigin.{ResolvedOrigin}
+use Rattle.dm_stack.specs.declared.lines.resolved_line.ResolvedSnapshot.{ResolvedSnapshot}
+use Rattle.dm_stack.specs.declared.lines.resolved_line.ResolvedTarget.{ResolvedTarget}
+use Rattle.dm_stack.specs.declared.lines.resolved_line.ResolvedTarget.TheVariants as found
+use Rattle.dm_stack.specs.declared.lines.resolved_line.ResolvedLine.{ResolvedLine}
 use Rattle.dm_stack.specs.declared.checks.limits.TheConstants.{MOST_CHUNK, MOST_LENGTH, MOST_SNAPSHOT_CHUNK, MOST_STRIPES}
 use Rattle.dm_stack.specs.Description.{Description, device_len, lower_of, lower_len, lines_at}
-use Rattle.dm_stack.specs.lines.Over.{found_snapshot, snapshots_over}
+use Rattle.dm_stack.specs.lines.Over.{resolved_snapshot, snapshots_over}
 use Rattle.dm_stack.specs.checks.Store.{IsStore}
 
 -- a line has the sectors from its start to before its end
@@ -26,21 +26,21 @@ abbrev pub line_of : List Line → ℕ → Option Line
 line_of lines sector = find (holds sector) lines
 
 -- what a line says, with ids for names
-abbrev pub found_columns : Description → List Column → List FoundColumn
-found_columns stack columns = map (λ column. record { to = lower_of stack column.to; offset = column.offset }) columns
+abbrev pub resolved_columns : Description → List Column → List ResolvedColumn
+resolved_columns stack columns = map (λ column. record { to = lower_of stack column.to; offset = column.offset }) columns
 
 -- a target, with what it names by ids
-abbrev pub found_target : Description → Target → FoundTarget
-found_target stack (targets.Linear to offset) = found.Linear (lower_of stack to) offset
-found_target stack (targets.Striped chunk columns) = found.Striped chunk (found_columns stack columns)
-found_target stack targets.Zero = found.Zero
-found_target stack targets.Error = found.Error
-found_target stack (targets.Snapshot origin store kind chunk) = found.Snapshot (found_snapshot stack origin store kind chunk)
-found_target stack (targets.Origin origin) = found.Origin (record { to = lower_of stack origin; over = snapshots_over stack (lower_of stack origin) })
+abbrev pub resolved_target : Description → Target → ResolvedTarget
+resolved_target stack (targets.Linear to offset) = found.Linear (lower_of stack to) offset
+resolved_target stack (targets.Striped chunk columns) = found.Striped chunk (resolved_columns stack columns)
+resolved_target stack targets.Zero = found.Zero
+resolved_target stack targets.Error = found.Error
+resolved_target stack (targets.Snapshot origin store kind chunk) = found.Snapshot (resolved_snapshot stack origin store kind chunk)
+resolved_target stack (targets.Origin origin) = found.Origin (record { to = lower_of stack origin; over = snapshots_over stack (lower_of stack origin) })
 
 -- a line, with what it names by ids
-abbrev pub found_line : Description → Line → FoundLine
-found_line stack line = record { start = line.start; len = line.len; target = found_target stack line.target }
+abbrev pub resolved_line : Description → Line → ResolvedLine
+resolved_line stack line = record { start = line.start; len = line.len; target = resolved_target stack line.target }
 
 -- what lies below a sector: a sector of a device or a disk, zeros, or an error
 pub data Below : Type 0 where
@@ -57,41 +57,41 @@ abbrev pub in_column : (chunk count distance : ℕ) → ℕ
 in_column chunk count distance = (distance / chunk / count) * chunk + distance % chunk
 
 -- what lies at a sector of a column's share: an error where there is no such column
-abbrev pub below_column : Option FoundColumn → ℕ → Below
+abbrev pub below_column : Option ResolvedColumn → ℕ → Below
 below_column (Some column) sector = Lies column.to (column.offset + sector)
 below_column None sector = IsError
 
 -- what lies below a striped line, at a distance from its start
-abbrev pub below_stripes : (chunk : ℕ) → List FoundColumn → ℕ → Below
+abbrev pub below_stripes : (chunk : ℕ) → List ResolvedColumn → ℕ → Below
 below_stripes chunk columns distance =
     below_column (slice_get columns (column_of chunk (length columns) distance)) (in_column chunk (length columns) distance)
 
 -- whether what becomes of a line's sectors goes by what was written: so it does for these targets
-abbrev pub has_state : FoundTarget → Bool
+abbrev pub has_state : ResolvedTarget → Bool
 has_state (found.Snapshot snapshot) = true
 has_state (found.Origin origin) = true
 has_state _ = false
 
 -- whether its sectors lie in stripes
-abbrev pub is_striped : FoundTarget → Bool
+abbrev pub is_striped : ResolvedTarget → Bool
 is_striped (found.Striped chunk columns) = true
 is_striped _ = false
 
 -- what lies below a sector at a distance from the start of a line of a target without a state
-abbrev pub below_plain : FoundTarget → ℕ → Below
+abbrev pub below_plain : ResolvedTarget → ℕ → Below
 below_plain (found.Linear to offset) distance = Lies to (offset + distance)
 below_plain (found.Striped chunk columns) distance = below_stripes chunk columns distance
 below_plain found.Zero distance = IsZero
 below_plain _ distance = IsError
 
 -- the same for any target; over says it for the sectors of a snapshot, whose line starts at 0, since it changes with what was written
-abbrev pub below_target : (over : FoundSnapshot → ℕ → Below) → FoundTarget → ℕ → Below
+abbrev pub below_target : (over : ResolvedSnapshot → ℕ → Below) → ResolvedTarget → ℕ → Below
 below_target over (found.Snapshot snapshot) distance = over snapshot distance
 below_target over (found.Origin origin) distance = Lies origin.to distance
 below_target over target distance = below_plain target distance
 
 -- the chunk that has a sector at a distance from the line's start, where its target has chunks
-abbrev pub chunk_at : FoundTarget → (distance : ℕ) → Option ℕ
+abbrev pub chunk_at : ResolvedTarget → (distance : ℕ) → Option ℕ
 chunk_at (found.Striped chunk columns) distance = Some (distance / chunk)
 chunk_at (found.Snapshot snapshot) distance = Some (distance / snapshot.chunk)
 chunk_at _ distance = None
@@ -104,20 +104,20 @@ is_same_chunk (Some chunk) None = false
 is_same_chunk (Some chunk) (Some other) = chunk == other
 
 -- what lies below a sector of a device, by the line that holds it; a sector that no line holds is an error
-abbrev pub below_line : (over : FoundSnapshot → ℕ → Below) → Option FoundLine → ℕ → Below
+abbrev pub below_line : (over : ResolvedSnapshot → ℕ → Below) → Option ResolvedLine → ℕ → Below
 below_line over (Some line) sector = below_target over line.target (sector - line.start)
 below_line over None sector = IsError
 
 -- the lines of a device, with ids for names
-abbrev pub found_lines : Description → ℕ → List FoundLine
-found_lines stack device = map (found_line stack) (lines_at stack device)
+abbrev pub resolved_lines : Description → ℕ → List ResolvedLine
+resolved_lines stack device = map (resolved_line stack) (lines_at stack device)
 
 -- the line of a sector of a device, with ids for names
-abbrev pub found_at : Description → ℕ → ℕ → Option FoundLine
-found_at stack device sector = option_map (found_line stack) (line_of (lines_at stack device) sector)
+abbrev pub found_at : Description → ℕ → ℕ → Option ResolvedLine
+found_at stack device sector = option_map (resolved_line stack) (line_of (lines_at stack device) sector)
 
 -- what lies below a sector of a device
-abbrev pub below : (over : FoundSnapshot → ℕ → Below) → Description → ℕ → ℕ → Below
+abbrev pub below : (over : ResolvedSnapshot → ℕ → Below) → Description → ℕ → ℕ → Below
 below over stack device sector = below_line over (found_at stack device sector) sector
 
 -- A line of a device of a sound stack, that holds a sector
@@ -127,7 +127,7 @@ abbrev pub LiesIn : Description → Lower → ℕ → ℕ → Type 0
 LiesIn stack to offset len = offset + len ≤ lower_len stack to
 
 -- the columns of a stripe are as long as their share of the line
-pub record AreStripes (stack : Description) (len chunk : ℕ) (columns : List FoundColumn) : Type 0 where
+pub record AreStripes (stack : Description) (len chunk : ℕ) (columns : List ResolvedColumn) : Type 0 where
   pub some : 0 < length columns
   pub few : length columns ≤ MOST_STRIPES
   pub chunk_some : 0 < chunk
@@ -139,7 +139,7 @@ pub record AreStripes (stack : Description) (len chunk : ℕ) (columns : List Fo
   pub inside : AllByRecursion (λ column. LiesIn stack column.to column.offset column_len) columns
 
 -- a snapshot is the whole of a device as long as its origin, with a chunk within its limit and a store that can keep chunks
-pub record IsSnapshotSound (stack : Description) (device start len : ℕ) (snapshot : FoundSnapshot) : Type 0 where
+pub record IsSnapshotSound (stack : Description) (device start len : ℕ) (snapshot : ResolvedSnapshot) : Type 0 where
   pub chunk_some : 0 < snapshot.chunk
   pub chunk_small : snapshot.chunk ≤ MOST_SNAPSHOT_CHUNK
   pub from : start ≡ 0
@@ -148,14 +148,14 @@ pub record IsSnapshotSound (stack : Description) (device start len : ℕ) (snaps
   pub store : IsStore stack snapshot.store
 
 -- an origin's line is the whole of a device, as long as what it names, and has the snapshots of that
-pub record IsOriginSound (stack : Description) (device start len : ℕ) (origin : FoundOrigin) : Type 0 where
+pub record IsOriginSound (stack : Description) (device start len : ℕ) (origin : ResolvedOrigin) : Type 0 where
   pub from : start ≡ 0
   pub whole : len ≡ device_len stack device
   pub same : lower_len stack origin.to ≡ len
   pub over : origin.over ≡ snapshots_over stack origin.to
 
 -- what the lower layers need of the target of a line of a device, with the line's start and length
-abbrev pub IsTargetSound : Description → (device start len : ℕ) → FoundTarget → Type 0
+abbrev pub IsTargetSound : Description → (device start len : ℕ) → ResolvedTarget → Type 0
 IsTargetSound stack device start len (found.Linear to offset) = LiesIn stack to offset len
 IsTargetSound stack device start len (found.Striped chunk columns) = AreStripes stack len chunk columns
 IsTargetSound stack device start len found.Zero = Unit {0}
@@ -164,13 +164,13 @@ IsTargetSound stack device start len (found.Snapshot snapshot) = IsSnapshotSound
 IsTargetSound stack device start len (found.Origin origin) = IsOriginSound stack device start len origin
 
 -- a line of a device of a sound stack: within the limits, sound, and that of each sector that it has
-pub record IsLine (stack : Description) (device : ℕ) (line : FoundLine) : Type 0 where
+pub record IsLine (stack : Description) (device : ℕ) (line : ResolvedLine) : Type 0 where
   pub small : line.start + line.len ≤ MOST_LENGTH
   pub target : IsTargetSound stack device line.start line.len line.target
   pub all : (other : ℕ) → line.start ≤ other → other < line.start + line.len → found_at stack device other ≡ Some line
 
 -- the line of a sector, as a look-up finds it
-pub record IsLineOf (stack : Description) (device : ℕ) (line : FoundLine) (sector : ℕ) : Type 0 where
+pub record IsLineOf (stack : Description) (device : ℕ) (line : ResolvedLine) (sector : ℕ) : Type 0 where
   pub from : line.start ≤ sector
   pub before : sector < line.start + line.len
   pub is : IsLine stack device line

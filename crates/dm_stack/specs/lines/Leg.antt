@@ -1,9 +1,9 @@
 -- Legs: where the first sectors of a line lie, and how many go on like that.
 use Rattle.std.specs.Prelude.{ℕ, ◌≡◌, ◌+◌, ◌-◌, ◌≤◌, ◌<◌, Bool, false, true, List, length}
-use Rattle.dm_stack.specs.declared.lines.found_columns.FoundColumn.{FoundColumn}
+use Rattle.dm_stack.specs.declared.lines.resolved_columns.ResolvedColumn.{ResolvedColumn}
 use Rattle.dm_stack.specs.declared.id.Lower.TheVariants.{Device, Disk}
-use Rattle.dm_stack.specs.declared.lines.found_line.FoundTarget.{FoundTarget}
-use Rattle.dm_stack.specs.declared.lines.found_line.FoundTarget.TheVariants as found
+use Rattle.dm_stack.specs.declared.lines.resolved_line.ResolvedTarget.{ResolvedTarget}
+use Rattle.dm_stack.specs.declared.lines.resolved_line.ResolvedTarget.TheVariants as found
 use Rattle.dm_stack.specs.declared.lines.leg.Beneath.{Beneath}
 use Rattle.dm_stack.specs.declared.lines.leg.Beneath.TheVariants as beneath
 use Rattle.dm_stack.specs.declared.lines.leg.Leg.{Leg}
@@ -11,12 +11,12 @@ use Rattle.dm_stack.specs.declared.checks.limits.TheConstants.{MOST_LENGTH}
 use Rattle.dm_stack.specs.declared.lines.stripe_position.StripePosition.{StripePosition}
 use Rattle.dm_stack.specs.lines.Below.{Below, Lies, IsZero, IsError, below_plain, chunk_at, has_state, is_same_chunk, is_striped, IsTargetSound}
 use Rattle.dm_stack.specs.Description.{Description, lower_len}
-use Rattle.dm_stack.specs.lines.FoundColumns.{are_on_disks}
+use Rattle.dm_stack.specs.lines.ResolvedColumns.{are_on_disks}
 use Rattle.dm_stack.specs.checks.Soundness.{IsSound}
 use Rattle.dm_stack.specs.lines.StripePosition.{IsStripePosition}
 
 -- a line with this target could stand in a stack without a fault, and has len sectors from a distance from its start on
-pub record HasSectors (target : FoundTarget) (distance len : ℕ) : Type 0 where
+pub record HasSectors (target : ResolvedTarget) (distance len : ℕ) : Type 0 where
   pub stack : Description
   pub sound : IsSound stack
   pub device : ℕ
@@ -27,13 +27,13 @@ pub record HasSectors (target : FoundTarget) (distance len : ℕ) : Type 0 where
   pub small : line_len ≤ MOST_LENGTH
 
 -- below len sectors of a target without a state lies what a row says, and they are in one chunk
-pub record GoesOn (target : FoundTarget) (distance len : ℕ) (row : ℕ → Below) : Type 0 where
+pub record GoesOn (target : ResolvedTarget) (distance len : ℕ) (row : ℕ → Below) : Type 0 where
   pub plain : has_state target ≡ false
   pub below : (i : ℕ) → i < len → below_plain target (distance + i) ≡ row i
   pub chunk : (i : ℕ) → i < len → chunk_at target (distance + i) ≡ chunk_at target distance
 
 -- what lies below len sectors: sectors in a row, zeros or errors; or the target is one with a state
-abbrev pub IsBeneath : FoundTarget → (distance len : ℕ) → Beneath → Type 0
+abbrev pub IsBeneath : ResolvedTarget → (distance len : ℕ) → Beneath → Type 0
 IsBeneath target distance len (beneath.Lies to sector) = GoesOn target distance len (λ i. Lies to (sector + i))
 IsBeneath target distance len beneath.Zeros = GoesOn target distance len (λ i. IsZero)
 IsBeneath target distance len beneath.Errors = GoesOn target distance len (λ i. IsError)
@@ -41,7 +41,7 @@ IsBeneath target distance len (beneath.Snapshot snapshot) = target ≡ found.Sna
 IsBeneath target distance len (beneath.Origin origin) = target ≡ found.Origin origin.now
 
 -- the first of at most so many sectors of a line, from a distance from its start on; where there are more, they lie in stripes, and the next one is in another chunk
-pub record IsLeg (target : FoundTarget) (distance most : ℕ) (leg : Leg) : Type 0 where
+pub record IsLeg (target : ResolvedTarget) (distance most : ℕ) (leg : Leg) : Type 0 where
   pub some : 1 ≤ leg.len
   pub within : leg.len ≤ most
   pub is : IsBeneath target distance leg.len leg.below
@@ -55,7 +55,7 @@ AreInside stack len _ = Unit {0}
 
 -- a row of legs: its target, the distance of the next sector, and how many are left
 pub record LegsView : Type 0 where
-  pub target : FoundTarget
+  pub target : ResolvedTarget
   pub distance : ℕ
   pub left : ℕ
 
@@ -64,12 +64,12 @@ abbrev pub after_leg : LegsView → (len : ℕ) → LegsView
 after_leg legs len = record { target = legs.target; distance = legs.distance + len; left = legs.left - len }
 
 -- the sectors that are left of a striped line are there, and this is the position of the first one
-pub record AreLeft (chunk_size : ℕ) (columns : List FoundColumn) (position : StripePosition) (distance left : ℕ) : Type 0 where
+pub record AreLeft (chunk_size : ℕ) (columns : List ResolvedColumn) (position : StripePosition) (distance left : ℕ) : Type 0 where
   pub there : HasSectors (found.Striped chunk_size columns) distance left
   pub at : 0 < left → IsStripePosition chunk_size (length columns) distance position
 
 -- a target is striped, with all its columns on disks
-abbrev pub has_disk_columns : FoundTarget → Bool
+abbrev pub has_disk_columns : ResolvedTarget → Bool
 has_disk_columns (found.Striped chunk columns) = are_on_disks columns
 has_disk_columns _ = false
 

@@ -5,28 +5,28 @@ use Rattle.dm_table.specs.declared.tables.table.DevRef.{DevRef}
 use Rattle.dm_table.specs.declared.tables.table.StoreKind.{StoreKind}
 use Rattle.dm_table.specs.declared.tables.table.Target.{Target}
 use Rattle.dm_table.specs.declared.tables.table.Target.TheVariants as targets
-use Rattle.dm_stack.specs.declared.lines.found_line.FoundOver.{FoundOver}
-use Rattle.dm_stack.specs.declared.lines.found_line.FoundSnapshot.{FoundSnapshot}
+use Rattle.dm_stack.specs.declared.lines.resolved_line.ResolvedOver.{ResolvedOver}
+use Rattle.dm_stack.specs.declared.lines.resolved_line.ResolvedSnapshot.{ResolvedSnapshot}
 use Rattle.dm_stack.specs.declared.id.Lower.{Lower}
 use Rattle.dm_stack.specs.Description.{Description, is_same_lower, lines_at, lower_of}
 
 -- what a snapshot's line says, with ids for names
-abbrev pub found_snapshot : Description → (origin store : DevRef) → StoreKind → (chunk : ℕ) → FoundSnapshot
-found_snapshot stack origin store kind chunk = record { origin = lower_of stack origin; store = lower_of stack store; kind = kind; chunk = chunk }
+abbrev pub resolved_snapshot : Description → (origin store : DevRef) → StoreKind → (chunk : ℕ) → ResolvedSnapshot
+resolved_snapshot stack origin store kind chunk = record { origin = lower_of stack origin; store = lower_of stack store; kind = kind; chunk = chunk }
 
 -- the snapshot that a line of a device with this target is; one of any other target is none
-abbrev pub over_of : Description → (device : ℕ) → Target → List FoundOver
-over_of stack device (targets.Snapshot origin store kind chunk) = record { device = device; snapshot = found_snapshot stack origin store kind chunk } ∷ []
+abbrev pub over_of : Description → (device : ℕ) → Target → List ResolvedOver
+over_of stack device (targets.Snapshot origin store kind chunk) = record { device = device; snapshot = resolved_snapshot stack origin store kind chunk } ∷ []
 over_of stack device _ = []
 
 -- the snapshots among the lines of a device, with that device
-abbrev pub device_over : Description → (device : ℕ) → List FoundOver
+abbrev pub device_over : Description → (device : ℕ) → List ResolvedOver
 device_over stack device = flat_map (λ line. over_of stack device line.target) (lines_at stack device)
 
 -- all snapshots, with their devices: in the order of the source
-unfoldable pub all_over : Description → List FoundOver
+unfoldable pub all_over : Description → List ResolvedOver
 all_over stack = flat_map (device_over stack) (range_with_len 0 (length stack.devices))
 
 -- those whose origin is this device or disk
-unfoldable pub snapshots_over : Description → Lower → List FoundOver
+unfoldable pub snapshots_over : Description → Lower → List ResolvedOver
 snapshots_over stack to = filter (λ one. is_same_lower one.snapshot.origin to) (all_over stack)

@@ -1,9 +1,13 @@
 -- Names that are indexed.
-use Rattle.std.specs.Prelude.{◌≡◌, ℕ, List, String, map, string_bytes}
+use Rattle.std.specs.Prelude.{◌≡◌, ℕ, ◌-◌, ◌<◌, ◌++◌, List, Some, String, length, map, replicate, slice_get, string_bytes}
+use Rattle.std.specs.Int.{to_le_bytes, w64}
 use Rattle.std.specs.List.{All, IsDistinct}
 use Rattle.indexmap.specs.IndexSet.{IndexSet}
 use Rattle.dm_stack.specs.Description.{Description, is_same}
 use Rattle.dm_stack.specs.checks.Soundness.{HaveSmallEnds}
+use Rattle.dm_stack.specs.declared.names.name_index.Place.{Place}
+use Rattle.dm_stack.specs.declared.names.name_key.NameKey.{NameKey}
+use Rattle.dm_stack.specs.declared.names.name_key.TheConstants.{ROOM}
 
 -- the names of an index, in the order in which they were added
 abbrev pub names_in : {A S : Type 0} → IndexSet (String A) S → List (List ℕ)
@@ -12,6 +16,26 @@ names_in index = map string_bytes index.keys
 -- no two of them are one
 abbrev pub AreDistinct : {A S : Type 0} → IndexSet (String A) S → Type 0
 AreDistinct index = IsDistinct (λ one other. is_same (string_bytes one) (string_bytes other)) index.keys
+
+-- the bytes of a short name, with zeros after them, are those of its words
+pub record IsKeyOf (name : List ℕ) (key : NameKey) : Type 0 where
+  pub len : key.len ≡ length name
+  pub bytes : to_le_bytes w64 key.first ++ to_le_bytes w64 key.last ≡ name ++ replicate (16 - key.len) 0
+
+-- the number of a place is that of its name
+pub record IsPlaceOf (names : List (List ℕ)) (place : Place) : Type 0 where
+  pub name : List ℕ
+  pub key : IsKeyOf name place.key
+  pub found : slice_get names place.number ≡ Some name
+
+-- so it is of each place with a short name
+abbrev pub ArePlaces : List (List ℕ) → List Place → Type 0
+ArePlaces names places = All (λ place. place.key.len < ROOM → IsPlaceOf names place) places
+
+-- different names, and their places
+pub record IsIndex {A S : Type 0} (index : IndexSet (String A) S) (by_keys : List Place) : Type 0 where
+  pub distinct : AreDistinct index
+  pub places : ArePlaces (names_in index) by_keys
 
 -- the names of a description as they are indexed, and ends that can be added up
 pub record AreIndexed (stack : Description) (devices disks : List (List ℕ)) : Type 0 where

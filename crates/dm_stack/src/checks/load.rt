@@ -26,10 +26,8 @@ use crate::checks::store_limit::check_places;
 use crate::checks::stores::{check_stores, store_depths};
 use crate::checks::stripes::check_stripes;
 use crate::id::DeviceId;
-use crate::lines::found_table::FoundDevice;
-use crate::lines::resolve::{check_references, found_devices};
-use crate::names::disk_text::{DiskText, disk_texts};
-use crate::names::front_names::FrontNames;
+use crate::lines::resolve::{check_references, resolved_devices};
+use crate::lines::resolved_table::ResolvedDevice;
 use crate::names::indexed::Indexed;
 use dm_table::{DeviceSpec, Disk, LoadFault, LoadKind};
 use std::alloc::{AllocError, Global};
@@ -38,11 +36,9 @@ use std::alloc::{AllocError, Global};
 #[derive(Drop)]
 pub(crate) struct Checked {
     pub names: Names,
-    pub found: Vec<FoundDevice>,
+    pub found: Vec<ResolvedDevice>,
     pub depth: u32,
     pub snapshots: Vec<DeviceId>,
-    pub texts: Vec<DiskText>,
-    pub fronts: FrontNames,
 }
 
 /// The depth of each device, also as a part of a store, and the first that reaches itself.
@@ -64,7 +60,7 @@ pub(crate) fn check(
 ) -> Result<Checked, LoadFault>
     ensures loaded { IfOk result (λ checked. IsLoaded (described devices.now disks.now)
         checked.names.devices checked.names.disks checked.found.items checked.depth
-        checked.snapshots.items checked.texts.items checked.fronts.places) }
+        checked.snapshots.items) }
     ensures fault { IfErr result (λ fault.
         IsRefusedBy (described devices.now disks.now) fault ⊎ IsMemoryFault Source fault) }
 {
@@ -83,17 +79,13 @@ pub(crate) fn check(
     check_snapshots(&stack)?;
     check_stores(&stack, &graph.store_depths)?;
     check_places(&stack)?;
-    let found = or_out_of_memory(found_devices(alloc, &stack))?;
+    let found = or_out_of_memory(resolved_devices(alloc, &stack))?;
     let snapshots = or_out_of_memory(snapshots(alloc, devices))?;
-    let texts = or_out_of_memory(disk_texts(alloc, disks))?;
-    let fronts = or_out_of_memory(FrontNames::new(alloc, devices))?;
     Ok(Checked {
         names,
         found,
         depth: deepest(&graph.depths),
         snapshots,
-        texts,
-        fronts,
     })
 }
 

@@ -81,7 +81,7 @@ pub(crate) fn index_of<T: Named + Placed>(alloc: Global, list: &[T]) -> Result<N
     ensures { Answers Source (λ index. index) result
         (unless (first_or (twice_in T.name_of T.place_of list.now) None) (map T.name_of list.now)) }
 {
-    let Ok(mut names) = NameIndex::new(alloc) else {
+    let Ok(mut names) = NameIndex::new(alloc, list.len()) else {
         return Err(out_of_memory());
     };
     for item in list {

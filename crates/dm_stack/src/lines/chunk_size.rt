@@ -1,6 +1,9 @@
 //! Sizes of a snapshot's chunks: powers of two, so that mapping shifts and masks, and never divides by one.
 //!
 //! A small request to a snapshot would take six divisions, which were a tenth of its time.
+//!
+//! This is here for speed alone: RESULTS.md has its gain as *chunk sizes by their exponent*. It rests on sizes that
+//! are powers of two, which a load checks. Change it only if you measure random first writes before and after.
 
 ghost use Rattle.std.specs.Prelude.{◌≡◌, ◌*◌, ◌/◌, ◌%◌, ◌<◌, ◌≤◌, false};
 ghost use Rattle.dm_stack.specs.checks.Soundness.{is_bad_chunk};

@@ -2,6 +2,10 @@
 //!
 //! A range of stripes takes two divisions at each level that it goes through, which were a sixth of
 //! the time of such a request.
+//!
+//! This is here for speed alone; RESULTS.md has such requests as those *through 8 levels of stripes and lines*. It
+//! rests on an inverse that is at most one too small, so the quotient is, too, and is put right once. Change it
+//! only if you measure these requests before and after.
 
 ghost use Rattle.std.specs.Prelude.{◌≡◌, ◌+◌, ◌*◌, ◌^◌, ◌/◌, ◌%◌, ◌<◌, ◌≤◌};
 
@@ -42,7 +46,7 @@ impl Divisor {
 
     /// The number itself.
     #[inline(always)]
-    pub fn value(&self) -> u64
+    pub(crate) fn value(&self) -> u64
         ensures { result ≡ self.now }
     {
         self.value
@@ -51,7 +55,7 @@ impl Divisor {
     /// The quotient and the remainder of a number.
     #[tactic(auto, using(crate::proofs::lines::Inverses::divided))]
     #[inline(always)]
-    pub fn divide(&self, number: u64) -> (u64, u64)
+    pub(crate) fn divide(&self, number: u64) -> (u64, u64)
         requires { 0 < self.now }
         ensures quotient { result.0 ≡ number / self.now }
         ensures remainder { result.1 ≡ number % self.now }

@@ -10,7 +10,7 @@ ghost use Rattle.dm_stack.specs.Description.{Description};
 ghost use Rattle.dm_stack.specs.lines.Leg.{AreInside, HasSectors, IsLeg, LiesOnDisk};
 
 use crate::id::{DiskId, Lower};
-use crate::lines::found_line::{FoundOrigin, FoundSnapshot, FoundTarget};
+use crate::lines::resolved_line::{ResolvedOrigin, ResolvedSnapshot, ResolvedTarget};
 
 /// What lies beneath the sectors of a leg.
 #[derive(Clone, Copy, Drop)]
@@ -22,9 +22,9 @@ pub enum Beneath<'l> {
     /// Nothing: every request fails.
     Errors,
     /// What the state of this snapshot says.
-    Snapshot(&'l FoundSnapshot),
+    Snapshot(&'l ResolvedSnapshot),
     /// The sectors of what this origin names, whose snapshots are served before a write.
-    Origin(&'l FoundOrigin),
+    Origin(&'l ResolvedOrigin),
 }
 
 /// The first sectors of a part of a line: `len` of them, with one thing beneath.
@@ -52,7 +52,7 @@ impl<'l> Leg<'l> {
     }
 }
 
-impl FoundTarget {
+impl ResolvedTarget {
     /// Where the sectors of a line of this target lie, from a distance from its start on, and how many
     /// of at most `most` go on like that.
     ///
@@ -69,33 +69,33 @@ impl FoundTarget {
             → AreInside stack result.len result.below }
     {
         match self {
-            FoundTarget::Linear { to, offset } => Leg {
+            ResolvedTarget::Linear { to, offset } => Leg {
                 below: Beneath::Lies {
                     to: *to,
                     sector: *offset + distance,
                 },
                 len: most,
             },
-            FoundTarget::Striped { .. } => {
+            ResolvedTarget::Striped { .. } => {
                 let mut legs = self.legs(distance, most);
                 let Some(leg) = legs.next_leg() else {
                     unreachable!()
                 };
                 leg
             }
-            FoundTarget::Zero => Leg {
+            ResolvedTarget::Zero => Leg {
                 below: Beneath::Zeros,
                 len: most,
             },
-            FoundTarget::Error => Leg {
+            ResolvedTarget::Error => Leg {
                 below: Beneath::Errors,
                 len: most,
             },
-            FoundTarget::Snapshot(snapshot) => Leg {
+            ResolvedTarget::Snapshot(snapshot) => Leg {
                 below: Beneath::Snapshot(snapshot),
                 len: most,
             },
-            FoundTarget::Origin(origin) => Leg {
+            ResolvedTarget::Origin(origin) => Leg {
                 below: Beneath::Origin(origin),
                 len: most,
             },

@@ -3,14 +3,18 @@
 //! Each leg is what is left of a chunk, or of the part where that ends first, and its position follows from
 //! that of the one before without a division. What the target says is read once, so a loop over legs keeps
 //! it in registers.
+//!
+//! This is here for speed alone, as `ResolvedTarget::leg` finds each leg, too: RESULTS.md has its gain as *rows of
+//! legs* and *legs on disks in one go*. It rests on `next_chunk`, which goes on from a position as `position_at`
+//! finds the next one. Change it only if you measure large requests over 16 columns before and after.
 
 ghost use Rattle.std.specs.Prelude.{◌≡◌, true, IfNone, IfSome};
 ghost use Rattle.dm_stack.specs.lines.Below.{is_striped};
 ghost use Rattle.dm_stack.specs.lines.Leg.{after_leg, has_disk_columns, HasSectors, IsLeg};
 
-use crate::lines::found_columns::FoundColumn;
-use crate::lines::found_line::FoundTarget;
 use crate::lines::leg::{Beneath, Leg};
+use crate::lines::resolved_columns::ResolvedColumn;
+use crate::lines::resolved_line::ResolvedTarget;
 use crate::lines::stripe_position::{StripePosition, next_chunk, position_at};
 use std::marker::Model;
 
@@ -19,14 +23,14 @@ use std::marker::Model;
 #[derive(Drop)]
 pub struct Legs<'l> {
     chunk_size: u64,
-    columns: &'l [FoundColumn],
+    columns: &'l [ResolvedColumn],
     position: StripePosition,
     distance: u64,
     left: u64,
 }
 
 impl<'l> Model for Legs<'l> {
-    ghost use Rattle.dm_stack.specs.declared.lines.found_line.FoundTarget.TheVariants.{Striped};
+    ghost use Rattle.dm_stack.specs.declared.lines.resolved_line.ResolvedTarget.TheVariants.{Striped};
     ghost use Rattle.dm_stack.specs.lines.Leg.{AreLeft, LegsView};
 
     ghost Value = { LegsView };
@@ -41,7 +45,7 @@ impl<'l> Model for Legs<'l> {
         AreLeft legs.chunk_size legs.columns.now legs.position legs.distance legs.left };
 }
 
-impl FoundTarget {
+impl ResolvedTarget {
     /// The legs of sectors of a striped line of this target, from a distance from its start on. No
     /// memory is taken.
     #[inline(always)]
@@ -50,7 +54,7 @@ impl FoundTarget {
         requires there { HasSectors self.now distance len }
         ensures { result ≡ record { target = self.now; distance = distance; left = len } }
     {
-        let FoundTarget::Striped { chunk, columns } = self else {
+        let ResolvedTarget::Striped { chunk, columns } = self else {
             unreachable!()
         };
         Legs {
@@ -68,7 +72,7 @@ impl FoundTarget {
         ensures { result ≡ has_disk_columns self.now }
     {
         match self {
-            FoundTarget::Striped { columns, .. } => columns.are_on_disks(),
+            ResolvedTarget::Striped { columns, .. } => columns.are_on_disks(),
             _ => false,
         }
     }

@@ -1,18 +1,23 @@
 //! The line of a sector, found by halving over the starts of a device's lines.
 //!
 //! Lines are found nowhere else, and each comparison of a start with the sector is one call of `starts_by`,
-//! which counts it. A search goes over the lines of the sector's bucket (`found_table`), and the first of them
+//! which counts it. A search goes over the lines of the sector's bucket (`resolved_table`), and the first of them
 //! is never compared, since the sector is at its start or after it. Of more than three lines, the one that was
 //! found last is remembered, with the sector at which it ends. A range that goes on there, as over many lines,
 //! is in the next line. Whether it does is asked of that sector alone, once a search: no line is looked at for
 //! it, and it isn't counted.
+//!
+//! The search among few lines without a jump, and the last line, are here for speed alone: `search` finds any line.
+//! RESULTS.md has the requests that gain as those *through 8 levels of stripes and lines*. The last line rests on
+//! its end, which lies past every device where there is none. Change these only if you measure such requests, and
+//! random ones on 65,536 lines, before and after.
 
 ghost use Rattle.std.specs.Prelude.{◌≡◌, ◌⊎◌, ◌<◌, ◌≤◌, ◌+◌, ◌^◌, length, nat_le};
 ghost use Rattle.dm_stack.specs.lines.LineSearch.{EndsAt, Finds, EndsAreSmall, StartsAfter, StartsBy};
 
 use crate::id::DeviceId;
-use crate::lines::found_line::FoundLine;
-use crate::lines::found_table::FoundTable;
+use crate::lines::resolved_line::ResolvedLine;
+use crate::lines::resolved_table::ResolvedTable;
 
 /// The line that was found last: its device, its index there, and the sector after its last one.
 #[derive(Clone, Copy)]
@@ -40,7 +45,7 @@ impl LastLine {
 ///
 /// The line becomes the last one, unless the device has only up to three.
 pub(crate) fn find(
-    table: &FoundTable,
+    table: &ResolvedTable,
     device: DeviceId,
     last: &mut LastLine,
     sector: u64,
@@ -64,7 +69,7 @@ pub(crate) fn find(
 /// The same among up to three lines. No jump asks where the sector lies, since among few lines that is
 /// rarely foreseen.
 #[inline(always)]
-fn find_of_few(lines: &[FoundLine], sector: u64) -> (usize, u64)
+fn find_of_few(lines: &[ResolvedLine], sector: u64) -> (usize, u64)
     requires first { StartsBy lines.now 0 sector }
     requires few { length lines.now < 4 }
     ensures { Finds lines.now sector result }
@@ -99,7 +104,7 @@ fn starts_by(start: u64, sector: u64, comparisons: &mut u64) -> bool
 /// The same among many lines, out of the way of those that have few.
 #[inline(never)]
 fn find_among(
-    table: &FoundTable,
+    table: &ResolvedTable,
     device: DeviceId,
     last: &mut LastLine,
     sector: u64,
@@ -124,7 +129,7 @@ fn find_among(
 }
 
 /// The line after the last one, where the sector comes right after that; else one that is searched for.
-fn after_last(table: &FoundTable, device: DeviceId, last: &LastLine, sector: u64) -> (usize, u64)
+fn after_last(table: &ResolvedTable, device: DeviceId, last: &LastLine, sector: u64) -> (usize, u64)
     requires first { StartsBy table.now 0 sector }
     requires follows { last.now.device ≡ device → last.now.end ≡ sector
         → StartsBy table.now (last.now.index + 1) sector × StartsAfter table.now (last.now.index + 2) sector }
@@ -140,7 +145,7 @@ fn after_last(table: &FoundTable, device: DeviceId, last: &LastLine, sector: u64
 }
 
 /// The line of a sector, which is one of a range of lines: the index of the first, and how many they are.
-fn search(lines: &[FoundLine], range: (usize, usize), sector: u64) -> (usize, u64)
+fn search(lines: &[ResolvedLine], range: (usize, usize), sector: u64) -> (usize, u64)
     requires some { 0 < range.1 }
     requires within { range.0 + range.1 ≤ length lines.now }
     requires from { StartsBy lines.now range.0 sector }

@@ -6,12 +6,12 @@
 ghost use Rattle.std.specs.Prelude.{◌≡◌, ◌++◌, false, IfOk, OnOk, filter};
 ghost use Rattle.std.specs.List.{All, flat_map};
 ghost use Rattle.dm_stack.specs.Description.{is_same_lower};
-ghost use Rattle.dm_stack.specs.lines.Over.{all_over, found_snapshot, over_of};
+ghost use Rattle.dm_stack.specs.lines.Over.{all_over, resolved_snapshot, over_of};
 ghost use Rattle.dm_stack.specs.checks.Soundness.{is_bad_chunk, HasGoodChunk, HaveGoodChunks};
 
 use crate::id::{DeviceId, Lower};
 use crate::lines::chunk_size::ChunkSize;
-use crate::lines::found_line::{FoundOver, FoundSnapshot};
+use crate::lines::resolved_line::{ResolvedOver, ResolvedSnapshot};
 use crate::names::indexed::Indexed;
 use dm_table::{DevRef, Line, Listed, StoreKind, Target};
 use std::alloc::{AllocError, Global};
@@ -19,7 +19,7 @@ use std::alloc::{AllocError, Global};
 /// All snapshots of a stack, whose chunks are within their limits, in the order of their devices.
 ///
 /// Fails only when out of memory. Cost: a walk over the lines, with memory for each snapshot.
-pub(crate) fn all_over(alloc: Global, stack: &Indexed) -> Result<Vec<FoundOver>, AllocError>
+pub(crate) fn all_over(alloc: Global, stack: &Indexed) -> Result<Vec<ResolvedOver>, AllocError>
     requires { All (λ device. HaveGoodChunks device.lines) stack.now.devices }
     ensures { IfOk result (λ over. over.items ≡ all_over stack.now) }
 {
@@ -32,7 +32,7 @@ pub(crate) fn all_over(alloc: Global, stack: &Indexed) -> Result<Vec<FoundOver>,
 
 /// Adds the snapshots among the lines of a device.
 fn add_lines(
-    over: &mut Vec<FoundOver>,
+    over: &mut Vec<ResolvedOver>,
     stack: &Indexed,
     device: DeviceId,
     lines: &[Line],
@@ -49,7 +49,7 @@ fn add_lines(
 
 /// Adds a device to the snapshots of their origins, if its line is that of a snapshot.
 fn add_line(
-    over: &mut Vec<FoundOver>,
+    over: &mut Vec<ResolvedOver>,
     stack: &Indexed,
     device: DeviceId,
     target: &Target,
@@ -64,24 +64,24 @@ fn add_line(
         chunk,
     } = target
     {
-        let snapshot = found_snapshot(stack, origin, store, *kind, *chunk);
-        over.push(FoundOver { device, snapshot })?;
+        let snapshot = resolved_snapshot(stack, origin, store, *kind, *chunk);
+        over.push(ResolvedOver { device, snapshot })?;
     }
     Ok(())
 }
 
 /// What the line of a snapshot with a chunk within its limits says, with ids for names.
-pub(crate) fn found_snapshot(
+pub(crate) fn resolved_snapshot(
     stack: &Indexed,
     origin: &DevRef,
     store: &DevRef,
     kind: StoreKind,
     chunk: u64,
-) -> FoundSnapshot
+) -> ResolvedSnapshot
     requires { is_bad_chunk chunk ≡ false }
-    ensures { result ≡ found_snapshot stack.now origin.now store.now kind chunk }
+    ensures { result ≡ resolved_snapshot stack.now origin.now store.now kind chunk }
 {
-    FoundSnapshot {
+    ResolvedSnapshot {
         origin: stack.lower_of(origin),
         store: stack.lower_of(store),
         kind,
@@ -94,9 +94,9 @@ pub(crate) fn found_snapshot(
 /// Fails only when out of memory. Cost: a walk over them, with memory for each that is one.
 pub(crate) fn snapshots_over(
     alloc: Global,
-    all: &[FoundOver],
+    all: &[ResolvedOver],
     to: Lower,
-) -> Result<Listed<FoundOver>, AllocError>
+) -> Result<Listed<ResolvedOver>, AllocError>
     ensures { IfOk result (λ over. over ≡ filter (λ one. is_same_lower one.snapshot.origin to) all.now) }
 {
     let mut over = Vec::new(alloc);

@@ -1,24 +1,24 @@
 //! Lines by ids: what each names is looked up once, while a stack is loaded.
 //!
 //! What is not there is found by `check_references`, which runs first; making lines by ids then asks for
-//! nothing. A new target is an arm of `target` here and of `found_target` in the specs.
+//! nothing. A new target is an arm of `target` here and of `resolved_target` in the specs.
 
 ghost use Rattle.std.specs.Prelude.{◌≡◌, IfOk, None, map};
 ghost use Rattle.std.specs.List.{All};
 ghost use Rattle.std.specs.Result.{result_err};
 ghost use Rattle.dm_table.specs.load.LoadFault.{first_or};
-ghost use Rattle.dm_stack.specs.lines.Below.{found_columns, found_line, found_target};
-ghost use Rattle.dm_stack.specs.Stack.{found_device};
+ghost use Rattle.dm_stack.specs.lines.Below.{resolved_columns, resolved_line, resolved_target};
+ghost use Rattle.dm_stack.specs.Stack.{resolved_device};
 ghost use Rattle.dm_stack.specs.lines.Over.{all_over};
 ghost use Rattle.dm_stack.specs.checks.Soundness.{HasGoodChunk, HaveGoodChunks, is_unknown, unknown};
 
 use crate::checks::faults::check_lines;
 use crate::checks::layout::end_of;
 use crate::lines::divisor::Divisor;
-use crate::lines::found_columns::{FoundColumn, FoundColumns};
-use crate::lines::found_line::{FoundLine, FoundOrigin, FoundOver, FoundTarget};
-use crate::lines::found_table::{FoundDevice, FoundTable};
-use crate::lines::over::{all_over, found_snapshot, snapshots_over};
+use crate::lines::over::{all_over, resolved_snapshot, snapshots_over};
+use crate::lines::resolved_columns::{ResolvedColumn, ResolvedColumns};
+use crate::lines::resolved_line::{ResolvedLine, ResolvedOrigin, ResolvedOver, ResolvedTarget};
+use crate::lines::resolved_table::{ResolvedDevice, ResolvedTable};
 use crate::lines::span::Spans;
 use crate::names::indexed::Indexed;
 use dm_table::{Column, Line, LoadFault, LoadKind, Target};
@@ -46,16 +46,19 @@ fn is_unknown(stack: &Indexed, line: &Line) -> bool
 ///
 /// Fails only when out of memory. Cost: linear in the lines and their columns, and in the snapshots
 /// for each line of an origin.
-pub(crate) fn found_devices(alloc: Global, stack: &Indexed) -> Result<Vec<FoundDevice>, AllocError>
+pub(crate) fn resolved_devices(
+    alloc: Global,
+    stack: &Indexed,
+) -> Result<Vec<ResolvedDevice>, AllocError>
     requires { All (λ device. HaveGoodChunks device.lines) stack.now.devices }
-    ensures { IfOk result (λ found. found.items ≡ map (found_device stack.now) stack.now.devices) }
+    ensures { IfOk result (λ found. found.items ≡ map (resolved_device stack.now) stack.now.devices) }
 {
     let over = all_over(alloc, stack)?;
     let devices = stack.devices();
     let mut found = Vec::with_capacity(alloc, devices.len())?;
     for device in devices {
         let lines = device.lines.as_slice();
-        found.push(FoundDevice {
+        found.push(ResolvedDevice {
             end: end_of(lines),
             ro: device.ro,
             table: table(alloc, stack, &over, lines)?,
@@ -68,57 +71,57 @@ pub(crate) fn found_devices(alloc: Global, stack: &Indexed) -> Result<Vec<FoundD
 fn table(
     alloc: Global,
     stack: &Indexed,
-    over: &[FoundOver],
+    over: &[ResolvedOver],
     lines: &[Line],
-) -> Result<FoundTable, AllocError>
+) -> Result<ResolvedTable, AllocError>
     requires over { over.now ≡ all_over stack.now }
     requires chunks { HaveGoodChunks lines.now }
-    ensures { IfOk result (λ table. table ≡ map (found_line stack.now) lines.now) }
+    ensures { IfOk result (λ table. table ≡ map (resolved_line stack.now) lines.now) }
 {
     let mut by_ids = Vec::with_capacity(alloc, lines.len())?;
     for line in lines {
         let target = target(alloc, stack, over, &line.target)?;
-        by_ids.push(FoundLine {
+        by_ids.push(ResolvedLine {
             start: line.start,
             len: line.len,
             target,
         })?;
     }
-    FoundTable::from_vec(alloc, by_ids)
+    ResolvedTable::from_vec(alloc, by_ids)
 }
 
 /// A target by ids.
 fn target(
     alloc: Global,
     stack: &Indexed,
-    over: &[FoundOver],
+    over: &[ResolvedOver],
     target: &Target,
-) -> Result<FoundTarget, AllocError>
+) -> Result<ResolvedTarget, AllocError>
     requires over { over.now ≡ all_over stack.now }
     requires chunk { HasGoodChunk target.now }
-    ensures { IfOk result (λ by_ids. by_ids ≡ found_target stack.now target.now) }
+    ensures { IfOk result (λ by_ids. by_ids ≡ resolved_target stack.now target.now) }
 {
     match target {
-        Target::Linear { to, offset } => Ok(FoundTarget::Linear {
+        Target::Linear { to, offset } => Ok(ResolvedTarget::Linear {
             to: stack.lower_of(to),
             offset: *offset,
         }),
-        Target::Striped { chunk, columns } => Ok(FoundTarget::Striped {
+        Target::Striped { chunk, columns } => Ok(ResolvedTarget::Striped {
             chunk: Divisor::new(*chunk),
             columns: columns_by_ids(alloc, stack, columns.as_slice())?,
         }),
-        Target::Zero => Ok(FoundTarget::Zero),
-        Target::Error => Ok(FoundTarget::Error),
+        Target::Zero => Ok(ResolvedTarget::Zero),
+        Target::Error => Ok(ResolvedTarget::Error),
         Target::Snapshot {
             origin,
             store,
             kind,
             chunk,
-        } => Ok(FoundTarget::Snapshot(found_snapshot(stack, origin, store, *kind, *chunk))),
+        } => Ok(ResolvedTarget::Snapshot(resolved_snapshot(stack, origin, store, *kind, *chunk))),
         Target::Origin { origin } => {
             let to = stack.lower_of(origin);
             let over = snapshots_over(alloc, over, to)?;
-            Ok(FoundTarget::Origin(FoundOrigin { to, over }))
+            Ok(ResolvedTarget::Origin(ResolvedOrigin { to, over }))
         }
     }
 }
@@ -128,15 +131,15 @@ fn columns_by_ids(
     alloc: Global,
     stack: &Indexed,
     columns: &[Column],
-) -> Result<FoundColumns, AllocError>
-    ensures { IfOk result (λ by_ids. by_ids ≡ found_columns stack.now columns.now) }
+) -> Result<ResolvedColumns, AllocError>
+    ensures { IfOk result (λ by_ids. by_ids ≡ resolved_columns stack.now columns.now) }
 {
     let mut by_ids = Vec::new(alloc);
     for column in columns {
-        by_ids.push(FoundColumn {
+        by_ids.push(ResolvedColumn {
             to: stack.lower_of(&column.to),
             offset: column.offset,
         })?;
     }
-    FoundColumns::from_vec(alloc, by_ids)
+    ResolvedColumns::from_vec(alloc, by_ids)
 }

@@ -1,48 +1,88 @@
 //! An index of names: which name was added as number 0, 1 and so on.
 //!
-//! Looking a name up costs about the same however many there are. Its last bytes lead to the number that it
-//! probably has, so that mostly one name is compared and nothing is hashed. A clause sees an index as the list
-//! of its names, in the order in which they were added.
+//! Looking a name up costs about the same however many there are. The last bytes of a name lead to the number
+//! that it probably has, so that mostly one name is compared and nothing is hashed. Where a name stands in a
+//! text, not even a short one is compared as a text: the keys of names are in places. At which place a name
+//! begins to be looked for follows from its key, and where other names are, it is at one of the next. No proof
+//! rests on a guess or on where a name is; what neither answers, the set of all names does. A clause sees an
+//! index as the list of its names, in the order in which they were added.
+//!
+//! Guesses and places are here for speed alone, as the set finds each name, too: RESULTS.md has their gain as *a
+//! name's number tried before its hash* and *requests read where they stand*. Measure small requests, and loads of
+//! many lines, before and after a change.
 
-ghost use Rattle.std.specs.Prelude.{◌≡◌, ◌++◌, ◌∷◌, [], IfOk, not, position, if◌then◌else◌};
+ghost use Rattle.std.specs.Prelude.{◌≡◌, ◌+◌, ◌++◌, ◌∷◌, ◌<◌, ◌≤◌, [], IfOk, IfSome, List, ℕ, Some};
+ghost use Rattle.std.specs.Prelude.{drop, get_or, if◌then◌else◌, length, not, position, take};
 ghost use Rattle.std.specs.List.{list_any};
+ghost use Rattle.dm_table.specs.words.Bytes.{code};
 ghost use Rattle.dm_stack.specs.Description.{is_same};
+ghost use Rattle.dm_stack.specs.names.NameIndex.{ArePlaces, IsKeyOf, IsPlaceOf};
+ghost use Rattle.dm_stack.specs.declared.names.name_key.TheConstants.{ROOM};
 
+use crate::names::name_key::{NameKey, ROOM, first_space};
 use dm_table::are_same;
 use indexmap::IndexSet;
 use std::alloc::{AllocError, Global};
 use std::marker::Model;
 
-/// The places for the numbers of names: four for each device or disk that a stack may have.
-const PLACES: usize = 4096;
+/// The numbers that are guessed: four for each device or disk that a stack may have.
+const GUESSES: usize = 4096;
+
+/// How many places in a row may have a name.
+const TRIES: usize = 8;
+
+/// The bytes in which the space after a name stands.
+const LONGEST: usize = 128;
+
+/// The length in the key of an empty place, which no name has.
+const NO_NAME: usize = LONGEST;
+
+/// The most binary digits of four places for each name.
+const MOST_DIGITS: u32 = 13;
+
+/// The key of a name, and its number.
+#[derive(Clone, Copy)]
+pub(crate) struct Place {
+    pub key: NameKey,
+    pub number: usize,
+}
 
 /// Different names, in the order in which they were added.
 #[derive(Drop)]
 pub(crate) struct NameIndex {
     names: IndexSet<String>,
-    /// At the place of a name its number, or that of a later one of the same place.
+    /// At the guess of a name its number, or that of a later one of the same guess.
     guesses: Vec<u16>,
+    places: Vec<Place>,
+    /// A key's product is shifted by this to its first place.
+    shift: u32,
 }
 
 impl Model for NameIndex {
     ghost use Rattle.std.specs.Prelude.{List, ℕ};
-    ghost use Rattle.dm_stack.specs.names.NameIndex.{AreDistinct, names_in};
+    ghost use Rattle.dm_stack.specs.names.NameIndex.{IsIndex, names_in};
 
     ghost Value = { List (List ℕ) };
 
     ghost view = { λ index. names_in index.names };
 
-    ghost invariant = { λ index. AreDistinct index.names };
+    ghost invariant = { λ index. IsIndex index.names index.places.items };
 }
 
 impl NameIndex {
-    /// An index of no name, with memory for the places.
-    pub(crate) fn new(alloc: Global) -> Result<NameIndex, AllocError>
+    /// An index of no name, with places for so many.
+    ///
+    /// Fails only when out of memory. Cost: linear in the names, with memory for 4 to 8 places for each and 8
+    /// more, of 32 bytes, and 8 KiB.
+    pub(crate) fn new(alloc: Global, names: usize) -> Result<NameIndex, AllocError>
         ensures { IfOk result (λ index. index ≡ []) }
     {
+        let digits = place_digits(names);
         Ok(NameIndex {
             names: IndexSet::new(alloc),
-            guesses: Vec::from_elem(alloc, 0, PLACES)?,
+            guesses: no_guesses(alloc)?,
+            places: Vec::from_elem(alloc, empty_place(), (1 << digits) + TRIES)?,
+            shift: 64 - digits,
         })
     }
 
@@ -54,10 +94,19 @@ impl NameIndex {
         ensures added { IfOk result
             (λ new. self.new ≡ (if new then self.old ++ name.now ∷ [] else self.old)) }
     {
-        keep(&mut self.guesses, name, self.names.len());
+        let guess = guess_of(name);
+        let place = Place {
+            key: NameKey::of(name.as_bytes()),
+            number: self.names.len(),
+        };
         let name = String::from_str(alloc, name)?;
         match self.names.insert(name) {
-            Ok(new) => Ok(new),
+            Ok(true) => {
+                keep(&mut self.guesses, guess, place.number);
+                put(&mut self.places, first_place(&place.key, self.shift), place);
+                Ok(true)
+            }
+            Ok(false) => Ok(false),
             Err(_) => Err(AllocError),
         }
     }
@@ -66,7 +115,7 @@ impl NameIndex {
     pub(crate) fn find(&self, name: &str) -> Option<usize>
         ensures { result ≡ position (λ other. is_same other name.now) self.now }
     {
-        if let Some(guess) = self.guesses.get(place_of(name)) {
+        if let Some(guess) = self.guesses.get(guess_of(name)) {
             let number = usize::from(*guess);
             if let Some(other) = self.names.get_index(number) {
                 if are_same(other.as_bytes(), name.as_bytes()) {
@@ -76,18 +125,84 @@ impl NameIndex {
         }
         self.names.get_index_of(name)
     }
+
+    /// The number of the name that stands at the front of a text, up to a space, and how long the name is.
+    /// `None` says nothing of the text.
+    #[inline(always)]
+    pub(crate) fn find_in_text(&self, text: &[u8]) -> Option<(usize, usize)>
+        ensures number { IfSome result
+            (λ found. position (λ other. is_same other (take found.1 text.now)) self.now ≡ Some found.0) }
+        ensures space { IfSome result
+            (λ found. text.now ≡ take found.1 text.now ++ code " " ∷ drop (found.1 + 1) text.now) }
+    {
+        let room = text.first_chunk::<ROOM>()?;
+        let Some(len) = first_space(room) else {
+            return self.find_long(text);
+        };
+        let number = self.find_key(&NameKey::short(room, len))?;
+        Some((number, len))
+    }
+
+    /// The same for a name of 16 bytes or more.
+    #[inline(never)]
+    fn find_long(&self, text: &[u8]) -> Option<(usize, usize)>
+        ensures number { IfSome result
+            (λ found. position (λ other. is_same other (take found.1 text.now)) self.now ≡ Some found.0) }
+        ensures space { IfSome result
+            (λ found. text.now ≡ take found.1 text.now ++ code " " ∷ drop (found.1 + 1) text.now) }
+    {
+        let len = space_ahead(text)?;
+        let number = self.find_placed(&text[..len])?;
+        Some((number, len))
+    }
+
+    /// The number of a name by its place. `None` says nothing of the name.
+    fn find_placed(&self, name: &[u8]) -> Option<usize>
+        ensures { IfSome result (λ number. position (λ other. is_same other name.now) self.now ≡ Some number) }
+    {
+        let number = self.find_key(&NameKey::of(name))?;
+        if name.len() < ROOM {
+            return Some(number);
+        }
+        // Other names may have the key of a long one.
+        if are_same(self.names.get_index(number)?.as_bytes(), name) {
+            Some(number)
+        } else {
+            None
+        }
+    }
+
+    /// The number at a place that has a key.
+    #[inline(always)]
+    fn find_key(&self, key: &NameKey) -> Option<usize>
+        ensures { (name : List ℕ) → length name < ROOM → IsKeyOf name key.now
+            → IfSome result (λ number. position (λ other. is_same other name) self.now ≡ Some number) }
+    {
+        let ahead = self.places.get(first_place(key, self.shift)..)?;
+        for place in ahead.get(..TRIES)? {
+            if place.key.is(key) {
+                return Some(place.number);
+            }
+        }
+        None
+    }
 }
 
-/// Keeps the number of a name at its place, if it is one of few.
-fn keep(guesses: &mut Vec<u16>, name: &str, number: usize) {
-    if let (Some(guess), Ok(number)) = (guesses.get_mut(place_of(name)), u16::try_from(number)) {
+/// Guesses of the first name, all of them.
+fn no_guesses(alloc: Global) -> Result<Vec<u16>, AllocError> {
+    Vec::from_elem(alloc, 0, GUESSES)
+}
+
+/// Keeps the number of a name at its guess, if it is one of few.
+fn keep(guesses: &mut Vec<u16>, guess: usize, number: usize) {
+    if let (Some(guess), Ok(number)) = (guesses.get_mut(guess), u16::try_from(number)) {
         *guess = number;
     }
 }
 
-/// The place of a name, by its last eight bytes, or by all of a shorter one.
+/// The guess of a name, by its last eight bytes, or by all of a shorter one.
 #[inline(always)]
-fn place_of(name: &str) -> usize {
+fn guess_of(name: &str) -> usize {
     let bytes = name.as_bytes();
     let mut word = 0;
     match bytes.last_chunk::<8>() {
@@ -99,4 +214,71 @@ fn place_of(name: &str) -> usize {
         }
     }
     (word.wrapping_mul(0x9E37_79B9_7F4A_7C15) >> 52) as usize
+}
+
+/// How many binary digits the number of the first places has, for as many names: there are four to eight for
+/// each, if that isn't too many.
+fn place_digits(names: usize) -> u32
+    ensures { result ≤ MOST_DIGITS }
+{
+    match names.saturating_mul(4).checked_ilog2() {
+        Some(digits) => MOST_DIGITS.min(digits + 1),
+        None => 1,
+    }
+}
+
+/// A place that has no name.
+fn empty_place() -> Place
+    ensures { ROOM ≤ result.key.len }
+{
+    Place {
+        key: NameKey {
+            first: 0,
+            last: 0,
+            len: NO_NAME,
+        },
+        number: 0,
+    }
+}
+
+/// Where the places of a key begin.
+#[inline(always)]
+fn first_place(key: &NameKey, shift: u32) -> usize {
+    let mixed = key
+        .first
+        .wrapping_add(key.last.rotate_left(29))
+        .wrapping_mul(0x9E37_79B9_7F4A_7C15);
+    mixed.wrapping_shr(shift) as usize
+}
+
+/// Puts a place at the first empty one from an index on, unless all are taken.
+fn put(places: &mut Vec<Place>, from: usize, place: Place)
+    ensures { (names : List (List ℕ)) → ArePlaces names places.old.items
+        → (place.key.len < ROOM → IsPlaceOf names place) → ArePlaces names places.new.items }
+{
+    let end = places.len().min(from.saturating_add(TRIES));
+    let mut at = from;
+    'tries: while at < end {
+        if places[at].key.len == NO_NAME {
+            places[at] = place;
+            return;
+        }
+        at += 1;
+    }
+}
+
+/// How many bytes of a text stand before its first space, where a name may be as long.
+fn space_ahead(text: &[u8]) -> Option<usize>
+    ensures within { IfSome result (λ len. len < length text.now) }
+    ensures space { IfSome result (λ len. get_or text.now len 0 ≡ code " ") }
+{
+    let mut from = 0;
+    'rooms: while from < LONGEST {
+        let room = text.get(from..)?.first_chunk::<ROOM>()?;
+        if let Some(at) = first_space(room) {
+            return Some(from + at);
+        }
+        from += ROOM;
+    }
+    None
 }

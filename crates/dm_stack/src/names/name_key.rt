@@ -3,11 +3,14 @@
 //! Of a short name, which ends within sixteen bytes, the words are all of it: the sixteen bytes are read
 //! together, and those from its end on are set to zero. Of a longer one they are a mix of its first sixteen
 //! bytes and its last sixteen, which other names may have too.
+//!
+//! They are here for speed alone: RESULTS.md has the gain as *short names compared at once*. Measure small requests
+//! before and after a change.
 
 ghost use Rattle.std.specs.Prelude.{◌≡◌, ◌-◌, ◌<◌, ◌≤◌, ◌++◌, ◌↔◌, IfSome, IsTrue, get_or, length, replicate, take};
 ghost use Rattle.std.specs.Int.{to_le_bytes, w64};
 ghost use Rattle.dm_table.specs.words.Bytes.{code};
-ghost use Rattle.dm_stack.specs.names.FrontNames.{IsKeyOf};
+ghost use Rattle.dm_stack.specs.names.NameIndex.{IsKeyOf};
 ghost use Rattle.dm_stack.specs.declared.names.name_key.TheConstants.{ROOM};
 
 use dm_table::{as_room, put_bytes};
@@ -27,7 +30,8 @@ pub(crate) struct NameKey {
 impl NameKey {
     /// The key of a name.
     pub(crate) fn of(name: &[u8]) -> NameKey
-        ensures { result.len < ROOM → IsKeyOf name.now result }
+        ensures len { result.len ≡ length name.now }
+        ensures key { length name.now < ROOM → IsKeyOf name.now result }
     {
         let len = name.len();
         if len >= ROOM {
@@ -53,7 +57,7 @@ impl NameKey {
     }
 
     /// The key of a long name.
-    pub(crate) fn long(name: &[u8]) -> NameKey
+    fn long(name: &[u8]) -> NameKey
         requires { ROOM ≤ length name.now }
         ensures { result.len ≡ length name.now }
     {

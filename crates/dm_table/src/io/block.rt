@@ -3,6 +3,10 @@
 //! Each says what the block holds up to its end, so the parts of a line add up. What stands after
 //! the end is free: a room of a fixed size is copied whole, past the end of its text, since such a
 //! copy is the cheapest.
+//!
+//! Rooms, and copies of a known length, are here for speed alone: RESULTS.md has their gain as *texts kept
+//! ready*. They rest on the space after a text that each `requires` asks for, which a block has by `TEXT_ROOM`.
+//! Change them only if you measure small requests, and large ones over 16 columns, before and after.
 
 ghost use Rattle.std.specs.Prelude.{◌≡◌, ◌++◌, ◌+◌, ◌≤◌, length, take, drop, decimal};
 ghost use Rattle.dm_table.specs.io.Block.{IsPut};

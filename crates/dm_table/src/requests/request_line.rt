@@ -2,6 +2,12 @@
 //!
 //! They come by the hundreds of millions, so a line is cut in place, with no memory taken. What a
 //! line says stands in `specs/requests/RequestLine.antt`: change it there first.
+//!
+//! There are two readers. `parse_request` reads any line, and says what is wrong with a bad one. `first_op` and
+//! `front_request` read a good one where it stands, for speed alone: RESULTS.md has their gain as *requests read
+//! where they stand*, and that of `first_op` as *a request's letter known by its last bit*. They rest on `FRONT`
+//! bytes being held for each number, so that nothing asks for the end of the text, and give up on any other line.
+//! Change them only if you measure small requests, in instructions and jumps, before and after.
 
 ghost use Rattle.std.specs.Prelude.{◌≡◌, ◌≢◌, ◌+◌, ◌<◌, ◌≤◌, ℕ, List, [], ◌∷◌, ◌++◌, length, take, drop, Some, Ok, Err, true, false, if◌then◌else◌, IfSome, IfNone, IsOkAnd, IfOk, IfErr};
 ghost use Rattle.dm_table.specs.declared.words.front_digits.TheConstants.{FRONT};

@@ -2,6 +2,8 @@
 //!
 //! A text is cut once, and all checks look at its parts; the parts borrow the text. A form that
 //! cuts at another byte calls `cut` too.
+//!
+//! Short texts are cut by `marks` for speed alone; `cut_searched` would do for all.
 
 ghost use Rattle.std.specs.Prelude.{◌≡◌, ◌++◌, ◌≤◌, IfOk, OnOk, length};
 ghost use Rattle.dm_table.specs.words.Fields.{ends_empty, parts_at, row_fields, texts};

@@ -2,6 +2,9 @@
 //!
 //! Which digit is the last isn't asked digit by digit, since a processor foresees the end of few
 //! numbers. Sixteen bytes are read; a number of as many digits or more is left to `number`.
+//!
+//! This is here for speed alone, as a part of *requests read where they stand* in RESULTS.md. It rests on sixteen
+//! bytes being there, whatever they are. Change it only if you measure small requests before and after.
 
 ghost use Rattle.std.specs.Prelude.{◌≡◌, ◌+◌, ◌%◌, ◌<◌, ◌≤◌, ◌^◌, IfSome, Some, get_or, length, map, take};
 ghost use Rattle.std.specs.Int.Digits.{number_from_digits};

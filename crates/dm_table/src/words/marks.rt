@@ -1,6 +1,9 @@
 //! The places of a byte in a short text, found together: a bit for each, the lowest for the first byte.
 //!
 //! A text is read as its first bytes and its last ones, which may overlap, so that nothing after it is read.
+//!
+//! This is here for speed alone: RESULTS.md has its gain as *lines made in place, fields found together*. It rests
+//! on texts of 8 to 64 bytes, a bit for each. Change it only if you measure loads of long tables before and after.
 
 ghost use Rattle.std.specs.Prelude.{◌≡◌, ◌-◌, ◌*◌, ◌<◌, ◌≤◌, ◌||◌, Bool, List, IfNone, IfSome, drop, length, nat_lt, take, true};
 ghost use Rattle.dm_table.specs.words.Marks.{marks_of};

@@ -2,6 +2,10 @@
 //!
 //! Texts of any length are compared in a loop, and those of a known length in an instruction or two.
 //! Most names are short, and their first and last bytes, which may overlap, are all that they have.
+//!
+//! This is here for speed alone: RESULTS.md has its gain as *short names compared at once*. It rests on the
+//! compiler, which compares rooms of a known length in an instruction or two. Change it only if you measure small
+//! requests and loads by names before and after.
 
 ghost use Rattle.std.specs.Prelude.{◌≡◌, ◌≢◌, ◌*◌, ◌≤◌, length};
 ghost use Rattle.std.specs.Bool.{OnTrue, OnFalse};

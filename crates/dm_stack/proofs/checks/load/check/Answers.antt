@@ -7,14 +7,11 @@ use Rattle.dm_table.specs.load.LoadFault.{first_or, first_fault}
 use Rattle.dm_table.proofs.FaultLemmas.{first_or-none}
 use Rattle.dm_stack.specs.Description.{Description, links}
 use Rattle.dm_stack.specs.checks.Graph.{IsFirstRing, depths_to, greatest}
-use Rattle.dm_stack.specs.names.DiskText.{disk_text}
-use Rattle.dm_stack.specs.names.FrontNames.{ArePlaces}
-use Rattle.dm_stack.specs.Stack.{found_device}
+use Rattle.dm_stack.specs.Stack.{resolved_device}
 use Rattle.dm_stack.specs.checks.Snapshots.{snapshots}
 use Rattle.dm_stack.specs.checks.Depth.{stack_depth}
 use Rattle.dm_stack.specs.checks.Soundness.{HasNoCycle, OnCycle, checks_before, crowded, deep, faults_by_id, range, snapshot, store, too_large, unknown}
 use Rattle.dm_stack.specs.checks.Store.{store_links}
-use Rattle.dm_stack.proofs.names.ApartLemmas.{apart_checked}
 use Rattle.dm_stack.proofs.checks.ChunkLemmas.{good_chunks}
 use Rattle.dm_stack.proofs.checks.DepthTests.{depth_each, told_deep}
 use Rattle.dm_stack.proofs.checks.HandedOn.{ends_within}
@@ -150,8 +147,8 @@ check_starts-requires c =
     let stack : Description = record { devices = c.args.devices.now; disks = c.args.disks.now } in
     ends_within stack (first_or-none (too_large stack) None (sym c.in_ok-check_numbers.ensures)).0
 
-pub found_devices-requires : goal.found_devices-requires
-found_devices-requires c = good_chunks c.new-stack.result (first_or-none (snapshot c.new-stack.result) None (sym c.in_ok-check_snapshots.ensures)).0
+pub resolved_devices-requires : goal.resolved_devices-requires
+resolved_devices-requires c = good_chunks c.new-stack.result (first_or-none (snapshot c.new-stack.result) None (sym c.in_ok-check_snapshots.ensures)).0
 
 pub check_places-requires : goal.check_places-requires
 check_places-requires c = good_chunks c.new-stack.result (first_or-none (snapshot c.new-stack.result) None (sym c.in_ok-check_snapshots.ensures)).0
@@ -171,19 +168,6 @@ returns-in_err-snapshots-clause-fault c =
     let p = err_from_is_err_and c.from_residual-in_err-snapshots.result c.from_residual-in_err-snapshots.ensures.1 in
     rw (p.1, p.2) (inr c.in_err-snapshots.ensures.memory)
 
-pub returns-in_err-texts-clause-fault : goal.returns-in_err-texts-clause-fault
-returns-in_err-texts-clause-fault c =
-    let p = err_from_is_err_and c.from_residual-in_err-texts.result c.from_residual-in_err-texts.ensures.1 in
-    rw (p.1, p.2) (inr c.in_err-texts.ensures.memory)
-
-pub returns-in_err-fronts-clause-fault : goal.returns-in_err-fronts-clause-fault
-returns-in_err-fronts-clause-fault c =
-    let p = err_from_is_err_and c.from_residual-in_err-fronts.result c.from_residual-in_err-fronts.ensures.1 in
-    rw (p.1, p.2) (inr c.in_err-fronts.ensures.memory)
-
-pub new-requires : goal.new-requires
-new-requires c = apart_checked (record { devices = c.args.devices.now; disks = c.args.disks.now }) c.in_ok-names.ensures.apart
-
 pub returns-clause-loaded : goal.returns-clause-loaded
 returns-clause-loaded c =
     let k = passed (goal.at.returns-clause-loaded c).After-deref in
@@ -193,10 +177,8 @@ returns-clause-loaded c =
       device_names = c.in_ok-names.ensures.devices;
       disk_names = c.in_ok-names.ensures.disks;
       found =
-          rw (made_ok c.found_devices.result c.in_ok-found.found (λ found. found.items ≡ map (found_device c.new-stack.result) c.new-stack.result.devices) c.in_ok-found.ensures.made c.found_devices.ensures, k.same);
+          rw (made_ok c.resolved_devices.result c.in_ok-found.found (λ found. found.items ≡ map (resolved_device c.new-stack.result) c.new-stack.result.devices) c.in_ok-found.ensures.made c.resolved_devices.ensures, k.same);
       depth =
           c.deepest.ensures ∙ ap greatest (c.deref-3.ensures.value ∙ sym c.deref.ensures.value) ∙ deepest_is c.new-stack.result c.deref.result.now (depths_are (goal.at.returns-clause-loaded c).After-deref) ∙ ap stack_depth k.same;
       snapshots = made_ok c.snapshots.result c.in_ok-snapshots.snapshots (λ ids. ids.items ≡ snapshots (record { devices = c.args.devices.now; disks = [] })) c.in_ok-snapshots.ensures.made c.snapshots.ensures;
-      texts = made_ok c.disk_texts.result c.in_ok-texts.texts (λ texts. texts.items ≡ map (λ disk. disk_text disk.name) c.args.disks.now) c.in_ok-texts.ensures.made c.disk_texts.ensures;
-      fronts = made_ok c.new.result c.in_ok-fronts.fronts (λ fronts. ArePlaces c.args.devices.now fronts.places) c.in_ok-fronts.ensures.made c.new.ensures.places;
     }

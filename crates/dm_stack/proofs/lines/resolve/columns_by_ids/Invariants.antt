@@ -1,6 +1,6 @@
 use Rattle.std.proofs.Common.{◌≡◌, take}
-use Rattle.dm_stack.specs.lines.Below.{found_columns}
+use Rattle.dm_stack.specs.lines.Below.{resolved_columns}
 use Rattle.dm_stack.proofs.lines.resolve.columns_by_ids.Given as goal
 
 abbrev pub invariant-loop-column : goal.invariant-loop-column
-invariant-loop-column l = l.by_ids.items ≡ found_columns l.stack (take l.column-index l.columns)
+invariant-loop-column l = l.by_ids.items ≡ resolved_columns l.stack (take l.column-index l.columns)

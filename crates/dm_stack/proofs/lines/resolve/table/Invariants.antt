@@ -1,6 +1,6 @@
 use Rattle.std.proofs.Common.{◌≡◌, map, take}
-use Rattle.dm_stack.specs.lines.Below.{found_line}
+use Rattle.dm_stack.specs.lines.Below.{resolved_line}
 use Rattle.dm_stack.proofs.lines.resolve.table.Given as goal
 
 abbrev pub invariant-loop-line : goal.invariant-loop-line
-invariant-loop-line l = l.by_ids.items ≡ map (found_line l.stack) (take l.line-index l.lines)
+invariant-loop-line l = l.by_ids.items ≡ map (resolved_line l.stack) (take l.line-index l.lines)

@@ -3,7 +3,7 @@ use Rattle.std.proofs.lemmas.List.{length-map}
 use Rattle.std.proofs.lemmas.Option.{slice_get_read}
 use Rattle.dm_stack.specs.lines.Below.{found_at}
 use Rattle.dm_stack.proofs.lines.LineSearchLemmas.{few_halvings, first_starts, last_kept, line_there, next_after, small_there}
-use Rattle.dm_stack.proofs.lines.SameLine.{found_line_of}
+use Rattle.dm_stack.proofs.lines.SameLine.{resolved_line_of}
 use Rattle.dm_stack.proofs.SoundLines.{sector_found}
 use Rattle.dm_stack.proofs.stack.Stack.find_line.Goals as goal
 
@@ -34,7 +34,7 @@ returns c =
     let same : f.line ≡ c.index-lines-index.result = let known = f.is in cc in
     let few = rw (lines, length-map) at c.find-index.ensures.found.few in
     record {
-      line = found_line_of st c.args.device c.args.sector c.index-lines-index.result sound c.requires.device is (rw same at f.soundly);
+      line = resolved_line_of st c.args.device c.args.sector c.index-lines-index.result sound c.requires.device is (rw same at f.soundly);
       few = few;
       most = few_halvings st c.args.device c.find-index.result.1 sound c.requires.device few;
       last = last_kept st c.args.device c.args.last.now c.find-index.new.last c.requires.last (rw lines at c.find-index.ensures.last);

@@ -1,48 +1,36 @@
-use Rattle.std.proofs.Common.{◌≡◌, ◌<◌, get_or, take, sym, ◌∙◌, arith}
-use Rattle.std.proofs.lemmas.List.{get_or-take, take-take}
-use Rattle.std.proofs.lemmas.List.Elements.{All-contains}
-use Rattle.dm_stack.specs.names.FrontNames.{IsPlaceOf}
-use Rattle.dm_stack.specs.declared.names.front_names.Place.{Place}
-use Rattle.dm_stack.specs.declared.names.name_key.TheConstants.{ROOM}
-use Rattle.dm_stack.proofs.names.KeyLemmas.{same_name, space_cut}
+use Rattle.std.proofs.Common.{◌≡◌, Some, [], ap, arith, get_or, length, sym, take, true, ◌∙◌}
+use Rattle.std.specs.Prelude.{position}
+use Rattle.std.proofs.lemmas.List.{length-map}
+use Rattle.std.proofs.lemmas.List.Quantifiers.{position-Some}
+use Rattle.std.proofs.lemmas.Slice.Eq.{bytes_eq-Decides}
+use Rattle.dm_table.specs.words.Name.{is_device_name}
+use Rattle.dm_stack.specs.Description.{is_same}
+use Rattle.dm_stack.proofs.SoundLines.{position-map}
 use Rattle.dm_stack.proofs.stack.Stack.front.Goals as goal
-use Rattle.dm_stack.proofs.stack.Stack.front.Goals.{In_ok-device}
+use Rattle.dm_stack.proofs.stack.Stack.front.Goals.{In_ok-index}
 
--- the place that was found is that of the name in the text
-record IsOf (c : In_ok-device) : Type 0 where
-  place : Place
-  of : IsPlaceOf c.self.inside.devices place
-  name : take c.in-Some.len c.args.text.now ≡ of.name
-  device : place.device ≡ c.in_ok-device.device
+-- the device that was found
+device_is : (c : In_ok-index) → position (λ device. is_same device.name (take c.in_ok-index.len c.args.text.now)) c.self.inside.devices ≡ Some c.in_ok-index.index
+device_is c =
+    sym (position-map (λ device. device.name) (λ other. is_same other (take c.in_ok-index.len c.args.text.now)) c.self.inside.devices)
+    ∙ rw (← c.self.invariant.device_names) c.in_ok-index.ensures.number
 
-is_of : (c : In_ok-device) → IsOf c
-is_of c =
-    let found = c.in_ok-device.ensures.found in
-    let place = found.0 in
-    let of = All-contains (λ (p : Place). p.key.len < ROOM → IsPlaceOf c.self.inside.devices p) c.self.inside.fronts.places place c.self.invariant.fronts found.1 found.2 in
-    let len = c.in-Some.len in
-    let room : take len c.in_ok-room.room.now ≡ take len c.args.text.now = rw c.in_ok-room.ensures.cases.same (take-take len 16 c.args.text.now (omega (arith, c.in-Some.ensures.within))) in
-    record {
-      place = place;
-      of = of;
-      name = sym room ∙ same_name _ of.name place.key found.3 of.key;
-      device = found.4;
-    }
+pub bounds-as_slice-index : goal.bounds-as_slice-index
+bounds-as_slice-index c =
+    let names = c.self.inside.device_names in
+    let place = position-Some (λ other. is_same other (take c.in_ok-index.len c.args.text.now)) names c.in_ok-index.index [] c.in_ok-index.ensures.number in
+    let count : length names ≡ length c.self.inside.devices = ap length c.self.invariant.device_names ∙ length-map c.self.inside.devices (λ device. device.name) in
+    rw c.as_slice.ensures (omega (arith, place.0, count))
 
 pub returns-clause-device : goal.returns-clause-device
-returns-clause-device c =
-    let is = is_of (goal.at.returns-clause-device c).In_ok-device in
-    let name = take c.in-Some.len c.args.text.now in
-    rw (← c.self.view_is, is.name, is.of.found, is.device)
+returns-clause-device c = rw (c.new.ensures, ← c.self.view_is) (device_is (goal.at.returns-clause-device c).In_ok-index)
 
 pub returns-clause-name : goal.returns-clause-name
-returns-clause-name c = let is = is_of (goal.at.returns-clause-name c).In_ok-device in rw is.name is.of.named
-
-pub returns-clause-space : goal.returns-clause-space
-returns-clause-space c =
-    let text = c.args.text.now in
-    let len = c.in-Some.len in
-    let room = c.in_ok-room.ensures.cases in
-    let within = c.in-Some.ensures.within in
-    let is : get_or text len 0 ≡ 32 = rw (← c.in-Some.ensures.space, room.same, get_or-take) in
-    space_cut text len (omega (arith, within, room.enough)) is
+returns-clause-name c =
+    let devices = c.self.inside.devices in
+    let name = take c.in_ok-index.len c.args.text.now in
+    let device = get_or devices c.in_ok-index.index c.index-as_slice-index.result in
+    let place = position-Some (λ other. is_same other.name name) devices c.in_ok-index.index c.index-as_slice-index.result (device_is (goal.at.returns-clause-name c).In_ok-index) in
+    let same : device.name ≡ name = (bytes_eq-Decides device.name name).0 place.1 in
+    let named : is_device_name device.name ≡ true = rw (← c.as_slice.ensures) c.as_str-name.ensures.name in
+    rw (← same) named

@@ -1,5 +1,5 @@
 use Rattle.std.proofs.Common.{ap, arith}
-use Rattle.dm_stack.specs.declared.lines.found_columns.FoundColumn.{FoundColumn}
+use Rattle.dm_stack.specs.declared.lines.resolved_columns.ResolvedColumn.{ResolvedColumn}
 use Rattle.dm_stack.proofs.lines.LegLemmas.{column_small, striped_leg, striped_next}
 use Rattle.dm_stack.proofs.lines.legs.Legs.next_leg.Goals as goal
 
@@ -7,7 +7,7 @@ pub overflow_add-sector : goal.overflow_add-sector
 overflow_add-sector c =
     let l = c.self.inside in
     let small = column_small l.chunk_size l.distance l.left l.columns.now l.position c.index-self-self.result (omega arith) c.self.invariant.there (c.self.invariant.at (omega arith)) c.index-self-self.is in
-    let read = ap (λ (column : FoundColumn). column.offset) c.index-self-self.is in
+    let read = ap (λ (column : ResolvedColumn). column.offset) c.index-self-self.is in
     omega (arith, small, read, c.in_column.ensures)
 
 pub invariant_of-self : goal.invariant_of-self

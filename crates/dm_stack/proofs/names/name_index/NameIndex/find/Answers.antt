@@ -11,6 +11,7 @@ returns c =
 
 pub returns-then-are_same : goal.returns-then-are_same
 returns-then-are_same c =
-    found_distinct c.args.name.now c.self.inside.names.keys c.from-number.result c.in-Some-get_index.other.now c.self.invariant
-    (sym c.in-Some-get_index.ensures.key) (sym c.as_bytes.ensures.value ∙ c.if-are_same.ensures.same ∙ c.as_bytes-in-Some-get_index.ensures.value)
+    sym
+    (found_distinct c.args.name.now c.self.inside.names.keys c.from-number.result c.in-Some-get_index.other.now c.self.invariant.distinct
+    (sym c.in-Some-get_index.ensures.key) (sym c.as_bytes.ensures.value ∙ c.if-are_same.ensures.same ∙ c.as_bytes-in-Some-get_index.ensures.value))
     ∙ ap (position (λ other. is_same other c.args.name.now)) c.self.view_is

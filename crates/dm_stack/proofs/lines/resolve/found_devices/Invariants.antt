@@ -1,6 +1,0 @@
-use Rattle.std.proofs.Common.{◌≡◌, map, take}
-use Rattle.dm_stack.specs.Stack.{found_device}
-use Rattle.dm_stack.proofs.lines.resolve.found_devices.Given as goal
-
-abbrev pub invariant-loop-device : goal.invariant-loop-device
-invariant-loop-device l = l.found.items ≡ map (found_device l.stack) (take l.device-index l.stack.devices)

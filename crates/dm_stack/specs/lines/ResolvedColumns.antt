@@ -1,0 +1,15 @@
+-- Columns of striped lines: whether they are on disks.
+use Rattle.std.specs.Prelude.{Bool, true, false, List}
+use Rattle.std.specs.List.{list_all}
+use Rattle.dm_stack.specs.declared.id.Lower.{Lower}
+use Rattle.dm_stack.specs.declared.id.Lower.TheVariants.{Device, Disk}
+use Rattle.dm_stack.specs.declared.lines.resolved_columns.ResolvedColumn.{ResolvedColumn}
+
+-- what is named is a disk
+abbrev pub is_disk : Lower → Bool
+is_disk (Device device) = false
+is_disk (Disk disk) = true
+
+-- each of these columns is on a disk
+abbrev pub are_on_disks : List ResolvedColumn → Bool
+are_on_disks columns = list_all (λ column. is_disk column.to) columns
