@@ -2,7 +2,9 @@ pub mod WorkedRows
 pub mod WorkedSnapshots
 -- what crates above cite: they see no folder of a module that is private
 pub use Rattle.dm_map.proofs.own.ChunkOutcomes
+pub use Rattle.dm_map.proofs.own.NeverLost
 pub use Rattle.dm_map.proofs.pieces.LegUnits
+pub use Rattle.dm_map.proofs.state.ResolvedLines
 pub use Rattle.dm_map.proofs.state.Numbers
 pub use Rattle.dm_map.proofs.state.TableLemmas
 pub use Rattle.dm_map.proofs.walk.LevelLemmas

@@ -10,7 +10,7 @@ use Rattle.dm_table.specs.declared.tables.table.Line.{Line}
 use Rattle.dm_table.specs.declared.tables.table.StoreKind.TheVariants.{Persistent}
 use Rattle.dm_table.specs.declared.tables.table.Target.{Target}
 use Rattle.dm_table.specs.declared.tables.table.Target.TheVariants as targets
-use Rattle.dm_stack.specs.declared.lines.found_line.FoundSnapshot.{FoundSnapshot}
+use Rattle.dm_stack.specs.declared.lines.resolved_line.ResolvedSnapshot.{ResolvedSnapshot}
 use Rattle.dm_stack.specs.lines.Below.{Lies, IsError}
 use Rattle.dm_stack.specs.Description.{Description}
 use Rattle.dm_stack.specs.declared.checks.graph.TheConstants.{MOST_DEPTH}
@@ -88,7 +88,7 @@ stretches = (refl, refl, refl, refl)
 
 -- A snapshot of disk 0 with its store on disk 1: chunk 3 was taken first, and then chunk 1
 
-abbrev snapshot : FoundSnapshot
+abbrev snapshot : ResolvedSnapshot
 snapshot = record { origin = Disk 0; store = Disk 1; kind = Persistent; chunk = 4 }
 
 abbrev taken : Taken

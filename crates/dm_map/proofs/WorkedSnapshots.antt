@@ -5,7 +5,7 @@ use Rattle.dm_table.specs.declared.requests.request.Op.TheVariants.{Read, Write}
 use Rattle.dm_table.specs.declared.tables.table.StoreKind.{StoreKind}
 use Rattle.dm_table.specs.declared.tables.table.StoreKind.TheVariants.{Persistent, Transient, Keeping}
 use Rattle.dm_table.specs.declared.tables.table.Target.TheVariants as targets
-use Rattle.dm_stack.specs.declared.lines.found_line.FoundSnapshot.{FoundSnapshot}
+use Rattle.dm_stack.specs.declared.lines.resolved_line.ResolvedSnapshot.{ResolvedSnapshot}
 use Rattle.dm_stack.specs.Description.{Description}
 use Rattle.dm_stack.specs.lines.Over.{all_over, snapshots_over}
 use Rattle.dm_stack.specs.declared.id.Lower.{Lower}
@@ -31,10 +31,10 @@ sample len = record {
   disks = disk 48 len ∷ disk 49 32 ∷ disk 50 16 ∷ [];
 }
 
-abbrev of_kind : StoreKind → (origin store : Lower) → FoundSnapshot
+abbrev of_kind : StoreKind → (origin store : Lower) → ResolvedSnapshot
 of_kind kind origin store = record { origin = origin; store = store; kind = kind; chunk = 8 }
 
-abbrev over : (origin store : Lower) → FoundSnapshot
+abbrev over : (origin store : Lower) → ResolvedSnapshot
 over = of_kind Persistent
 
 abbrev start : State

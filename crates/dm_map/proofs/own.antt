@@ -5,6 +5,7 @@ pub mod DueChunks
 pub mod ErrorReads
 pub mod HaltedRequests
 pub mod HomeLemmas
+pub mod KeptRequests
 pub mod Losses
 pub mod LostSnapshots
 pub mod NeverLost

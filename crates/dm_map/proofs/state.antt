@@ -1,6 +1,6 @@
 -- Lemmas of states: numbers, runs and tries of taken chunks, tables, and what a sound stack says of the
 -- devices that have them.
-pub mod FoundLines
+pub mod ResolvedLines
 pub mod GrowLemmas
 pub mod Numbers
 pub mod RunLemmas

@@ -41,9 +41,7 @@ pub(crate) fn told_after(
     (usage, (mapper.searches(), mapper.probes()))
 }
 
-/// Takes a chunk unless it was taken.
-pub(crate) fn offer<T: Taken>(taken: &mut T, chunk: u64) {
-    if taken.is_valid() && !taken.is_full() && taken.find(chunk).is_none() {
-        taken.take(chunk);
-    }
+/// Takes a chunk unless it was taken, and says whether it took it.
+pub(crate) fn offer<T: Taken>(taken: &mut T, chunk: u64) -> bool {
+    taken.is_valid() && !taken.is_full() && taken.offer(chunk)
 }

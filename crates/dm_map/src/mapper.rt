@@ -4,7 +4,7 @@
 //! `specs/walk/Mapping.antt` defines what becomes of a sector, `walk` cuts a range into pieces, and
 //! `walker` keeps what one request leaves for the next.
 
-ghost use Rattle.std.specs.Prelude.{◌≡◌, ◌+◌, ◌*◌, ◌<◌, ◌≤◌, None, false, true, length, nat_lt, IfOk, IfSome};
+ghost use Rattle.std.specs.Prelude.{◌≡◌, ◌+◌, ◌*◌, ◌<◌, ◌≤◌, false, true, is_none, length, nat_lt, IfOk, IfSome, if◌then◌else◌};
 ghost use Rattle.dm_table.specs.declared.requests.request.Op.TheVariants.{Read};
 ghost use Rattle.dm_stack.specs.checks.Snapshots.{snapshots, IsSnapshot};
 ghost use Rattle.dm_stack.specs.checks.Depth.{stack_depth};
@@ -191,19 +191,20 @@ impl<'s, T: Taken> Mapper<'s, T> {
     }
 
     /// A valid snapshot has taken a chunk, the next in the list of its store: for a state that no request
-    /// of this mapper left. No memory is taken.
-    pub fn restore(&mut self, device: DeviceId, chunk: u64)
+    /// of this mapper left. Where it had taken the chunk, nothing changes, and `false` is returned. No memory
+    /// is taken. Cost: one look-up of the chunk.
+    pub fn restore(&mut self, device: DeviceId, chunk: u64) -> bool
         requires device { device < length self.old.stack.devices }
         requires valid { (taken_at self.old.state device).valid ≡ true }
         requires room { has_room self.old.stack device (length (taken_at self.old.state device).chunks)
             ≡ true }
-        requires fresh { number_in chunk (taken_at self.old.state device).chunks ≡ None }
-        ensures { self.new ≡ record self.old {
+        ensures fresh { result ≡ is_none (number_in chunk (taken_at self.old.state device).chunks) }
+        ensures taken { self.new ≡ (if result then record self.old {
           state
               = put self.old.state device (with_chunk (taken_at self.old.state device) chunk);
-        } }
+        } else self.old) }
     {
-        self.walker.take(device, chunk);
+        self.walker.offer(device, chunk)
     }
 
     /// A snapshot is invalid from now on, as its store says. No memory is taken.
@@ -215,14 +216,6 @@ impl<'s, T: Taken> Mapper<'s, T> {
         } }
     {
         self.walker.invalidate(device);
-    }
-
-    /// The number of a chunk among those that a snapshot took, from 0. No memory is taken.
-    pub fn number_of(&self, device: DeviceId, chunk: u64) -> Option<usize>
-        requires { device < length self.now.stack.devices }
-        ensures { result ≡ number_in chunk (taken_at self.now.state device).chunks }
-    {
-        self.walker.find(device, chunk)
     }
 
     /// Where the first sectors of a range of a store lie: in a row on a disk. The look-ups belong to no

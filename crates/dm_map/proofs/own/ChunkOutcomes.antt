@@ -3,7 +3,7 @@ use Rattle.std.proofs.Common.{◌≡◌, ◌⊎◌, inl, inr, ℕ, zero, suc, �
 use Rattle.std.specs.Prelude.{is_some}
 use Rattle.std.proofs.lemmas.Bool.{and_parts, cases_eq, cases_lt, le-leb, leb-true, not-false, not-true, or_parts}
 use Rattle.std.proofs.lemmas.List.{length-set}
-use Rattle.dm_stack.specs.declared.lines.found_line.FoundSnapshot.{FoundSnapshot}
+use Rattle.dm_stack.specs.declared.lines.resolved_line.ResolvedSnapshot.{ResolvedSnapshot}
 use Rattle.dm_stack.specs.declared.checks.graph.TheConstants.{MOST_DEPTH}
 use Rattle.dm_stack.specs.declared.id.Lower.{Lower}
 use Rattle.dm_stack.specs.declared.id.Lower.TheVariants.{Device, Disk}
@@ -17,7 +17,7 @@ use Rattle.dm_map.specs.state.State.{lost, put, with_chunk, State, Taken, taken_
 use Rattle.dm_map.specs.walk.Steps.{Step, keep}
 use Rattle.dm_map.specs.state.Tables.{snapshot_at}
 use Rattle.dm_map.specs.pieces.Units.{BlockUnit, ReadOf, Zeros, Fails}
-use Rattle.dm_map.proofs.state.FoundLines.{some_is}
+use Rattle.dm_map.proofs.state.ResolvedLines.{some_is}
 use Rattle.dm_map.proofs.own.Plays.{IsReadable, Reads, AreZeros}
 use Rattle.dm_map.proofs.walk.ChunkTaking.{none_of, taken_other, taken_same}
 use Rattle.dm_map.proofs.own.Takes.{IsTake, chunk_copies, new_number, taken_state}
@@ -59,12 +59,12 @@ no_errors f s (suc n) u e low high =
 
 -- The three outcomes
 
-pub data FullOutcome (stack : Description) (state : State) (device chunk : ℕ) (snapshot : FoundSnapshot) (step : Step) : Type 0 where
+pub data FullOutcome (stack : Description) (state : State) (device chunk : ℕ) (snapshot : ResolvedSnapshot) (step : Step) : Type 0 where
   Done : step ≡ keep [] state → FullOutcome stack state device chunk snapshot step
   Taking : IsTake stack state device chunk snapshot → step ≡ keep (chunk_copies stack state device chunk snapshot) (taken_state state device chunk) → FullOutcome stack state device chunk snapshot step
   Losing : step ≡ keep [] (put state device (lost (taken_at state device))) → FullOutcome stack state device chunk snapshot step
 
-full_outcome_by : (stack : Description) (state : State) (device chunk : ℕ) (snapshot : FoundSnapshot) (settled can : Bool) → snapshot_at stack device ≡ Some snapshot → device < length state → is_settled (taken_at state device) chunk ≡ settled
+full_outcome_by : (stack : Description) (state : State) (device chunk : ℕ) (snapshot : ResolvedSnapshot) (settled can : Bool) → snapshot_at stack device ≡ Some snapshot → device < length state → is_settled (taken_at state device) chunk ≡ settled
     → can_take stack state snapshot device (first_of snapshot chunk) (count_of stack snapshot device chunk) ≡ can
     → FullOutcome stack state device chunk snapshot (cond settled (keep [] state) (cond can (keep (chunk_copies stack state device chunk snapshot) (taken_state state device chunk)) (keep [] (put state device (lost (taken_at state device))))))
 full_outcome_by stack state device chunk snapshot true can over there settled_is can_is = Done refl
@@ -82,7 +82,7 @@ full_outcome_by stack state device chunk snapshot false true over there settled_
     }) refl
 full_outcome_by stack state device chunk snapshot false false over there settled_is can_is = Losing refl
 
-pub full_outcome : (stack : Description) (state : State) (device chunk : ℕ) (snapshot : FoundSnapshot) → snapshot_at stack device ≡ Some snapshot → device < length state → FullOutcome stack state device chunk snapshot (take_chunk stack snapshot device chunk state)
+pub full_outcome : (stack : Description) (state : State) (device chunk : ℕ) (snapshot : ResolvedSnapshot) → snapshot_at stack device ≡ Some snapshot → device < length state → FullOutcome stack state device chunk snapshot (take_chunk stack snapshot device chunk state)
 full_outcome stack state device chunk snapshot over there =
     full_outcome_by stack state device chunk snapshot (is_settled (taken_at state device) chunk) (can_take stack state snapshot device (first_of snapshot chunk) (count_of stack snapshot device chunk)) over there refl refl
 
@@ -95,7 +95,7 @@ length_push xs x i below = elim (cases_lt i (length xs)) [
 ]
 
 fits_put : (stack : Description) (state : State) (device : ℕ) (taken : Taken) → IsFitting stack state → device < length state
-    → ((number : ℕ) (snapshot : FoundSnapshot) → snapshot_at stack device ≡ Some snapshot → number < length taken.chunks → has_place stack snapshot number ≡ true) → IsFitting stack (put state device taken)
+    → ((number : ℕ) (snapshot : ResolvedSnapshot) → snapshot_at stack device ≡ Some snapshot → number < length taken.chunks → has_place stack snapshot number ≡ true) → IsFitting stack (put state device taken)
 fits_put stack state device taken fitting there each = record {
   count = length-set state device taken ∙ fitting.count;
   places = λ e number snapshot over below. elim (cases_eq e device) [
@@ -106,7 +106,7 @@ fits_put stack state device taken fitting there each = record {
   ];
 }
 
-pub full_outcome_fits : (stack : Description) (state : State) (device chunk : ℕ) (snapshot : FoundSnapshot) (step : Step) → IsFitting stack state → device < length state → FullOutcome stack state device chunk snapshot step → IsFitting stack step.state
+pub full_outcome_fits : (stack : Description) (state : State) (device chunk : ℕ) (snapshot : ResolvedSnapshot) (step : Step) → IsFitting stack state → device < length state → FullOutcome stack state device chunk snapshot step → IsFitting stack step.state
 full_outcome_fits stack state device chunk snapshot step fitting there (Done is) = rw is fitting
 full_outcome_fits stack state device chunk snapshot step fitting there (Taking take is) =
     rw is (fits_put stack state device (with_chunk (taken_at state device) chunk) fitting there (λ number other over below.

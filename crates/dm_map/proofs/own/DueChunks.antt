@@ -4,10 +4,10 @@ use Rattle.std.specs.List.{AllByRecursion}
 use Rattle.std.proofs.Math.Nat.{div-mul-le_self}
 use Rattle.dm_stack.specs.declared.id.Lower.{Lower}
 use Rattle.dm_stack.specs.declared.id.Lower.TheVariants.{Device, Disk}
-use Rattle.dm_stack.specs.declared.lines.found_line.FoundLine.{FoundLine}
-use Rattle.dm_stack.specs.declared.lines.found_line.FoundOver.{FoundOver}
-use Rattle.dm_stack.specs.declared.lines.found_line.FoundTarget.{FoundTarget}
-use Rattle.dm_stack.specs.declared.lines.found_line.FoundTarget.TheVariants as founds
+use Rattle.dm_stack.specs.declared.lines.resolved_line.ResolvedLine.{ResolvedLine}
+use Rattle.dm_stack.specs.declared.lines.resolved_line.ResolvedOver.{ResolvedOver}
+use Rattle.dm_stack.specs.declared.lines.resolved_line.ResolvedTarget.{ResolvedTarget}
+use Rattle.dm_stack.specs.declared.lines.resolved_line.ResolvedTarget.TheVariants as founds
 use Rattle.dm_stack.specs.lines.Below.{Below, Lies, IsZero, IsError, below_plain, found_at}
 use Rattle.dm_stack.specs.Description.{Description, device_len, is_ro_at, lower_len}
 use Rattle.dm_stack.specs.checks.Soundness.{IsSound}
@@ -20,7 +20,7 @@ use Rattle.dm_map.specs.walk.Serving.{IsOver, serve}
 use Rattle.dm_map.specs.walk.SnapshotWrites.{is_refused, take_chunk, unit_in_store}
 use Rattle.dm_map.specs.walk.Steps.{Step, keep, and_then}
 use Rattle.dm_map.specs.pieces.Units.{Drops, Fails}
-use Rattle.dm_map.proofs.state.FoundLines.{line_origin, line_snapshot, line_sound, origin_sound}
+use Rattle.dm_map.proofs.state.ResolvedLines.{line_origin, line_snapshot, line_sound, origin_sound}
 use Rattle.dm_map.proofs.walk.Overs.{overs}
 
 -- the state after one
@@ -36,7 +36,7 @@ taken_append : (stack : Description) (state : State) (some more : List Due) → 
 taken_append stack state [] more = refl
 taken_append stack state (one ∷ some) more = taken_append stack (due_taken stack state one) some more
 
-serve_taken : (stack : Description) (over : List FoundOver) (sector : ℕ) (state : State) → (serve stack over sector state).state ≡ all_taken stack state (due_over over sector)
+serve_taken : (stack : Description) (over : List ResolvedOver) (sector : ℕ) (state : State) → (serve stack over sector state).state ≡ all_taken stack state (due_over over sector)
 unfolding serve
 serve_taken stack [] sector state = refl
 serve_taken stack (one ∷ over) sector state = serve_taken stack over sector (take_chunk stack one.snapshot one.device (sector / one.snapshot.chunk) state).state
@@ -57,7 +57,7 @@ unless_leaves : (stack : Description) (not_done : Bool) (state : State) (step : 
 unless_leaves stack true state step dues leaves = refl
 unless_leaves stack false state step dues leaves = leaves
 
-target_leaves : (stack : Description) (state : State) (device : ℕ) (target : FoundTarget) (distance : ℕ) (next : Lower → State → ℕ → Step) (due : Lower → State → ℕ → List Due) → Leaves stack next due
+target_leaves : (stack : Description) (state : State) (device : ℕ) (target : ResolvedTarget) (distance : ℕ) (next : Lower → State → ℕ → Step) (due : Lower → State → ℕ → List Due) → Leaves stack next due
     → (write_target stack state device target distance next).state ≡ all_taken stack state (due_at_target stack state device target distance due)
 unfolding Leaves
 target_leaves stack state device (founds.Snapshot snapshot) distance next due leaves =
@@ -70,7 +70,7 @@ target_leaves stack state device (founds.Origin origin) distance next due leaves
     ∙ sym (taken_append stack state (due_over origin.over distance) (due origin.to served distance))
 target_leaves stack state device target distance next due leaves = below_leaves stack (below_plain target distance) state next due leaves
 
-line_leaves : (stack : Description) (state : State) (device : ℕ) (line : Option FoundLine) (sector : ℕ) (next : Lower → State → ℕ → Step) (due : Lower → State → ℕ → List Due) → Leaves stack next due
+line_leaves : (stack : Description) (state : State) (device : ℕ) (line : Option ResolvedLine) (sector : ℕ) (next : Lower → State → ℕ → Step) (due : Lower → State → ℕ → List Due) → Leaves stack next due
     → (write_line stack state device line sector next).state ≡ all_taken stack state (due_at_line stack state device line sector due)
 line_leaves stack state device None sector next due leaves = refl
 line_leaves stack state device (Some line) sector next due leaves = target_leaves stack state device line.target (sector - line.start) next due leaves
@@ -97,7 +97,7 @@ all_due_append : (stack : Description) (some more : List Due) → AllByRecursion
 all_due_append stack [] more p q = q
 all_due_append stack (one ∷ some) more p q = (p.0, all_due_append stack some more p.1 q)
 
-over_due : (stack : Description) (len sector : ℕ) (over : List FoundOver) → sector < len → AllByRecursion (IsOver stack len) over → AllByRecursion (IsDue stack) (due_over over sector)
+over_due : (stack : Description) (len sector : ℕ) (over : List ResolvedOver) → sector < len → AllByRecursion (IsOver stack len) over → AllByRecursion (IsDue stack) (due_over over sector)
 over_due stack len sector [] inside all = tt
 over_due stack len sector (one ∷ over) inside all =
     let first = div-mul-le_self sector one.snapshot.chunk in let long = all.0.long in
@@ -113,7 +113,7 @@ unless_due : (stack : Description) (not_done : Bool) (dues : List Due) → AllBy
 unless_due stack true dues all = tt
 unless_due stack false dues all = all
 
-target_due : (stack : Description) (state : State) (device sector : ℕ) (line : FoundLine) (target : FoundTarget) (due : Lower → State → ℕ → List Due) → IsSound stack → AreAllDue stack due → found_at stack device sector ≡ Some line → line.target ≡ target
+target_due : (stack : Description) (state : State) (device sector : ℕ) (line : ResolvedLine) (target : ResolvedTarget) (due : Lower → State → ℕ → List Due) → IsSound stack → AreAllDue stack due → found_at stack device sector ≡ Some line → line.target ≡ target
     → AllByRecursion (IsDue stack) (due_at_target stack state device target (sector - line.start) due)
 unfolding AreAllDue
 target_due stack state device sector line (founds.Snapshot snapshot) due sound each is target =
@@ -134,7 +134,7 @@ target_due stack state device sector line (founds.Origin origin) due sound each 
     (each origin.to (serve stack origin.over at state).state at)
 target_due stack state device sector line target due sound each is t = below_due stack (below_plain target (sector - line.start)) state due each
 
-line_due : (stack : Description) (state : State) (device sector : ℕ) (line : Option FoundLine) (due : Lower → State → ℕ → List Due) → IsSound stack → AreAllDue stack due → found_at stack device sector ≡ line
+line_due : (stack : Description) (state : State) (device sector : ℕ) (line : Option ResolvedLine) (due : Lower → State → ℕ → List Due) → IsSound stack → AreAllDue stack due → found_at stack device sector ≡ line
     → AllByRecursion (IsDue stack) (due_at_line stack state device line sector due)
 line_due stack state device sector None due sound each is = tt
 line_due stack state device sector (Some line) due sound each is = target_due stack state device sector line line.target due sound each is refl

@@ -3,11 +3,11 @@ use Rattle.std.proofs.Common.{◌≡◌, ℕ, ◌+◌, ◌-◌, ◌/◌, ◌<◌
 use Rattle.std.specs.Prelude.{slice_get}
 use Rattle.dm_stack.specs.declared.id.Lower.{Lower}
 use Rattle.dm_stack.specs.declared.id.Lower.TheVariants.{Device, Disk}
-use Rattle.dm_stack.specs.declared.lines.found_columns.FoundColumn.{FoundColumn}
-use Rattle.dm_stack.specs.declared.lines.found_line.FoundLine.{FoundLine}
-use Rattle.dm_stack.specs.declared.lines.found_line.FoundSnapshot.{FoundSnapshot}
-use Rattle.dm_stack.specs.declared.lines.found_line.FoundTarget.{FoundTarget}
-use Rattle.dm_stack.specs.declared.lines.found_line.FoundTarget.TheVariants as founds
+use Rattle.dm_stack.specs.declared.lines.resolved_columns.ResolvedColumn.{ResolvedColumn}
+use Rattle.dm_stack.specs.declared.lines.resolved_line.ResolvedLine.{ResolvedLine}
+use Rattle.dm_stack.specs.declared.lines.resolved_line.ResolvedSnapshot.{ResolvedSnapshot}
+use Rattle.dm_stack.specs.declared.lines.resolved_line.ResolvedTarget.{ResolvedTarget}
+use Rattle.dm_stack.specs.declared.lines.resolved_line.ResolvedTarget.TheVariants as founds
 use Rattle.dm_stack.specs.lines.Below.{Below, Lies, IsZero, IsError, below_column, below_line, below_target, column_of, found_at, in_column, IsTargetSound}
 use Rattle.dm_stack.specs.Description.{Description, device_len, lower_len}
 use Rattle.dm_stack.specs.checks.Depth.{lower_depth}
@@ -25,7 +25,7 @@ use Rattle.dm_map.specs.walk.SnapshotWrites.{read}
 use Rattle.dm_map.specs.pieces.Units.{ReadOf, Zeros, Fails}
 use Rattle.dm_map.proofs.own.UniqueSteps.{fits, goes_on_inside, read_inside, serve_inside, step_inside}
 use Rattle.dm_map.proofs.own.WayLemmas.{touch_first, touch_self}
-use Rattle.dm_map.proofs.state.FoundLines.{line_snapshot, snapshot_sound}
+use Rattle.dm_map.proofs.state.ResolvedLines.{line_snapshot, snapshot_sound}
 use Rattle.dm_map.proofs.walk.OneLevel.{by_depth, next_depth, read_disk, read_down}
 use Rattle.dm_map.proofs.walk.ReadSteps.{ReadStep, ByLine, ByStore, ByRead, ByServe, read_step}
 
@@ -46,18 +46,18 @@ next_inside stack state device sector to at sound fitting is =
 lies_no_error : (to : Lower) (at : ℕ) → Lies to at ≡ IsError → ⊥
 lies_no_error to at e = cc
 
-column_there : (columns : List FoundColumn) (index at : ℕ) → index < length columns → below_column (slice_get columns index) at ≡ IsError → ⊥
+column_there : (columns : List ResolvedColumn) (index at : ℕ) → index < length columns → below_column (slice_get columns index) at ≡ IsError → ⊥
 column_there columns index at within e =
     let column = there columns index within in
-    lies_no_error column.it.to (column.it.offset + at) (sym (ap (λ (c : Option FoundColumn). below_column c at) column.at) ∙ e)
+    lies_no_error column.it.to (column.it.offset + at) (sym (ap (λ (c : Option ResolvedColumn). below_column c at) column.at) ∙ e)
 
-snapshot_ends : (stack : Description) (state : State) (device sector distance : ℕ) (snapshot : FoundSnapshot) (valid : Bool) (number : Option ℕ) → snapshot_at stack device ≡ Some snapshot → (taken_at state device).valid ≡ valid
+snapshot_ends : (stack : Description) (state : State) (device sector distance : ℕ) (snapshot : ResolvedSnapshot) (valid : Bool) (number : Option ℕ) → snapshot_at stack device ≡ Some snapshot → (taken_at state device).valid ≡ valid
     → cond valid (read_numbered snapshot number distance) IsError ≡ IsError → EndsHere stack state device sector
 snapshot_ends stack state device sector distance snapshot false number over is e = AtLost snapshot over is
 snapshot_ends stack state device sector distance snapshot true (Some i) over is e = absurd (lies_no_error _ _ e)
 snapshot_ends stack state device sector distance snapshot true None over is e = absurd (lies_no_error _ _ e)
 
-target_ends : (stack : Description) (state : State) (device sector : ℕ) (line : FoundLine) (target : FoundTarget) → IsSound stack → found_at stack device sector ≡ Some line → line.target ≡ target → IsTargetSound stack device line.start line.len target
+target_ends : (stack : Description) (state : State) (device sector : ℕ) (line : ResolvedLine) (target : ResolvedTarget) → IsSound stack → found_at stack device sector ≡ Some line → line.target ≡ target → IsTargetSound stack device line.start line.len target
     → below_target (read_over (taken_at state device)) target (sector - line.start) ≡ IsError → EndsHere stack state device sector
 target_ends stack state device sector line (founds.Striped chunk columns) sound is target soundly e =
     let some = soundly.some in
@@ -71,9 +71,9 @@ target_ends stack state device sector line target sound is t soundly e = absurd 
 pub below_ends : (stack : Description) (state : State) (device sector : ℕ) → IsSound stack → sector < device_len stack device → read_below stack state device sector ≡ IsError → EndsHere stack state device sector
 below_ends stack state device sector sound inside e =
     let f = sector_found stack device sector sound (device_there stack device sector inside) inside in
-    target_ends stack state device sector f.line f.line.target sound f.is refl f.soundly.target (sym (ap (λ (l : Option FoundLine). below_line (read_over (taken_at state device)) l sector) f.is) ∙ e)
+    target_ends stack state device sector f.line f.line.target sound f.is refl f.soundly.target (sym (ap (λ (l : Option ResolvedLine). below_line (read_over (taken_at state device)) l sector) f.is) ∙ e)
 
-lost_below : (stack : Description) (state : State) (device sector : ℕ) (line : Option FoundLine) (snapshot : FoundSnapshot) → IsSound stack → found_at stack device sector ≡ line → snapshot_at stack device ≡ Some snapshot → (taken_at state device).valid ≡ false
+lost_below : (stack : Description) (state : State) (device sector : ℕ) (line : Option ResolvedLine) (snapshot : ResolvedSnapshot) → IsSound stack → found_at stack device sector ≡ line → snapshot_at stack device ≡ Some snapshot → (taken_at state device).valid ≡ false
     → below_line (read_over (taken_at state device)) line sector ≡ IsError
 lost_below stack state device sector None snapshot sound is over off = refl
 lost_below stack state device sector (Some line) snapshot sound is over off = rw (((snapshot_sound stack device snapshot sound over).each sector line is).1, off) refl

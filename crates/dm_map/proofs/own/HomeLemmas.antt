@@ -1,6 +1,6 @@
 -- Homes of a store's sectors: a way leads there, and no other way does.
 use Rattle.std.proofs.Common.{◌≡◌, ℕ, zero, suc, ◌/◌, ◌<◌, true, Some, refl, ap}
-use Rattle.dm_stack.specs.declared.lines.found_line.FoundSnapshot.{FoundSnapshot}
+use Rattle.dm_stack.specs.declared.lines.resolved_line.ResolvedSnapshot.{ResolvedSnapshot}
 use Rattle.dm_stack.specs.declared.checks.graph.TheConstants.{MOST_DEPTH}
 use Rattle.dm_stack.specs.declared.id.Lower.{Lower}
 use Rattle.dm_stack.specs.declared.id.Lower.TheVariants.{Device, Disk}
@@ -16,7 +16,7 @@ use Rattle.dm_map.specs.state.State.{State, taken_at}
 use Rattle.dm_map.specs.state.Tables.{snapshot_at}
 use Rattle.dm_map.specs.own.Ways.{Node, node, Touches}
 use Rattle.dm_map.proofs.own.UniqueSteps.{IsNoLines, IsRoot, only_by_line, only_by_store, goes_on_inside, store_no_lines}
-use Rattle.dm_map.proofs.state.FoundLines.{snapshot_sound}
+use Rattle.dm_map.proofs.state.ResolvedLines.{snapshot_sound}
 use Rattle.dm_map.proofs.walk.ReadSteps.{IsLineStep, read_step, line_step}
 use Rattle.dm_map.proofs.walk.Stores.{LiesInStore, below_store, store_line}
 use Rattle.dm_map.proofs.own.WayLemmas.{Here, Before, back, touch_first, touch_same, touch_self}
@@ -73,7 +73,7 @@ home_touched stack state a (suc levels) (Device device) sector sound fitting tid
     touch_up stack state a device sector step.to step.at sound fitting tidy free (line_step stack device sector step.to step.at (λ held is. store_line stack levels device sector held store is) (step.is (λ snapshot sector. IsError))) later
 
 -- sectors of a store have homes of their own
-pub homes_apart : (stack : Description) (state : State) (device : ℕ) (snapshot : FoundSnapshot) (x y : ℕ) → IsSound stack → IsFitting stack state → IsTidy stack → snapshot_at stack device ≡ Some snapshot
+pub homes_apart : (stack : Description) (state : State) (device : ℕ) (snapshot : ResolvedSnapshot) (x y : ℕ) → IsSound stack → IsFitting stack state → IsTidy stack → snapshot_at stack device ≡ Some snapshot
     → x < lower_len stack snapshot.store → y < lower_len stack snapshot.store → home stack snapshot.store x ≡ home stack snapshot.store y → x ≡ y
 homes_apart stack state device snapshot x y sound fitting tidy over x_in y_in same =
     let store = (snapshot_sound stack device snapshot sound over).soundly.store in
@@ -83,7 +83,7 @@ homes_apart stack state device snapshot x y sound fitting tidy over x_in y_in sa
     ap (λ (n : Node). n.sector) (touch_same stack state (node snapshot.store x) (node snapshot.store y) sound up refl)
 
 -- the place of a number that isn't taken is touched by no way from a root
-pub fresh_apart : (stack : Description) (state : State) (a : Node) (device : ℕ) (snapshot : FoundSnapshot) (x : ℕ) → IsSound stack → IsFitting stack state → IsTidy stack → snapshot_at stack device ≡ Some snapshot → IsRoot stack a.lower
+pub fresh_apart : (stack : Description) (state : State) (a : Node) (device : ℕ) (snapshot : ResolvedSnapshot) (x : ℕ) → IsSound stack → IsFitting stack state → IsTidy stack → snapshot_at stack device ≡ Some snapshot → IsRoot stack a.lower
     → x < lower_len stack snapshot.store → ((t i : ℕ) → number_in (t / snapshot.chunk) (taken_at state device).chunks ≡ Some i → x ≡ store_sector snapshot i t → ⊥) → Touches stack state a (home_node (home stack snapshot.store x)) → ⊥
 fresh_apart stack state a device snapshot x sound fitting tidy over root x_in fresh touches =
     let store = (snapshot_sound stack device snapshot sound over).soundly.store in

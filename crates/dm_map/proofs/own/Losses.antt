@@ -1,9 +1,9 @@
 -- A snapshot that is lost: what any sector has stays, or is an error.
 use Rattle.std.proofs.Common.{◌≡◌, ◌⊎◌, inl, inr, ℕ, ◌-◌, ◌<◌, false, Option, Some, None, length, refl, sym, ap, ◌∙◌}
 use Rattle.std.proofs.lemmas.Bool.{cases_eq}
-use Rattle.dm_stack.specs.declared.lines.found_line.FoundLine.{FoundLine}
-use Rattle.dm_stack.specs.declared.lines.found_line.FoundTarget.{FoundTarget}
-use Rattle.dm_stack.specs.declared.lines.found_line.FoundTarget.TheVariants as founds
+use Rattle.dm_stack.specs.declared.lines.resolved_line.ResolvedLine.{ResolvedLine}
+use Rattle.dm_stack.specs.declared.lines.resolved_line.ResolvedTarget.{ResolvedTarget}
+use Rattle.dm_stack.specs.declared.lines.resolved_line.ResolvedTarget.TheVariants as founds
 use Rattle.dm_stack.specs.declared.id.Lower.{Lower}
 use Rattle.dm_stack.specs.declared.id.Lower.TheVariants.{Device, Disk}
 use Rattle.dm_stack.specs.lines.Below.{Below, Lies, IsZero, IsError, below_line, below_target, found_at}
@@ -31,11 +31,11 @@ stays_as a b c d p q (inr gone) = inr (q ∙ gone)
 
 -- Where a read goes on: as before, or nowhere
 
-lost_target : (old taken : Taken) (target : FoundTarget) (distance : ℕ) → taken.valid ≡ false → (below_target (read_over taken) target distance ≡ below_target (read_over old) target distance) ⊎ (below_target (read_over taken) target distance ≡ IsError)
+lost_target : (old taken : Taken) (target : ResolvedTarget) (distance : ℕ) → taken.valid ≡ false → (below_target (read_over taken) target distance ≡ below_target (read_over old) target distance) ⊎ (below_target (read_over taken) target distance ≡ IsError)
 lost_target old taken (founds.Snapshot snapshot) distance off = inr (rw off refl)
 lost_target old taken _ distance off = inl refl
 
-lost_line : (old taken : Taken) (line : Option FoundLine) (sector : ℕ) → taken.valid ≡ false → (below_line (read_over taken) line sector ≡ below_line (read_over old) line sector) ⊎ (below_line (read_over taken) line sector ≡ IsError)
+lost_line : (old taken : Taken) (line : Option ResolvedLine) (sector : ℕ) → taken.valid ≡ false → (below_line (read_over taken) line sector ≡ below_line (read_over old) line sector) ⊎ (below_line (read_over taken) line sector ≡ IsError)
 lost_line old taken None sector off = inl refl
 lost_line old taken (Some line) sector off = lost_target old taken line.target (sector - line.start) off
 

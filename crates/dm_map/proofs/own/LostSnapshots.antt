@@ -21,7 +21,7 @@ use Rattle.dm_map.specs.walk.SnapshotWrites.{any_error, can_take, copies, count_
 use Rattle.dm_map.specs.walk.Steps.{Step, keep, steps}
 use Rattle.dm_map.specs.pieces.Units.{BlockUnit, Fails}
 use Rattle.dm_map.proofs.own.DueChunks.{IsDue, all_due, all_taken, due_taken, write_leaves}
-use Rattle.dm_map.proofs.state.FoundLines.{snapshot_sound}
+use Rattle.dm_map.proofs.state.ResolvedLines.{snapshot_sound}
 use Rattle.dm_map.proofs.walk.ChunkTaking.{Settled, Took, Lost, ChunkOutcome, chunk_outcome, none_of, not_settled, taken_other, taken_same}
 use Rattle.dm_map.proofs.walk.Settled.{take_chunk_keeps}
 

@@ -1,5 +1,5 @@
 -- Where no line is an `error` line and each store has room for all chunks of its snapshot, no snapshot is lost and no read is an error.
-use Rattle.std.proofs.Common.{◌≡◌, inl, inr, ℕ, zero, suc, ◌+◌, ◌-◌, ◌*◌, ◌/◌, ◌<◌, ◌≤◌, Bool, true, false, List, [], ◌∷◌, ◌++◌, Option, Some, None, length, nat_eq, nat_lt, refl, sym, ap, subst, ◌∙◌, arith}
+use Rattle.std.proofs.Common.{◌≡◌, inl, inr, ℕ, ◌+◌, ◌-◌, ◌*◌, ◌/◌, ◌<◌, ◌≤◌, Bool, true, false, List, [], ◌∷◌, ◌++◌, Option, Some, None, length, nat_eq, refl, sym, ap, subst, ◌∙◌, arith}
 use Rattle.std.specs.Prelude.{◌||◌}
 use Rattle.std.specs.List.{AllByRecursion, IsDistinct, list_any}
 use Rattle.std.proofs.Math.Nat.{le-div_iff_mul-le}
@@ -7,18 +7,17 @@ use Rattle.std.proofs.lemmas.Bool.{cases_eq, eqb-true, le-leb}
 use Rattle.std.proofs.lemmas.List.{length-append}
 use Rattle.std.proofs.lemmas.Map.Steps.{length-le_from_distinct_below}
 use Rattle.dm_table.specs.declared.requests.request.Op.{Op}
-use Rattle.dm_table.specs.declared.requests.request.Op.TheVariants as ops
 use Rattle.dm_table.specs.declared.tables.table.Line.{Line}
 use Rattle.dm_table.specs.declared.tables.table.Target.{Target}
 use Rattle.dm_table.specs.declared.tables.table.Target.TheVariants as targets
 use Rattle.dm_stack.specs.declared.checks.graph.TheConstants.{MOST_DEPTH}
 use Rattle.dm_stack.specs.declared.id.Lower.{Lower}
 use Rattle.dm_stack.specs.declared.id.Lower.TheVariants.{Device}
-use Rattle.dm_stack.specs.declared.lines.found_line.FoundLine.{FoundLine}
-use Rattle.dm_stack.specs.declared.lines.found_line.FoundSnapshot.{FoundSnapshot}
-use Rattle.dm_stack.specs.declared.lines.found_line.FoundTarget.{FoundTarget}
-use Rattle.dm_stack.specs.declared.lines.found_line.FoundTarget.TheVariants as founds
-use Rattle.dm_stack.specs.lines.Below.{IsSnapshotSound, found_at, found_target, holds, line_of}
+use Rattle.dm_stack.specs.declared.lines.resolved_line.ResolvedLine.{ResolvedLine}
+use Rattle.dm_stack.specs.declared.lines.resolved_line.ResolvedSnapshot.{ResolvedSnapshot}
+use Rattle.dm_stack.specs.declared.lines.resolved_line.ResolvedTarget.{ResolvedTarget}
+use Rattle.dm_stack.specs.declared.lines.resolved_line.ResolvedTarget.TheVariants as founds
+use Rattle.dm_stack.specs.lines.Below.{IsSnapshotSound, found_at, resolved_target, holds, line_of}
 use Rattle.dm_stack.specs.lines.StoreLayout.{place_count}
 use Rattle.dm_stack.specs.claims.Claims.{IsTidy, IsTop}
 use Rattle.dm_stack.specs.Description.{Description, device_len, lines_at, lower_len}
@@ -29,41 +28,42 @@ use Rattle.dm_map.specs.own.Ample.{AreOwnChunks, AreExact, IsAmple, IsAmpleTarge
 use Rattle.dm_map.specs.own.Contents.{Stays, Values, content, played, sector_past, value_read}
 use Rattle.dm_map.specs.own.Errors.{AtError, AtLost, EndsHere}
 use Rattle.dm_map.specs.own.Halts.{halted_state, halted_units, state_past}
-use Rattle.dm_map.specs.own.Losses.{Due, HasError, IsLosing, due}
+use Rattle.dm_map.specs.own.Losses.{Due, HasError, IsLosing}
 use Rattle.dm_map.specs.own.Rows.{AreOwn, Rows, first_rows, rows_played}
 use Rattle.dm_map.specs.state.Snapshots.{number_in}
 use Rattle.dm_map.specs.state.Snapshots as snapshots
 use Rattle.dm_map.specs.state.State.{State, Taken, lost, put, start_state, taken_at, with_chunk}
 use Rattle.dm_map.specs.state.Tables.{snapshot_at}
-use Rattle.dm_map.specs.walk.Mapping.{request_step, sector_step}
+use Rattle.dm_map.specs.walk.Mapping.{request_step}
 use Rattle.dm_map.specs.walk.SnapshotWrites.{read, take_chunk}
 use Rattle.dm_map.specs.walk.Steps.{Step}
 use Rattle.dm_map.specs.pieces.Units.{BlockUnit, Fails}
-use Rattle.dm_map.proofs.own.ChunkOutcomes.{IsRead, Sector, Nothing, Fault, full_outcome, full_outcome_fits, is_read}
-use Rattle.dm_map.proofs.own.DueChunks.{IsDue, all_due, all_taken, due_taken, write_leaves}
+use Rattle.dm_map.proofs.own.ChunkOutcomes.{IsRead, Sector, Nothing, Fault, is_read}
+use Rattle.dm_map.proofs.own.DueChunks.{IsDue, due_taken}
 use Rattle.dm_map.proofs.own.ErrorReads.{meets_error}
-use Rattle.dm_map.proofs.own.LostSnapshots.{due_there, losing, past_by, request_whole, state_at}
+use Rattle.dm_map.proofs.own.KeptRequests.{due_fits, past_keeps}
+use Rattle.dm_map.proofs.own.LostSnapshots.{due_there, losing, request_whole}
 use Rattle.dm_map.proofs.own.OwnRequests.{first_own, request_own}
 use Rattle.dm_map.proofs.own.HaltedRequests.{halted_own}
 use Rattle.dm_map.proofs.own.OwnWrites.{none_at, start_fits}
 use Rattle.dm_map.proofs.own.StepClaims.{raw_line}
-use Rattle.dm_map.proofs.state.FoundLines.{first_line, line_sound, snapshot_sound}
+use Rattle.dm_map.proofs.state.ResolvedLines.{first_line, line_sound, snapshot_sound}
 use Rattle.dm_map.proofs.state.Numbers.{distinct_more}
 use Rattle.dm_map.proofs.walk.ChunkTaking.{Settled, Took, Lost, ChunkOutcome, chunk_outcome, taken_other, taken_same}
 
 -- What the premise says of the line of a sector
 
-abbrev IsAmpleFound : Description → (len : ℕ) → FoundTarget → Type 0
+abbrev IsAmpleFound : Description → (len : ℕ) → ResolvedTarget → Type 0
 IsAmpleFound stack len founds.Error = ⊥
 IsAmpleFound stack len (founds.Snapshot snapshot) = chunk_count snapshot.chunk len ≤ place_count snapshot.kind snapshot.chunk (lower_len stack snapshot.store)
 IsAmpleFound stack len _ = Unit {0}
 
-ample_target : (stack : Description) (len : ℕ) (target : Target) → IsAmpleTarget stack len target → IsAmpleFound stack len (found_target stack target)
+ample_target : (stack : Description) (len : ℕ) (target : Target) → IsAmpleTarget stack len target → IsAmpleFound stack len (resolved_target stack target)
 ample_target stack len targets.Error ample = ample
 ample_target stack len (targets.Snapshot origin store kind chunk) ample = ample
 ample_target stack len _ ample = tt
 
-ample_line : (stack : Description) (device sector : ℕ) (line : FoundLine) → IsSound stack → IsAmple stack → found_at stack device sector ≡ Some line → IsAmpleFound stack line.len line.target
+ample_line : (stack : Description) (device sector : ℕ) (line : ResolvedLine) → IsSound stack → IsAmple stack → found_at stack device sector ≡ Some line → IsAmpleFound stack line.len line.target
 ample_line stack device sector line sound ample is =
     let d = there stack.devices device (line_sound stack device sector line sound is).there in
     let raw = raw_line stack (line_of (lines_at stack device) sector) line is in
@@ -71,12 +71,12 @@ ample_line stack device sector line sound ample is =
     let P : Line → Type 0 = λ it. IsAmpleTarget stack it.len it.target in
     let held : line_of d.it.lines sector ≡ Some raw.0 = rw (← lines) raw.1 in
     let each = of_device P stack.devices device d.it ample d.at in
-    subst (λ (l : FoundLine). IsAmpleFound stack l.len l.target) raw.2 (ample_target stack raw.0.len raw.0.target (found P (holds sector) d.it.lines raw.0 each held).1)
+    subst (λ (l : ResolvedLine). IsAmpleFound stack l.len l.target) raw.2 (ample_target stack raw.0.len raw.0.target (found P (holds sector) d.it.lines raw.0 each held).1)
 
-ample_error : (stack : Description) (device sector : ℕ) (line : FoundLine) → IsSound stack → IsAmple stack → found_at stack device sector ≡ Some line → line.target ≡ founds.Error → ⊥
+ample_error : (stack : Description) (device sector : ℕ) (line : ResolvedLine) → IsSound stack → IsAmple stack → found_at stack device sector ≡ Some line → line.target ≡ founds.Error → ⊥
 ample_error stack device sector line sound ample is target = subst (IsAmpleFound stack line.len) target (ample_line stack device sector line sound ample is)
 
-ample_room : (stack : Description) (device : ℕ) (snapshot : FoundSnapshot) → IsSound stack → IsAmple stack → snapshot_at stack device ≡ Some snapshot → chunk_count snapshot.chunk (device_len stack device) ≤ place_count snapshot.kind snapshot.chunk (lower_len stack snapshot.store)
+ample_room : (stack : Description) (device : ℕ) (snapshot : ResolvedSnapshot) → IsSound stack → IsAmple stack → snapshot_at stack device ≡ Some snapshot → chunk_count snapshot.chunk (device_len stack device) ≤ place_count snapshot.kind snapshot.chunk (lower_len stack snapshot.store)
 ample_room stack device snapshot sound ample over =
     let first = first_line stack device snapshot (found_at stack device 0) refl over in
     let whole : IsSnapshotSound stack device first.0.start first.0.len snapshot = rw first.2 at (line_sound stack device 0 first.0 sound first.1).soundly.target in
@@ -121,7 +121,7 @@ few : (chunk len : ℕ) (chunks : List ℕ) → AreOwnChunks chunk len chunks �
 few chunk len chunks are = length-le_from_distinct_below chunks (chunk_count chunk len) are.once (λ taken is. listed chunks (chunk_count chunk len) taken are.own is)
 
 -- a chunk that begins inside of a device is one of its chunks
-chunk_inside : (chunk len taken : ℕ) → 0 < chunk → taken * chunk < len → taken < chunk_count chunk len
+pub chunk_inside : (chunk len taken : ℕ) → 0 < chunk → taken * chunk < len → taken < chunk_count chunk len
 chunk_inside chunk len taken some inside =
     let whole : taken + 1 ≤ (len + (chunk - 1)) / chunk = (le-div_iff_mul-le {x = taken + 1} {y = len + (chunk - 1)} some).1 (omega (arith, inside, some)) in
     omega (arith, whole)
@@ -166,8 +166,8 @@ true_by : (b : Bool) → (b ≡ false → ⊥) → b ≡ true
 true_by true never = refl
 true_by false never = absurd (never refl)
 
-chunks_put : (stack : Description) (state : State) (device other : ℕ) (taken : Taken) (snapshot : FoundSnapshot) → device < length state → snapshot_at stack other ≡ Some snapshot → IsIntact stack state
-    → ((over : FoundSnapshot) → snapshot_at stack device ≡ Some over → AreOwnChunks over.chunk (device_len stack device) taken.chunks)
+chunks_put : (stack : Description) (state : State) (device other : ℕ) (taken : Taken) (snapshot : ResolvedSnapshot) → device < length state → snapshot_at stack other ≡ Some snapshot → IsIntact stack state
+    → ((over : ResolvedSnapshot) → snapshot_at stack device ≡ Some over → AreOwnChunks over.chunk (device_len stack device) taken.chunks)
     → AreOwnChunks snapshot.chunk (device_len stack other) (taken_at (put state device taken) other).chunks
 chunks_put stack state device other taken snapshot there over intact new = elim (cases_eq other device) [
   | inl same ↦
@@ -176,7 +176,7 @@ chunks_put stack state device other taken snapshot there over intact new = elim 
   | inr differ ↦ rw (taken_other state device other taken differ) (intact.chunks other snapshot over)
 ]
 
-outcome_chunks : (stack : Description) (state : State) (one : Due) (step : Step) (other : ℕ) (snapshot : FoundSnapshot) → IsSound stack → IsDue stack one → IsIntact stack state → one.device < length state → ChunkOutcome state one.device one.chunk step → snapshot_at stack other ≡ Some snapshot
+outcome_chunks : (stack : Description) (state : State) (one : Due) (step : Step) (other : ℕ) (snapshot : ResolvedSnapshot) → IsSound stack → IsDue stack one → IsIntact stack state → one.device < length state → ChunkOutcome state one.device one.chunk step → snapshot_at stack other ≡ Some snapshot
     → AreOwnChunks snapshot.chunk (device_len stack other) (taken_at step.state other).chunks
 outcome_chunks stack state one step other snapshot sound is intact there (Settled settled step_is) over = rw step_is (intact.chunks other snapshot over)
 outcome_chunks stack state one step other snapshot sound is intact there (Took valid fresh units step_is) over =
@@ -184,7 +184,7 @@ outcome_chunks stack state one step other snapshot sound is intact there (Took v
     one_more held.chunk (device_len stack one.device) one.chunk (taken_at state one.device).chunks (intact.chunks one.device held held_at) fresh
     (chunk_inside held.chunk (device_len stack one.device) one.chunk (snapshot_sound stack one.device held sound held_at).soundly.chunk_some (inside held held_at))))
   where
-    inside : (held : FoundSnapshot) → snapshot_at stack one.device ≡ Some held → one.chunk * held.chunk < device_len stack one.device
+    inside : (held : ResolvedSnapshot) → snapshot_at stack one.device ≡ Some held → one.chunk * held.chunk < device_len stack one.device
     inside held held_at = let same : one.snapshot ≡ held = cc in rw (← same) is.inside
 outcome_chunks stack state one step other snapshot sound is intact there (Lost step_is) over =
     rw step_is (chunks_put stack state one.device other (lost (taken_at state one.device)) snapshot there over intact (λ held held_at. intact.chunks one.device held held_at))
@@ -194,33 +194,16 @@ due_intact stack state one sound ample is intact =
     let there = due_there stack state one sound intact.fits.count is in
     let step = take_chunk stack one.snapshot one.device one.chunk state in
     record {
-      fits = full_outcome_fits stack state one.device one.chunk one.snapshot step intact.fits there (full_outcome stack state one.device one.chunk one.snapshot is.is there);
+      fits = due_fits stack state one sound is intact.fits;
       valid = λ device. true_by (taken_at step.state device).valid (λ gone. never_losing stack state device one sound ample intact is (losing stack state device one there (intact.valid device) gone));
       chunks = λ other snapshot over. outcome_chunks stack state one step other snapshot sound is intact there (chunk_outcome stack one.snapshot one.device one.chunk state) over;
     }
 
-all_intact : (stack : Description) (state : State) (dues : List Due) → IsSound stack → IsAmple stack → AllByRecursion (IsDue stack) dues → IsIntact stack state → IsIntact stack (all_taken stack state dues)
-all_intact stack state [] sound ample each intact = intact
-all_intact stack state (one ∷ later) sound ample each intact = all_intact stack (due_taken stack state one) later sound ample each.1 (due_intact stack state one sound ample each.0 intact)
-
 -- So does a request
 
-step_intact : (stack : Description) (op : Op) (state : State) (asked sector : ℕ) → IsSound stack → IsAmple stack → IsIntact stack state → IsIntact stack (sector_step stack op MOST_DEPTH (Device asked) state sector).state
-step_intact stack ops.Read state asked sector sound ample intact = intact
-step_intact stack ops.Write state asked sector sound ample intact =
-    rw (write_leaves stack MOST_DEPTH (Device asked) state sector) (all_intact stack state (due stack state (Device asked) sector) sound ample (all_due stack MOST_DEPTH (Device asked) state sector sound) intact)
-
-sectors_intact : (stack : Description) (op : Op) (state : State) (asked start sectors : ℕ) → IsSound stack → IsAmple stack → IsIntact stack state → IsIntact stack (state_at stack op asked start sectors state)
-sectors_intact stack op state asked start zero sound ample intact = intact
-sectors_intact stack op state asked start (suc sectors) sound ample intact =
-    sectors_intact stack op (sector_step stack op MOST_DEPTH (Device asked) state start).state asked (suc start) sectors sound ample (step_intact stack op state asked start sound ample intact)
-
 pub past_intact : (stack : Description) (op : Op) (state : State) (asked start len sectors : ℕ) → IsSound stack → IsAmple stack → IsIntact stack state → IsIntact stack (state_past stack op asked start len sectors state)
-past_intact stack op state asked start len sectors sound ample intact = by_end (nat_lt (device_len stack asked) (start + len))
-  where
-    by_end : (past : Bool) → IsIntact stack (past_by past stack op asked start sectors state)
-    by_end true = intact
-    by_end false = sectors_intact stack op state asked start sectors sound ample intact
+past_intact stack op state asked start len sectors sound ample intact =
+    past_keeps stack (IsIntact stack) op state asked start len sectors sound (λ before one is so. due_intact stack before one sound ample is so) intact
 
 request_intact : (stack : Description) (op : Op) (state : State) (asked start len : ℕ) → IsSound stack → IsAmple stack → IsIntact stack state → IsIntact stack (request_step stack op asked start len state).state
 request_intact stack op state asked start len sound ample intact = rw (request_whole stack state op asked start len) (past_intact stack op state asked start len len sound ample intact)

@@ -7,49 +7,49 @@ use Rattle.dm_table.specs.declared.tables.table.Target.{Target}
 use Rattle.dm_table.specs.declared.tables.table.Target.TheVariants as targets
 use Rattle.dm_table.specs.declared.tables.table.Use.{Use}
 use Rattle.dm_table.specs.declared.tables.table.Use.TheVariants.{Own, Reading, Serving}
-use Rattle.dm_stack.specs.declared.lines.found_line.FoundLine.{FoundLine}
-use Rattle.dm_stack.specs.declared.lines.found_line.FoundOrigin.{FoundOrigin}
-use Rattle.dm_stack.specs.declared.lines.found_line.FoundSnapshot.{FoundSnapshot}
-use Rattle.dm_stack.specs.declared.lines.found_line.FoundTarget.TheVariants as founds
+use Rattle.dm_stack.specs.declared.lines.resolved_line.ResolvedLine.{ResolvedLine}
+use Rattle.dm_stack.specs.declared.lines.resolved_line.ResolvedOrigin.{ResolvedOrigin}
+use Rattle.dm_stack.specs.declared.lines.resolved_line.ResolvedSnapshot.{ResolvedSnapshot}
+use Rattle.dm_stack.specs.declared.lines.resolved_line.ResolvedTarget.TheVariants as founds
 use Rattle.dm_stack.specs.declared.id.Lower.{Lower}
-use Rattle.dm_stack.specs.lines.Below.{IsTargetSound, Lies, below_plain, found_at, found_line, found_target, holds, line_of}
+use Rattle.dm_stack.specs.lines.Below.{IsTargetSound, Lies, below_plain, found_at, resolved_line, resolved_target, holds, line_of}
 use Rattle.dm_stack.specs.Description.{Description, lines_at, lower_len, lower_of}
-use Rattle.dm_stack.specs.lines.Over.{found_snapshot, snapshots_over}
+use Rattle.dm_stack.specs.lines.Over.{resolved_snapshot, snapshots_over}
 use Rattle.dm_stack.specs.checks.Soundness.{IsSound}
 use Rattle.dm_table.specs.tables.Span.{target_spans, whole_span}
 use Rattle.dm_stack.proofs.Apart.{IsNamed, IsVia}
 use Rattle.dm_stack.proofs.Parts.{found_place}
 use Rattle.dm_map.specs.state.Tables.{origin_at, snapshot_at}
-use Rattle.dm_map.proofs.state.FoundLines.{first_line, first_origin, line_sound, origin_sound, snapshot_sound}
+use Rattle.dm_map.proofs.state.ResolvedLines.{first_line, first_origin, line_sound, origin_sound, snapshot_sound}
 use Rattle.dm_map.proofs.walk.Spans.{IsPlainStep, plain_before, plain_span, span_distance, span_index}
 
 -- Through a line whose target has no state
 
-pub record IsLineVia (stack : Description) (device sector : ℕ) (line : FoundLine) (lower : Lower) (at : ℕ) : Type 0 where
+pub record IsLineVia (stack : Description) (device sector : ℕ) (line : ResolvedLine) (lower : Lower) (at : ℕ) : Type 0 where
   pub index : ℕ
   pub it : Line
-  pub is : found_line stack it ≡ line
+  pub is : resolved_line stack it ≡ line
   pub via : IsVia stack device index (span_index line.target (sector - line.start)) it lower at Own
   pub lies : at ≡ via.span.offset + span_distance line.target (sector - line.start)
 
-pub raw_line : (stack : Description) (o : Option Line) (line : FoundLine) → option_map (found_line stack) o ≡ Some line → (it : Line) × (o ≡ Some it) × (found_line stack it ≡ line)
+pub raw_line : (stack : Description) (o : Option Line) (line : ResolvedLine) → option_map (resolved_line stack) o ≡ Some line → (it : Line) × (o ≡ Some it) × (resolved_line stack it ≡ line)
 raw_line stack None line is = absurd cc
 raw_line stack (Some it) line is = (it, refl, cc)
 
-pub via_line : (stack : Description) (device sector : ℕ) (line : FoundLine) (lower : Lower) (at : ℕ) → IsSound stack → found_at stack device sector ≡ Some line → IsPlainStep line.target (sector - line.start) lower at → IsLineVia stack device sector line lower at
+pub via_line : (stack : Description) (device sector : ℕ) (line : ResolvedLine) (lower : Lower) (at : ℕ) → IsSound stack → found_at stack device sector ≡ Some line → IsPlainStep line.target (sector - line.start) lower at → IsLineVia stack device sector line lower at
 via_line stack device sector line lower at sound is step =
     let raw = raw_line stack (line_of (lines_at stack device) sector) line is in
     let index = found_place (holds sector) (lines_at stack device) raw.0 raw.1 in
     let of = line_sound stack device sector line sound is in
-    let target : found_target stack raw.0.target ≡ line.target = cc in
+    let target : resolved_target stack raw.0.target ≡ line.target = cc in
     let lens : raw.0.len ≡ line.len = cc in
     let distance = sector - line.start in
-    let lies : below_plain (found_target stack raw.0.target) distance ≡ Lies lower at = cc in
+    let lies : below_plain (resolved_target stack raw.0.target) distance ≡ Lies lower at = cc in
     let in_span = plain_span stack raw.0.len raw.0.target distance lower at lies in
-    let indices : span_index (found_target stack raw.0.target) distance ≡ span_index line.target distance = cc in
-    let distances : span_distance (found_target stack raw.0.target) distance ≡ span_distance line.target distance = cc in
+    let indices : span_index (resolved_target stack raw.0.target) distance ≡ span_index line.target distance = cc in
+    let distances : span_distance (resolved_target stack raw.0.target) distance ≡ span_distance line.target distance = cc in
     let from = of.soundly.from in let before = of.soundly.before in let sector_is = in_span.sector in
-    let sound_target : IsTargetSound stack device line.start raw.0.len (found_target stack raw.0.target) = rw (lens, target) of.soundly.target in
+    let sound_target : IsTargetSound stack device line.start raw.0.len (resolved_target stack raw.0.target) = rw (lens, target) of.soundly.target in
     let ends = plain_before stack device line.start raw.0.len raw.0.target distance lower at sound_target (omega (arith, lens, from, before)) lies in
     record {
       index = index.0;
@@ -70,22 +70,22 @@ via_line stack device sector line lower at sound is step =
 
 -- Through a snapshot
 
-pub record IsSnapshotVia (stack : Description) (device : ℕ) (snapshot : FoundSnapshot) : Type 0 where
+pub record IsSnapshotVia (stack : Description) (device : ℕ) (snapshot : ResolvedSnapshot) : Type 0 where
   pub index : ℕ
   pub it : Line
-  pub target : found_target stack it.target ≡ founds.Snapshot snapshot
+  pub target : resolved_target stack it.target ≡ founds.Snapshot snapshot
   pub store_named : IsNamed stack device index 0 it snapshot.store
   pub origin_named : IsNamed stack device index 1 it snapshot.origin
   pub store : (at : ℕ) → at < lower_len stack snapshot.store → IsVia stack device index 0 it snapshot.store at Own
   pub origin : (at : ℕ) → at < lower_len stack snapshot.origin → IsVia stack device index 1 it snapshot.origin at Reading
 
-snapshot_spans : (stack : Description) (len : ℕ) (target : Target) (snapshot : FoundSnapshot) → found_target stack target ≡ founds.Snapshot snapshot
+snapshot_spans : (stack : Description) (len : ℕ) (target : Target) (snapshot : ResolvedSnapshot) → resolved_target stack target ≡ founds.Snapshot snapshot
     → (store : DevRef) × (origin : DevRef) × (target_spans len target ≡ whole_span store Own ∷ whole_span origin Reading ∷ []) × (lower_of stack store ≡ snapshot.store) × (lower_of stack origin ≡ snapshot.origin)
 snapshot_spans stack len (targets.Snapshot origin store kind chunk_size) snapshot is =
-    let same = snapshot_is (found_snapshot stack origin store kind chunk_size) snapshot is in
+    let same = snapshot_is (resolved_snapshot stack origin store kind chunk_size) snapshot is in
     (store, origin, refl, cc, cc)
   where
-    snapshot_is : (a b : FoundSnapshot) → founds.Snapshot a ≡ founds.Snapshot b → a ≡ b
+    snapshot_is : (a b : ResolvedSnapshot) → founds.Snapshot a ≡ founds.Snapshot b → a ≡ b
     snapshot_is a b e = cc
 snapshot_spans stack len target snapshot is = absurd cc
 
@@ -110,12 +110,12 @@ whole_via stack device index column it lower kind to there line_at span_at on = 
   };
 }
 
-pub via_snapshot : (stack : Description) (device : ℕ) (snapshot : FoundSnapshot) → IsSound stack → snapshot_at stack device ≡ Some snapshot → IsSnapshotVia stack device snapshot
+pub via_snapshot : (stack : Description) (device : ℕ) (snapshot : ResolvedSnapshot) → IsSound stack → snapshot_at stack device ≡ Some snapshot → IsSnapshotVia stack device snapshot
 via_snapshot stack device snapshot sound at =
     let first = first_line stack device snapshot (found_at stack device 0) refl at in
     let raw = raw_line stack (line_of (lines_at stack device) 0) first.0 first.1 in
     let index = found_place (holds 0) (lines_at stack device) raw.0 raw.1 in
-    let target : found_target stack raw.0.target ≡ founds.Snapshot snapshot = cc in
+    let target : resolved_target stack raw.0.target ≡ founds.Snapshot snapshot = cc in
     let named = snapshot_spans stack raw.0.len raw.0.target snapshot target in
     let there = (snapshot_sound stack device snapshot sound at).there in
     let store = whole_via stack device index.0 0 raw.0 snapshot.store Own named.0 there index.1 (rw named.2) named.3 in
@@ -132,26 +132,26 @@ via_snapshot stack device snapshot sound at =
 
 -- Through an origin's line
 
-pub record IsOriginVia (stack : Description) (device : ℕ) (origin : FoundOrigin) : Type 0 where
+pub record IsOriginVia (stack : Description) (device : ℕ) (origin : ResolvedOrigin) : Type 0 where
   pub index : ℕ
   pub it : Line
-  pub target : found_target stack it.target ≡ founds.Origin origin
+  pub target : resolved_target stack it.target ≡ founds.Origin origin
   pub named : IsNamed stack device index 0 it origin.to
   pub via : (at : ℕ) → at < lower_len stack origin.to → IsVia stack device index 0 it origin.to at Serving
 
-origin_spans : (stack : Description) (len : ℕ) (target : Target) (origin : FoundOrigin) → found_target stack target ≡ founds.Origin origin → (to : DevRef) × (target_spans len target ≡ whole_span to Serving ∷ []) × (lower_of stack to ≡ origin.to)
+origin_spans : (stack : Description) (len : ℕ) (target : Target) (origin : ResolvedOrigin) → resolved_target stack target ≡ founds.Origin origin → (to : DevRef) × (target_spans len target ≡ whole_span to Serving ∷ []) × (lower_of stack to ≡ origin.to)
 origin_spans stack len (targets.Origin to) origin is = (to, refl, cc (origin_is (record { to = lower_of stack to; over = snapshots_over stack (lower_of stack to) }) origin is))
   where
-    origin_is : (a b : FoundOrigin) → founds.Origin a ≡ founds.Origin b → a ≡ b
+    origin_is : (a b : ResolvedOrigin) → founds.Origin a ≡ founds.Origin b → a ≡ b
     origin_is a b e = cc
 origin_spans stack len target origin is = absurd cc
 
-pub via_origin : (stack : Description) (device : ℕ) (origin : FoundOrigin) → IsSound stack → origin_at stack device ≡ Some origin → IsOriginVia stack device origin
+pub via_origin : (stack : Description) (device : ℕ) (origin : ResolvedOrigin) → IsSound stack → origin_at stack device ≡ Some origin → IsOriginVia stack device origin
 via_origin stack device origin sound at =
     let first = first_origin stack device origin (found_at stack device 0) refl at in
     let raw = raw_line stack (line_of (lines_at stack device) 0) first.0 first.1 in
     let index = found_place (holds 0) (lines_at stack device) raw.0 raw.1 in
-    let target : found_target stack raw.0.target ≡ founds.Origin origin = cc in
+    let target : resolved_target stack raw.0.target ≡ founds.Origin origin = cc in
     let named = origin_spans stack raw.0.len raw.0.target origin target in
     let there = (origin_sound stack device origin sound at).there in
     let whole = whole_via stack device index.0 0 raw.0 origin.to Serving named.0 there index.1 (rw named.1) named.2 in

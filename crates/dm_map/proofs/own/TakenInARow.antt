@@ -2,7 +2,7 @@
 use Rattle.std.proofs.Common.{◌≡◌, inl, inr, ℕ, zero, suc, ◌+◌, ◌/◌, ◌<◌, ◌≤◌, false, List, [], ◌∷◌, ◌++◌, length-append, Some, length, refl, ap, ◌∙◌, arith}
 use Rattle.std.specs.List.{AllByRecursion}
 use Rattle.std.proofs.lemmas.Bool.{cases_eq}
-use Rattle.dm_stack.specs.declared.lines.found_line.FoundSnapshot.{FoundSnapshot}
+use Rattle.dm_stack.specs.declared.lines.resolved_line.ResolvedSnapshot.{ResolvedSnapshot}
 use Rattle.dm_stack.specs.declared.id.Lower.{Lower}
 use Rattle.dm_stack.specs.declared.id.Lower.TheVariants.{Disk}
 use Rattle.dm_stack.specs.claims.Claims.{IsTidy}
@@ -19,7 +19,7 @@ use Rattle.dm_map.specs.state.Tables.{snapshot_at}
 use Rattle.dm_map.specs.pieces.Units.{BlockUnit, ReadOf}
 use Rattle.dm_map.specs.own.Ways.{Node, node, Touches}
 use Rattle.dm_map.proofs.own.UniqueSteps.{IsRoot}
-use Rattle.dm_map.proofs.state.FoundLines.{snapshot_sound}
+use Rattle.dm_map.proofs.state.ResolvedLines.{snapshot_sound}
 use Rattle.dm_map.proofs.own.HomeLemmas.{fresh_apart, home_node}
 use Rattle.dm_map.proofs.own.Losses.{lost_stays, stays_as, stays_on}
 use Rattle.dm_map.proofs.own.ChunkOutcomes.{FullOutcome, Done, Taking, Losing, full_outcome, full_outcome_fits}
@@ -91,7 +91,7 @@ fresh_stays zeros written at stack state lower sector us values sound root each 
 pub record Event : Type 0 where
   pub device : ℕ
   pub chunk : ℕ
-  pub snapshot : FoundSnapshot
+  pub snapshot : ResolvedSnapshot
 
 abbrev pub IsEvent : Description → Event → Type 0
 IsEvent stack event = snapshot_at stack event.device ≡ Some event.snapshot
@@ -118,7 +118,7 @@ grown_put old state device taken there grown more = record {
   ];
 }
 
-outcome_grown : (stack : Description) (old state : State) (device chunk : ℕ) (snapshot : FoundSnapshot) (step : Step) → device < length state → IsGrown old state → FullOutcome stack state device chunk snapshot step → IsGrown old step.state
+outcome_grown : (stack : Description) (old state : State) (device chunk : ℕ) (snapshot : ResolvedSnapshot) (step : Step) → device < length state → IsGrown old state → FullOutcome stack state device chunk snapshot step → IsGrown old step.state
 outcome_grown stack old state device chunk snapshot step there grown (Done is) = rw is grown
 outcome_grown stack old state device chunk snapshot step there grown (Taking take is) =
     let e : length ((taken_at state device).chunks ++ chunk ∷ []) ≡ length (taken_at state device).chunks + 1 = length-append (taken_at state device).chunks (chunk ∷ []) in
@@ -127,7 +127,7 @@ outcome_grown stack old state device chunk snapshot step there grown (Losing is)
 
 -- what is copied for a chunk, seen from a state before
 
-copies_fresh : (stack : Description) (old state : State) (device chunk : ℕ) (snapshot : FoundSnapshot) → IsSound stack → IsFitting stack old → IsTidy stack → IsGrown old state → IsTake stack state device chunk snapshot
+copies_fresh : (stack : Description) (old state : State) (device chunk : ℕ) (snapshot : ResolvedSnapshot) → IsSound stack → IsFitting stack old → IsTidy stack → IsGrown old state → IsTake stack state device chunk snapshot
     → AllByRecursion (IsFresh stack old) (chunk_copies stack state device chunk snapshot)
 copies_fresh stack old state device chunk snapshot sound fitting tidy grown take =
     let some = (snapshot_sound stack device snapshot sound take.over).soundly.chunk_some in
@@ -142,13 +142,13 @@ copies_fresh stack old state device chunk snapshot sound fitting tidy grown take
           omega (arith, below, more, parts.0)) touches;
     })
 
-outcome_fresh : (stack : Description) (old state : State) (device chunk : ℕ) (snapshot : FoundSnapshot) (step : Step) → IsSound stack → IsFitting stack old → IsTidy stack → IsGrown old state → FullOutcome stack state device chunk snapshot step
+outcome_fresh : (stack : Description) (old state : State) (device chunk : ℕ) (snapshot : ResolvedSnapshot) (step : Step) → IsSound stack → IsFitting stack old → IsTidy stack → IsGrown old state → FullOutcome stack state device chunk snapshot step
     → AllByRecursion (IsFresh stack old) step.units
 outcome_fresh stack old state device chunk snapshot step sound fitting tidy grown (Done is) = rw is tt
 outcome_fresh stack old state device chunk snapshot step sound fitting tidy grown (Taking take is) = rw is (copies_fresh stack old state device chunk snapshot sound fitting tidy grown take)
 outcome_fresh stack old state device chunk snapshot step sound fitting tidy grown (Losing is) = rw is tt
 
-outcome_stays : {V : Type 0} (zeros : V) (written : ℕ → V) (at : ℕ) (stack : Description) (state : State) (values : Values V) (device chunk : ℕ) (snapshot : FoundSnapshot) (lower : Lower) (sector : ℕ) (step : Step) → IsSound stack → IsFitting stack state → IsTidy stack → device < length state
+outcome_stays : {V : Type 0} (zeros : V) (written : ℕ → V) (at : ℕ) (stack : Description) (state : State) (values : Values V) (device chunk : ℕ) (snapshot : ResolvedSnapshot) (lower : Lower) (sector : ℕ) (step : Step) → IsSound stack → IsFitting stack state → IsTidy stack → device < length state
     → IsRoot stack lower → FullOutcome stack state device chunk snapshot step → Stays (content zeros stack state values lower sector) (content zeros stack step.state (played zeros written at step.units values) lower sector)
 unfolding played
 outcome_stays zeros written at stack state values device chunk snapshot lower sector step sound fitting tidy there root (Done is) = rw is (inl refl)

@@ -1,8 +1,8 @@
 -- A chunk that is taken changes nothing of what a root has.
 use Rattle.std.proofs.Common.{◌≡◌, ◌⊎◌, inl, inr, ℕ, ◌+◌, ◌-◌, ◌*◌, ◌/◌, ◌%◌, ◌<◌, ◌≤◌, true, List, [], ◌∷◌, Option, Some, None, length, refl, sym, ap, ◌∙◌, arith}
 use Rattle.std.proofs.lemmas.Bool.{cases_eq}
-use Rattle.dm_stack.specs.declared.lines.found_line.FoundLine.{FoundLine}
-use Rattle.dm_stack.specs.declared.lines.found_line.FoundSnapshot.{FoundSnapshot}
+use Rattle.dm_stack.specs.declared.lines.resolved_line.ResolvedLine.{ResolvedLine}
+use Rattle.dm_stack.specs.declared.lines.resolved_line.ResolvedSnapshot.{ResolvedSnapshot}
 use Rattle.dm_stack.specs.declared.checks.graph.TheConstants.{MOST_DEPTH}
 use Rattle.dm_stack.specs.declared.id.Lower.{Lower}
 use Rattle.dm_stack.specs.declared.id.Lower.TheVariants.{Device, Disk}
@@ -22,7 +22,7 @@ use Rattle.dm_map.specs.state.Tables.{snapshot_at}
 use Rattle.dm_map.specs.pieces.Units.{BlockUnit, Zeros, Fails}
 use Rattle.dm_map.specs.own.Ways.{Node, node, Touches}
 use Rattle.dm_map.proofs.own.UniqueSteps.{IsRoot, origin_root}
-use Rattle.dm_map.proofs.state.FoundLines.{line_sound, snapshot_sound}
+use Rattle.dm_map.proofs.state.ResolvedLines.{line_sound, snapshot_sound}
 use Rattle.dm_map.proofs.own.HomeLemmas.{fresh_apart, homes_apart}
 use Rattle.dm_map.proofs.state.Numbers.{chunk_rest, store_sector_inside, store_sector_parts, number_kept, number_new, number_other, of_chunk}
 use Rattle.dm_map.proofs.walk.OneLevel.{by_depth, next_depth, read_disk, read_down}
@@ -46,7 +46,7 @@ content_down zeros stack state values device sector sound =
 
 -- What it is to take a chunk
 
-pub record IsTake (stack : Description) (state : State) (device chunk : ℕ) (snapshot : FoundSnapshot) : Type 0 where
+pub record IsTake (stack : Description) (state : State) (device chunk : ℕ) (snapshot : ResolvedSnapshot) : Type 0 where
   pub over : snapshot_at stack device ≡ Some snapshot
   pub there : device < length state
   pub valid : (taken_at state device).valid ≡ true
@@ -60,11 +60,11 @@ new_number state device = length (taken_at state device).chunks
 abbrev pub taken_state : State → (device chunk : ℕ) → State
 taken_state state device chunk = put state device (with_chunk (taken_at state device) chunk)
 
-abbrev pub chunk_copies : Description → State → (device chunk : ℕ) → FoundSnapshot → List BlockUnit
+abbrev pub chunk_copies : Description → State → (device chunk : ℕ) → ResolvedSnapshot → List BlockUnit
 chunk_copies stack state device chunk snapshot = copies stack state snapshot (new_number state device) (first_of snapshot chunk) (count_of stack snapshot device chunk)
 
 -- no taken chunk lies in the place of the new number
-new_is_fresh : (state : State) (device : ℕ) (snapshot : FoundSnapshot) (v t i : ℕ) → 0 < snapshot.chunk → number_in (t / snapshot.chunk) (taken_at state device).chunks ≡ Some i → store_sector snapshot (new_number state device) v ≡ store_sector snapshot i t → ⊥
+new_is_fresh : (state : State) (device : ℕ) (snapshot : ResolvedSnapshot) (v t i : ℕ) → 0 < snapshot.chunk → number_in (t / snapshot.chunk) (taken_at state device).chunks ≡ Some i → store_sector snapshot (new_number state device) v ≡ store_sector snapshot i t → ⊥
 new_is_fresh state device snapshot v t i some is e =
     let parts = store_sector_parts snapshot (new_number state device) i v t some e in
     let below = number_within (t / snapshot.chunk) (taken_at state device).chunks i is in
@@ -74,7 +74,7 @@ same_in_chunk : (m c u v n : ℕ) → n ≤ m → c * m ≤ u → u < c * m + n 
 same_in_chunk m c u v n most ul uh vl vh e =
     let a = chunk_rest c m u ul (omega (arith, uh, most)) in let b = chunk_rest c m v vl (omega (arith, vh, most)) in omega (arith, a, b, e, ul, vl)
 
-take_fresh : (stack : Description) (state : State) (device chunk : ℕ) (snapshot : FoundSnapshot) → IsSound stack → IsFitting stack state → IsTidy stack → IsTake stack state device chunk snapshot
+take_fresh : (stack : Description) (state : State) (device chunk : ℕ) (snapshot : ResolvedSnapshot) → IsSound stack → IsFitting stack state → IsTidy stack → IsTake stack state device chunk snapshot
     → AreFreshTargets (read stack state snapshot.origin) (home_in_store stack snapshot (new_number state device)) (first_of snapshot chunk) (count_of stack snapshot device chunk)
 take_fresh stack state device chunk snapshot sound fitting tidy take =
     let some = (snapshot_sound stack device snapshot sound take.over).soundly.chunk_some in
@@ -91,20 +91,20 @@ take_fresh stack state device chunk snapshot sound fitting tidy take =
 
 -- Where a read goes on in the new state
 
-record IsMoved (stack : Description) (state : State) (device chunk : ℕ) (snapshot : FoundSnapshot) (e s : ℕ) : Type 0 where
+record IsMoved (stack : Description) (state : State) (device chunk : ℕ) (snapshot : ResolvedSnapshot) (e s : ℕ) : Type 0 where
   old : read_below stack state e s ≡ Lies snapshot.origin s
   new : read_below stack (taken_state state device chunk) e s ≡ Lies snapshot.store (store_sector snapshot (new_number state device) s)
   from : first_of snapshot chunk ≤ s
   before : s < first_of snapshot chunk + count_of stack snapshot device chunk
 
-After : Description → State → (device chunk : ℕ) → FoundSnapshot → (e s : ℕ) → Type 0
+After : Description → State → (device chunk : ℕ) → ResolvedSnapshot → (e s : ℕ) → Type 0
 After stack state device chunk snapshot e s = (read_below stack (taken_state state device chunk) e s ≡ read_below stack state e s) ⊎ IsMoved stack state device chunk snapshot e s
 
-read_by : (taken : Taken) (snapshot : FoundSnapshot) (sector : ℕ) (number : Option ℕ) → taken.valid ≡ true → number_in (sector / snapshot.chunk) taken.chunks ≡ number → read_over taken snapshot sector ≡ read_numbered snapshot number sector
+read_by : (taken : Taken) (snapshot : ResolvedSnapshot) (sector : ℕ) (number : Option ℕ) → taken.valid ≡ true → number_in (sector / snapshot.chunk) taken.chunks ≡ number → read_over taken snapshot sector ≡ read_numbered snapshot number sector
 read_by taken snapshot sector number valid is = rw (valid, is) refl
 
 -- a step of a snapshot, by what it took
-pub snapshot_next : (stack : Description) (state : State) (device sector : ℕ) (snapshot : FoundSnapshot) (line : FoundLine) (taken : Taken) → IsSound stack → snapshot_at stack device ≡ Some snapshot → found_at stack device sector ≡ Some line → taken_at state device ≡ taken
+pub snapshot_next : (stack : Description) (state : State) (device sector : ℕ) (snapshot : ResolvedSnapshot) (line : ResolvedLine) (taken : Taken) → IsSound stack → snapshot_at stack device ≡ Some snapshot → found_at stack device sector ≡ Some line → taken_at state device ≡ taken
     → read_below stack state device sector ≡ read_over taken snapshot sector
 snapshot_next stack state device sector snapshot line taken sound over is taken_is =
     let here = (snapshot_sound stack device snapshot sound over).each sector line is in
@@ -112,7 +112,7 @@ snapshot_next stack state device sector snapshot line taken sound over is taken_
     let same : sector - line.start ≡ sector = omega (arith, first) in
     rw (is, here.1, same, taken_is) refl
 
-after_chunk : (stack : Description) (state : State) (device chunk sector : ℕ) (snapshot : FoundSnapshot) (line : FoundLine) → IsSound stack → IsTake stack state device chunk snapshot → found_at stack device sector ≡ Some line
+after_chunk : (stack : Description) (state : State) (device chunk sector : ℕ) (snapshot : ResolvedSnapshot) (line : ResolvedLine) → IsSound stack → IsTake stack state device chunk snapshot → found_at stack device sector ≡ Some line
     → (number : Option ℕ) → number_in (sector / snapshot.chunk) (taken_at state device).chunks ≡ number → After stack state device chunk snapshot device sector
 unfolding After
 after_chunk stack state device chunk sector snapshot line sound take is (Some i) n =
@@ -144,7 +144,7 @@ after_chunk stack state device chunk sector snapshot line sound take is None n =
           inl (new ∙ read_by taken snapshot sector None take.valid (number_other (sector / snapshot.chunk) chunk (taken_at state device).chunks n differ) ∙ sym old)
     ]
 
-after_line : (stack : Description) (state : State) (device chunk sector : ℕ) (snapshot : FoundSnapshot) → IsSound stack → IsTake stack state device chunk snapshot → (line : Option FoundLine) → found_at stack device sector ≡ line → After stack state device chunk snapshot device sector
+after_line : (stack : Description) (state : State) (device chunk sector : ℕ) (snapshot : ResolvedSnapshot) → IsSound stack → IsTake stack state device chunk snapshot → (line : Option ResolvedLine) → found_at stack device sector ≡ line → After stack state device chunk snapshot device sector
 unfolding After
 after_line stack state device chunk sector snapshot sound take None is = inl (rw is refl)
 after_line stack state device chunk sector snapshot sound take (Some line) is =
@@ -154,7 +154,7 @@ after_line stack state device chunk sector snapshot sound take (Some line) is =
 pub next_same : (stack : Description) (state other : State) (device sector : ℕ) → taken_at other device ≡ taken_at state device → read_below stack other device sector ≡ read_below stack state device sector
 next_same stack state other device sector same = cc
 
-after : (stack : Description) (state : State) (device chunk : ℕ) (snapshot : FoundSnapshot) (e s : ℕ) → IsSound stack → IsTake stack state device chunk snapshot → After stack state device chunk snapshot e s
+after : (stack : Description) (state : State) (device chunk : ℕ) (snapshot : ResolvedSnapshot) (e s : ℕ) → IsSound stack → IsTake stack state device chunk snapshot → After stack state device chunk snapshot e s
 unfolding After
 after stack state device chunk snapshot e s sound take = elim (cases_eq e device) [
   | inl same ↦ rw same (after_line stack state device chunk s snapshot sound take (found_at stack device s) refl)
@@ -173,7 +173,7 @@ same_step zeros stack state other values later (Lies to at) each = each to at re
 same_step zeros stack state other values later IsZero each = refl
 same_step zeros stack state other values later IsError each = refl
 
-keeps_disk : {V : Type 0} (zeros : V) (written : ℕ → V) (at : ℕ) (stack : Description) (state : State) (values : Values V) (device chunk : ℕ) (snapshot : FoundSnapshot) (a : Node) (disk s : ℕ) → IsSound stack → IsFitting stack state → IsTidy stack → IsTake stack state device chunk snapshot → IsRoot stack a.lower
+keeps_disk : {V : Type 0} (zeros : V) (written : ℕ → V) (at : ℕ) (stack : Description) (state : State) (values : Values V) (device chunk : ℕ) (snapshot : ResolvedSnapshot) (a : Node) (disk s : ℕ) → IsSound stack → IsFitting stack state → IsTidy stack → IsTake stack state device chunk snapshot → IsRoot stack a.lower
     → Touches stack state a (node (Disk disk) s) → content zeros stack (taken_state state device chunk) (played zeros written at (chunk_copies stack state device chunk snapshot) values) (Disk disk) s ≡ content zeros stack state values (Disk disk) s
 keeps_disk zeros written at stack state values device chunk snapshot a disk s sound fitting tidy take root touches =
     let some = (snapshot_sound stack device snapshot sound take.over).soundly.chunk_some in
@@ -186,7 +186,7 @@ keeps_disk zeros written at stack state values device chunk snapshot a disk s so
     ∙ ap Some (copies_keep zeros written at (read stack state snapshot.origin) (home_in_store stack snapshot n) (first_of snapshot chunk) (count_of stack snapshot device chunk) values disk s apart)
     ∙ sym (ap (value_read zeros values) (read_disk stack state disk s))
 
-keeps_step : {V : Type 0} (zeros : V) (written : ℕ → V) (at : ℕ) (stack : Description) (state : State) (values : Values V) (device chunk : ℕ) (snapshot : FoundSnapshot) (a : Node) → IsSound stack → IsFitting stack state → IsTidy stack → IsTake stack state device chunk snapshot → IsRoot stack a.lower
+keeps_step : {V : Type 0} (zeros : V) (written : ℕ → V) (at : ℕ) (stack : Description) (state : State) (values : Values V) (device chunk : ℕ) (snapshot : ResolvedSnapshot) (a : Node) → IsSound stack → IsFitting stack state → IsTidy stack → IsTake stack state device chunk snapshot → IsRoot stack a.lower
     → (lower : Lower) → ((other : Lower) → lower_depth stack other < lower_depth stack lower → Appends zeros stack state (taken_state state device chunk) values (played zeros written at (chunk_copies stack state device chunk snapshot) values) a other)
     → Appends zeros stack state (taken_state state device chunk) values (played zeros written at (chunk_copies stack state device chunk snapshot) values) a lower
 unfolding Appends After
@@ -204,7 +204,7 @@ keeps_step zeros written at stack state values device chunk snapshot a sound fit
           cc (content_down zeros stack other later e s sound, store_read stack other MOST_DEPTH snapshot.store (store_sector snapshot n s) sound over.store (store_sector_inside snapshot n s (lower_len stack snapshot.store) over.chunk_some take.place_there), copies_move zeros written at (read stack state snapshot.origin) (home_in_store stack snapshot n) (first_of snapshot chunk) (count_of stack snapshot device chunk) values s (take_fresh stack state device chunk snapshot sound fitting tidy take) moved.from moved.before, some_value zeros values (read stack state snapshot.origin s) (take.readable s moved.from moved.before), content_down zeros stack state values e s sound)
     ]
 
-pub take_keeps : {V : Type 0} (zeros : V) (written : ℕ → V) (at : ℕ) (stack : Description) (state : State) (values : Values V) (device chunk : ℕ) (snapshot : FoundSnapshot) (lower : Lower) (s : ℕ) → IsSound stack → IsFitting stack state → IsTidy stack → IsTake stack state device chunk snapshot → IsRoot stack lower
+pub take_keeps : {V : Type 0} (zeros : V) (written : ℕ → V) (at : ℕ) (stack : Description) (state : State) (values : Values V) (device chunk : ℕ) (snapshot : ResolvedSnapshot) (lower : Lower) (s : ℕ) → IsSound stack → IsFitting stack state → IsTidy stack → IsTake stack state device chunk snapshot → IsRoot stack lower
     → content zeros stack (taken_state state device chunk) (played zeros written at (chunk_copies stack state device chunk snapshot) values) lower s ≡ content zeros stack state values lower s
 unfolding Appends
 take_keeps zeros written at stack state values device chunk snapshot lower s sound fitting tidy take root =

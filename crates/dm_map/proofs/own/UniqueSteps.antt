@@ -4,14 +4,14 @@ use Rattle.std.proofs.lemmas.Bool.{leb-true}
 use Rattle.dm_table.specs.declared.tables.table.Line.{Line}
 use Rattle.dm_table.specs.declared.tables.table.Use.{Use}
 use Rattle.dm_table.specs.declared.tables.table.Use.TheVariants.{Own, Reading, Serving}
-use Rattle.dm_stack.specs.declared.lines.found_line.FoundLine.{FoundLine}
-use Rattle.dm_stack.specs.declared.lines.found_line.FoundOrigin.{FoundOrigin}
-use Rattle.dm_stack.specs.declared.lines.found_line.FoundSnapshot.{FoundSnapshot}
-use Rattle.dm_stack.specs.declared.lines.found_line.FoundTarget.{FoundTarget}
-use Rattle.dm_stack.specs.declared.lines.found_line.FoundTarget.TheVariants as founds
+use Rattle.dm_stack.specs.declared.lines.resolved_line.ResolvedLine.{ResolvedLine}
+use Rattle.dm_stack.specs.declared.lines.resolved_line.ResolvedOrigin.{ResolvedOrigin}
+use Rattle.dm_stack.specs.declared.lines.resolved_line.ResolvedSnapshot.{ResolvedSnapshot}
+use Rattle.dm_stack.specs.declared.lines.resolved_line.ResolvedTarget.{ResolvedTarget}
+use Rattle.dm_stack.specs.declared.lines.resolved_line.ResolvedTarget.TheVariants as founds
 use Rattle.dm_stack.specs.declared.id.Lower.{Lower}
 use Rattle.dm_stack.specs.declared.id.Lower.TheVariants.{Device}
-use Rattle.dm_stack.specs.lines.Below.{Lies, below_line, found_at, found_line, found_target, has_state}
+use Rattle.dm_stack.specs.lines.Below.{Lies, below_line, found_at, resolved_line, resolved_target, has_state}
 use Rattle.dm_stack.specs.claims.Claims.{IsTidy, IsTop}
 use Rattle.dm_stack.specs.Description.{Description, device_len, lower_len}
 use Rattle.dm_stack.specs.lines.Over.{snapshots_over}
@@ -25,7 +25,7 @@ use Rattle.dm_map.specs.walk.SnapshotWrites.{is_settled}
 use Rattle.dm_map.specs.state.Snapshots.{store_sector, number_in, read_over}
 use Rattle.dm_map.specs.state.State.{State, Taken, taken_at}
 use Rattle.dm_map.specs.state.Tables.{origin_at, snapshot_at}
-use Rattle.dm_map.proofs.state.FoundLines.{line_sound, origin_sound, snapshot_sound}
+use Rattle.dm_map.proofs.state.ResolvedLines.{line_sound, origin_sound, snapshot_sound}
 use Rattle.dm_map.proofs.walk.ReadSteps.{ReadStep, ByLine, ByStore, ByRead, ByServe}
 use Rattle.dm_map.proofs.walk.Spans.{IsPlainStep, distance_one, span_distance, span_index}
 use Rattle.dm_map.proofs.state.Numbers.{store_sector_inside}
@@ -39,19 +39,19 @@ true_false : true ≡ false → ⊥
 true_false e = cc
 
 -- a target without a state is neither a snapshot nor an origin
-no_plain : (target other : FoundTarget) (distance : ℕ) (lower : Lower) (at : ℕ) → target ≡ other → has_state other ≡ true → IsPlainStep target distance lower at → ⊥
+no_plain : (target other : ResolvedTarget) (distance : ℕ) (lower : Lower) (at : ℕ) → target ≡ other → has_state other ≡ true → IsPlainStep target distance lower at → ⊥
 no_plain target other distance lower at is state step = cc
 
-line_no_snapshot : (stack : Description) (device sector : ℕ) (line : FoundLine) (lower : Lower) (at : ℕ) (l m : Line) (snapshot : FoundSnapshot) → found_line stack l ≡ line → IsPlainStep line.target (sector - line.start) lower at → l ≡ m → found_target stack m.target ≡ founds.Snapshot snapshot → ⊥
+line_no_snapshot : (stack : Description) (device sector : ℕ) (line : ResolvedLine) (lower : Lower) (at : ℕ) (l m : Line) (snapshot : ResolvedSnapshot) → resolved_line stack l ≡ line → IsPlainStep line.target (sector - line.start) lower at → l ≡ m → resolved_target stack m.target ≡ founds.Snapshot snapshot → ⊥
 line_no_snapshot stack device sector line lower at l m snapshot is step same target =
     no_plain line.target (founds.Snapshot snapshot) (sector - line.start) lower at (cc) refl step
 
-line_no_origin : (stack : Description) (device sector : ℕ) (line : FoundLine) (lower : Lower) (at : ℕ) (l m : Line) (origin : FoundOrigin) → found_line stack l ≡ line → IsPlainStep line.target (sector - line.start) lower at → l ≡ m → found_target stack m.target ≡ founds.Origin origin → ⊥
+line_no_origin : (stack : Description) (device sector : ℕ) (line : ResolvedLine) (lower : Lower) (at : ℕ) (l m : Line) (origin : ResolvedOrigin) → resolved_line stack l ≡ line → IsPlainStep line.target (sector - line.start) lower at → l ≡ m → resolved_target stack m.target ≡ founds.Origin origin → ⊥
 line_no_origin stack device sector line lower at l m origin is step same target =
     no_plain line.target (founds.Origin origin) (sector - line.start) lower at (cc) refl step
 
 -- and no line is both
-snapshot_no_origin : (stack : Description) (l m : Line) (snapshot : FoundSnapshot) (origin : FoundOrigin) → found_target stack l.target ≡ founds.Snapshot snapshot → l ≡ m → found_target stack m.target ≡ founds.Origin origin → ⊥
+snapshot_no_origin : (stack : Description) (l m : Line) (snapshot : ResolvedSnapshot) (origin : ResolvedOrigin) → resolved_target stack l.target ≡ founds.Snapshot snapshot → l ≡ m → resolved_target stack m.target ≡ founds.Origin origin → ⊥
 snapshot_no_origin stack l m snapshot origin is same target = cc
   where
     differ : founds.Snapshot snapshot ≡ founds.Origin origin → ⊥
@@ -59,7 +59,7 @@ snapshot_no_origin stack l m snapshot origin is same target = cc
 
 -- What a taken chunk's number is inside of
 
-pub fits : (stack : Description) (state : State) (device sector number : ℕ) (snapshot : FoundSnapshot) → IsSound stack → IsFitting stack state → snapshot_at stack device ≡ Some snapshot → number_in (sector / snapshot.chunk) (taken_at state device).chunks ≡ Some number
+pub fits : (stack : Description) (state : State) (device sector number : ℕ) (snapshot : ResolvedSnapshot) → IsSound stack → IsFitting stack state → snapshot_at stack device ≡ Some snapshot → number_in (sector / snapshot.chunk) (taken_at state device).chunks ≡ Some number
     → store_sector snapshot number sector < lower_len stack snapshot.store
 fits stack state device sector number snapshot sound fitting at is =
     let over = snapshot_sound stack device snapshot sound at in
@@ -67,15 +67,15 @@ fits stack state device sector number snapshot sound fitting at is =
     (leb-true _ _ (fitting.places device number snapshot at (number_within (sector / snapshot.chunk) (taken_at state device).chunks number is)))
 
 -- a read of the origin is inside of it
-pub read_inside : (stack : Description) (state : State) (device sector : ℕ) (snapshot : FoundSnapshot) → IsSound stack → snapshot_at stack device ≡ Some snapshot → sector < device_len stack device → sector < lower_len stack snapshot.origin
+pub read_inside : (stack : Description) (state : State) (device sector : ℕ) (snapshot : ResolvedSnapshot) → IsSound stack → snapshot_at stack device ≡ Some snapshot → sector < device_len stack device → sector < lower_len stack snapshot.origin
 read_inside stack state device sector snapshot sound at inside = let over = (snapshot_sound stack device snapshot sound at).soundly.origin in omega (arith, over, inside)
 
 -- and so is that of what an origin's device names
-pub serve_inside : (stack : Description) (device sector : ℕ) (origin : FoundOrigin) → IsSound stack → origin_at stack device ≡ Some origin → sector < device_len stack device → sector < lower_len stack origin.to
+pub serve_inside : (stack : Description) (device sector : ℕ) (origin : ResolvedOrigin) → IsSound stack → origin_at stack device ≡ Some origin → sector < device_len stack device → sector < lower_len stack origin.to
 serve_inside stack device sector origin sound at inside = let same = (origin_sound stack device origin sound at).soundly.same in omega (arith, same, inside)
 
 -- what goes on is inside its device
-inside_of : (stack : Description) (state : State) (device sector : ℕ) (lower : Lower) (at : ℕ) (line : Option FoundLine) → IsSound stack → found_at stack device sector ≡ line → below_line (read_over (taken_at state device)) line sector ≡ Lies lower at → sector < device_len stack device
+inside_of : (stack : Description) (state : State) (device sector : ℕ) (lower : Lower) (at : ℕ) (line : Option ResolvedLine) → IsSound stack → found_at stack device sector ≡ line → below_line (read_over (taken_at state device)) line sector ≡ Lies lower at → sector < device_len stack device
 inside_of stack state device sector lower at None sound is e = absurd cc
 inside_of stack state device sector lower at (Some line) sound is e = (line_sound stack device sector line sound is).inside
 
@@ -92,12 +92,12 @@ two_columns : (i j : ℕ) → i ≡ 0 → j ≡ 1 → i ≡ j → ⊥
 two_columns i j first second same = omega (arith, first, second, same)
 
 -- to one of a line whose target has no state: that line's sector
-pub only_by_line : (stack : Description) (state : State) (d s e t : ℕ) (lower : Lower) (at : ℕ) (line : FoundLine) → IsSound stack → IsFitting stack state → IsTidy stack → t < device_len stack e
+pub only_by_line : (stack : Description) (state : State) (d s e t : ℕ) (lower : Lower) (at : ℕ) (line : ResolvedLine) → IsSound stack → IsFitting stack state → IsTidy stack → t < device_len stack e
     → found_at stack d s ≡ Some line → IsPlainStep line.target (s - line.start) lower at → ReadStep stack state e t lower at → IsAt e t d s
 only_by_line stack state d s e t lower at line sound fitting tidy inside is step (ByLine other is_other step_other) =
     let a = via_line stack d s line lower at sound is step in let b = via_line stack e t other lower at sound is_other step_other in
     let one = one_via stack d e a.index b.index (span_index line.target (s - line.start)) (span_index other.target (t - other.start)) a.it b.it lower at Own Own tidy a.via b.via refl in
-    let same : line ≡ other = sym a.is ∙ ap (found_line stack) one.lines ∙ b.is in
+    let same : line ≡ other = sym a.is ∙ ap (resolved_line stack) one.lines ∙ b.is in
     let of = (line_sound stack d s line sound is).soundly in let of_other = (line_sound stack e t other sound is_other).soundly in
     let starts : line.start ≡ other.start = cc in
     let indices : span_index line.target (s - line.start) ≡ span_index line.target (t - other.start) = cc in
@@ -129,13 +129,13 @@ only_by_line stack state d s e t lower at line sound fitting tidy inside is step
     absurd (line_no_origin stack d s line lower at a.it b.it origin a.is step one.lines b.target)
 
 -- to one of a store: its snapshot, by a taken chunk
-pub record IsInStore (state : State) (device : ℕ) (snapshot : FoundSnapshot) (at e t : ℕ) : Type 0 where
+pub record IsInStore (state : State) (device : ℕ) (snapshot : ResolvedSnapshot) (at e t : ℕ) : Type 0 where
   pub same : e ≡ device
   pub number : ℕ
   pub is : number_in (t / snapshot.chunk) (taken_at state device).chunks ≡ Some number
   pub sector : at ≡ store_sector snapshot number t
 
-pub only_by_store : (stack : Description) (state : State) (d e t at : ℕ) (snapshot : FoundSnapshot) → IsSound stack → IsFitting stack state → IsTidy stack → t < device_len stack e
+pub only_by_store : (stack : Description) (state : State) (d e t at : ℕ) (snapshot : ResolvedSnapshot) → IsSound stack → IsFitting stack state → IsTidy stack → t < device_len stack e
     → snapshot_at stack d ≡ Some snapshot → at < lower_len stack snapshot.store → ReadStep stack state e t snapshot.store at → IsInStore state d snapshot at e t
 only_by_store stack state d e t at snapshot sound fitting tidy inside over below (ByLine line is step) =
     let a = via_line stack e t line snapshot.store at sound is step in let b = via_snapshot stack d snapshot sound over in
@@ -164,21 +164,21 @@ only_by_store stack state d e t at snapshot sound fitting tidy inside over below
 -- Roots: no line leads into them, and they are no store
 
 pub record IsNoLines (stack : Description) (lower : Lower) : Type 0 where
-  pub none : (device sector : ℕ) (line : FoundLine) (at : ℕ) → found_at stack device sector ≡ Some line → IsPlainStep line.target (sector - line.start) lower at → ⊥
+  pub none : (device sector : ℕ) (line : ResolvedLine) (at : ℕ) → found_at stack device sector ≡ Some line → IsPlainStep line.target (sector - line.start) lower at → ⊥
 
 pub record IsNoStore (stack : Description) (lower : Lower) : Type 0 where
-  pub none : (device : ℕ) (snapshot : FoundSnapshot) → snapshot_at stack device ≡ Some snapshot → lower ≡ snapshot.store → ⊥
+  pub none : (device : ℕ) (snapshot : ResolvedSnapshot) → snapshot_at stack device ≡ Some snapshot → lower ≡ snapshot.store → ⊥
 
 -- no line leads into a store or an origin, and no store is an origin
 
-pub step_inside : (stack : Description) (device sector : ℕ) (line : FoundLine) (lower : Lower) (at : ℕ) → IsSound stack → found_at stack device sector ≡ Some line → IsPlainStep line.target (sector - line.start) lower at → at < lower_len stack lower
+pub step_inside : (stack : Description) (device sector : ℕ) (line : ResolvedLine) (lower : Lower) (at : ℕ) → IsSound stack → found_at stack device sector ≡ Some line → IsPlainStep line.target (sector - line.start) lower at → at < lower_len stack lower
 step_inside stack device sector line lower at sound is step =
     let of = (line_sound stack device sector line sound is).soundly in
     let from = of.from in let before = of.before in
     plain_inside stack device line.start line.len (sector - line.start) line.target lower at of.target (omega (arith, from, before)) step.plain step.lies
 
 -- nor into what a snapshot's line names at a column
-named_no_lines : (stack : Description) (device column : ℕ) (snapshot : FoundSnapshot) (lower : Lower) (kind : Use) → IsSound stack → IsTidy stack → (b : IsSnapshotVia stack device snapshot)
+named_no_lines : (stack : Description) (device column : ℕ) (snapshot : ResolvedSnapshot) (lower : Lower) (kind : Use) → IsSound stack → IsTidy stack → (b : IsSnapshotVia stack device snapshot)
     → ((at : ℕ) → at < lower_len stack lower → IsVia stack device b.index column b.it lower at kind) → IsNoLines stack lower
 named_no_lines stack device column snapshot lower kind sound tidy b via = record {
   none = λ e t line at is step.
@@ -187,13 +187,13 @@ named_no_lines stack device column snapshot lower kind sound tidy b via = record
       line_no_snapshot stack e t line lower at a.it b.it snapshot a.is step one.lines b.target;
 }
 
-pub store_no_lines : (stack : Description) (device : ℕ) (snapshot : FoundSnapshot) → IsSound stack → IsTidy stack → snapshot_at stack device ≡ Some snapshot → IsNoLines stack snapshot.store
+pub store_no_lines : (stack : Description) (device : ℕ) (snapshot : ResolvedSnapshot) → IsSound stack → IsTidy stack → snapshot_at stack device ≡ Some snapshot → IsNoLines stack snapshot.store
 store_no_lines stack device snapshot sound tidy over = let b = via_snapshot stack device snapshot sound over in named_no_lines stack device 0 snapshot snapshot.store Own sound tidy b b.store
 
-pub origin_no_lines : (stack : Description) (device : ℕ) (snapshot : FoundSnapshot) → IsSound stack → IsTidy stack → snapshot_at stack device ≡ Some snapshot → IsNoLines stack snapshot.origin
+pub origin_no_lines : (stack : Description) (device : ℕ) (snapshot : ResolvedSnapshot) → IsSound stack → IsTidy stack → snapshot_at stack device ≡ Some snapshot → IsNoLines stack snapshot.origin
 origin_no_lines stack device snapshot sound tidy over = let b = via_snapshot stack device snapshot sound over in named_no_lines stack device 1 snapshot snapshot.origin Reading sound tidy b b.origin
 
-pub origin_no_store : (stack : Description) (device : ℕ) (snapshot : FoundSnapshot) → IsSound stack → IsTidy stack → snapshot_at stack device ≡ Some snapshot → IsNoStore stack snapshot.origin
+pub origin_no_store : (stack : Description) (device : ℕ) (snapshot : ResolvedSnapshot) → IsSound stack → IsTidy stack → snapshot_at stack device ≡ Some snapshot → IsNoStore stack snapshot.origin
 origin_no_store stack device snapshot sound tidy over = record {
   none = λ e other over_other same.
       let of = snapshot_sound stack device snapshot sound over in
@@ -208,14 +208,14 @@ origin_no_store stack device snapshot sound tidy over = record {
 -- What an origin's device names
 
 pub record IsUnserved (stack : Description) (lower : Lower) : Type 0 where
-  pub none : (device : ℕ) (origin : FoundOrigin) → origin_at stack device ≡ Some origin → lower ≡ origin.to → ⊥
+  pub none : (device : ℕ) (origin : ResolvedOrigin) → origin_at stack device ≡ Some origin → lower ≡ origin.to → ⊥
 
 -- a snapshot that would still read it is none whose chunk is settled
 not_settled : (taken : Taken) (chunk : ℕ) → taken.valid ≡ true → number_in chunk taken.chunks ≡ None → is_settled taken chunk ≡ true → ⊥
 not_settled taken chunk valid none settled = true_false (sym settled ∙ (rw (valid, none) refl))
 
 -- to one of it, where all its snapshots are settled: that device's sector
-pub only_by_origin : (stack : Description) (state : State) (d e t at : ℕ) (origin : FoundOrigin) → IsSound stack → IsTidy stack → origin_at stack d ≡ Some origin → at < lower_len stack origin.to
+pub only_by_origin : (stack : Description) (state : State) (d e t at : ℕ) (origin : ResolvedOrigin) → IsSound stack → IsTidy stack → origin_at stack d ≡ Some origin → at < lower_len stack origin.to
     → AreSettled state origin.over at → ReadStep stack state e t origin.to at → IsAt e t d at
 only_by_origin stack state d e t at origin sound tidy served below settled (ByLine line is step) =
     let a = via_line stack e t line origin.to at sound is step in let b = via_origin stack d origin sound served in
@@ -240,14 +240,14 @@ only_by_origin stack state d e t at origin sound tidy served below settled (BySe
 
 -- Top devices: nothing leads to them
 
-line_named : (stack : Description) (device sector : ℕ) (line : FoundLine) (lower : Lower) (at : ℕ) (via : IsLineVia stack device sector line lower at) → IsNamed stack device via.index (span_index line.target (sector - line.start)) via.it lower
+line_named : (stack : Description) (device sector : ℕ) (line : ResolvedLine) (lower : Lower) (at : ℕ) (via : IsLineVia stack device sector line lower at) → IsNamed stack device via.index (span_index line.target (sector - line.start)) via.it lower
 line_named stack device sector line lower at via = record { there = via.via.there; line_at = via.via.line_at; span = via.via.span; span_at = via.via.span_at; on = via.via.on }
 
 pub record IsRoot (stack : Description) (lower : Lower) : Type 0 where
   pub lines : IsNoLines stack lower
   pub stores : IsNoStore stack lower
 
-pub origin_root : (stack : Description) (device : ℕ) (snapshot : FoundSnapshot) → IsSound stack → IsTidy stack → snapshot_at stack device ≡ Some snapshot → IsRoot stack snapshot.origin
+pub origin_root : (stack : Description) (device : ℕ) (snapshot : ResolvedSnapshot) → IsSound stack → IsTidy stack → snapshot_at stack device ≡ Some snapshot → IsRoot stack snapshot.origin
 origin_root stack device snapshot sound tidy over = record { lines = origin_no_lines stack device snapshot sound tidy over; stores = origin_no_store stack device snapshot sound tidy over }
 
 pub top_root : (stack : Description) (top : ℕ) → IsSound stack → IsTop stack top → IsRoot stack (Device top)

@@ -6,7 +6,7 @@ use Rattle.dm_table.specs.declared.tables.table.StoreKind.TheVariants.{Keeping, 
 use Rattle.dm_table.specs.declared.tables.table.Target.{Target}
 use Rattle.dm_table.specs.declared.tables.table.Target.TheVariants as targets
 use Rattle.dm_stack.specs.declared.id.Lower.TheVariants.{Device, Disk}
-use Rattle.dm_stack.specs.declared.lines.found_line.FoundSnapshot.{FoundSnapshot}
+use Rattle.dm_stack.specs.declared.lines.resolved_line.ResolvedSnapshot.{ResolvedSnapshot}
 use Rattle.dm_stack.specs.Description.{Description}
 use Rattle.dm_stack.specs.lines.Over.{all_over, snapshots_over}
 use Rattle.dm_map.specs.own.Ample.{IsAmple, chunk_count}
@@ -46,7 +46,7 @@ with_error ample = ample.1.1.0
 
 -- What is due
 
-abbrev over_disk : StoreKind → FoundSnapshot
+abbrev over_disk : StoreKind → ResolvedSnapshot
 over_disk kind = record { origin = Disk 0; store = Disk 1; kind = kind; chunk = 8 }
 
 -- s took its chunk 0, and its store has one place

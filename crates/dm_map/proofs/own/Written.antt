@@ -2,11 +2,11 @@
 use Rattle.std.proofs.Common.{◌≡◌, ◌⊎◌, inl, inr, ℕ, ◌-◌, ◌/◌, ◌<◌, Bool, true, false, cond, List, [], ◌∷◌, ◌++◌, map, Option, Some, None, length, refl, sym, ap, ◌∙◌, arith}
 use Rattle.std.specs.List.{AllByRecursion}
 use Rattle.std.proofs.lemmas.List.{append-nil}
-use Rattle.dm_stack.specs.declared.lines.found_line.FoundLine.{FoundLine}
-use Rattle.dm_stack.specs.declared.lines.found_line.FoundOrigin.{FoundOrigin}
-use Rattle.dm_stack.specs.declared.lines.found_line.FoundSnapshot.{FoundSnapshot}
-use Rattle.dm_stack.specs.declared.lines.found_line.FoundTarget.{FoundTarget}
-use Rattle.dm_stack.specs.declared.lines.found_line.FoundTarget.TheVariants as founds
+use Rattle.dm_stack.specs.declared.lines.resolved_line.ResolvedLine.{ResolvedLine}
+use Rattle.dm_stack.specs.declared.lines.resolved_line.ResolvedOrigin.{ResolvedOrigin}
+use Rattle.dm_stack.specs.declared.lines.resolved_line.ResolvedSnapshot.{ResolvedSnapshot}
+use Rattle.dm_stack.specs.declared.lines.resolved_line.ResolvedTarget.{ResolvedTarget}
+use Rattle.dm_stack.specs.declared.lines.resolved_line.ResolvedTarget.TheVariants as founds
 use Rattle.dm_stack.specs.declared.checks.graph.TheConstants.{MOST_DEPTH}
 use Rattle.dm_stack.specs.declared.id.Lower.{Lower}
 use Rattle.dm_stack.specs.declared.id.Lower.TheVariants.{Device, Disk}
@@ -28,7 +28,7 @@ use Rattle.dm_map.specs.state.Tables.{origin_at, snapshot_at}
 use Rattle.dm_map.specs.pieces.Units.{BlockUnit, ReadOf, WriteOf, Drops, Fails}
 use Rattle.dm_map.specs.own.Ways.{Node, node, Touches}
 use Rattle.dm_map.proofs.own.UniqueSteps.{IsRoot, IsUnserved, only_by_origin, only_by_store, fits, goes_on_inside}
-use Rattle.dm_map.proofs.state.FoundLines.{line_origin, line_snapshot, line_sound, origin_sound, snapshot_sound, some_is}
+use Rattle.dm_map.proofs.state.ResolvedLines.{line_origin, line_snapshot, line_sound, origin_sound, snapshot_sound, some_is}
 use Rattle.dm_map.proofs.own.HomeLemmas.{home_node, home_touched, node_is, touch_up}
 use Rattle.dm_map.proofs.walk.ReadSteps.{read_step, line_step}
 use Rattle.dm_map.proofs.walk.Spans.{below_is}
@@ -91,7 +91,7 @@ read_next stack state device sector to at sound e = cc (read_down stack state de
 step_state : (a b : Step) → a ≡ b → a.state ≡ b.state
 step_state a b e = cc
 
-line_written : (stack : Description) (state : State) (device sector : ℕ) (to : Lower) (at : ℕ) (step : Step) → IsSound stack → IsFitting stack state → IsTidy stack → ((held : FoundLine) → found_at stack device sector ≡ Some held → has_state held.target ≡ false) → ((over : FoundSnapshot → ℕ → Below) → below over stack device sector ≡ Lies to at)
+line_written : (stack : Description) (state : State) (device sector : ℕ) (to : Lower) (at : ℕ) (step : Step) → IsSound stack → IsFitting stack state → IsTidy stack → ((held : ResolvedLine) → found_at stack device sector ≡ Some held → has_state held.target ≡ false) → ((over : ResolvedSnapshot → ℕ → Below) → below over stack device sector ≡ Lies to at)
     → Writes stack to → step ≡ write_step stack MOST_DEPTH to state at → Written stack state (Device device) sector step
 unfolding Writes
 line_written stack state device sector to at step sound fitting tidy has goes lower_writes step_is =
@@ -111,19 +111,19 @@ line_written stack state device sector to at step sound fitting tidy has goes lo
 
 -- A snapshot's own write
 
-record IsStoredUnit (stack : Description) (snapshot : FoundSnapshot) (taken : Taken) (sector disk x : ℕ) : Type 0 where
+record IsStoredUnit (stack : Description) (snapshot : ResolvedSnapshot) (taken : Taken) (sector disk x : ℕ) : Type 0 where
   valid : taken.valid ≡ true
   number : ℕ
   is : number_in (sector / snapshot.chunk) taken.chunks ≡ Some number
   home : WriteOf (home_in_store stack snapshot number sector).disk (home_in_store stack snapshot number sector).sector ≡ WriteOf disk x
 
-stored_unit : (stack : Description) (snapshot : FoundSnapshot) (taken : Taken) (sector disk x : ℕ) (valid : Bool) (number : Option ℕ) → taken.valid ≡ valid → number_in (sector / snapshot.chunk) taken.chunks ≡ number → cond valid (write_numbered stack snapshot number sector) Fails ≡ WriteOf disk x
+stored_unit : (stack : Description) (snapshot : ResolvedSnapshot) (taken : Taken) (sector disk x : ℕ) (valid : Bool) (number : Option ℕ) → taken.valid ≡ valid → number_in (sector / snapshot.chunk) taken.chunks ≡ number → cond valid (write_numbered stack snapshot number sector) Fails ≡ WriteOf disk x
     → IsStoredUnit stack snapshot taken sector disk x
 stored_unit stack snapshot taken sector disk x false number v n e = absurd (no_write Fails disk x (inl refl) e)
 stored_unit stack snapshot taken sector disk x true None v n e = absurd (no_write Fails disk x (inl refl) e)
 stored_unit stack snapshot taken sector disk x true (Some i) v n e = record { valid = v; number = i; is = n; home = e }
 
-unit_answers : (stack : Description) (snapshot : FoundSnapshot) (sector : ℕ) (valid : Bool) (number : Option ℕ) → answers (cond valid (write_numbered stack snapshot number sector) Fails) ≡ true
+unit_answers : (stack : Description) (snapshot : ResolvedSnapshot) (sector : ℕ) (valid : Bool) (number : Option ℕ) → answers (cond valid (write_numbered stack snapshot number sector) Fails) ≡ true
 unit_answers stack snapshot sector false number = refl
 unit_answers stack snapshot sector true None = refl
 unit_answers stack snapshot sector true (Some i) = refl
@@ -134,13 +134,13 @@ node_of_unit disk sector k x e = cc
 read_of_unit : (disk sector k x : ℕ) → WriteOf disk sector ≡ WriteOf k x → ReadOf disk sector ≡ ReadOf k x
 read_of_unit disk sector k x e = cc
 
-kept_next : (stack : Description) (state : State) (device sector number : ℕ) (line : FoundLine) (snapshot : FoundSnapshot) → IsSound stack → snapshot_at stack device ≡ Some snapshot → found_at stack device sector ≡ Some line → (taken_at state device).valid ≡ true
+kept_next : (stack : Description) (state : State) (device sector number : ℕ) (line : ResolvedLine) (snapshot : ResolvedSnapshot) → IsSound stack → snapshot_at stack device ≡ Some snapshot → found_at stack device sector ≡ Some line → (taken_at state device).valid ≡ true
     → number_in (sector / snapshot.chunk) (taken_at state device).chunks ≡ Some number → read_below stack state device sector ≡ Lies snapshot.store (store_sector snapshot number sector)
 kept_next stack state device sector number line snapshot sound over is valid n =
     snapshot_next stack state device sector snapshot line (taken_at state device) sound over is refl ∙ (rw (valid, n) refl)
 
 -- only that sector leads to its taken chunk's home
-kept_alone : (stack : Description) (state : State) (device sector number : ℕ) (snapshot : FoundSnapshot) (a : Node) → IsSound stack → IsFitting stack state → IsTidy stack → snapshot_at stack device ≡ Some snapshot → number_in (sector / snapshot.chunk) (taken_at state device).chunks ≡ Some number → IsRoot stack a.lower
+kept_alone : (stack : Description) (state : State) (device sector number : ℕ) (snapshot : ResolvedSnapshot) (a : Node) → IsSound stack → IsFitting stack state → IsTidy stack → snapshot_at stack device ≡ Some snapshot → number_in (sector / snapshot.chunk) (taken_at state device).chunks ≡ Some number → IsRoot stack a.lower
     → Touches stack state a (home_node (home_in_store stack snapshot number sector)) → Touches stack state a (node (Device device) sector)
 kept_alone stack state device sector number snapshot a sound fitting tidy over n root touches =
     let soundly = (snapshot_sound stack device snapshot sound over).soundly in
@@ -155,7 +155,7 @@ kept_alone stack state device sector number snapshot a sound fitting tidy over n
           rw (← node_is c leads.device device c.sector sector leads.on kept.same refl same) before
     ]
 
-snapshot_written : (stack : Description) (state : State) (device sector : ℕ) (line : FoundLine) (snapshot : FoundSnapshot) (step : Step) → IsSound stack → IsFitting stack state → IsTidy stack → snapshot_at stack device ≡ Some snapshot → found_at stack device sector ≡ Some line
+snapshot_written : (stack : Description) (state : State) (device sector : ℕ) (line : ResolvedLine) (snapshot : ResolvedSnapshot) (step : Step) → IsSound stack → IsFitting stack state → IsTidy stack → snapshot_at stack device ≡ Some snapshot → found_at stack device sector ≡ Some line
     → step ≡ and_then (take_chunk stack snapshot device (sector / snapshot.chunk) state) (λ after. keep (unit_in_store stack snapshot device after sector ∷ []) after) → Written stack state (Device device) sector step
 unfolding run
 snapshot_written stack state device sector line snapshot step sound fitting tidy over is step_is =
@@ -184,14 +184,14 @@ snapshot_written stack state device sector line snapshot step sound fitting tidy
     }
 
 -- or a chunk that is refused: its write fails
-chunk_by : (refused : Bool) (stack : Description) (state : State) (device sector : ℕ) (line : FoundLine) (snapshot : FoundSnapshot) (step : Step) → IsSound stack → IsFitting stack state → IsTidy stack → snapshot_at stack device ≡ Some snapshot → found_at stack device sector ≡ Some line
+chunk_by : (refused : Bool) (stack : Description) (state : State) (device sector : ℕ) (line : ResolvedLine) (snapshot : ResolvedSnapshot) (step : Step) → IsSound stack → IsFitting stack state → IsTidy stack → snapshot_at stack device ≡ Some snapshot → found_at stack device sector ≡ Some line
     → step ≡ cond refused (keep (Fails ∷ []) state) (and_then (take_chunk stack snapshot device (sector / snapshot.chunk) state) (λ after. keep (unit_in_store stack snapshot device after sector ∷ []) after)) → Written stack state (Device device) sector step
 chunk_by true stack state device sector line snapshot step sound fitting tidy over is step_is = written_none stack state (Device device) sector step Fails (inl refl) step_is
 chunk_by false stack state device sector line snapshot step sound fitting tidy over is step_is = snapshot_written stack state device sector line snapshot step sound fitting tidy over is step_is
 
 -- A write of an origin's device: its snapshots are served, and then the origin is written
 
-origin_written : (stack : Description) (state : State) (device sector : ℕ) (line : FoundLine) (origin : FoundOrigin) (step : Step) → IsSound stack → IsFitting stack state → IsTidy stack → origin_at stack device ≡ Some origin → found_at stack device sector ≡ Some line
+origin_written : (stack : Description) (state : State) (device sector : ℕ) (line : ResolvedLine) (origin : ResolvedOrigin) (step : Step) → IsSound stack → IsFitting stack state → IsTidy stack → origin_at stack device ≡ Some origin → found_at stack device sector ≡ Some line
     → ((after : State) → read_below stack after device sector ≡ Lies origin.to sector) → Writes stack origin.to → step ≡ served_step stack origin.over (λ after at. write_step stack MOST_DEPTH origin.to after at) state sector → Written stack state (Device device) sector step
 unfolding Writes
 origin_written stack state device sector line origin step sound fitting tidy served is goes lower_writes step_is =
@@ -228,20 +228,20 @@ origin_written stack state device sector line origin step sound fitting tidy ser
 
 -- Each write
 
-held_is : (stack : Description) (device sector : ℕ) (line held : FoundLine) → found_at stack device sector ≡ Some line → has_state line.target ≡ false → found_at stack device sector ≡ Some held → has_state held.target ≡ false
+held_is : (stack : Description) (device sector : ℕ) (line held : ResolvedLine) → found_at stack device sector ≡ Some line → has_state line.target ≡ false → found_at stack device sector ≡ Some held → has_state held.target ≡ false
 held_is stack device sector line held is plain held_at = rw (← some_is line held (sym is ∙ held_at)) plain
 
-plain_written : (stack : Description) (state : State) (device sector : ℕ) (line : FoundLine) (b : Below) (step : Step) → IsSound stack → IsFitting stack state → IsTidy stack → found_at stack device sector ≡ Some line → has_state line.target ≡ false
+plain_written : (stack : Description) (state : State) (device sector : ℕ) (line : ResolvedLine) (b : Below) (step : Step) → IsSound stack → IsFitting stack state → IsTidy stack → found_at stack device sector ≡ Some line → has_state line.target ≡ false
     → below_plain line.target (sector - line.start) ≡ b → ((to : Lower) → lower_depth stack to < lower_depth stack (Device device) → Writes stack to)
     → step ≡ by_below b (keep (Drops ∷ []) state) (keep (Fails ∷ []) state) (λ to at. write_step stack MOST_DEPTH to state at) → Written stack state (Device device) sector step
 plain_written stack state device sector line (Lies to at) step sound fitting tidy is plain b_is each step_is =
-    let goes : (over : FoundSnapshot → ℕ → Below) → below over stack device sector ≡ Lies to at =
+    let goes : (over : ResolvedSnapshot → ℕ → Below) → below over stack device sector ≡ Lies to at =
     λ over. cc (below_is over line.target (sector - line.start) plain) in
     line_written stack state device sector to at step sound fitting tidy (λ held held_at. held_is stack device sector line held is plain held_at) goes (each to (next_depth stack state device sector to at sound (goes (read_over (taken_at state device))))) step_is
 plain_written stack state device sector line IsZero step sound fitting tidy is plain b_is each step_is = written_none stack state (Device device) sector step Drops (inr refl) step_is
 plain_written stack state device sector line IsError step sound fitting tidy is plain b_is each step_is = written_none stack state (Device device) sector step Fails (inl refl) step_is
 
-target_written : (stack : Description) (state : State) (device sector : ℕ) (line : FoundLine) (target : FoundTarget) (step : Step) → IsSound stack → IsFitting stack state → IsTidy stack → found_at stack device sector ≡ Some line → line.target ≡ target
+target_written : (stack : Description) (state : State) (device sector : ℕ) (line : ResolvedLine) (target : ResolvedTarget) (step : Step) → IsSound stack → IsFitting stack state → IsTidy stack → found_at stack device sector ≡ Some line → line.target ≡ target
     → ((to : Lower) → lower_depth stack to < lower_depth stack (Device device) → Writes stack to) → step ≡ write_target stack state device target (sector - line.start) (λ to after at. write_step stack MOST_DEPTH to after at) → Written stack state (Device device) sector step
 target_written stack state device sector line (founds.Snapshot snapshot) step sound fitting tidy is target each step_is =
     let over = line_snapshot stack device sector line snapshot sound is target in
@@ -258,7 +258,7 @@ target_written stack state device sector line (founds.Origin origin) step sound 
 target_written stack state device sector line target step sound fitting tidy is t each step_is =
     plain_written stack state device sector line (below_plain target (sector - line.start)) step sound fitting tidy is (ap has_state t) (cc) each step_is
 
-found_written : (stack : Description) (state : State) (device sector : ℕ) (line : Option FoundLine) (step : Step) → IsSound stack → IsFitting stack state → IsTidy stack → found_at stack device sector ≡ line
+found_written : (stack : Description) (state : State) (device sector : ℕ) (line : Option ResolvedLine) (step : Step) → IsSound stack → IsFitting stack state → IsTidy stack → found_at stack device sector ≡ line
     → ((to : Lower) → lower_depth stack to < lower_depth stack (Device device) → Writes stack to) → step ≡ write_line stack state device line sector (λ to after at. write_step stack MOST_DEPTH to after at) → Written stack state (Device device) sector step
 found_written stack state device sector None step sound fitting tidy is each step_is = written_none stack state (Device device) sector step Fails (inl refl) step_is
 found_written stack state device sector (Some line) step sound fitting tidy is each step_is = target_written stack state device sector line line.target step sound fitting tidy is refl each step_is

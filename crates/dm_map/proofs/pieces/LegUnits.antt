@@ -6,7 +6,7 @@ use Rattle.std.specs.Result.{IsErr}
 use Rattle.dm_table.specs.declared.requests.request.Op.{Op}
 use Rattle.dm_table.specs.declared.requests.request.Op.TheVariants as ops
 use Rattle.dm_stack.specs.declared.id.Lower.TheVariants.{Disk}
-use Rattle.dm_stack.specs.declared.lines.found_line.FoundTarget.{FoundTarget}
+use Rattle.dm_stack.specs.declared.lines.resolved_line.ResolvedTarget.{ResolvedTarget}
 use Rattle.dm_stack.specs.declared.lines.leg.Leg.{Leg}
 use Rattle.dm_stack.specs.Description.{Description}
 use Rattle.dm_stack.specs.lines.Below.{Below, Lies, below_plain}
@@ -22,7 +22,7 @@ next_disk_unit ops.Read disk sector = refl
 next_disk_unit ops.Write disk sector = refl
 
 -- sectors that lie in a row on a disk
-units_of_row : (op : Op) (target : FoundTarget) (distance disk sector n : ℕ) → ((i : ℕ) → i < n → below_plain target (distance + i) ≡ Lies (Disk disk) (sector + i)) → line_units op target distance n ≡ units_in (disk_unit op disk sector) n
+units_of_row : (op : Op) (target : ResolvedTarget) (distance disk sector n : ℕ) → ((i : ℕ) → i < n → below_plain target (distance + i) ≡ Lies (Disk disk) (sector + i)) → line_units op target distance n ≡ units_in (disk_unit op disk sector) n
 units_of_row op target distance disk sector zero each = refl
 units_of_row op target distance disk sector (suc n) each =
     let here : below_plain target distance ≡ Lies (Disk disk) sector = rw (let e : distance ≡ distance + 0 = omega arith in e, let f : sector ≡ sector + 0 = omega arith in f) (each 0 (omega arith)) in
@@ -30,7 +30,7 @@ units_of_row op target distance disk sector (suc n) each =
     rw (let e : suc distance + i ≡ distance + suc i = omega arith in e, let f : suc sector + i ≡ sector + suc i = omega arith in f) (each (suc i) (omega (arith, within))) in
     cc (ap (below_unit op) here, units_of_row op target (suc distance) disk (suc sector) n later, next_disk_unit op disk sector)
 
-pub line_units-append : (op : Op) (target : FoundTarget) (distance m n : ℕ) → line_units op target distance (m + n) ≡ line_units op target distance m ++ line_units op target (distance + m) n
+pub line_units-append : (op : Op) (target : ResolvedTarget) (distance m n : ℕ) → line_units op target distance (m + n) ≡ line_units op target distance m ++ line_units op target (distance + m) n
 line_units-append op target distance zero n = let e : 0 + n ≡ n = omega arith in let f : distance + 0 ≡ distance = omega arith in rw (e, f) refl
 line_units-append op target distance (suc m) n =
     let e : suc m + n ≡ suc (m + n) = omega arith in let f : distance + suc m ≡ suc distance + m = omega arith in

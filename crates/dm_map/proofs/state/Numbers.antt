@@ -6,7 +6,7 @@ use Rattle.std.proofs.lemmas.Bool.{cases_order, eq-eqb, eqb-true, ne_eqb}
 use Rattle.std.proofs.Math.Nat.{mul-le-mul_right}
 use Rattle.std.proofs.lemmas.Nat.{div-add-mod'}
 use Rattle.dm_stack.specs.lines.StoreLayout.{place}
-use Rattle.dm_stack.specs.declared.lines.found_line.FoundSnapshot.{FoundSnapshot}
+use Rattle.dm_stack.specs.declared.lines.resolved_line.ResolvedSnapshot.{ResolvedSnapshot}
 use Rattle.dm_stack.proofs.StoreLayoutLemmas.{place_one}
 use Rattle.dm_map.specs.state.Snapshots.{store_sector, number_in}
 
@@ -142,13 +142,13 @@ stripe_back chunk_size n o some =
 
 -- The sectors of a store
 
-pub store_sector_parts : (snapshot : FoundSnapshot) (i j s t : ℕ) → 0 < snapshot.chunk → store_sector snapshot i s ≡ store_sector snapshot j t → (i ≡ j) × (s % snapshot.chunk ≡ t % snapshot.chunk)
+pub store_sector_parts : (snapshot : ResolvedSnapshot) (i j s t : ℕ) → 0 < snapshot.chunk → store_sector snapshot i s ≡ store_sector snapshot j t → (i ≡ j) × (s % snapshot.chunk ≡ t % snapshot.chunk)
 store_sector_parts snapshot i j s t some e =
     let parts = same_parts (place snapshot.kind snapshot.chunk i) (s % snapshot.chunk) (place snapshot.kind snapshot.chunk j) (t % snapshot.chunk) snapshot.chunk e (omega (arith, some)) (omega (arith, some)) in
     (place_one snapshot.kind snapshot.chunk i j parts.0, parts.1)
 
 -- one number and one distance into the chunk are one sector
-pub same_sector : (snapshot : FoundSnapshot) (chunks : List ℕ) (i j s u : ℕ) → 0 < snapshot.chunk → number_in (s / snapshot.chunk) chunks ≡ Some i → number_in (u / snapshot.chunk) chunks ≡ Some j → store_sector snapshot i s ≡ store_sector snapshot j u → u ≡ s
+pub same_sector : (snapshot : ResolvedSnapshot) (chunks : List ℕ) (i j s u : ℕ) → 0 < snapshot.chunk → number_in (s / snapshot.chunk) chunks ≡ Some i → number_in (u / snapshot.chunk) chunks ≡ Some j → store_sector snapshot i s ≡ store_sector snapshot j u → u ≡ s
 same_sector snapshot chunks i j s u some a b e =
     let parts = store_sector_parts snapshot i j s u some e in
     let whole_s : s / snapshot.chunk * snapshot.chunk + s % snapshot.chunk ≡ s = div-add-mod' s snapshot.chunk in
@@ -160,5 +160,5 @@ same_sector snapshot chunks i j s u some a b e =
 rest_below : (len m q r : ℕ) → r < m → (q + 1) * m ≤ len → q * m + r < len
 rest_below len m q r less most = let one : (q + 1) * m ≡ q * m + m = grind arith in omega (arith, less, most, one)
 
-pub store_sector_inside : (snapshot : FoundSnapshot) (i s len : ℕ) → 0 < snapshot.chunk → (place snapshot.kind snapshot.chunk i + 1) * snapshot.chunk ≤ len → store_sector snapshot i s < len
+pub store_sector_inside : (snapshot : ResolvedSnapshot) (i s len : ℕ) → 0 < snapshot.chunk → (place snapshot.kind snapshot.chunk i + 1) * snapshot.chunk ≤ len → store_sector snapshot i s < len
 store_sector_inside snapshot i s len some most = rest_below len snapshot.chunk (place snapshot.kind snapshot.chunk i) (s % snapshot.chunk) (omega (arith, some)) most

@@ -14,15 +14,15 @@ use Rattle.dm_table.specs.declared.tables.table.Line.{Line}
 use Rattle.dm_table.specs.declared.tables.table.Target.{Target}
 use Rattle.dm_table.specs.declared.tables.table.Target.TheVariants as targets
 use Rattle.dm_table.specs.declared.tables.table.Use.TheVariants.{Reading}
-use Rattle.dm_stack.specs.declared.lines.found_line.FoundLine.{FoundLine}
-use Rattle.dm_stack.specs.declared.lines.found_line.FoundSnapshot.{FoundSnapshot}
-use Rattle.dm_stack.specs.declared.lines.found_line.FoundTarget.{FoundTarget}
-use Rattle.dm_stack.specs.declared.lines.found_line.FoundTarget.TheVariants as founds
-use Rattle.dm_stack.specs.lines.Below.{found_at, found_line, found_target, holds, line_of}
+use Rattle.dm_stack.specs.declared.lines.resolved_line.ResolvedLine.{ResolvedLine}
+use Rattle.dm_stack.specs.declared.lines.resolved_line.ResolvedSnapshot.{ResolvedSnapshot}
+use Rattle.dm_stack.specs.declared.lines.resolved_line.ResolvedTarget.{ResolvedTarget}
+use Rattle.dm_stack.specs.declared.lines.resolved_line.ResolvedTarget.TheVariants as founds
+use Rattle.dm_stack.specs.lines.Below.{found_at, resolved_line, resolved_target, holds, line_of}
 use Rattle.dm_stack.specs.Description.{Description, device_id, disk_id, is_same, lines_at, lines_or_none, lower_len, lower_of}
 use Rattle.dm_stack.specs.checks.Snapshots.{has_snapshot, is_snapshot, snapshots}
 use Rattle.dm_stack.specs.lines.StoreLayout.{place}
-use Rattle.dm_stack.specs.lines.Over.{found_snapshot}
+use Rattle.dm_stack.specs.lines.Over.{resolved_snapshot}
 use Rattle.dm_stack.specs.checks.Soundness.{IsSound, all_lines, is_unknown, is_unknown_ref}
 use Rattle.dm_table.specs.tables.Span.{target_spans, whole_span}
 use Rattle.dm_stack.proofs.Passes.{faults_by_none, passes_all}
@@ -69,6 +69,17 @@ took_put chunks valid tables device index chunk table new same got good more on 
     let kept = state_at chunks valid tables device table got in
     let before : valid table ≡ true = cc in
     rw same (state_set chunks valid tables device new ∙ rw (kept, more, on, before) refl)
+
+-- one more chunk, or none
+pub offered_put : {T : Type 0} (chunks : T → List ℕ) (valid : T → Bool) (tables : List T) (device index chunk : ℕ) (table new : T) (took : Bool) → index ≡ device → slice_get tables device ≡ Some table → (taken_at (state_of chunks valid tables) device).valid ≡ true
+    → chunks new ≡ cond took (chunks table ++ chunk ∷ []) (chunks table) → valid new ≡ true
+    → state_of chunks valid (set tables index new) ≡ cond took (put (state_of chunks valid tables) device (with_chunk (taken_at (state_of chunks valid tables) device) chunk)) (state_of chunks valid tables)
+offered_put chunks valid tables device index chunk table new true same got good more on = took_put chunks valid tables device index chunk table new same got good more on
+offered_put chunks valid tables device index chunk table new false same got good kept_as on =
+    let state = state_of chunks valid tables in
+    let kept = state_at chunks valid tables device table got in
+    let before : valid table ≡ true = cc in
+    rw same (state_set chunks valid tables device new ∙ cc (set-get_or state device none_taken))
 
 pub take_room : {T : Type 0} (chunks : T → List ℕ) (valid : T → Bool) (places : T → ℕ) (stack : Description) (tables : List T) (device : ℕ) (table : T) → AreTables places stack tables → slice_get tables device ≡ Some table
     → has_room stack device (length (taken_at (state_of chunks valid tables) device).chunks) ≡ true → length (chunks table) < places table
@@ -135,7 +146,7 @@ state_new chunks valid tables device count new there before nothing good =
 
 -- A device that has no snapshot's line
 
-plain_target : (stack : Description) (target : Target) → is_snapshot target ≡ false → snapshot_of (found_target stack target) ≡ None
+plain_target : (stack : Description) (target : Target) → is_snapshot target ≡ false → snapshot_of (resolved_target stack target) ≡ None
 plain_target stack (targets.Snapshot origin store kind chunk_size) e = absurd cc
 plain_target stack _ e = refl
 
@@ -143,7 +154,7 @@ each_plain : (lines : List Line) → has_snapshot lines ≡ false → AllByRecur
 each_plain [] e = tt
 each_plain (line ∷ lines) e = let parts = or_parts (is_snapshot line.target) (has_snapshot lines) e in (parts.0, each_plain lines parts.1)
 
-plain_line : (stack : Description) (lines : List Line) (sector : ℕ) (line : Option Line) → has_snapshot lines ≡ false → line_of lines sector ≡ line → snapshot_of_line (option_map (found_line stack) line) ≡ None
+plain_line : (stack : Description) (lines : List Line) (sector : ℕ) (line : Option Line) → has_snapshot lines ≡ false → line_of lines sector ≡ line → snapshot_of_line (option_map (resolved_line stack) line) ≡ None
 plain_line stack lines sector None e is = refl
 plain_line stack lines sector (Some line) e is = plain_target stack line.target (found (λ l. is_snapshot l.target ≡ false) (holds sector) lines line (each_plain lines e) is).1
 
@@ -214,18 +225,18 @@ next_rooms places stack tables next d index new within is same room before devic
 -- The places of a snapshot
 
 -- a place that the store has
-pub room_place : (stack : Description) (device number : ℕ) (snapshot : FoundSnapshot) → snapshot_at stack device ≡ Some snapshot → has_room stack device number ≡ true → (place snapshot.kind snapshot.chunk number + 1) * snapshot.chunk ≤ lower_len stack snapshot.store
+pub room_place : (stack : Description) (device number : ℕ) (snapshot : ResolvedSnapshot) → snapshot_at stack device ≡ Some snapshot → has_room stack device number ≡ true → (place snapshot.kind snapshot.chunk number + 1) * snapshot.chunk ≤ lower_len stack snapshot.store
 room_place stack device number snapshot is room =
     leb-true _ _ (rw is at room)
 
-pub snapshot_room : (stack : Description) (device number count : ℕ) (line : FoundLine) (snapshot : FoundSnapshot) → found_at stack device 0 ≡ Some line → line.target ≡ founds.Snapshot snapshot → ((number < count) ↔ ((place snapshot.kind snapshot.chunk number + 1) * snapshot.chunk ≤ lower_len stack snapshot.store)) → nat_lt number count ≡ has_room stack device number
+pub snapshot_room : (stack : Description) (device number count : ℕ) (line : ResolvedLine) (snapshot : ResolvedSnapshot) → found_at stack device 0 ≡ Some line → line.target ≡ founds.Snapshot snapshot → ((number < count) ↔ ((place snapshot.kind snapshot.chunk number + 1) * snapshot.chunk ≤ lower_len stack snapshot.store)) → nat_lt number count ≡ has_room stack device number
 snapshot_room stack device number count line snapshot is kind law =
     rw (is, kind) (sym (ltb_from_iff ((λ e. law.1 (leb-true _ _ e)), (λ less. le-leb _ _ (law.0 less)))))
 
-pub other_room : (stack : Description) (device number : ℕ) (line : FoundLine) → found_at stack device 0 ≡ Some line → ((snapshot : FoundSnapshot) → line.target ≡ founds.Snapshot snapshot → ⊥) → has_room stack device number ≡ false
+pub other_room : (stack : Description) (device number : ℕ) (line : ResolvedLine) → found_at stack device 0 ≡ Some line → ((snapshot : ResolvedSnapshot) → line.target ≡ founds.Snapshot snapshot → ⊥) → has_room stack device number ≡ false
 other_room stack device number line is other = rw (is, none_of line.target other) refl
   where
-    none_of : (target : FoundTarget) → ((snapshot : FoundSnapshot) → target ≡ founds.Snapshot snapshot → ⊥) → snapshot_of target ≡ None
+    none_of : (target : ResolvedTarget) → ((snapshot : ResolvedSnapshot) → target ≡ founds.Snapshot snapshot → ⊥) → snapshot_of target ≡ None
     none_of (founds.Snapshot snapshot) other = absurd (other snapshot refl)
     none_of _ other = refl
 
@@ -248,23 +259,23 @@ lower_some stack (refs.Disk name) sound known =
     let it = there stack.disks (disk_id stack name) (place_before (λ disk. is_same disk.name name) stack.disks known) in
     rw it.at (disk_some stack (disk_id stack name) it.it sound it.at)
 
-store_at : (stack : Description) (target : Target) (len : ℕ) (snapshot : FoundSnapshot) → IsSound stack → list_any (λ span. is_unknown_ref stack span.to) (target_spans len target) ≡ false → found_target stack target ≡ founds.Snapshot snapshot → 0 < lower_len stack snapshot.store
+store_at : (stack : Description) (target : Target) (len : ℕ) (snapshot : ResolvedSnapshot) → IsSound stack → list_any (λ span. is_unknown_ref stack span.to) (target_spans len target) ≡ false → resolved_target stack target ≡ founds.Snapshot snapshot → 0 < lower_len stack snapshot.store
 store_at stack (targets.Snapshot origin store kind chunk_size) len snapshot sound known is =
-    let same : found_snapshot stack origin store kind chunk_size ≡ snapshot = cc in
+    let same : resolved_snapshot stack origin store kind chunk_size ≡ snapshot = cc in
     let parts = or_parts (is_unknown_ref stack store) (list_any (λ span. is_unknown_ref stack span.to) (whole_span origin Reading ∷ [])) known in
     rw (← same) (lower_some stack store sound parts.0)
 store_at stack _ len snapshot sound known is = absurd cc
 
-store_in : (stack : Description) (lines : List Line) (sector : ℕ) (line : Option Line) (found_line_is : FoundLine) (snapshot : FoundSnapshot) → IsSound stack → AllByRecursion (λ l. is_unknown stack l ≡ false) lines → line_of lines sector ≡ line → option_map (found_line stack) line ≡ Some found_line_is
-    → found_line_is.target ≡ founds.Snapshot snapshot → 0 < lower_len stack snapshot.store
+store_in : (stack : Description) (lines : List Line) (sector : ℕ) (line : Option Line) (resolved_line_is : ResolvedLine) (snapshot : ResolvedSnapshot) → IsSound stack → AllByRecursion (λ l. is_unknown stack l ≡ false) lines → line_of lines sector ≡ line → option_map (resolved_line stack) line ≡ Some resolved_line_is
+    → resolved_line_is.target ≡ founds.Snapshot snapshot → 0 < lower_len stack snapshot.store
 store_in stack lines sector None it snapshot sound known is found_is kind = absurd cc
 store_in stack lines sector (Some line) it snapshot sound known is found_is kind =
-    let same : found_line stack line ≡ it = cc in
+    let same : resolved_line stack line ≡ it = cc in
     store_at stack line.target line.len snapshot sound (found (λ l. is_unknown stack l ≡ false) (holds sector) lines line known is).1 cc
 
-store_of : (stack : Description) (device sector : ℕ) (spec : Option DeviceSpec) (line : FoundLine) (snapshot : FoundSnapshot) → IsSound stack → slice_get stack.devices device ≡ spec → option_map (found_line stack) (line_of (lines_or_none spec) sector) ≡ Some line → line.target ≡ founds.Snapshot snapshot → 0 < lower_len stack snapshot.store
+store_of : (stack : Description) (device sector : ℕ) (spec : Option DeviceSpec) (line : ResolvedLine) (snapshot : ResolvedSnapshot) → IsSound stack → slice_get stack.devices device ≡ spec → option_map (resolved_line stack) (line_of (lines_or_none spec) sector) ≡ Some line → line.target ≡ founds.Snapshot snapshot → 0 < lower_len stack snapshot.store
 store_of stack device sector None line snapshot sound at is kind = absurd cc
 store_of stack device sector (Some spec) line snapshot sound at is kind = store_in stack spec.lines sector (line_of spec.lines sector) line snapshot sound (known_at stack device spec sound at) refl is kind
 
-pub store_some : (stack : Description) (device sector : ℕ) (line : FoundLine) (snapshot : FoundSnapshot) → IsSound stack → found_at stack device sector ≡ Some line → line.target ≡ founds.Snapshot snapshot → 0 < lower_len stack snapshot.store
+pub store_some : (stack : Description) (device sector : ℕ) (line : ResolvedLine) (snapshot : ResolvedSnapshot) → IsSound stack → found_at stack device sector ≡ Some line → line.target ≡ founds.Snapshot snapshot → 0 < lower_len stack snapshot.store
 store_some stack device sector line snapshot sound is kind = store_of stack device sector (slice_get stack.devices device) line snapshot sound refl is kind

@@ -1,13 +1,13 @@
 -- The ways of a trie of taken chunks.
-use Rattle.std.proofs.Common.{◌≡◌, ℕ, zero, suc, ◌+◌, ◌-◌, ◌%◌, ◌^◌, ◌<◌, ◌≤◌, true, false, List, [], ◌∷◌, ◌++◌, Some, None, cond, length, get_or, replicate, set, nat_eq, refl, sym, ap, subst, ◌∙◌, inl, inr, arith, w64}
+use Rattle.std.proofs.Common.{◌≡◌, ℕ, Bool, zero, suc, ◌+◌, ◌-◌, ◌%◌, ◌^◌, ◌<◌, ◌≤◌, true, false, List, [], ◌∷◌, ◌++◌, Some, None, cond, length, get_or, replicate, set, nat_eq, refl, sym, ap, subst, ◌∙◌, inl, inr, arith, w64}
 use Rattle.std.specs.Int.{bit_at, trailing_zeros}
-use Rattle.std.specs.Int.Bits.{bit_and, bit_xor}
+use Rattle.std.specs.Int.Bits.{bit_xor}
 use Rattle.std.specs.List.{AllByRecursion, IsDistinct, list_any}
 use Rattle.std.proofs.Math.Logic.{∥∥₁_elim}
 use Rattle.std.proofs.Props.{props}
-use Rattle.std.proofs.lemmas.Bool.{cases_eq, cases_lt, eq-eqb, eqb-true, false_from_ne_true, le-ltb, lt-ltb, ne_eqb, or_cases, or_parts}
+use Rattle.std.proofs.lemmas.Bool.{cases_eq, cases_lt, eq-eqb, eqb-true, false_from_ne_true, le-ltb, leb-true, lt-ltb, ne_eqb, or_cases, or_parts}
 use Rattle.std.proofs.lemmas.List.{get_or_append_left, get_or_push, get_or_read, get_or-replicate, get_or-set_other, get_or-set_same, length-replicate, length-set, length_push}
-use Rattle.std.specs.Prelude.{◌⊎◌, nat_lt}
+use Rattle.std.specs.Prelude.{◌⊎◌, nat_le, nat_lt}
 use Rattle.dm_map.specs.state.Snapshots.{number_in}
 use Rattle.dm_map.proofs.state.Numbers.{number_distinct}
 use Rattle.std.proofs.lemmas.Map.Steps.{length-le_from_distinct_below}
@@ -16,7 +16,8 @@ use Rattle.std.proofs.lemmas.Nat.Bits.{bit_at-lt, bit_at-trailing_zeros, bit_at-
 use Rattle.dm_map.specs.declared.state.trie_taken.link.Node.{Node}
 use Rattle.dm_map.specs.declared.state.trie_taken.link.Node.TheVariants.{Empty, Number, Fork}
 use Rattle.dm_map.specs.declared.state.trie_taken.TrieTaken.{TrieTaken}
-use Rattle.dm_map.specs.state.Trie.{Agree, AreInOwnSlots, Fits, HasMarks, IsFork, IsNumber, IsSide, IsTrie, Marks, chunk_at, end_of, is_fork, next_at, node_at, way}
+use Rattle.dm_map.specs.declared.state.trie_taken.slots.Slots.{Slots}
+use Rattle.dm_map.specs.state.Trie.{Agree, AreInOwnSlots, Fits, HasMarks, IsFork, IsNumber, IsSide, IsTrie, Marks, chunk_at, end_of, is_fork, next_at, node_at, slot_of, way}
 
 -- Steps
 
@@ -72,6 +73,13 @@ agree_cons first bits chunk other here agree bit there = elim (or_cases (nat_eq 
   | inr later ↦ agree bit later
 ]
 
+-- a slot is one of the table
+slot_low : (table : Slots) (chunk : ℕ) → slot_of table chunk ≤ table.mask
+slot_low table chunk = by_test (nat_le chunk table.mask) refl where
+  by_test : (own : Bool) → nat_le chunk table.mask ≡ own → slot_of table chunk ≤ table.mask
+  by_test true own = rw own (leb-true chunk table.mask own)
+  by_test false own = rw own (and_le_r _ table.mask)
+
 -- a chunk on its way
 pub record OnWay (nodes : List Node) (marks : Marks) (chunk at steps : ℕ) : Type 0 where
   pub within : at < length nodes
@@ -80,10 +88,10 @@ pub record OnWay (nodes : List Node) (marks : Marks) (chunk at steps : ℕ) : Ty
   pub agree : Agree (marks.tested at) chunk (marks.like at)
   pub count : is_fork (node_at nodes at) ≡ true → length (marks.tested at) ≡ steps
 
-on_start : (chunks : List ℕ) (nodes : List Node) (mask : ℕ) (trie : HasMarks chunks nodes mask) → mask < length nodes → (chunk : ℕ) → OnWay nodes trie.marks chunk (bit_and chunk mask) 0
-on_start chunks nodes mask trie slots chunk =
-    let at = bit_and chunk mask in
-    let low : at ≤ mask = and_le_r chunk mask in
+on_start : (chunks : List ℕ) (nodes : List Node) (table : Slots) (trie : HasMarks chunks nodes table) → table.mask < length nodes → (chunk : ℕ) → OnWay nodes trie.marks chunk (slot_of table chunk) 0
+on_start chunks nodes table trie slots chunk =
+    let at = slot_of table chunk in
+    let low : at ≤ table.mask = slot_low table chunk in
     let none : trie.marks.tested at ≡ [] = trie.start at low in
     record {
       within = omega (arith, low, slots);
@@ -111,12 +119,12 @@ on_next chunks nodes marks chunk at steps (Fork bit pair) is fits here =
       count = λ _. ap length side.tested ∙ ap suc (here.count (ap is_fork is));
     }
 
-pub on_way : (chunks : List ℕ) (nodes : List Node) (mask : ℕ) (trie : HasMarks chunks nodes mask) → mask < length nodes → (chunk steps : ℕ) → OnWay nodes trie.marks chunk (way nodes chunk (bit_and chunk mask) steps) steps
-on_way chunks nodes mask trie slots chunk zero = rw (way-zero nodes chunk (bit_and chunk mask)) (on_start chunks nodes mask trie slots chunk)
-on_way chunks nodes mask trie slots chunk (suc steps) =
-    let at = way nodes chunk (bit_and chunk mask) steps in
-    let here = on_way chunks nodes mask trie slots chunk steps in
-    rw (way-suc nodes chunk (bit_and chunk mask) steps) (on_next chunks nodes trie.marks chunk at steps (node_at nodes at) refl (trie.fits at here.within) here)
+pub on_way : (chunks : List ℕ) (nodes : List Node) (table : Slots) (trie : HasMarks chunks nodes table) → table.mask < length nodes → (chunk steps : ℕ) → OnWay nodes trie.marks chunk (way nodes chunk (slot_of table chunk) steps) steps
+on_way chunks nodes table trie slots chunk zero = rw (way-zero nodes chunk (slot_of table chunk)) (on_start chunks nodes table trie slots chunk)
+on_way chunks nodes table trie slots chunk (suc steps) =
+    let at = way nodes chunk (slot_of table chunk) steps in
+    let here = on_way chunks nodes table trie slots chunk steps in
+    rw (way-suc nodes chunk (slot_of table chunk) steps) (on_next chunks nodes trie.marks chunk at steps (node_at nodes at) refl (trie.fits at here.within) here)
 
 -- a fork has a bit that is left to test
 pub record Ahead (nodes : List Node) (steps bit pair : ℕ) : Type 0 where
@@ -130,10 +138,10 @@ ahead_on chunks nodes marks chunk at steps bit pair here is fits =
     let most : length (bit ∷ marks.tested at) ≤ 64 = length-le_from_distinct_below (bit ∷ marks.tested at) 64 (distinct_cons bit (marks.tested at) fits.fresh here.distinct) (small_cons bit (marks.tested at) fits.small here.small) in
     record { few = omega (arith, count, most); small = fits.small; within = fits.within }
 
-pub ahead : (chunks : List ℕ) (nodes : List Node) (mask chunk steps bit pair : ℕ) → HasMarks chunks nodes mask → mask < length nodes → node_at nodes (way nodes chunk (bit_and chunk mask) steps) ≡ Fork bit pair → Ahead nodes steps bit pair
-ahead chunks nodes mask chunk steps bit pair trie slots is =
-    let at = way nodes chunk (bit_and chunk mask) steps in
-    let here = on_way chunks nodes mask trie slots chunk steps in
+pub ahead : (chunks : List ℕ) (nodes : List Node) (table : Slots) (chunk steps bit pair : ℕ) → HasMarks chunks nodes table → table.mask < length nodes → node_at nodes (way nodes chunk (slot_of table chunk) steps) ≡ Fork bit pair → Ahead nodes steps bit pair
+ahead chunks nodes table chunk steps bit pair trie slots is =
+    let at = way nodes chunk (slot_of table chunk) steps in
+    let here = on_way chunks nodes table trie slots chunk steps in
     ahead_on chunks nodes trie.marks chunk at steps bit pair here is (subst (Fits trie.marks chunks (length nodes) at) is (trie.fits at here.within))
 
 -- a way has come to its end after 64 steps
@@ -142,15 +150,15 @@ no_fork Empty not_there = refl
 no_fork (Number number) not_there = refl
 no_fork (Fork bit pair) not_there = absurd (not_there bit pair refl)
 
-pub end_is : (chunks : List ℕ) (nodes : List Node) (mask chunk : ℕ) → HasMarks chunks nodes mask → mask < length nodes → is_fork (node_at nodes (end_of nodes mask chunk)) ≡ false
-end_is chunks nodes mask chunk trie slots =
-    no_fork _ (λ bit pair is. let more = ahead chunks nodes mask chunk 64 bit pair trie slots is in absurd (omega (arith, more.few)))
+pub end_is : (chunks : List ℕ) (nodes : List Node) (table : Slots) (chunk : ℕ) → HasMarks chunks nodes table → table.mask < length nodes → is_fork (node_at nodes (end_of nodes table chunk)) ≡ false
+end_is chunks nodes table chunk trie slots =
+    no_fork _ (λ bit pair is. let more = ahead chunks nodes table chunk 64 bit pair trie slots is in absurd (omega (arith, more.few)))
 
 -- a number at an end is that of a taken chunk, and no chunk that was taken has another
-number_on : (chunks : List ℕ) (nodes : List Node) (mask : ℕ) (trie : HasMarks chunks nodes mask) → mask < length nodes → (chunk number : ℕ) → node_at nodes (end_of nodes mask chunk) ≡ Number number → IsNumber trie.marks chunks (end_of nodes mask chunk) number
-number_on chunks nodes mask trie slots chunk number is =
-    let at = end_of nodes mask chunk in
-    let here = on_way chunks nodes mask trie slots chunk 64 in
+number_on : (chunks : List ℕ) (nodes : List Node) (table : Slots) (trie : HasMarks chunks nodes table) → table.mask < length nodes → (chunk number : ℕ) → node_at nodes (end_of nodes table chunk) ≡ Number number → IsNumber trie.marks chunks (end_of nodes table chunk) number
+number_on chunks nodes table trie slots chunk number is =
+    let at = end_of nodes table chunk in
+    let here = on_way chunks nodes table trie slots chunk 64 in
     subst (Fits trie.marks chunks (length nodes) at) is (trie.fits at here.within)
 
 -- a chunk that is at no index isn't there
@@ -168,8 +176,8 @@ fresh_apart xs i chunk distinct within none is =
 
 -- Nothing is taken
 
-pub no_trie : (slots mask : ℕ) → IsTrie [] (replicate slots Empty) mask
-no_trie slots mask =
+pub no_trie : (slots : ℕ) (table : Slots) → IsTrie [] (replicate slots Empty) table
+no_trie slots table =
     record {
       marked = record {
         marks = record { tested = λ _. []; like = λ _. 0 };
@@ -245,17 +253,17 @@ ends_on chunks chunk at before new number within = elim (cases_lt number (length
       cc (chunk_last chunks chunk)
 ]
 
-pub put_trie : (chunks : List ℕ) (nodes : List Node) (mask chunk : ℕ) → IsTrie chunks nodes mask → mask < length nodes → node_at nodes (end_of nodes mask chunk) ≡ Empty
-    → IsTrie (chunks ++ chunk ∷ []) (set nodes (end_of nodes mask chunk) (Number (length chunks))) mask
-put_trie chunks nodes mask chunk trie slots empty =
-    let here = end_of nodes mask chunk in
+pub put_trie : (chunks : List ℕ) (nodes : List Node) (table : Slots) (chunk : ℕ) → IsTrie chunks nodes table → table.mask < length nodes → node_at nodes (end_of nodes table chunk) ≡ Empty
+    → IsTrie (chunks ++ chunk ∷ []) (set nodes (end_of nodes table chunk) (Number (length chunks))) table
+put_trie chunks nodes table chunk trie slots empty =
+    let here = end_of nodes table chunk in
     let after = set nodes here (Number (length chunks)) in
-    let on = on_way chunks nodes mask trie.marked slots chunk 64 in
+    let on = on_way chunks nodes table trie.marked slots chunk 64 in
     let within : here < length nodes = on.within in
     let count : length after ≡ length nodes = length-set nodes here (Number (length chunks)) in
     let now : node_at after here ≡ Number (length chunks) = get_or-set_same nodes here (Number (length chunks)) Empty within in
     let others : (at : ℕ) → (at ≡ here → ⊥) → node_at after at ≡ node_at nodes at = λ at other. get_or-set_other nodes here at (Number (length chunks)) Empty other in
-    let same : (other : ℕ) → end_of after mask other ≡ end_of nodes mask other = λ other. put_way nodes after here (ap is_fork empty) (ap is_fork now) others other (bit_and other mask) 64 in
+    let same : (other : ℕ) → end_of after table other ≡ end_of nodes table other = λ other. put_way nodes after here (ap is_fork empty) (ap is_fork now) others other (slot_of table other) 64 in
     let marks = trie.marked.marks in
     let fits : (at : ℕ) → at < length after → Fits marks (chunks ++ chunk ∷ []) (length after) at (node_at after at) = λ at there. let there' : at < length nodes = omega (arith, there, count) in elim (cases_eq at here) [
       | inl is ↦ subst (Fits marks (chunks ++ chunk ∷ []) (length after) at) (sym (ap (node_at after) is ∙ now))
@@ -264,8 +272,8 @@ put_trie chunks nodes mask chunk trie slots empty =
     ] in
     record {
       marked = record { marks = marks; start = trie.marked.start; fits = fits };
-      ends = ends_on chunks chunk (λ other. node_at after (end_of after mask other))
-          (λ number below. elim (cases_eq (end_of nodes mask (chunk_at chunks number)) here) [
+      ends = ends_on chunks chunk (λ other. node_at after (end_of after table other))
+          (λ number below. elim (cases_eq (end_of nodes table (chunk_at chunks number)) here) [
             | inl is ↦ let no : Empty ≡ Number number = sym empty ∙ ap (node_at nodes) (sym is) ∙ trie.ends number below in absurd cc
             | inr other ↦ ap (node_at after) (same (chunk_at chunks number)) ∙ others _ other ∙ trie.ends number below
           ])
@@ -376,9 +384,9 @@ one_of value a b two left right apart = elim (cases_eq value a) [
   | inr other ↦ elim (cases_eq value b) [ inl is ↦ inr is | inr none ↦ absurd (omega (arith, two, left, right, apart, other, none)) ]
 ]
 
-part_marks : (chunks : List ℕ) (nodes after : List Node) (mask here bit chunk other number : ℕ) (trie : HasMarks chunks nodes mask) → mask < length nodes → bit < 64 → (bit_at chunk bit ≡ bit_at other bit → ⊥)
-    → OnWay nodes trie.marks chunk here 64 → IsNumber trie.marks chunks here number → chunk_at chunks number ≡ other → IsParted nodes after here bit chunk other (length chunks) number → HasMarks (chunks ++ chunk ∷ []) after mask
-part_marks chunks nodes after mask here bit chunk other number trie slots small apart on at_number other_is parted =
+part_marks : (chunks : List ℕ) (nodes after : List Node) (table : Slots) (here bit chunk other number : ℕ) (trie : HasMarks chunks nodes table) → table.mask < length nodes → bit < 64 → (bit_at chunk bit ≡ bit_at other bit → ⊥)
+    → OnWay nodes trie.marks chunk here 64 → IsNumber trie.marks chunks here number → chunk_at chunks number ≡ other → IsParted nodes after here bit chunk other (length chunks) number → HasMarks (chunks ++ chunk ∷ []) after table
+part_marks chunks nodes after table here bit chunk other number trie slots small apart on at_number other_is parted =
     let marks = trie.marks in
     let count = length nodes in
     let all = chunks ++ chunk ∷ [] in
@@ -419,31 +427,31 @@ part_marks chunks nodes after mask here bit chunk other number trie slots small 
       fits = rw parted.count fits;
     }
 
-pub part_trie : (chunks : List ℕ) (nodes after : List Node) (mask bit chunk other number : ℕ) → IsTrie chunks nodes mask → mask < length nodes → bit < 64 → (bit_at chunk bit ≡ bit_at other bit → ⊥)
-    → node_at nodes (end_of nodes mask chunk) ≡ Number number → chunk_at chunks number ≡ other → IsParted nodes after (end_of nodes mask chunk) bit chunk other (length chunks) number → IsTrie (chunks ++ chunk ∷ []) after mask
-part_trie chunks nodes after mask bit chunk other number trie slots small apart is other_is parted =
-    let here = end_of nodes mask chunk in
+pub part_trie : (chunks : List ℕ) (nodes after : List Node) (table : Slots) (bit chunk other number : ℕ) → IsTrie chunks nodes table → table.mask < length nodes → bit < 64 → (bit_at chunk bit ≡ bit_at other bit → ⊥)
+    → node_at nodes (end_of nodes table chunk) ≡ Number number → chunk_at chunks number ≡ other → IsParted nodes after (end_of nodes table chunk) bit chunk other (length chunks) number → IsTrie (chunks ++ chunk ∷ []) after table
+part_trie chunks nodes after table bit chunk other number trie slots small apart is other_is parted =
+    let here = end_of nodes table chunk in
     let count = length nodes in
-    let on = on_way chunks nodes mask trie.marked slots chunk 64 in
-    let at_number = number_on chunks nodes mask trie.marked slots chunk number is in
-    let marked = part_marks chunks nodes after mask here bit chunk other number trie.marked slots small apart on at_number other_is parted in
-    let wide : mask < length after = omega (arith, slots, parted.count) in
-    let stops : (c : ℕ) → end_of after mask c ≡ here → ⊥ = λ c e.
-    let more = ahead (chunks ++ chunk ∷ []) after mask c 64 bit count marked wide (ap (node_at after) e ∙ parted.fork) in absurd (omega (arith, more.few)) in
-    let ways : (c : ℕ) → is_fork (node_at after (count + bit_at c bit)) ≡ false → (end_of after mask c ≡ end_of nodes mask c) ⊎ ((end_of nodes mask c ≡ here) × (end_of after mask c ≡ count + bit_at c bit)) =
-    λ c leaf. part_way nodes after here bit c (bit_and c mask) (ap is_fork is) parted.fork parted.others leaf (λ steps. (on_way chunks nodes mask trie.marked slots c steps).within) 64 in
+    let on = on_way chunks nodes table trie.marked slots chunk 64 in
+    let at_number = number_on chunks nodes table trie.marked slots chunk number is in
+    let marked = part_marks chunks nodes after table here bit chunk other number trie.marked slots small apart on at_number other_is parted in
+    let wide : table.mask < length after = omega (arith, slots, parted.count) in
+    let stops : (c : ℕ) → end_of after table c ≡ here → ⊥ = λ c e.
+    let more = ahead (chunks ++ chunk ∷ []) after table c 64 bit count marked wide (ap (node_at after) e ∙ parted.fork) in absurd (omega (arith, more.few)) in
+    let ways : (c : ℕ) → is_fork (node_at after (count + bit_at c bit)) ≡ false → (end_of after table c ≡ end_of nodes table c) ⊎ ((end_of nodes table c ≡ here) × (end_of after table c ≡ count + bit_at c bit)) =
+    λ c leaf. part_way nodes after here bit c (slot_of table c) (ap is_fork is) parted.fork parted.others leaf (λ steps. (on_way chunks nodes table trie.marked slots c steps).within) 64 in
     let leaf : (c : ℕ) → is_fork (node_at after (count + bit_at c bit)) ≡ false = λ c. elim (one_of (bit_at c bit) (bit_at chunk bit) (bit_at other bit) (bit_at-lt c bit) (bit_at-lt chunk bit) (bit_at-lt other bit) apart) [
       | inl v ↦ cc
       | inr v ↦ cc
     ] in
     record {
       marked = marked;
-      ends = ends_on chunks chunk (λ c. node_at after (end_of after mask c))
+      ends = ends_on chunks chunk (λ c. node_at after (end_of after table c))
           (λ n below.
           let c = chunk_at chunks n in
-          let old : node_at nodes (end_of nodes mask c) ≡ Number n = trie.ends n below in
+          let old : node_at nodes (end_of nodes table c) ≡ Number n = trie.ends n below in
           elim (ways c (leaf c)) [
-            | inl same ↦ ap (node_at after) same ∙ parted.others (end_of nodes mask c) (on_way chunks nodes mask trie.marked slots c 64).within (λ e. stops c (same ∙ e)) ∙ old
+            | inl same ↦ ap (node_at after) same ∙ parted.others (end_of nodes table c) (on_way chunks nodes table trie.marked slots c 64).within (λ e. stops c (same ∙ e)) ∙ old
             | inr past ↦
                 let number_is : Number number ≡ Number n = sym is ∙ ap (node_at nodes) (sym past.0) ∙ old in
                 let e : number ≡ n = cc in
@@ -521,20 +529,20 @@ is_parted nodes here bit chunk other mine theirs within apart =
 
 -- the node where the way of a chunk ends
 abbrev pub last_node : TrieTaken → (chunk : ℕ) → Node
-last_node taken chunk = node_at taken.links.items (end_of taken.links.items taken.mask chunk)
+last_node taken chunk = node_at taken.links.items (end_of taken.links.items taken.slots chunk)
 
-pub end_within : (taken : TrieTaken) (chunk : ℕ) → end_of taken.links.items taken.mask chunk < length taken.links.items
-end_within taken chunk = ∥∥₁_elim taken.leads (hlevel props) (λ trie. (on_way taken.chunks.items taken.links.items taken.mask trie.marked taken.slots chunk 64).within)
+pub end_within : (taken : TrieTaken) (chunk : ℕ) → end_of taken.links.items taken.slots chunk < length taken.links.items
+end_within taken chunk = ∥∥₁_elim taken.leads (hlevel props) (λ trie. (on_way taken.chunks.items taken.links.items taken.slots trie.marked taken.table chunk 64).within)
 
-pub bit_ahead : (taken : TrieTaken) (chunk steps bit pair : ℕ) → node_at taken.links.items (way taken.links.items chunk (bit_and chunk taken.mask) steps) ≡ Fork bit pair → (steps < 64) × (bit < 64) × (pair + 1 < length taken.links.items)
+pub bit_ahead : (taken : TrieTaken) (chunk steps bit pair : ℕ) → node_at taken.links.items (way taken.links.items chunk (slot_of taken.slots chunk) steps) ≡ Fork bit pair → (steps < 64) × (bit < 64) × (pair + 1 < length taken.links.items)
 bit_ahead taken chunk steps bit pair is =
-    ∥∥₁_elim taken.leads (hlevel props) (λ trie. let more = ahead taken.chunks.items taken.links.items taken.mask chunk steps bit pair trie.marked taken.slots is in (more.few, more.small, more.within))
+    ∥∥₁_elim taken.leads (hlevel props) (λ trie. let more = ahead taken.chunks.items taken.links.items taken.slots chunk steps bit pair trie.marked taken.table is in (more.few, more.small, more.within))
 
 pub end_stops : (taken : TrieTaken) (chunk bit pair : ℕ) → last_node taken chunk ≡ Fork bit pair → ⊥
 end_stops taken chunk bit pair is = let more = bit_ahead taken chunk 64 bit pair is in absurd (omega (arith, more.0))
 
 pub number_within : (taken : TrieTaken) (chunk number : ℕ) → last_node taken chunk ≡ Number number → number < length taken.chunks.items
-number_within taken chunk number is = ∥∥₁_elim taken.leads (hlevel props) (λ trie. (number_on taken.chunks.items taken.links.items taken.mask trie.marked taken.slots chunk number is).within)
+number_within taken chunk number is = ∥∥₁_elim taken.leads (hlevel props) (λ trie. (number_on taken.chunks.items taken.links.items taken.slots trie.marked taken.table chunk number is).within)
 
 -- a number at an index that is a chunk is that chunk's
 pub own_number : (taken : TrieTaken) (chunk number : ℕ) → taken.own_slots ≡ true → chunk < length taken.links.items → node_at taken.links.items chunk ≡ Number number → chunk_at taken.chunks.items number ≡ chunk
@@ -545,10 +553,28 @@ pub not_taken : (taken : TrieTaken) (chunk : ℕ) → ((number : ℕ) → chunk_
 not_taken taken chunk none =
     number_absent chunk taken.chunks.items (λ number within is. ∥∥₁_elim taken.leads (hlevel props) (λ trie. none number is (ap (last_node taken) (sym is) ∙ trie.ends number within)))
 
+-- one whose way ends at nothing was not taken
+pub not_empty : (taken : TrieTaken) (chunk : ℕ) → last_node taken chunk ≡ Empty → number_in chunk taken.chunks.items ≡ None
+not_empty taken chunk last = not_taken taken chunk (λ number is found. let wrong : Empty ≡ Number number = sym last ∙ found in absurd cc)
+
+-- and one whose way ends at the number of a chunk, which was read, only if it is that chunk
+pub its_number : (taken : TrieTaken) (chunk number seen : ℕ) → last_node taken chunk ≡ Number number → seen ≡ get_or taken.chunks.items number seen → seen ≡ chunk → number_in chunk taken.chunks.items ≡ Some number
+its_number taken chunk number seen last read is =
+    let there = number_within taken chunk number last in
+    let same : chunk_at taken.chunks.items number ≡ chunk = sym (get_or_read taken.chunks.items number seen there read 0) ∙ is in
+    ap (λ c. number_in c taken.chunks.items) (sym same) ∙ number_distinct taken.chunks.items number 0 taken.once there
+
+pub not_other : (taken : TrieTaken) (chunk number seen : ℕ) → last_node taken chunk ≡ Number number → seen ≡ get_or taken.chunks.items number seen → (seen ≡ chunk → ⊥) → number_in chunk taken.chunks.items ≡ None
+not_other taken chunk number seen last read differ =
+    not_taken taken chunk (λ other is found.
+    let one : Number number ≡ Number other = sym last ∙ found in
+    let same : number ≡ other = cc in
+    differ (get_or_read taken.chunks.items number seen (number_within taken chunk number last) read 0 ∙ ap (chunk_at taken.chunks.items) same ∙ is))
+
 -- the node that was read
 pub node_read : (nodes : List Node) (at : ℕ) (seen node : Node) → at < length nodes → seen ≡ get_or nodes at seen → node ≡ seen → node_at nodes at ≡ node
 node_read nodes at seen node within read is = sym (get_or_read nodes at seen within read Empty) ∙ sym is
 
-pub last_read : (taken : TrieTaken) (chunk at : ℕ) (seen node : Node) → at ≡ end_of taken.links.items taken.mask chunk → seen ≡ get_or taken.links.items at seen → node ≡ seen → last_node taken chunk ≡ node
+pub last_read : (taken : TrieTaken) (chunk at : ℕ) (seen node : Node) → at ≡ end_of taken.links.items taken.slots chunk → seen ≡ get_or taken.links.items at seen → node ≡ seen → last_node taken chunk ≡ node
 last_read taken chunk at seen node ends read is =
     rw ends at (node_read taken.links.items at seen node (omega (arith, ends, end_within taken chunk)) read is)

@@ -2,7 +2,7 @@
 use Rattle.std.proofs.Common.{◌≡◌, ℕ, zero, suc, ◌<◌, ◌≤◌, Bool, List, Some, length, sym, ◌∙◌, arith}
 use Rattle.std.specs.Prelude.{slice_get}
 use Rattle.std.proofs.lemmas.Bool.{lt-ltb}
-use Rattle.dm_stack.specs.declared.lines.found_line.FoundSnapshot.{FoundSnapshot}
+use Rattle.dm_stack.specs.declared.lines.resolved_line.ResolvedSnapshot.{ResolvedSnapshot}
 use Rattle.dm_stack.specs.Description.{Description, lower_len}
 use Rattle.dm_stack.specs.lines.StoreLayout.{place_count}
 use Rattle.dm_stack.specs.checks.Soundness.{IsSound}
@@ -11,7 +11,7 @@ use Rattle.dm_stack.proofs.SoundLines.{there}
 use Rattle.dm_map.specs.state.Fitting.{IsWithinPlaces}
 use Rattle.dm_map.specs.state.Tables.{AreTables, snapshot_at, state_of}
 use Rattle.dm_map.proofs.state.TableLemmas.{room_place, state_at}
-use Rattle.dm_map.proofs.state.FoundLines.{snapshot_sound}
+use Rattle.dm_map.proofs.state.ResolvedLines.{snapshot_sound}
 
 -- a count is within another where each number below it is
 most_within : (count most : ℕ) → ((number : ℕ) → number < count → number < most) → count ≤ most
@@ -19,7 +19,7 @@ most_within zero most each = omega arith
 most_within (suc count) most each = let last = each count (omega arith) in omega (arith, last)
 
 -- a table has as many places as its store
-within_store : {T : Type 0} (places_of : T → ℕ) (stack : Description) (tables : List T) (device number : ℕ) (table : T) (snapshot : FoundSnapshot) → IsSound stack → AreTables places_of stack tables → snapshot_at stack device ≡ Some snapshot
+within_store : {T : Type 0} (places_of : T → ℕ) (stack : Description) (tables : List T) (device number : ℕ) (table : T) (snapshot : ResolvedSnapshot) → IsSound stack → AreTables places_of stack tables → snapshot_at stack device ≡ Some snapshot
     → slice_get tables device ≡ Some table → number < places_of table → number < place_count snapshot.kind snapshot.chunk (lower_len stack snapshot.store)
 within_store places_of stack tables device number table snapshot sound are is got less =
     let over = snapshot_sound stack device snapshot sound is in

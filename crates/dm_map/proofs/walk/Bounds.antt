@@ -5,8 +5,8 @@ use Rattle.std.proofs.lemmas.Bool.{ne_eqb}
 use Rattle.std.proofs.Math.Nat.{mul-le-mul_right}
 use Rattle.dm_table.specs.declared.requests.request.Op.{Op}
 use Rattle.dm_table.specs.declared.requests.request.Op.TheVariants.{Read}
-use Rattle.dm_stack.specs.declared.lines.found_line.FoundLine.{FoundLine}
-use Rattle.dm_stack.specs.declared.lines.found_line.FoundTarget.{FoundTarget}
+use Rattle.dm_stack.specs.declared.lines.resolved_line.ResolvedLine.{ResolvedLine}
+use Rattle.dm_stack.specs.declared.lines.resolved_line.ResolvedTarget.{ResolvedTarget}
 use Rattle.dm_stack.specs.declared.checks.graph.TheConstants.{MOST_DEPTH}
 use Rattle.dm_stack.specs.declared.id.Lower.{Lower}
 use Rattle.dm_stack.specs.declared.id.Lower.TheVariants.{Device}
@@ -32,7 +32,7 @@ use Rattle.dm_map.proofs.walk.Rows.{walked_as}
 
 -- each of these sectors lies on the next one of a device or a disk
 pub mapped_below : {S R F : Type 0} {past : SinkPast S} {result : Result R F} {old new : S} {before after : WalkerView} {step : Description → State → ℕ → Step} {sector n : ℕ}
-    (op : Op) (levels device start distance at : ℕ) (line : FoundLine) (target : FoundTarget) (to : Lower) → found_at before.stack device at ≡ Some line → line.target ≡ target → 1 ≤ n
+    (op : Op) (levels device start distance at : ℕ) (line : ResolvedLine) (target : ResolvedTarget) (to : Lower) → found_at before.stack device at ≡ Some line → line.target ≡ target → 1 ≤ n
     → ((i : ℕ) → i < n → below_target (read_over (taken_at before.state device)) target (distance + i) ≡ Lies to (sector + i))
     → steps (step before.stack) before.state sector n ≡ line_step before.stack op levels device target before.state distance n
     → IsMapped past result old new before after (record (range_mapping op levels to) { step = step }) sector n → IsMapped past result old new before after (target_mapping op levels device start target) distance n
@@ -50,28 +50,28 @@ mapped_below {before} {after} {sector} {n} op levels device start distance at li
     }
 
 -- a line that is said in another way
-pub mapped_target : {S F : Type 0} {past : SinkPast S} {result : Result (Unit {0}) F} {old new : S} {before after : WalkerView} {distance n : ℕ} (op : Op) (levels device : ℕ) (start other : ℕ) (target is : FoundTarget)
+pub mapped_target : {S F : Type 0} {past : SinkPast S} {result : Result (Unit {0}) F} {old new : S} {before after : WalkerView} {distance n : ℕ} (op : Op) (levels device : ℕ) (start other : ℕ) (target is : ResolvedTarget)
     → start ≡ other → target ≡ is → IsMapped past result old new before after (target_mapping op levels device other is) distance n → IsMapped past result old new before after (target_mapping op levels device start target) distance n
 mapped_target {past} {result} {old} {new} {before} {after} {distance} {n} op levels device start other target is same kind mapped =
     rw (same, kind) mapped
 
 -- another chunk of it is another path
-abbrev lower_path : Description → State → (levels device : ℕ) → FoundTarget → (distance : ℕ) → List PathStep
+abbrev lower_path : Description → State → (levels device : ℕ) → ResolvedTarget → (distance : ℕ) → List PathStep
 lower_path stack state levels device target distance = by_below (below_target (read_over (taken_at state device)) target distance) [] [] (λ to lower. path stack state levels to lower)
 
-pub parts_apart : (stack : Description) (state : State) (levels device start at : ℕ) (target : FoundTarget) → is_same_chunk (chunk_at target (at - 1)) (chunk_at target at) ≡ false
+pub parts_apart : (stack : Description) (state : State) (levels device start at : ℕ) (target : ResolvedTarget) → is_same_chunk (chunk_at target (at - 1)) (chunk_at target at) ≡ false
     → is_same_path (target_path stack state levels device start target (at - 1)) (target_path stack state levels device start target at) ≡ false
 parts_apart stack state levels device start at target differs =
     other_chunk device start (chunk_at target (at - 1)) (chunk_at target at) (lower_path stack state levels device target (at - 1)) (lower_path stack state levels device target at) differs
 
 -- A range of one line
 
-line_at : (stack : Description) (state : State) (levels fewer device sector : ℕ) (line : FoundLine) → levels ≡ suc fewer → found_at stack device sector ≡ Some line → path stack state levels (Device device) sector ≡ target_path stack state fewer device line.start line.target (sector - line.start)
+line_at : (stack : Description) (state : State) (levels fewer device sector : ℕ) (line : ResolvedLine) → levels ≡ suc fewer → found_at stack device sector ≡ Some line → path stack state levels (Device device) sector ≡ target_path stack state fewer device line.start line.target (sector - line.start)
 unfolding path
 line_at stack state levels fewer device sector line more found = rw (more, found) refl
 
 -- what it hands over, and its searches, and that which found the line
-pub mapped_line : {S R F : Type 0} {past : SinkPast S} {result : Result R F} {old new : S} {before after : WalkerView} (op : Op) (levels fewer device sector n : ℕ) (line : FoundLine)
+pub mapped_line : {S R F : Type 0} {past : SinkPast S} {result : Result R F} {old new : S} {before after : WalkerView} (op : Op) (levels fewer device sector n : ℕ) (line : ResolvedLine)
     → levels ≡ suc fewer → refuses before.stack op device ≡ false → IsLineOf before.stack device line sector → 1 ≤ n → sector + n ≤ line.start + line.len
     → IsMapped past result old new before after (target_mapping op fewer device line.start line.target) (sector - line.start) n → IsMapped past result old new before after (found_mapping op levels device) sector n
 mapped_line {before} {after} op levels fewer device sector n line more passes of some inside mapped =
@@ -87,7 +87,7 @@ mapped_line {before} {after} op levels fewer device sector n line more passes of
     }
 
 -- the line after one is another
-pub lines_apart : (stack : Description) (state : State) (levels fewer device at n : ℕ) (line next : FoundLine) → levels ≡ suc fewer → 1 ≤ n → IsLineOf stack device line at → at + n ≡ line.start + line.len → IsLineOf stack device next (at + n)
+pub lines_apart : (stack : Description) (state : State) (levels fewer device at n : ℕ) (line next : ResolvedLine) → levels ≡ suc fewer → 1 ≤ n → IsLineOf stack device line at → at + n ≡ line.start + line.len → IsLineOf stack device next (at + n)
     → is_same_path (path stack state levels (Device device) (at + n - 1)) (path stack state levels (Device device) (at + n)) ≡ false
 lines_apart stack state levels fewer device at n line next more some of end after =
     let here = of.is.all (at + n - 1) (omega (arith, of.from, some)) (omega (arith, end, some)) in

@@ -1,7 +1,7 @@
 -- The sectors of a chunk in a store, their copies and their writes.
 use Rattle.std.proofs.Common.{◌≡◌, ℕ, ◌+◌, ◌-◌, ◌%◌, ◌<◌, ◌≤◌, false, refl, sym, ap, subst, ◌∙◌, arith}
 use Rattle.dm_table.specs.declared.requests.request.Op.TheVariants.{Read}
-use Rattle.dm_stack.specs.declared.lines.found_line.FoundSnapshot.{FoundSnapshot}
+use Rattle.dm_stack.specs.declared.lines.resolved_line.ResolvedSnapshot.{ResolvedSnapshot}
 use Rattle.dm_stack.specs.declared.checks.graph.TheConstants.{MOST_DEPTH}
 use Rattle.dm_stack.specs.declared.id.Lower.{Lower}
 use Rattle.dm_map.specs.declared.walk.homes.HomeStretch.{HomeStretch}
@@ -60,11 +60,11 @@ reads_on walk lower sector n len stretch first good some few =
     good_ground ground other = refl
 
 -- the copy of a sector
-abbrev pub copy_of : WalkerView → FoundSnapshot → (number : ℕ) → ℕ → BlockUnit
+abbrev pub copy_of : WalkerView → ResolvedSnapshot → (number : ℕ) → ℕ → BlockUnit
 copy_of walk snapshot number u = copy_to (read walk.stack walk.state snapshot.origin u) (home_in_store walk.stack snapshot number u)
 
 -- what a piece copies, as long as both sides go on, is the next part of the row
-pub copy_next : (walk : WalkerView) (snapshot : FoundSnapshot) (number sector len left from to n : ℕ) (source : Stretch) (target : HomeStretch) → 0 < snapshot.chunk → sector % snapshot.chunk + len ≤ snapshot.chunk → left ≤ len → from + left ≡ sector + len
+pub copy_next : (walk : WalkerView) (snapshot : ResolvedSnapshot) (number sector len left from to n : ℕ) (source : Stretch) (target : HomeStretch) → 0 < snapshot.chunk → sector % snapshot.chunk + len ≤ snapshot.chunk → left ≤ len → from + left ≡ sector + len
     → to + left ≡ store_sector snapshot number sector + len → IsFirstOf walk walk MOST_DEPTH snapshot.origin from left source → IsFirstHomes walk.stack snapshot.store to left target → n ≤ source.len → n ≤ target.len
     → row (copy_of walk snapshot number) (sector + (len - left)) n ≡ units_in (copy_to (ground_unit source.ground) (record { disk = target.disk; sector = target.start })) n
 copy_next walk snapshot number sector len left from to n source target some part within from_is to_is stretch homes few_read few_home =

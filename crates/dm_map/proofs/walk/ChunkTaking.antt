@@ -3,7 +3,7 @@ use Rattle.std.proofs.Common.{◌≡◌, ℕ, zero, suc, ◌+◌, ◌/◌, ◌<�
 use Rattle.std.specs.Prelude.{◌&&◌, is_some}
 use Rattle.std.proofs.lemmas.Bool.{or_parts, or_right, not-false}
 use Rattle.std.proofs.lemmas.List.{get_or-set_same, get_or-set_other}
-use Rattle.dm_stack.specs.declared.lines.found_line.FoundSnapshot.{FoundSnapshot}
+use Rattle.dm_stack.specs.declared.lines.resolved_line.ResolvedSnapshot.{ResolvedSnapshot}
 use Rattle.dm_stack.specs.Description.{Description}
 use Rattle.dm_map.specs.state.Snapshots.{number_in, has_place}
 use Rattle.dm_map.specs.state.State.{put, with_chunk, lost, Taken, State, none_taken, taken_at}
@@ -38,7 +38,7 @@ chunk_outcome_by state device chunk false true units is =
     Took (not-false (taken_at state device).valid parts.0) (none_of _ parts.1) units refl
 chunk_outcome_by state device chunk false false units is = Lost refl
 
-pub chunk_outcome : (stack : Description) (snapshot : FoundSnapshot) (device chunk : ℕ) (state : State) → ChunkOutcome state device chunk (take_chunk stack snapshot device chunk state)
+pub chunk_outcome : (stack : Description) (snapshot : ResolvedSnapshot) (device chunk : ℕ) (state : State) → ChunkOutcome state device chunk (take_chunk stack snapshot device chunk state)
 chunk_outcome stack snapshot device chunk state =
     let number = length (taken_at state device).chunks in let first = first_of snapshot chunk in let count = count_of stack snapshot device chunk in
     chunk_outcome_by state device chunk (is_settled (taken_at state device) chunk) (can_take stack state snapshot device first count) (copies stack state snapshot number first count) refl
@@ -46,7 +46,7 @@ chunk_outcome stack snapshot device chunk state =
 pub not_settled : (taken : Taken) (chunk : ℕ) → taken.valid ≡ true → number_in chunk taken.chunks ≡ None → is_settled taken chunk ≡ false
 not_settled taken chunk valid fresh = rw (valid, fresh) refl
 
-pub take_chunk_again : (stack : Description) (snapshot : FoundSnapshot) (device chunk : ℕ) (state : State) → is_settled (taken_at state device) chunk ≡ true → take_chunk stack snapshot device chunk state ≡ keep [] state
+pub take_chunk_again : (stack : Description) (snapshot : ResolvedSnapshot) (device chunk : ℕ) (state : State) → is_settled (taken_at state device) chunk ≡ true → take_chunk stack snapshot device chunk state ≡ keep [] state
 take_chunk_again stack snapshot device chunk state settled = rw settled refl
 
 -- After that it is settled
@@ -72,10 +72,10 @@ numbered_next state after device chunk there fresh is =
 -- The write of a sector
 
 -- by its chunk, and whether that is refused
-abbrev write_by : Bool → Description → FoundSnapshot → (device chunk : ℕ) → State → (sector : ℕ) → Step
+abbrev write_by : Bool → Description → ResolvedSnapshot → (device chunk : ℕ) → State → (sector : ℕ) → Step
 write_by refused stack snapshot device chunk state sector = cond refused (keep (Fails ∷ []) state) (and_then (take_chunk stack snapshot device chunk state) (λ after. keep (unit_in_store stack snapshot device after sector ∷ []) after))
 
-pub write_is : (refused : Bool) (stack : Description) (snapshot : FoundSnapshot) (device chunk : ℕ) (state : State) (sector : ℕ) → sector / snapshot.chunk ≡ chunk → is_refused stack snapshot (taken_at state device) chunk ≡ refused
+pub write_is : (refused : Bool) (stack : Description) (snapshot : ResolvedSnapshot) (device chunk : ℕ) (state : State) (sector : ℕ) → sector / snapshot.chunk ≡ chunk → is_refused stack snapshot (taken_at state device) chunk ≡ refused
     → write_snapshot stack snapshot device state sector ≡ write_by refused stack snapshot device chunk state sector
 write_is refused stack snapshot device chunk state sector here is =
     cc
@@ -86,7 +86,7 @@ passes true false settled is = rw is refl
 passes false placed settled is = refl
 
 -- a chunk for which nothing is left to do is not refused
-pub settled_passes : (stack : Description) (snapshot : FoundSnapshot) (taken : Taken) (chunk : ℕ) → is_settled taken chunk ≡ true → is_refused stack snapshot taken chunk ≡ false
+pub settled_passes : (stack : Description) (snapshot : ResolvedSnapshot) (taken : Taken) (chunk : ℕ) → is_settled taken chunk ≡ true → is_refused stack snapshot taken chunk ≡ false
 settled_passes stack snapshot taken chunk settled = passes (is_keeping snapshot.kind) (has_place stack snapshot (length taken.chunks)) (is_settled taken chunk) settled
 
 -- any other is where its store keeps what it has, and has no place for one more
@@ -95,12 +95,12 @@ fresh_refused true true settled is = refl
 fresh_refused true false settled is = rw is refl
 fresh_refused false placed settled is = refl
 
-pub refused_as : (stack : Description) (snapshot : FoundSnapshot) (taken : Taken) (chunk : ℕ) → is_settled taken chunk ≡ false → is_refused stack snapshot taken chunk ≡ (is_keeping snapshot.kind && not (has_place stack snapshot (length taken.chunks)))
+pub refused_as : (stack : Description) (snapshot : ResolvedSnapshot) (taken : Taken) (chunk : ℕ) → is_settled taken chunk ≡ false → is_refused stack snapshot taken chunk ≡ (is_keeping snapshot.kind && not (has_place stack snapshot (length taken.chunks)))
 refused_as stack snapshot taken chunk fresh = fresh_refused (is_keeping snapshot.kind) (has_place stack snapshot (length taken.chunks)) (is_settled taken chunk) fresh
 
 -- The sectors of a chunk: it is taken once, or each of them fails
 
-pub settled_part : (stack : Description) (snapshot : FoundSnapshot) (device chunk sector n : ℕ) (state : State) → is_settled (taken_at state device) chunk ≡ true → ((i : ℕ) → i < n → (sector + i) / snapshot.chunk ≡ chunk)
+pub settled_part : (stack : Description) (snapshot : ResolvedSnapshot) (device chunk sector n : ℕ) (state : State) → is_settled (taken_at state device) chunk ≡ true → ((i : ℕ) → i < n → (sector + i) / snapshot.chunk ≡ chunk)
     → steps (write_snapshot stack snapshot device) state sector n ≡ keep (row (unit_in_store stack snapshot device state) sector n) state
 settled_part stack snapshot device chunk sector zero state settled each = refl
 settled_part stack snapshot device chunk sector (suc n) state settled each =
@@ -109,7 +109,7 @@ settled_part stack snapshot device chunk sector (suc n) state settled each =
     cc (write_is false stack snapshot device chunk state sector here (settled_passes stack snapshot (taken_at state device) chunk settled), take_chunk_again stack snapshot device chunk state settled) in
     rw (first, settled_part stack snapshot device chunk (suc sector) n state settled (λ i within. rw (let e : suc sector + i ≡ sector + suc i = omega arith in e) (each (suc i) (omega (arith, within)))))
 
-pub chunk_part : (stack : Description) (snapshot : FoundSnapshot) (device chunk sector n : ℕ) (state : State) → is_refused stack snapshot (taken_at state device) chunk ≡ false → device < length state → ((i : ℕ) → i < suc n → (sector + i) / snapshot.chunk ≡ chunk)
+pub chunk_part : (stack : Description) (snapshot : ResolvedSnapshot) (device chunk sector n : ℕ) (state : State) → is_refused stack snapshot (taken_at state device) chunk ≡ false → device < length state → ((i : ℕ) → i < suc n → (sector + i) / snapshot.chunk ≡ chunk)
     → steps (write_snapshot stack snapshot device) state sector (suc n) ≡ and_then (take_chunk stack snapshot device chunk state) (λ after. keep (row (unit_in_store stack snapshot device after) sector (suc n)) after)
 chunk_part stack snapshot device chunk sector n state passes there each =
     let here : sector / snapshot.chunk ≡ chunk = rw (let e : sector ≡ sector + 0 = omega arith in e) (each 0 (omega arith)) in
@@ -118,7 +118,7 @@ chunk_part stack snapshot device chunk sector n state passes there each =
     cc (write_is false stack snapshot device chunk state sector here passes, step_assoc made (λ after. keep (unit_in_store stack snapshot device after sector ∷ []) after) (λ after. steps (write_snapshot stack snapshot device) after (suc sector) n), and_then_at made (λ after. and_then (keep (unit_in_store stack snapshot device after sector ∷ []) after) (λ later. steps (write_snapshot stack snapshot device) later (suc sector) n)) (λ after. keep (row (unit_in_store stack snapshot device after) sector (suc n)) after) (rw (settled_part stack snapshot device chunk (suc sector) n made.state settled (λ i within. ap (λ (s : ℕ). s / snapshot.chunk) (let e : suc sector + i ≡ sector + suc i = omega arith in e) ∙ each (suc i) (omega (arith, within))))))
 
 -- what is refused changes nothing, so that the next sector is refused too
-pub refused_part : (stack : Description) (snapshot : FoundSnapshot) (device chunk sector n : ℕ) (state : State) → is_refused stack snapshot (taken_at state device) chunk ≡ true → ((i : ℕ) → i < n → (sector + i) / snapshot.chunk ≡ chunk)
+pub refused_part : (stack : Description) (snapshot : ResolvedSnapshot) (device chunk sector n : ℕ) (state : State) → is_refused stack snapshot (taken_at state device) chunk ≡ true → ((i : ℕ) → i < n → (sector + i) / snapshot.chunk ≡ chunk)
     → steps (write_snapshot stack snapshot device) state sector n ≡ keep (units_in Fails n) state
 refused_part stack snapshot device chunk sector n state refused each =
     steps_still (write_snapshot stack snapshot device) state sector n Fails refl (λ i within. write_is true stack snapshot device chunk state (sector + i) (each i within) refused)

@@ -4,11 +4,11 @@ use Rattle.std.specs.Prelude.{option_map, slice_get}
 use Rattle.std.specs.List.{AllByRecursion, range_with_len}
 use Rattle.std.proofs.lemmas.Option.{get_or_from_slice_get, slice_get-map}
 use Rattle.dm_table.specs.declared.tables.table.Line.{Line}
-use Rattle.dm_stack.specs.declared.lines.found_line.FoundLine.{FoundLine}
-use Rattle.dm_stack.specs.declared.lines.found_line.FoundSnapshot.{FoundSnapshot}
+use Rattle.dm_stack.specs.declared.lines.resolved_line.ResolvedLine.{ResolvedLine}
+use Rattle.dm_stack.specs.declared.lines.resolved_line.ResolvedSnapshot.{ResolvedSnapshot}
 use Rattle.dm_stack.specs.declared.id.Lower.{Lower}
 use Rattle.dm_stack.specs.declared.id.Lower.TheVariants.{Device, Disk}
-use Rattle.dm_stack.specs.lines.Below.{Below, Lies, below_target, found_at, found_line, holds, line_of}
+use Rattle.dm_stack.specs.lines.Below.{Below, Lies, below_target, found_at, resolved_line, holds, line_of}
 use Rattle.dm_stack.specs.Description.{Description, device_links, line_links, lines_at, links}
 use Rattle.dm_stack.specs.checks.Graph.{depth_to, greatest, links_of}
 use Rattle.dm_stack.specs.checks.Depth.{lower_depth, stack_depth}
@@ -18,15 +18,15 @@ use Rattle.dm_stack.proofs.DepthRule.{shallow_device}
 use Rattle.dm_stack.proofs.SoundLines.{found, lines_there, there}
 use Rattle.dm_map.specs.state.Snapshots.{read_over}
 use Rattle.dm_map.specs.state.State.{State, taken_at}
-use Rattle.dm_map.proofs.state.FoundLines.{line_there}
+use Rattle.dm_map.proofs.state.ResolvedLines.{line_there}
 use Rattle.dm_map.proofs.walk.LevelLemmas.{GoesOn, OnBelow, OnLower, on_lines, on_target, over_read}
 
 -- what one of some lines, found by a sector, has below it
-on_found : (over : FoundSnapshot → ℕ → Below) (stack : Description) (P : ℕ → Type 0) (lines : List Line) (sector distance : ℕ) (held : Option Line) (line : FoundLine) → GoesOn over P → AllByRecursion (λ l. AllByRecursion P (line_links stack l)) lines
-    → line_of lines sector ≡ held → option_map (found_line stack) held ≡ Some line → OnBelow P (below_target over line.target distance)
+on_found : (over : ResolvedSnapshot → ℕ → Below) (stack : Description) (P : ℕ → Type 0) (lines : List Line) (sector distance : ℕ) (held : Option Line) (line : ResolvedLine) → GoesOn over P → AllByRecursion (λ l. AllByRecursion P (line_links stack l)) lines
+    → line_of lines sector ≡ held → option_map (resolved_line stack) held ≡ Some line → OnBelow P (below_target over line.target distance)
 on_found over stack P lines sector distance None line on each e is = absurd cc
 on_found over stack P lines sector distance (Some l) line on each e is =
-    let same : found_line stack l ≡ line = cc in
+    let same : resolved_line stack l ≡ line = cc in
     rw (← same) (on_target over stack P l.len l.target distance on (found (λ x. AllByRecursion P (line_links stack x)) (holds sector) lines l each e).1)
 
 -- the lines of a device name what it names
@@ -50,7 +50,7 @@ at_below : (P : ℕ → Type 0) (b : Below) (to : Lower) (sector : ℕ) → OnBe
 unfolding OnBelow
 at_below P b to sector on is = rw is at on
 
-pub below_less : (stack : Description) (state : State) (device sector distance : ℕ) (line : FoundLine) (to : Lower) (lower : ℕ) → IsSound stack → found_at stack device sector ≡ Some line
+pub below_less : (stack : Description) (state : State) (device sector distance : ℕ) (line : ResolvedLine) (to : Lower) (lower : ℕ) → IsSound stack → found_at stack device sector ≡ Some line
     → below_target (read_over (taken_at state device)) line.target distance ≡ Lies to lower → lower_depth stack to ≤ depth_of stack device - 1
 below_less stack state device sector distance line to lower sound is lies =
     let within = line_there stack device sector line is in

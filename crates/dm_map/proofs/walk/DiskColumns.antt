@@ -4,9 +4,9 @@ use Rattle.std.specs.Prelude.{Result, Ok, Err}
 use Rattle.dm_table.specs.declared.requests.request.Op.{Op}
 use Rattle.dm_table.specs.declared.requests.request.Op.TheVariants as ops
 use Rattle.dm_stack.specs.declared.id.Lower.TheVariants.{Disk}
-use Rattle.dm_stack.specs.declared.lines.found_line.FoundLine.{FoundLine}
-use Rattle.dm_stack.specs.declared.lines.found_line.FoundTarget.{FoundTarget}
-use Rattle.dm_stack.specs.declared.lines.found_line.FoundTarget.TheVariants as found
+use Rattle.dm_stack.specs.declared.lines.resolved_line.ResolvedLine.{ResolvedLine}
+use Rattle.dm_stack.specs.declared.lines.resolved_line.ResolvedTarget.{ResolvedTarget}
+use Rattle.dm_stack.specs.declared.lines.resolved_line.ResolvedTarget.TheVariants as found
 use Rattle.dm_stack.specs.Description.{Description}
 use Rattle.dm_stack.specs.lines.Below.{Below, Lies, below_plain, has_state, IsLine}
 use Rattle.dm_stack.specs.lines.Leg.{has_disk_columns, AreOnDisks, LegsView}
@@ -24,13 +24,13 @@ use Rattle.dm_map.proofs.walk.Ranges.{plain_step}
 use Rattle.dm_map.proofs.walk.Rows.{none_added, on_ok, on_ok_then, walked_as}
 
 -- its sectors that are left lie on disks
-pub legs_on_disks : (stack other : Description) (device : ℕ) (line : FoundLine) (legs : LegsView) (distance len : ℕ) → other ≡ stack → IsLine stack device line → distance + len ≤ line.len → has_disk_columns line.target ≡ true → legs ≡ record { target = line.target; distance = distance; left = len }
+pub legs_on_disks : (stack other : Description) (device : ℕ) (line : ResolvedLine) (legs : LegsView) (distance len : ℕ) → other ≡ stack → IsLine stack device line → distance + len ≤ line.len → has_disk_columns line.target ≡ true → legs ≡ record { target = line.target; distance = distance; left = len }
     → AreOnDisks other legs
 legs_on_disks stack other device line legs distance len same of inside each made =
     rw (same, made) (record { device = device; start = line.start; len = line.len; sound = of.target; inside = inside; columns = each })
 
 -- the step of one of them
-disk_plain : (target : FoundTarget) → has_disk_columns target ≡ true → has_state target ≡ false
+disk_plain : (target : ResolvedTarget) → has_disk_columns target ≡ true → has_state target ≡ false
 disk_plain (found.Striped chunk columns) each = refl
 disk_plain target each = absurd cc
 
@@ -39,24 +39,24 @@ unfolding read_unit write_step
 below_disk stack ops.Read levels disk sector state = refl
 below_disk stack ops.Write levels disk sector state = refl
 
-disk_sector : (stack : Description) (op : Op) (levels device distance : ℕ) (target : FoundTarget) (state : State) → has_state target ≡ false → IsOnADisk (below_plain target distance) → target_step stack op levels device target state distance ≡ keep (below_unit op (below_plain target distance) ∷ []) state
+disk_sector : (stack : Description) (op : Op) (levels device distance : ℕ) (target : ResolvedTarget) (state : State) → has_state target ≡ false → IsOnADisk (below_plain target distance) → target_step stack op levels device target state distance ≡ keep (below_unit op (below_plain target distance) ∷ []) state
 disk_sector stack op levels device distance target state plain on =
     plain_step stack op levels device target distance state plain ∙ ap (λ (b : Below). below_step stack op levels b state) on.is
     ∙ below_disk stack op levels on.disk on.sector state ∙ ap (λ (b : Below). keep (below_unit op b ∷ []) state) (sym on.is)
 
 -- and that of all of them
-units_row : (step : State → ℕ → Step) (op : Op) (target : FoundTarget) (distance n : ℕ) (state : State) → ((d : ℕ) → step state d ≡ keep (below_unit op (below_plain target d) ∷ []) state) → steps step state distance n ≡ keep (line_units op target distance n) state
+units_row : (step : State → ℕ → Step) (op : Op) (target : ResolvedTarget) (distance n : ℕ) (state : State) → ((d : ℕ) → step state d ≡ keep (below_unit op (below_plain target d) ∷ []) state) → steps step state distance n ≡ keep (line_units op target distance n) state
 units_row step op target distance zero state each = refl
 units_row step op target distance (suc n) state each =
     let here : step state distance ≡ keep (below_unit op (below_plain target distance) ∷ []) state = each distance in
     cc (units_row step op target (suc distance) n state each)
 
-disk_steps : (stack : Description) (op : Op) (levels device distance n : ℕ) (target : FoundTarget) (state : State) → has_state target ≡ false → ((d : ℕ) → IsOnADisk (below_plain target d)) → line_step stack op levels device target state distance n ≡ keep (line_units op target distance n) state
+disk_steps : (stack : Description) (op : Op) (levels device distance n : ℕ) (target : ResolvedTarget) (state : State) → has_state target ≡ false → ((d : ℕ) → IsOnADisk (below_plain target d)) → line_step stack op levels device target state distance n ≡ keep (line_units op target distance n) state
 disk_steps stack op levels device distance n target state plain each =
     units_row (target_step stack op levels device target) op target distance n state (λ d. disk_sector stack op levels device d target state plain (each d))
 
 -- so they are mapped where a sink took their units
-pub mapped_on_disks : {S F : Type 0} {past : SinkPast S} {result : Result (Unit {0}) F} {old new : S} {walk : WalkerView} {legs : LegsView} (op : Op) (levels device distance len : ℕ) (line : FoundLine) → IsLine walk.stack device line → has_disk_columns line.target ≡ true
+pub mapped_on_disks : {S F : Type 0} {past : SinkPast S} {result : Result (Unit {0}) F} {old new : S} {walk : WalkerView} {legs : LegsView} (op : Op) (levels device distance len : ℕ) (line : ResolvedLine) → IsLine walk.stack device line → has_disk_columns line.target ≡ true
     → legs ≡ record { target = line.target; distance = distance; left = len } → AreHanded past result old new (legs_units op legs) → IsMapped past result old new walk walk (target_mapping op levels device line.start line.target) distance len
 mapped_on_disks {past} {result} {old} {new} {walk} op levels device distance len line of each made handed =
     let step = line_step walk.stack op levels device line.target walk.state distance len in

@@ -2,7 +2,7 @@
 use Rattle.std.proofs.Common.{◌≡◌, ℕ, ◌+◌, ◌-◌, ◌≤◌, false, List, Some, refl, sym, ◌∙◌, arith}
 use Rattle.std.specs.Prelude.{Option, Result, Ok, Err}
 use Rattle.dm_table.specs.declared.requests.request.Op.{Op}
-use Rattle.dm_stack.specs.declared.lines.found_line.FoundLine.{FoundLine}
+use Rattle.dm_stack.specs.declared.lines.resolved_line.ResolvedLine.{ResolvedLine}
 use Rattle.dm_stack.specs.declared.checks.graph.TheConstants.{MOST_DEPTH}
 use Rattle.dm_stack.specs.declared.id.Lower.{Lower}
 use Rattle.dm_stack.specs.declared.id.Lower.TheVariants.{Disk}
@@ -49,7 +49,7 @@ mapped_over stack op n is mapped = record { walked = walked_over stack op n is m
 
 -- Sectors that are not handed over
 
-pub home_mapped : {S F : Type 0} (past : SinkPast S) (sink : S) (w : WalkerView) (op : Op) (device sector len : ℕ) (line : FoundLine) (home : Home) (stack : Description) → stack ≡ w.stack
+pub home_mapped : {S F : Type 0} (past : SinkPast S) (sink : S) (w : WalkerView) (op : Op) (device sector len : ℕ) (line : ResolvedLine) (home : Home) (stack : Description) → stack ≡ w.stack
     → refuses w.stack op device ≡ false → IsLineOf w.stack device line sector → 1 ≤ len → sector + len ≤ line.start + line.len → IsLegOf w.stack device line (sector - line.start) (record { below = Lies (Disk home.disk) home.start; len = len })
     → IsMapped {F = F} (or_home {F = F} past stack op len (Ok (Some home))) (Ok (Some home)) sink sink w w (found_mapping op MOST_DEPTH device) sector len
 home_mapped {S} {F} past sink w op device sector len line home stack is passes of some inside leg =

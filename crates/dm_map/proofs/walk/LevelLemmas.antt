@@ -17,15 +17,15 @@ use Rattle.dm_table.specs.declared.requests.request.Op.TheVariants as ops
 use Rattle.dm_stack.specs.declared.id.Lower.{Lower}
 use Rattle.dm_stack.specs.declared.id.Lower.TheVariants.{Device, Disk}
 use Rattle.dm_stack.specs.declared.checks.graph.TheConstants.{MOST_DEPTH}
-use Rattle.dm_stack.specs.declared.lines.found_line.FoundLine.{FoundLine}
-use Rattle.dm_stack.specs.declared.lines.found_line.FoundTarget.{FoundTarget}
-use Rattle.dm_stack.specs.declared.lines.found_line.FoundTarget.TheVariants as founds
+use Rattle.dm_stack.specs.declared.lines.resolved_line.ResolvedLine.{ResolvedLine}
+use Rattle.dm_stack.specs.declared.lines.resolved_line.ResolvedTarget.{ResolvedTarget}
+use Rattle.dm_stack.specs.declared.lines.resolved_line.ResolvedTarget.TheVariants as founds
 use Rattle.dm_stack.specs.Description.{Description, lower_of, ref_link, line_links, device_links, links, lines_or_none}
 use Rattle.dm_table.specs.tables.Span.{Span, target_spans, whole_span}
 use Rattle.dm_stack.specs.checks.Graph.{links_of, greatest, depth_to}
-use Rattle.dm_stack.specs.declared.lines.found_line.FoundSnapshot.{FoundSnapshot}
-use Rattle.dm_stack.specs.lines.Below.{Below, Lies, IsZero, IsError, below, below_line, below_plain, below_target, found_line, found_target, found_at, holds, line_of}
-use Rattle.dm_stack.specs.lines.Over.{found_snapshot}
+use Rattle.dm_stack.specs.declared.lines.resolved_line.ResolvedSnapshot.{ResolvedSnapshot}
+use Rattle.dm_stack.specs.lines.Below.{Below, Lies, IsZero, IsError, below, below_line, below_plain, below_target, resolved_line, resolved_target, found_at, holds, line_of}
+use Rattle.dm_stack.specs.lines.Over.{resolved_snapshot}
 use Rattle.dm_stack.specs.checks.Soundness.{IsSound, faults_by_id, depth_of}
 use Rattle.dm_stack.proofs.Passes.{all_parts, passes_all}
 use Rattle.dm_stack.proofs.SoundLines.{found}
@@ -66,19 +66,19 @@ on_spans stack P (span ∷ spans) each =
     let parts = all_parts P (ref_link stack span.to) (span_links stack spans) each in
     (on_ref stack P span.to parts.0, on_spans stack P spans parts.1)
 
-on_plain : (stack : Description) (P : ℕ → Type 0) (len : ℕ) (target : Target) (distance : ℕ) (b : Below) → AllByRecursion P (span_links stack (target_spans len target)) → below_plain (found_target stack target) distance ≡ b → OnBelow P b
+on_plain : (stack : Description) (P : ℕ → Type 0) (len : ℕ) (target : Target) (distance : ℕ) (b : Below) → AllByRecursion P (span_links stack (target_spans len target)) → below_plain (resolved_target stack target) distance ≡ b → OnBelow P b
 unfolding OnBelow
 on_plain stack P len target distance (Lies to at) each is =
     let in_span = plain_span stack len target distance to at is in
-    subst (OnLower P) in_span.on (at_index (λ span. OnLower P (lower_of stack span.to)) (target_spans len target) (span_index (found_target stack target) distance) in_span.span (on_spans stack P (target_spans len target) each) in_span.is)
+    subst (OnLower P) in_span.on (at_index (λ span. OnLower P (lower_of stack span.to)) (target_spans len target) (span_index (resolved_target stack target) distance) in_span.span (on_spans stack P (target_spans len target) each) in_span.is)
 on_plain stack P len target distance IsZero each is = tt
 on_plain stack P len target distance IsError each is = tt
 
 -- a snapshot goes on in its store or its origin, where it goes on
-unfoldable pub GoesOn : (over : FoundSnapshot → ℕ → Below) (P : ℕ → Type 0) → Type 0
-GoesOn over P = (snapshot : FoundSnapshot) (sector : ℕ) → OnLower P snapshot.store → OnLower P snapshot.origin → OnBelow P (over snapshot sector)
+unfoldable pub GoesOn : (over : ResolvedSnapshot → ℕ → Below) (P : ℕ → Type 0) → Type 0
+GoesOn over P = (snapshot : ResolvedSnapshot) (sector : ℕ) → OnLower P snapshot.store → OnLower P snapshot.origin → OnBelow P (over snapshot sector)
 
-over_by : (P : ℕ → Type 0) (snapshot : FoundSnapshot) (sector : ℕ) (valid : Bool) (number : Option ℕ) → OnLower P snapshot.store → OnLower P snapshot.origin → OnBelow P (cond valid (read_numbered snapshot number sector) IsError)
+over_by : (P : ℕ → Type 0) (snapshot : ResolvedSnapshot) (sector : ℕ) (valid : Bool) (number : Option ℕ) → OnLower P snapshot.store → OnLower P snapshot.origin → OnBelow P (cond valid (read_numbered snapshot number sector) IsError)
 unfolding OnBelow
 over_by P snapshot sector false number store origin = tt
 over_by P snapshot sector true None store origin = origin
@@ -88,13 +88,13 @@ pub over_read : (P : ℕ → Type 0) (taken : Taken) → GoesOn (read_over taken
 unfolding GoesOn
 over_read P taken snapshot sector store origin = over_by P snapshot sector taken.valid (number_in (sector / snapshot.chunk) taken.chunks) store origin
 
-pub on_target : (over : FoundSnapshot → ℕ → Below) (stack : Description) (P : ℕ → Type 0) (len : ℕ) (target : Target) (distance : ℕ) → GoesOn over P → AllByRecursion P (span_links stack (target_spans len target)) → OnBelow P (below_target over (found_target stack target) distance)
+pub on_target : (over : ResolvedSnapshot → ℕ → Below) (stack : Description) (P : ℕ → Type 0) (len : ℕ) (target : Target) (distance : ℕ) → GoesOn over P → AllByRecursion P (span_links stack (target_spans len target)) → OnBelow P (below_target over (resolved_target stack target) distance)
 unfolding OnBelow GoesOn
 on_target over stack P len (targets.Snapshot origin store kind chunk_size) distance on each =
     let store_first = all_parts P (ref_link stack store) (span_links stack (whole_span origin Reading ∷ [])) each in
-    on (found_snapshot stack origin store kind chunk_size) distance (on_ref stack P store store_first.0) (on_ref stack P origin (all_parts P (ref_link stack origin) [] store_first.1).0)
+    on (resolved_snapshot stack origin store kind chunk_size) distance (on_ref stack P store store_first.0) (on_ref stack P origin (all_parts P (ref_link stack origin) [] store_first.1).0)
 on_target over stack P len (targets.Origin to) distance on each = on_ref stack P to (all_parts P (ref_link stack to) [] each).0
-on_target over stack P len target distance on each = on_plain stack P len target distance (below_plain (found_target stack target) distance) each refl
+on_target over stack P len target distance on each = on_plain stack P len target distance (below_plain (resolved_target stack target) distance) each refl
 
 pub on_lines : (stack : Description) (P : ℕ → Type 0) (lines : List Line) → AllByRecursion P (flat_map (line_links stack) lines) → AllByRecursion (λ line. AllByRecursion P (line_links stack line)) lines
 on_lines stack P [] each = tt
@@ -102,13 +102,13 @@ on_lines stack P (line ∷ lines) each =
     let parts = all_parts P (line_links stack line) (flat_map (line_links stack) lines) each in
     (parts.0, on_lines stack P lines parts.1)
 
-on_line : (over : FoundSnapshot → ℕ → Below) (stack : Description) (P : ℕ → Type 0) (lines : List Line) (sector : ℕ) (line : Option Line) → GoesOn over P → AllByRecursion (λ l. AllByRecursion P (line_links stack l)) lines → line_of lines sector ≡ line → OnBelow P (below_line over (option_map (found_line stack) line) sector)
+on_line : (over : ResolvedSnapshot → ℕ → Below) (stack : Description) (P : ℕ → Type 0) (lines : List Line) (sector : ℕ) (line : Option Line) → GoesOn over P → AllByRecursion (λ l. AllByRecursion P (line_links stack l)) lines → line_of lines sector ≡ line → OnBelow P (below_line over (option_map (resolved_line stack) line) sector)
 unfolding OnBelow
 on_line over stack P lines sector None on each e = tt
 on_line over stack P lines sector (Some line) on each e =
     on_target over stack P line.len line.target (sector - line.start) on (found (λ l. AllByRecursion P (line_links stack l)) (holds sector) lines line each e).1
 
-on_device : (over : FoundSnapshot → ℕ → Below) (stack : Description) (P : ℕ → Type 0) (device sector : ℕ) (spec : Option DeviceSpec) → GoesOn over P → slice_get stack.devices device ≡ spec → AllByRecursion P (links_of (links stack) device) → OnBelow P (below_line over (option_map (found_line stack) (line_of (lines_or_none spec) sector)) sector)
+on_device : (over : ResolvedSnapshot → ℕ → Below) (stack : Description) (P : ℕ → Type 0) (device sector : ℕ) (spec : Option DeviceSpec) → GoesOn over P → slice_get stack.devices device ≡ spec → AllByRecursion P (links_of (links stack) device) → OnBelow P (below_line over (option_map (resolved_line stack) (line_of (lines_or_none spec) sector)) sector)
 unfolding OnBelow
 on_device over stack P device sector None on e each = tt
 on_device over stack P device sector (Some spec) on e each =
@@ -116,7 +116,7 @@ on_device over stack P device sector (Some spec) on e each =
     let named : links_of (links stack) device ≡ device_links stack spec = get_or_from_slice_get (links stack) device (device_links stack spec) [] is in
     on_line over stack P spec.lines sector (line_of spec.lines sector) on (on_lines stack P spec.lines (subst (AllByRecursion P) named each)) refl
 
-pub on_below : (over : FoundSnapshot → ℕ → Below) (stack : Description) (P : ℕ → Type 0) (device sector : ℕ) → GoesOn over P → AllByRecursion P (links_of (links stack) device) → OnBelow P (below over stack device sector)
+pub on_below : (over : ResolvedSnapshot → ℕ → Below) (stack : Description) (P : ℕ → Type 0) (device sector : ℕ) → GoesOn over P → AllByRecursion P (links_of (links stack) device) → OnBelow P (below over stack device sector)
 on_below over stack P device sector on each = on_device over stack P device sector (slice_get stack.devices device) on refl each
 
 -- What a device names is less deep
@@ -159,7 +159,7 @@ same_read stack state (suc n) (suc j) (suc k) (Device device) sector h =
     same_below (IsShallow (links stack) n j k) (read_below stack state device sector) Zeros Fails (λ to s. read_unit stack state j to s) (λ to s. read_unit stack state k to s)
     (on_below (read_over (taken_at state device)) stack (IsShallow (links stack) n j k) device sector (over_read (IsShallow (links stack) n j k) (taken_at state device)) (named_shallow (links stack) n j k device h)) (λ to s on. same_read stack state n j k to s on)
 
-same_target : (P : ℕ → Type 0) (stack : Description) (state : State) (device : ℕ) (target : FoundTarget) (distance : ℕ) (f h : Lower → State → ℕ → Step) → OnBelow P (below_target (read_over (taken_at state device)) target distance) → ((after : State) (to : Lower) (s : ℕ) → OnLower P to → f to after s ≡ h to after s)
+same_target : (P : ℕ → Type 0) (stack : Description) (state : State) (device : ℕ) (target : ResolvedTarget) (distance : ℕ) (f h : Lower → State → ℕ → Step) → OnBelow P (below_target (read_over (taken_at state device)) target distance) → ((after : State) (to : Lower) (s : ℕ) → OnLower P to → f to after s ≡ h to after s)
     → write_target stack state device target distance f ≡ write_target stack state device target distance h
 unfolding OnBelow
 same_target P stack state device (founds.Snapshot snapshot) distance f h on same = refl
@@ -168,7 +168,7 @@ same_target P stack state device (founds.Origin origin) distance f h on same =
     and_then_at served (λ after. f origin.to after distance) (λ after. h origin.to after distance) (same served.state origin.to distance on)
 same_target P stack state device target distance f h on same = same_below P (below_plain target distance) (keep (Drops ∷ []) state) (keep (Fails ∷ []) state) (λ to s. f to state s) (λ to s. h to state s) on (same state)
 
-pub same_line : (P : ℕ → Type 0) (stack : Description) (state : State) (device : ℕ) (line : Option FoundLine) (sector : ℕ) (f h : Lower → State → ℕ → Step) → OnBelow P (below_line (read_over (taken_at state device)) line sector) → ((after : State) (to : Lower) (s : ℕ) → OnLower P to → f to after s ≡ h to after s)
+pub same_line : (P : ℕ → Type 0) (stack : Description) (state : State) (device : ℕ) (line : Option ResolvedLine) (sector : ℕ) (f h : Lower → State → ℕ → Step) → OnBelow P (below_line (read_over (taken_at state device)) line sector) → ((after : State) (to : Lower) (s : ℕ) → OnLower P to → f to after s ≡ h to after s)
     → write_line stack state device line sector f ≡ write_line stack state device line sector h
 unfolding OnBelow
 same_line P stack state device None sector f h on same = refl

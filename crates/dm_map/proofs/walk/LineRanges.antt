@@ -1,7 +1,7 @@
 -- The legs of a line.
 use Rattle.std.proofs.Common.{◌≡◌, ℕ, ◌+◌, ◌≤◌, arith}
-use Rattle.dm_stack.specs.declared.lines.found_line.FoundLine.{FoundLine}
-use Rattle.dm_stack.specs.declared.lines.found_line.FoundTarget.{FoundTarget}
+use Rattle.dm_stack.specs.declared.lines.resolved_line.ResolvedLine.{ResolvedLine}
+use Rattle.dm_stack.specs.declared.lines.resolved_line.ResolvedTarget.{ResolvedTarget}
 use Rattle.dm_stack.specs.declared.lines.leg.Leg.{Leg}
 use Rattle.dm_stack.specs.lines.Below.{IsLine, IsTargetSound}
 use Rattle.dm_stack.specs.Description.{Description}
@@ -11,22 +11,22 @@ use Rattle.dm_stack.proofs.LegLemmas.{leg_lies_inside}
 use Rattle.dm_map.specs.walk.Range.{IsLegOf}
 
 -- a line has its sectors
-pub line_sectors : (stack : Description) (device distance len : ℕ) (line : FoundLine) → IsSound stack → IsLine stack device line → distance + len ≤ line.len → HasSectors line.target distance len
+pub line_sectors : (stack : Description) (device distance len : ℕ) (line : ResolvedLine) → IsSound stack → IsLine stack device line → distance + len ≤ line.len → HasSectors line.target distance len
 line_sectors stack device distance len line sound of inside =
     record { stack = stack; sound = sound; device = device; start = line.start; line_len = line.len; lies = of.target; inside = inside; small = let small = of.small in omega (arith, small) }
 
 -- the first leg of them
-pub leg_of : (stack : Description) (device distance len : ℕ) (line : FoundLine) (leg : Leg) → IsLine stack device line → distance + len ≤ line.len → IsLeg line.target distance len leg
+pub leg_of : (stack : Description) (device distance len : ℕ) (line : ResolvedLine) (leg : Leg) → IsLine stack device line → distance + len ≤ line.len → IsLeg line.target distance len leg
     → ((other : Description) (id start line_len : ℕ) → IsTargetSound other id start line_len line.target → distance + len ≤ line_len → AreInside other leg.len leg.below) → IsLegOf stack device line distance leg
 leg_of stack device distance len line leg of inside is lies =
     record { of = of; some = is.some; inside = omega (arith, inside, is.within); is = is.is; lies = lies stack device line.start line.len of.target inside }
 
 -- one of a row of them, of which the stack is still that
-pub leg_within : (stack old : Description) (device at left : ℕ) (line : FoundLine) (leg : Leg) → stack ≡ old → IsLine old device line → at + left ≤ line.len → IsLeg line.target at left leg → IsLegOf stack device line at leg
+pub leg_within : (stack old : Description) (device at left : ℕ) (line : ResolvedLine) (leg : Leg) → stack ≡ old → IsLine old device line → at + left ≤ line.len → IsLeg line.target at left leg → IsLegOf stack device line at leg
 leg_within stack old device at left line leg same of inside is =
     leg_of stack device at left line leg (rw same of) inside is
     (λ other id start line_len sound inside. leg_lies_inside other id start line_len at left line.target leg is sound inside)
 
 -- a leg of one that is left of a row of legs
-pub leg_at : (target other : FoundTarget) (distance at most : ℕ) (leg : Leg) → other ≡ target → distance ≡ at → IsLeg other distance most leg → IsLeg target at most leg
+pub leg_at : (target other : ResolvedTarget) (distance at most : ℕ) (leg : Leg) → other ≡ target → distance ≡ at → IsLeg other distance most leg → IsLeg target at most leg
 leg_at target other distance at most leg same position is = rw (← position, ← same) is

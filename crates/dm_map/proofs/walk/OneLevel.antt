@@ -6,7 +6,7 @@ use Rattle.std.proofs.lemmas.Option.{slice_get_past}
 use Rattle.dm_stack.specs.declared.checks.graph.TheConstants.{MOST_DEPTH}
 use Rattle.dm_stack.specs.declared.id.Lower.{Lower}
 use Rattle.dm_stack.specs.declared.id.Lower.TheVariants.{Device, Disk}
-use Rattle.dm_stack.specs.declared.lines.found_line.FoundLine.{FoundLine}
+use Rattle.dm_stack.specs.declared.lines.resolved_line.ResolvedLine.{ResolvedLine}
 use Rattle.dm_stack.specs.lines.Below.{Lies, IsError, below, below_line, found_at}
 use Rattle.dm_stack.specs.Description.{Description, is_ro_at, links}
 use Rattle.dm_stack.specs.checks.Graph.{links_of}
@@ -30,7 +30,7 @@ none_past stack device sector past = cc (slice_get_past stack.devices device pas
 pub below_past : (stack : Description) (state : State) (device sector : ℕ) → length stack.devices ≤ device → read_below stack state device sector ≡ IsError
 below_past stack state device sector past = cc (none_past stack device sector past)
 
-next_line : (stack : Description) (state : State) (device sector : ℕ) (to : Lower) (at : ℕ) (line : Option FoundLine) → IsSound stack → found_at stack device sector ≡ line → below_line (read_over (taken_at state device)) line sector ≡ Lies to at
+next_line : (stack : Description) (state : State) (device sector : ℕ) (to : Lower) (at : ℕ) (line : Option ResolvedLine) → IsSound stack → found_at stack device sector ≡ line → below_line (read_over (taken_at state device)) line sector ≡ Lies to at
     → lower_depth stack to < depth_of stack device
 next_line stack state device sector to at None sound is e = absurd cc
 next_line stack state device sector to at (Some line) sound is e =

@@ -4,8 +4,8 @@ use Rattle.std.specs.List.{All}
 use Rattle.std.specs.Prelude.{Result, Ok, Err}
 use Rattle.std.proofs.lemmas.List.Elements.{All-from_recursion}
 use Rattle.dm_table.specs.declared.requests.request.Op.TheVariants as ops
-use Rattle.dm_stack.specs.declared.lines.found_line.FoundOrigin.{FoundOrigin}
-use Rattle.dm_stack.specs.declared.lines.found_line.FoundOver.{FoundOver}
+use Rattle.dm_stack.specs.declared.lines.resolved_line.ResolvedOrigin.{ResolvedOrigin}
+use Rattle.dm_stack.specs.declared.lines.resolved_line.ResolvedOver.{ResolvedOver}
 use Rattle.dm_stack.specs.Description.{Description, lower_len}
 use Rattle.dm_stack.specs.lines.Over.{snapshots_over}
 use Rattle.dm_stack.specs.checks.Soundness.{IsSound}
@@ -23,17 +23,17 @@ use Rattle.dm_map.proofs.walk.Served.{StepsKeep, part}
 use Rattle.dm_map.proofs.walk.Settled.{write_keeps_settled}
 
 -- the snapshots of an origin, as a line has them, have its sectors
-pub line_overs : (stack before : Description) (origin : FoundOrigin) (over : List FoundOver) (sector len end : ℕ) → IsSound stack → before ≡ stack → over ≡ origin.over → origin.over ≡ snapshots_over stack origin.to → sector + len ≤ lower_len stack origin.to → end ≤ sector + len → All (IsOver before end) over
+pub line_overs : (stack before : Description) (origin : ResolvedOrigin) (over : List ResolvedOver) (sector len end : ℕ) → IsSound stack → before ≡ stack → over ≡ origin.over → origin.over ≡ snapshots_over stack origin.to → sector + len ≤ lower_len stack origin.to → end ≤ sector + len → All (IsOver before end) over
 line_overs stack before origin over sector len end sound same list all inside within =
     let each = All-from_recursion (IsOver stack end) _ (overs stack origin.to end sound (omega (arith, inside, within))) in
     rw (same, list, all) each
 
 -- what serving gives, by what the origin has
-served_is : (stack : Description) (origin : FoundOrigin) (over : List FoundOver) (at : ℕ) (state : State) → over ≡ origin.over → serve stack over at state ≡ serve stack origin.over at state
+served_is : (stack : Description) (origin : ResolvedOrigin) (over : List ResolvedOver) (at : ℕ) (state : State) → over ≡ origin.over → serve stack over at state ≡ serve stack origin.over at state
 served_is stack origin over at state list = cc
 
 -- the sink failed at what serving gives
-pub serve_failed : {S F : Type 0} {past : SinkPast S} {fault : F} {old new : S} {before after : WalkerView} {over : List FoundOver} (levels at n : ℕ) (origin : FoundOrigin) → over ≡ origin.over → 1 ≤ n
+pub serve_failed : {S F : Type 0} {past : SinkPast S} {fault : F} {old new : S} {before after : WalkerView} {over : List ResolvedOver} (levels at n : ℕ) (origin : ResolvedOrigin) → over ≡ origin.over → 1 ≤ n
     → IsWalked {R = Unit {0}} past (Err fault) old new before after (serve before.stack over at before.state) 0 → IsMapped {R = Unit {0}} past (Err fault) old new before after (origin_mapping ops.Write levels origin) at n
 serve_failed levels at zero origin list some walk = absurd (omega (arith, some))
 serve_failed {past} {old} {new} {before} {over} levels at (suc k) origin list some walk =
@@ -55,7 +55,7 @@ serve_failed {past} {old} {new} {before} {over} levels at (suc k) origin list so
     }
 
 -- or it took it, and the sectors are written
-pub part_mapped : {S F G : Type 0} {past : SinkPast S} {result : Result (Unit {0}) F} {fine : Unit {0}} {old middle new : S} {before between after : WalkerView} {over : List FoundOver} → IsLawful past → (levels at n : ℕ) (origin : FoundOrigin) → over ≡ origin.over → 1 ≤ n
+pub part_mapped : {S F G : Type 0} {past : SinkPast S} {result : Result (Unit {0}) F} {fine : Unit {0}} {old middle new : S} {before between after : WalkerView} {over : List ResolvedOver} → IsLawful past → (levels at n : ℕ) (origin : ResolvedOrigin) → over ≡ origin.over → 1 ≤ n
     → IsWalked {F = G} past (Ok fine) old middle before between (serve before.stack over at before.state) 0 → ((i : ℕ) → i < n → AreSettled between.state over (at + i))
     → IsMapped past result middle new between after (range_mapping ops.Write levels origin.to) at n → IsMapped past result old new before after (origin_mapping ops.Write levels origin) at n
 part_mapped lawful levels at zero origin list some one each two = absurd (omega (arith, some))

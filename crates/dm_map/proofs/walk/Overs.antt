@@ -2,8 +2,8 @@
 use Rattle.std.proofs.Common.{◌≡◌, ℕ, ◌/◌, ◌≤◌, true, List, Some, refl, ap, arith}
 use Rattle.std.specs.List.{AllByRecursion, Contains}
 use Rattle.std.proofs.lemmas.List.Elements.{All-contains, All-contains_itself, All-from_recursion, recursion_from_All}
-use Rattle.dm_stack.specs.declared.lines.found_line.FoundOver.{FoundOver}
-use Rattle.dm_stack.specs.declared.lines.found_line.FoundSnapshot.{FoundSnapshot}
+use Rattle.dm_stack.specs.declared.lines.resolved_line.ResolvedOver.{ResolvedOver}
+use Rattle.dm_stack.specs.declared.lines.resolved_line.ResolvedSnapshot.{ResolvedSnapshot}
 use Rattle.dm_stack.specs.declared.id.Lower.{Lower}
 use Rattle.dm_stack.specs.lines.Below.{found_at}
 use Rattle.dm_stack.specs.Description.{Description, lower_len}
@@ -14,13 +14,13 @@ use Rattle.dm_map.specs.walk.Serving.{AreSettled, IsOver}
 use Rattle.dm_map.specs.walk.SnapshotWrites.{is_settled}
 use Rattle.dm_map.specs.state.State.{State, taken_at}
 use Rattle.dm_map.specs.state.Tables.{snapshot_at, snapshot_of_line}
-use Rattle.dm_map.proofs.state.FoundLines.{first_line, snapshot_sound}
+use Rattle.dm_map.proofs.state.ResolvedLines.{first_line, snapshot_sound}
 
 all_members : {X : Type 0} (P : X → Type 0) (xs : List X) → ((x : X) → Contains xs x → P x) → AllByRecursion P xs
 all_members P xs each = recursion_from_All P xs (λ k d below. each _ (All-contains_itself xs k d below))
 
 -- each of them is as long as their origin
-pub over_is : (stack : Description) (to : Lower) (len : ℕ) (one : FoundOver) → IsSound stack → len ≤ lower_len stack to → Contains (snapshots_over stack to) one → IsOver stack len one
+pub over_is : (stack : Description) (to : Lower) (len : ℕ) (one : ResolvedOver) → IsSound stack → len ≤ lower_len stack to → Contains (snapshots_over stack to) one → IsOver stack len one
 over_is stack to len one sound long named =
     let of = over_sound stack to one sound named in
     let at : snapshot_at stack one.device ≡ Some one.snapshot = ap snapshot_of_line of.0.line in
@@ -32,9 +32,9 @@ pub overs : (stack : Description) (to : Lower) (len : ℕ) → IsSound stack →
 overs stack to len sound long = all_members (IsOver stack len) (snapshots_over stack to) (λ one named. over_is stack to len one sound long named)
 
 -- and each snapshot of that origin is one of them
-pub settled_over : (stack : Description) (state : State) (device sector : ℕ) (snapshot : FoundSnapshot) → snapshot_at stack device ≡ Some snapshot → AreSettled state (snapshots_over stack snapshot.origin) sector
+pub settled_over : (stack : Description) (state : State) (device sector : ℕ) (snapshot : ResolvedSnapshot) → snapshot_at stack device ≡ Some snapshot → AreSettled state (snapshots_over stack snapshot.origin) sector
     → is_settled (taken_at state device) (sector / snapshot.chunk) ≡ true
 settled_over stack state device sector snapshot at settled =
     let first = first_line stack device snapshot (found_at stack device 0) refl at in
-    let P : FoundOver → Type 0 = λ one. is_settled (taken_at state one.device) (sector / one.snapshot.chunk) ≡ true in
+    let P : ResolvedOver → Type 0 = λ one. is_settled (taken_at state one.device) (sector / one.snapshot.chunk) ≡ true in
     All-contains P (snapshots_over stack snapshot.origin) (record { device = device; snapshot = snapshot }) (All-from_recursion P (snapshots_over stack snapshot.origin) settled) (over_all stack device first.0 snapshot first.1 first.2)

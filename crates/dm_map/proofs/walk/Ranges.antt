@@ -4,10 +4,10 @@ use Rattle.dm_table.specs.declared.requests.request.Op.{Op}
 use Rattle.dm_table.specs.declared.requests.request.Op.TheVariants as ops
 use Rattle.dm_stack.specs.declared.id.Lower.{Lower}
 use Rattle.dm_stack.specs.declared.id.Lower.TheVariants.{Device, Disk}
-use Rattle.dm_stack.specs.declared.lines.found_line.FoundLine.{FoundLine}
-use Rattle.dm_stack.specs.declared.lines.found_line.FoundOrigin.{FoundOrigin}
-use Rattle.dm_stack.specs.declared.lines.found_line.FoundTarget.{FoundTarget}
-use Rattle.dm_stack.specs.declared.lines.found_line.FoundTarget.TheVariants as found
+use Rattle.dm_stack.specs.declared.lines.resolved_line.ResolvedLine.{ResolvedLine}
+use Rattle.dm_stack.specs.declared.lines.resolved_line.ResolvedOrigin.{ResolvedOrigin}
+use Rattle.dm_stack.specs.declared.lines.resolved_line.ResolvedTarget.{ResolvedTarget}
+use Rattle.dm_stack.specs.declared.lines.resolved_line.ResolvedTarget.TheVariants as found
 use Rattle.dm_stack.specs.declared.lines.leg.Beneath.{Beneath}
 use Rattle.dm_stack.specs.Description.{Description}
 use Rattle.dm_stack.specs.lines.Below.{Below, Lies, IsZero, IsError, below_plain, found_at, has_state}
@@ -26,7 +26,7 @@ still_zeros ops.Write = refl
 
 -- One sector
 
-sector_line : (stack : Description) (op : Op) (levels device sector : ℕ) (state : State) (line : FoundLine) → refuses stack op device ≡ false → found_at stack device sector ≡ Some line
+sector_line : (stack : Description) (op : Op) (levels device sector : ℕ) (state : State) (line : ResolvedLine) → refuses stack op device ≡ false → found_at stack device sector ≡ Some line
     → sector_step stack op (suc levels) (Device device) state sector ≡ target_step stack op levels device line.target state (sector - line.start)
 unfolding read_unit write_step
 sector_line stack ops.Read levels device sector state line passes is = rw is refl
@@ -61,7 +61,7 @@ range_refused stack op levels device sector n state shut =
     steps_still (sector_step stack op levels (Device device)) state sector n Fails refl (λ i within. sector_refused stack op levels device (sector + i) state shut)
 
 -- a range that lies in one line
-pub range_line : (stack : Description) (op : Op) (levels fewer device sector n : ℕ) (state : State) (line : FoundLine) → levels ≡ suc fewer → refuses stack op device ≡ false → line.start ≤ sector
+pub range_line : (stack : Description) (op : Op) (levels fewer device sector n : ℕ) (state : State) (line : ResolvedLine) → levels ≡ suc fewer → refuses stack op device ≡ false → line.start ≤ sector
     → ((i : ℕ) → i < n → found_at stack device (sector + i) ≡ Some line) → range_step stack op levels (Device device) state sector n ≡ line_step stack op fewer device line.target state (sector - line.start) n
 range_line stack op levels fewer device sector n state line more passes from each =
     rw more (steps_same (sector_step stack op (suc fewer) (Device device)) (target_step stack op fewer device line.target) state sector (sector - line.start) n
@@ -77,43 +77,43 @@ read_step stack levels IsZero state = refl
 read_step stack levels IsError state = refl
 
 -- one sector of a target without a state
-pub plain_step : (stack : Description) (op : Op) (levels device : ℕ) (target : FoundTarget) (distance : ℕ) (state : State) → has_state target ≡ false → target_step stack op levels device target state distance ≡ below_step stack op levels (below_plain target distance) state
+pub plain_step : (stack : Description) (op : Op) (levels device : ℕ) (target : ResolvedTarget) (distance : ℕ) (state : State) → has_state target ≡ false → target_step stack op levels device target state distance ≡ below_step stack op levels (below_plain target distance) state
 plain_step stack op levels device (found.Snapshot snapshot) distance state plain = absurd cc
 plain_step stack op levels device (found.Origin origin) distance state plain = absurd cc
 plain_step stack ops.Read levels device target distance state plain = read_step stack levels (below_plain target distance) state
 plain_step stack ops.Write levels device target distance state plain = refl
 
 -- what is beneath a leg, by what a match found
-pub beneath_as : (target : FoundTarget) (distance len : ℕ) (below other : Beneath) → below ≡ other → IsBeneath target distance len below → IsBeneath target distance len other
+pub beneath_as : (target : ResolvedTarget) (distance len : ℕ) (below other : Beneath) → below ≡ other → IsBeneath target distance len below → IsBeneath target distance len other
 beneath_as target distance len below other is on = rw is at on
 
 -- those of a leg: sectors that lie elsewhere, zeros, or errors
-leg_sector : (stack : Description) (op : Op) (levels device : ℕ) (target : FoundTarget) (distance n i : ℕ) (state : State) (row : ℕ → Below) → GoesOn target distance n row → i < n → target_step stack op levels device target state (distance + i) ≡ below_step stack op levels (row i) state
+leg_sector : (stack : Description) (op : Op) (levels device : ℕ) (target : ResolvedTarget) (distance n i : ℕ) (state : State) (row : ℕ → Below) → GoesOn target distance n row → i < n → target_step stack op levels device target state (distance + i) ≡ below_step stack op levels (row i) state
 leg_sector stack op levels device target distance n i state row on within =
     cc (plain_step stack op levels device target (distance + i) state on.plain, on.below i within)
 
-pub leg_lies : (stack : Description) (op : Op) (levels device : ℕ) (target : FoundTarget) (to : Lower) (distance sector n : ℕ) (state : State) → GoesOn target distance n (λ i. Lies to (sector + i)) → line_step stack op levels device target state distance n ≡ range_step stack op levels to state sector n
+pub leg_lies : (stack : Description) (op : Op) (levels device : ℕ) (target : ResolvedTarget) (to : Lower) (distance sector n : ℕ) (state : State) → GoesOn target distance n (λ i. Lies to (sector + i)) → line_step stack op levels device target state distance n ≡ range_step stack op levels to state sector n
 leg_lies stack op levels device target to distance sector n state on =
     steps_same (target_step stack op levels device target) (sector_step stack op levels to) state distance sector n
     (λ after i within. leg_sector stack op levels device target distance n i after (λ k. Lies to (sector + k)) on within)
 
-pub leg_zeros : (stack : Description) (op : Op) (levels device : ℕ) (target : FoundTarget) (distance n : ℕ) (state : State) → GoesOn target distance n (λ i. IsZero) → line_step stack op levels device target state distance n ≡ keep (units_in (zero_unit op) n) state
+pub leg_zeros : (stack : Description) (op : Op) (levels device : ℕ) (target : ResolvedTarget) (distance n : ℕ) (state : State) → GoesOn target distance n (λ i. IsZero) → line_step stack op levels device target state distance n ≡ keep (units_in (zero_unit op) n) state
 leg_zeros stack op levels device target distance n state on =
     steps_still (target_step stack op levels device target) state distance n (zero_unit op) (still_zeros op) (λ i within. leg_sector stack op levels device target distance n i state (λ k. IsZero) on within)
 
-pub leg_errors : (stack : Description) (op : Op) (levels device : ℕ) (target : FoundTarget) (distance n : ℕ) (state : State) → GoesOn target distance n (λ i. IsError) → line_step stack op levels device target state distance n ≡ keep (units_in Fails n) state
+pub leg_errors : (stack : Description) (op : Op) (levels device : ℕ) (target : ResolvedTarget) (distance n : ℕ) (state : State) → GoesOn target distance n (λ i. IsError) → line_step stack op levels device target state distance n ≡ keep (units_in Fails n) state
 leg_errors stack op levels device target distance n state on =
     steps_still (target_step stack op levels device target) state distance n Fails refl (λ i within. leg_sector stack op levels device target distance n i state (λ k. IsError) on within)
 
 -- An origin's line
 
-origin_sector : (stack : Description) (op : Op) (levels device distance : ℕ) (origin : FoundOrigin) (state : State) → target_step stack op levels device (found.Origin origin) state distance ≡ served_sector stack op levels origin state distance
+origin_sector : (stack : Description) (op : Op) (levels device distance : ℕ) (origin : ResolvedOrigin) (state : State) → target_step stack op levels device (found.Origin origin) state distance ≡ served_sector stack op levels origin state distance
 origin_sector stack ops.Read levels device distance origin state = refl
 origin_sector stack ops.Write levels device distance origin state = refl
 
-pub line_served : (stack : Description) (op : Op) (levels device : ℕ) (origin : FoundOrigin) (distance n : ℕ) (state : State) → line_step stack op levels device (found.Origin origin) state distance n ≡ origin_step stack op levels origin state distance n
+pub line_served : (stack : Description) (op : Op) (levels device : ℕ) (origin : ResolvedOrigin) (distance n : ℕ) (state : State) → line_step stack op levels device (found.Origin origin) state distance n ≡ origin_step stack op levels origin state distance n
 line_served stack op levels device origin distance n state =
     steps_same (target_step stack op levels device (found.Origin origin)) (served_sector stack op levels origin) state distance distance n (λ after i within. origin_sector stack op levels device (distance + i) origin after)
 
-pub origin_read : (stack : Description) (levels : ℕ) (origin : FoundOrigin) (sector n : ℕ) (state : State) → origin_step stack ops.Read levels origin state sector n ≡ range_step stack ops.Read levels origin.to state sector n
+pub origin_read : (stack : Description) (levels : ℕ) (origin : ResolvedOrigin) (sector n : ℕ) (state : State) → origin_step stack ops.Read levels origin state sector n ≡ range_step stack ops.Read levels origin.to state sector n
 origin_read stack levels origin sector n state = steps_same (served_sector stack ops.Read levels origin) (sector_step stack ops.Read levels origin.to) state sector sector n (λ after i within. refl)

@@ -9,8 +9,8 @@ use Rattle.std.proofs.lemmas.List.Elements.{All-get_or}
 use Rattle.dm_stack.specs.lines.Below.{IsSnapshotSound}
 use Rattle.dm_stack.specs.Description.{Description, device_len}
 use Rattle.dm_stack.specs.checks.Soundness.{IsSound}
-use Rattle.dm_stack.specs.declared.lines.found_line.FoundSnapshot.{FoundSnapshot}
-use Rattle.dm_stack.specs.declared.lines.found_line.FoundOver.{FoundOver}
+use Rattle.dm_stack.specs.declared.lines.resolved_line.ResolvedSnapshot.{ResolvedSnapshot}
+use Rattle.dm_stack.specs.declared.lines.resolved_line.ResolvedOver.{ResolvedOver}
 use Rattle.dm_map.specs.walk.Serving.{AreSettled, IsOver, serve, served_step}
 use Rattle.dm_map.specs.walk.SnapshotWrites.{first_of, is_settled, take_chunk}
 use Rattle.dm_map.specs.state.State.{State, Taken, taken_at}
@@ -20,19 +20,19 @@ use Rattle.dm_map.specs.state.Walker.{WalkerView}
 use Rattle.dm_map.specs.walk.Range.{IsWalked}
 use Rattle.dm_map.specs.walk.Chunk.{AreInSnapshot}
 use Rattle.dm_map.proofs.walk.Chunks.{first_there, same_chunk}
-use Rattle.dm_map.proofs.state.FoundLines.{snapshot_sound}
+use Rattle.dm_map.proofs.state.ResolvedLines.{snapshot_sound}
 use Rattle.dm_map.proofs.walk.ChunkTaking.{chunk_outcome, take_chunk_again, take_chunk_settles}
 use Rattle.dm_map.proofs.walk.Rows.{and_then_at, left_more, step_assoc, walked_as, walked_cut, walked_then}
 use Rattle.dm_map.proofs.walk.Settled.{KeepsSettled, take_chunk_keeps, serve_keeps}
 use Rattle.dm_stack.proofs.InStack.{device_there}
 use Rattle.dm_map.proofs.walk.WalkedOn.{going_on}
 
-abbrev take_chunk_one : Description → FoundOver → (sector : ℕ) → State → Step
+abbrev take_chunk_one : Description → ResolvedOver → (sector : ℕ) → State → Step
 take_chunk_one stack one sector state = take_chunk stack one.snapshot one.device (sector / one.snapshot.chunk) state
 
 -- One after another
 
-pub serve_append : (stack : Description) (over more : List FoundOver) (sector : ℕ) (state : State) → serve stack (over ++ more) sector state ≡ and_then (serve stack over sector state) (λ after. serve stack more sector after)
+pub serve_append : (stack : Description) (over more : List ResolvedOver) (sector : ℕ) (state : State) → serve stack (over ++ more) sector state ≡ and_then (serve stack over sector state) (λ after. serve stack more sector after)
 unfolding serve
 serve_append stack [] more sector state = refl
 serve_append stack (one ∷ over) more sector state =
@@ -44,7 +44,7 @@ then_nothing : (step : Step) → and_then step (λ after. keep [] after) ≡ ste
 then_nothing step = rw (append-nil step.units)
 
 -- with one more
-pub serve_more : (stack : Description) (over : List FoundOver) (one : FoundOver) (sector : ℕ) (state : State) → serve stack (over ++ one ∷ []) sector state ≡ and_then (serve stack over sector state) (λ after. take_chunk_one stack one sector after)
+pub serve_more : (stack : Description) (over : List ResolvedOver) (one : ResolvedOver) (sector : ℕ) (state : State) → serve stack (over ++ one ∷ []) sector state ≡ and_then (serve stack over sector state) (λ after. take_chunk_one stack one sector after)
 unfolding serve
 serve_more stack over one sector state =
     let first = serve stack over sector state in
@@ -53,20 +53,20 @@ serve_more stack over one sector state =
 
 -- What is settled
 
-pub settled_on : (old new : State) (over : List FoundOver) (sector : ℕ) → KeepsSettled old new → AreSettled old over sector → AreSettled new over sector
+pub settled_on : (old new : State) (over : List ResolvedOver) (sector : ℕ) → KeepsSettled old new → AreSettled old over sector → AreSettled new over sector
 settled_on old new [] sector keeps settled = tt
 settled_on old new (one ∷ over) sector keeps settled = (keeps.settled one.device (sector / one.snapshot.chunk) settled.0, settled_on old new over sector keeps settled.1)
 
-pub settled_more : (state : State) (over : List FoundOver) (one : FoundOver) (sector : ℕ) → AreSettled state over sector → is_settled (taken_at state one.device) (sector / one.snapshot.chunk) ≡ true → AreSettled state (over ++ one ∷ []) sector
+pub settled_more : (state : State) (over : List ResolvedOver) (one : ResolvedOver) (sector : ℕ) → AreSettled state over sector → is_settled (taken_at state one.device) (sector / one.snapshot.chunk) ≡ true → AreSettled state (over ++ one ∷ []) sector
 settled_more state [] one sector settled last = (last, tt)
 settled_more state (first ∷ over) one sector settled last = (settled.0, settled_more state over one sector settled.1 last)
 
-pub settled_parts : (state : State) (over : List FoundOver) (one : FoundOver) (sector : ℕ) → AreSettled state (over ++ one ∷ []) sector → AreSettled state over sector × (is_settled (taken_at state one.device) (sector / one.snapshot.chunk) ≡ true)
+pub settled_parts : (state : State) (over : List ResolvedOver) (one : ResolvedOver) (sector : ℕ) → AreSettled state (over ++ one ∷ []) sector → AreSettled state over sector × (is_settled (taken_at state one.device) (sector / one.snapshot.chunk) ≡ true)
 settled_parts state [] one sector settled = (tt, settled.0)
 settled_parts state (first ∷ over) one sector settled = let rest = settled_parts state over one sector settled.1 in ((settled.0, rest.0), rest.1)
 
 -- once all are served
-pub serve_settled : (stack : Description) (over : List FoundOver) (sector : ℕ) (state : State) → AllByRecursion (λ one. one.device < length state) over → AreSettled (serve stack over sector state).state over sector
+pub serve_settled : (stack : Description) (over : List ResolvedOver) (sector : ℕ) (state : State) → AllByRecursion (λ one. one.device < length state) over → AreSettled (serve stack over sector state).state over sector
 unfolding serve
 serve_settled stack [] sector state there = tt
 serve_settled stack (one ∷ over) sector state there =
@@ -79,7 +79,7 @@ serve_settled stack (one ∷ over) sector state there =
     )
 
 -- nothing is left to do
-pub served_done : (stack : Description) (over : List FoundOver) (sector : ℕ) (state : State) → AreSettled state over sector → serve stack over sector state ≡ keep [] state
+pub served_done : (stack : Description) (over : List ResolvedOver) (sector : ℕ) (state : State) → AreSettled state over sector → serve stack over sector state ≡ keep [] state
 unfolding serve
 served_done stack [] sector state settled = refl
 served_done stack (one ∷ over) sector state settled =
@@ -92,7 +92,7 @@ abbrev pub StepsKeep : (State → ℕ → Step) → Type 0
 StepsKeep plain = (state : State) (sector : ℕ) → KeepsSettled state (plain state sector).state
 
 -- where all are settled, the sectors of an origin's device are those of the origin
-pub quiet : (stack : Description) (over : List FoundOver) (plain : State → ℕ → Step) (state : State) (sector n : ℕ) → StepsKeep plain → ((i : ℕ) → i < n → AreSettled state over (sector + i)) → steps (served_step stack over plain) state sector n ≡ steps plain state sector n
+pub quiet : (stack : Description) (over : List ResolvedOver) (plain : State → ℕ → Step) (state : State) (sector n : ℕ) → StepsKeep plain → ((i : ℕ) → i < n → AreSettled state over (sector + i)) → steps (served_step stack over plain) state sector n ≡ steps plain state sector n
 quiet stack over plain state sector zero keeps each = refl
 quiet stack over plain state sector (suc n) keeps each =
     let here : served_step stack over plain state sector ≡ plain state sector =
@@ -101,7 +101,7 @@ quiet stack over plain state sector (suc n) keeps each =
     cc (and_then_at first (λ after. steps (served_step stack over plain) after (suc sector) n) (λ after. steps plain after (suc sector) n) (quiet stack over plain first.state (suc sector) n keeps (λ i within. settled_on state first.state over (suc sector + i) (keeps state sector) (rw (let e : sector + suc i ≡ suc sector + i = omega arith in e) at (each (suc i) (omega (arith, within)))))))
 
 -- as many sectors as are settled once the first one is served
-pub part : (stack : Description) (over : List FoundOver) (plain : State → ℕ → Step) (state : State) (sector n : ℕ) → StepsKeep plain → ((i : ℕ) → i < suc n → AreSettled (serve stack over sector state).state over (sector + i))
+pub part : (stack : Description) (over : List ResolvedOver) (plain : State → ℕ → Step) (state : State) (sector n : ℕ) → StepsKeep plain → ((i : ℕ) → i < suc n → AreSettled (serve stack over sector state).state over (sector + i))
     → steps (served_step stack over plain) state sector (suc n) ≡ and_then (serve stack over sector state) (λ after. steps plain after sector (suc n))
 part stack over plain state sector n keeps each =
     let served = serve stack over sector state in let first = plain served.state sector in
@@ -113,11 +113,11 @@ part stack over plain state sector n keeps each =
 
 -- The sectors of one chunk are settled as its first one is
 
-pub chunk_settled : (taken : Taken) (snapshot : FoundSnapshot) (sector n i : ℕ) → 0 < snapshot.chunk → n ≤ snapshot.chunk - sector % snapshot.chunk → i < n → is_settled taken (sector / snapshot.chunk) ≡ true → is_settled taken ((sector + i) / snapshot.chunk) ≡ true
+pub chunk_settled : (taken : Taken) (snapshot : ResolvedSnapshot) (sector n i : ℕ) → 0 < snapshot.chunk → n ≤ snapshot.chunk - sector % snapshot.chunk → i < n → is_settled taken (sector / snapshot.chunk) ≡ true → is_settled taken ((sector + i) / snapshot.chunk) ≡ true
 chunk_settled taken snapshot sector n i some most within settled =
     rw (same_chunk snapshot sector i some (omega (arith, most, within, some))) settled
 
-pub chunk_more : (taken : Taken) (snapshot : FoundSnapshot) (sector part n : ℕ) → 0 < snapshot.chunk → n ≤ snapshot.chunk - (sector + part) % snapshot.chunk → is_settled taken ((sector + part) / snapshot.chunk) ≡ true
+pub chunk_more : (taken : Taken) (snapshot : ResolvedSnapshot) (sector part n : ℕ) → 0 < snapshot.chunk → n ≤ snapshot.chunk - (sector + part) % snapshot.chunk → is_settled taken ((sector + part) / snapshot.chunk) ≡ true
     → ((i : ℕ) → i < part → is_settled taken ((sector + i) / snapshot.chunk) ≡ true) → (i : ℕ) → i < part + n → is_settled taken ((sector + i) / snapshot.chunk) ≡ true
 chunk_more taken snapshot sector part n some most next each i within = elim (cases_lt i part) [
   | inl before ↦ each i before
@@ -128,20 +128,20 @@ chunk_more taken snapshot sector part n some most next each i within = elim (cas
 
 -- Snapshots of the stack
 
-pub over_at : (stack : Description) (len : ℕ) (over : List FoundOver) (i : ℕ) (one : FoundOver) → All (IsOver stack len) over → i < length over → one ≡ get_or over i one → IsOver stack len one
+pub over_at : (stack : Description) (len : ℕ) (over : List ResolvedOver) (i : ℕ) (one : ResolvedOver) → All (IsOver stack len) over → i < length over → one ≡ get_or over i one → IsOver stack len one
 over_at stack len over i one all within is = rw is (All-get_or (IsOver stack len) over i one within all)
 
-pub over_sound : (stack : Description) (len : ℕ) (one : FoundOver) → IsSound stack → IsOver stack len one → IsSnapshotSound stack one.device 0 (device_len stack one.device) one.snapshot
+pub over_sound : (stack : Description) (len : ℕ) (one : ResolvedOver) → IsSound stack → IsOver stack len one → IsSnapshotSound stack one.device 0 (device_len stack one.device) one.snapshot
 over_sound stack len one sound it = (snapshot_sound stack one.device one.snapshot sound it.is).soundly
 
 -- and has the first sector of the chunk of a sector that it has
-pub chunk_there : (stack before : Description) (sector : ℕ) (one : FoundOver) → IsSound stack → before ≡ stack → IsOver stack (sector + 1) one → AreInSnapshot before one.device one.snapshot (first_of one.snapshot (sector / one.snapshot.chunk)) 1
+pub chunk_there : (stack before : Description) (sector : ℕ) (one : ResolvedOver) → IsSound stack → before ≡ stack → IsOver stack (sector + 1) one → AreInSnapshot before one.device one.snapshot (first_of one.snapshot (sector / one.snapshot.chunk)) 1
 chunk_there stack before sector one sound same it =
     let here : AreInSnapshot stack one.device one.snapshot sector 1 = record { is = it.is; sound = over_sound stack (sector + 1) one sound it; inside = it.long } in
     rw same (first_there stack one.device sector 1 one.snapshot here (omega arith))
 
 -- a state that fits has a table for each
-pub over_there : (stack : Description) (state : State) (len : ℕ) (over : List FoundOver) → length state ≡ length stack.devices → 0 < len → AllByRecursion (IsOver stack len) over → AllByRecursion (λ one. one.device < length state) over
+pub over_there : (stack : Description) (state : State) (len : ℕ) (over : List ResolvedOver) → length state ≡ length stack.devices → 0 < len → AllByRecursion (IsOver stack len) over → AllByRecursion (λ one. one.device < length state) over
 over_there stack state len [] count some all = tt
 over_there stack state len (one ∷ over) count some all =
     let long = all.0.long in
@@ -151,7 +151,7 @@ over_there stack state len (one ∷ over) count some all =
 -- A walk over the list
 
 -- those before were served, and then one more
-pub served_on : {S F : Type 0} {past : SinkPast S} → IsLawful past → (result : Result (Unit {0}) F) (old middle new : S) (before between after : WalkerView) (over : List FoundOver) (i sector : ℕ) (one : FoundOver) → i < length over → one ≡ get_or over i one
+pub served_on : {S F : Type 0} {past : SinkPast S} → IsLawful past → (result : Result (Unit {0}) F) (old middle new : S) (before between after : WalkerView) (over : List ResolvedOver) (i sector : ℕ) (one : ResolvedOver) → i < length over → one ≡ get_or over i one
     → IsWalked past going_on old middle before between (serve before.stack (take i over) sector before.state) 0 → IsWalked past result middle new between after (take_chunk_one between.stack one sector between.state) 0
     → IsWalked past result old new before after (serve before.stack (take (i + 1) over) sector before.state) 0
 served_on lawful result old middle new before between after over i sector one within is so_far next =
@@ -163,7 +163,7 @@ served_on lawful result old middle new before between after over i sector one wi
     (walked_then lawful (λ later. take_chunk_one before.stack one sector later) here (let e : 0 ≤ 0 = omega arith in e) so_far next)
 
 -- or the sink failed at it
-pub served_cut : {S F : Type 0} (past : SinkPast S) (fault : F) (result : Result (Unit {0}) F) (old new : S) (before after : WalkerView) (over : List FoundOver) (i sector : ℕ) → IsErr result
+pub served_cut : {S F : Type 0} (past : SinkPast S) (fault : F) (result : Result (Unit {0}) F) (old new : S) (before after : WalkerView) (over : List ResolvedOver) (i sector : ℕ) → IsErr result
     → IsWalked {R = Unit {0}} past (Err fault) old new before after (serve before.stack (take i over) sector before.state) 0 → IsWalked past result old new before after (serve before.stack over sector before.state) 0
 served_cut past fault result old new before after over i sector is_err walk =
     let first = serve before.stack (take i over) sector before.state in

@@ -5,11 +5,11 @@ use Rattle.std.proofs.lemmas.Bool.{cases_eq, cases_lt}
 use Rattle.std.proofs.lemmas.List.{length-set, set_past}
 use Rattle.dm_stack.specs.declared.id.Lower.{Lower}
 use Rattle.dm_stack.specs.declared.id.Lower.TheVariants.{Device, Disk}
-use Rattle.dm_stack.specs.declared.lines.found_line.FoundLine.{FoundLine}
-use Rattle.dm_stack.specs.declared.lines.found_line.FoundOver.{FoundOver}
-use Rattle.dm_stack.specs.declared.lines.found_line.FoundSnapshot.{FoundSnapshot}
-use Rattle.dm_stack.specs.declared.lines.found_line.FoundTarget.{FoundTarget}
-use Rattle.dm_stack.specs.declared.lines.found_line.FoundTarget.TheVariants as founds
+use Rattle.dm_stack.specs.declared.lines.resolved_line.ResolvedLine.{ResolvedLine}
+use Rattle.dm_stack.specs.declared.lines.resolved_line.ResolvedOver.{ResolvedOver}
+use Rattle.dm_stack.specs.declared.lines.resolved_line.ResolvedSnapshot.{ResolvedSnapshot}
+use Rattle.dm_stack.specs.declared.lines.resolved_line.ResolvedTarget.{ResolvedTarget}
+use Rattle.dm_stack.specs.declared.lines.resolved_line.ResolvedTarget.TheVariants as founds
 use Rattle.dm_stack.specs.lines.Below.{Below, Lies, IsZero, IsError, below_plain, found_at}
 use Rattle.dm_stack.specs.Description.{Description, is_ro_at}
 use Rattle.dm_map.specs.walk.Mapping.{write_line, write_step, write_target}
@@ -62,11 +62,11 @@ keeps_outcome state device chunk step (Took valid fresh units is) =
     rw is (keeps_put state device (with_chunk taken chunk) (λ other settled. settled_more taken.valid (number_in other taken.chunks) other chunk taken.chunks refl settled))
 keeps_outcome state device chunk step (Lost is) = rw is (keeps_put state device (lost (taken_at state device)) (λ other settled. refl))
 
-pub take_chunk_keeps : (stack : Description) (snapshot : FoundSnapshot) (device chunk : ℕ) (state : State) → KeepsSettled state (take_chunk stack snapshot device chunk state).state
+pub take_chunk_keeps : (stack : Description) (snapshot : ResolvedSnapshot) (device chunk : ℕ) (state : State) → KeepsSettled state (take_chunk stack snapshot device chunk state).state
 take_chunk_keeps stack snapshot device chunk state = keeps_outcome state device chunk (take_chunk stack snapshot device chunk state) (chunk_outcome stack snapshot device chunk state)
 
 -- and so where many are
-pub serve_keeps : (stack : Description) (over : List FoundOver) (sector : ℕ) (state : State) → KeepsSettled state (serve stack over sector state).state
+pub serve_keeps : (stack : Description) (over : List ResolvedOver) (sector : ℕ) (state : State) → KeepsSettled state (serve stack over sector state).state
 unfolding serve
 serve_keeps stack [] sector state = keeps_same state
 serve_keeps stack (one ∷ over) sector state =
@@ -89,7 +89,7 @@ fails_or_keeps : (failing : Bool) (state : State) (step : Step) → KeepsSettled
 fails_or_keeps true state step keeps = keeps_same state
 fails_or_keeps false state step keeps = keeps
 
-target_keeps : (stack : Description) (state : State) (device : ℕ) (target : FoundTarget) (distance : ℕ) (next : Lower → State → ℕ → Step) → Appends next → KeepsSettled state (write_target stack state device target distance next).state
+target_keeps : (stack : Description) (state : State) (device : ℕ) (target : ResolvedTarget) (distance : ℕ) (next : Lower → State → ℕ → Step) → Appends next → KeepsSettled state (write_target stack state device target distance next).state
 unfolding Appends
 target_keeps stack state device (founds.Snapshot snapshot) distance next keeps =
     let made = take_chunk stack snapshot device (distance / snapshot.chunk) state in
@@ -99,7 +99,7 @@ target_keeps stack state device (founds.Origin origin) distance next keeps =
     keeps_then state served.state (next origin.to served.state distance).state (serve_keeps stack origin.over distance state) (keeps origin.to served.state distance)
 target_keeps stack state device target distance next keeps = below_keeps (below_plain target distance) state next keeps
 
-line_keeps : (stack : Description) (state : State) (device : ℕ) (line : Option FoundLine) (sector : ℕ) (next : Lower → State → ℕ → Step) → Appends next → KeepsSettled state (write_line stack state device line sector next).state
+line_keeps : (stack : Description) (state : State) (device : ℕ) (line : Option ResolvedLine) (sector : ℕ) (next : Lower → State → ℕ → Step) → Appends next → KeepsSettled state (write_line stack state device line sector next).state
 line_keeps stack state device None sector next keeps = keeps_same state
 line_keeps stack state device (Some line) sector next keeps = target_keeps stack state device line.target (sector - line.start) next keeps
 

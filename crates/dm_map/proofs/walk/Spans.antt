@@ -9,12 +9,12 @@ use Rattle.dm_table.specs.declared.tables.table.Target.{Target}
 use Rattle.dm_table.specs.declared.tables.table.Target.TheVariants as targets
 use Rattle.dm_table.specs.declared.tables.table.Use.TheVariants.{Own}
 use Rattle.dm_table.specs.tables.Span.{Span, column_span, target_spans}
-use Rattle.dm_stack.specs.declared.lines.found_columns.FoundColumn.{FoundColumn}
-use Rattle.dm_stack.specs.declared.lines.found_line.FoundSnapshot.{FoundSnapshot}
-use Rattle.dm_stack.specs.declared.lines.found_line.FoundTarget.{FoundTarget}
-use Rattle.dm_stack.specs.declared.lines.found_line.FoundTarget.TheVariants as founds
+use Rattle.dm_stack.specs.declared.lines.resolved_columns.ResolvedColumn.{ResolvedColumn}
+use Rattle.dm_stack.specs.declared.lines.resolved_line.ResolvedSnapshot.{ResolvedSnapshot}
+use Rattle.dm_stack.specs.declared.lines.resolved_line.ResolvedTarget.{ResolvedTarget}
+use Rattle.dm_stack.specs.declared.lines.resolved_line.ResolvedTarget.TheVariants as founds
 use Rattle.dm_stack.specs.declared.id.Lower.{Lower}
-use Rattle.dm_stack.specs.lines.Below.{Below, Lies, AreStripes, IsTargetSound, below_column, below_plain, below_target, column_of, found_columns, found_target, has_state, in_column}
+use Rattle.dm_stack.specs.lines.Below.{Below, Lies, AreStripes, IsTargetSound, below_column, below_plain, below_target, column_of, resolved_columns, resolved_target, has_state, in_column}
 use Rattle.dm_stack.specs.claims.Claims.{span_end}
 use Rattle.dm_stack.specs.Description.{Description, lower_len, lower_of}
 use Rattle.dm_stack.proofs.StripeLemmas.{in_column_room}
@@ -29,30 +29,30 @@ pub sector_is : (a b : Lower) (s t : ℕ) → Lies a s ≡ Lies b t → s ≡ t
 sector_is a b s t e = cc
 
 -- what lies below is the same whatever is said of snapshots
-pub below_is : (over : FoundSnapshot → ℕ → Below) (target : FoundTarget) (distance : ℕ) → has_state target ≡ false → below_target over target distance ≡ below_plain target distance
+pub below_is : (over : ResolvedSnapshot → ℕ → Below) (target : ResolvedTarget) (distance : ℕ) → has_state target ≡ false → below_target over target distance ≡ below_plain target distance
 below_is over (founds.Snapshot snapshot) distance plain = absurd cc
 below_is over (founds.Origin origin) distance plain = absurd cc
 below_is over target distance plain = refl
 
 -- the sector at a distance lies there
-pub record IsPlainStep (target : FoundTarget) (distance : ℕ) (lower : Lower) (at : ℕ) : Type 0 where
+pub record IsPlainStep (target : ResolvedTarget) (distance : ℕ) (lower : Lower) (at : ℕ) : Type 0 where
   pub plain : has_state target ≡ false
   pub lies : below_plain target distance ≡ Lies lower at
 
 -- The span of a sector
 
 -- which of the line's spans has the sector at a distance from its start
-abbrev pub span_index : FoundTarget → (distance : ℕ) → ℕ
+abbrev pub span_index : ResolvedTarget → (distance : ℕ) → ℕ
 span_index (founds.Striped chunk_size columns) distance = column_of chunk_size (length columns) distance
 span_index _ distance = 0
 
 -- and which of the span's sectors that is
-abbrev pub span_distance : FoundTarget → (distance : ℕ) → ℕ
+abbrev pub span_distance : ResolvedTarget → (distance : ℕ) → ℕ
 span_distance (founds.Striped chunk_size columns) distance = in_column chunk_size (length columns) distance
 span_distance _ distance = distance
 
 -- one span and one sector of it are one sector of the line
-pub distance_one : (stack : Description) (device start len : ℕ) (target : FoundTarget) (d e : ℕ) → IsTargetSound stack device start len target → span_index target d ≡ span_index target e → span_distance target d ≡ span_distance target e → d ≡ e
+pub distance_one : (stack : Description) (device start len : ℕ) (target : ResolvedTarget) (d e : ℕ) → IsTargetSound stack device start len target → span_index target d ≡ span_index target e → span_distance target d ≡ span_distance target e → d ≡ e
 distance_one stack device start len (founds.Striped chunk_size columns) d e sound same within =
     let stripes : AreStripes stack len chunk_size columns = sound in
     let n = length columns in
@@ -82,24 +82,24 @@ raw_column : (stack : Description) (columns : List Column) (i distance : ℕ) (l
 raw_column stack columns i distance lower at None is e = absurd cc
 raw_column stack columns i distance lower at (Some column) is e = record { column = column; is = is; to = cc; sector = sym (cc) }
 
-striped_column : (stack : Description) (columns : List Column) (i distance : ℕ) (lower : Lower) (at : ℕ) → below_column (slice_get (found_columns stack columns) i) distance ≡ Lies lower at → IsColumn stack columns i distance lower at
+striped_column : (stack : Description) (columns : List Column) (i distance : ℕ) (lower : Lower) (at : ℕ) → below_column (slice_get (resolved_columns stack columns) i) distance ≡ Lies lower at → IsColumn stack columns i distance lower at
 striped_column stack columns i distance lower at e =
     raw_column stack columns i distance lower at (slice_get columns i) refl
-    (ap (λ (o : Option FoundColumn). below_column o distance) (sym (slice_get-map (λ c. record { to = lower_of stack c.to; offset = c.offset }) columns i)) ∙ e)
+    (ap (λ (o : Option ResolvedColumn). below_column o distance) (sym (slice_get-map (λ c. record { to = lower_of stack c.to; offset = c.offset }) columns i)) ∙ e)
 
 column_span_at : (stack : Description) (columns : List Column) (share i distance : ℕ) (lower : Lower) (at : ℕ) (column : IsColumn stack columns i distance lower at) → slice_get (map (column_span share) columns) i ≡ Some (column_span share column.column)
 column_span_at stack columns share i distance lower at column = slice_get-map (column_span share) columns i ∙ ap (option_map (column_span share)) column.is
 
-striped_in : (stack : Description) (columns : List Column) (share i distance : ℕ) (lower : Lower) (at : ℕ) → below_column (slice_get (found_columns stack columns) i) distance ≡ Lies lower at → IsIn stack (slice_get (map (column_span share) columns) i) distance lower at
+striped_in : (stack : Description) (columns : List Column) (share i distance : ℕ) (lower : Lower) (at : ℕ) → below_column (slice_get (resolved_columns stack columns) i) distance ≡ Lies lower at → IsIn stack (slice_get (map (column_span share) columns) i) distance lower at
 striped_in stack columns share i distance lower at e =
     let column = striped_column stack columns i distance lower at e in
     rw (column_span_at stack columns share i distance lower at column) (column.to, column.sector, refl)
 
-striped_before : (stack : Description) (len chunk_size distance : ℕ) (columns : List Column) (lower : Lower) (at : ℕ) → AreStripes stack len chunk_size (found_columns stack columns) → distance < len
-    → below_column (slice_get (found_columns stack columns) (column_of chunk_size (length (found_columns stack columns)) distance)) (in_column chunk_size (length (found_columns stack columns)) distance) ≡ Lies lower at
-    → IsBefore stack (slice_get (map (column_span (len / length columns)) columns) (column_of chunk_size (length (found_columns stack columns)) distance)) at
+striped_before : (stack : Description) (len chunk_size distance : ℕ) (columns : List Column) (lower : Lower) (at : ℕ) → AreStripes stack len chunk_size (resolved_columns stack columns) → distance < len
+    → below_column (slice_get (resolved_columns stack columns) (column_of chunk_size (length (resolved_columns stack columns)) distance)) (in_column chunk_size (length (resolved_columns stack columns)) distance) ≡ Lies lower at
+    → IsBefore stack (slice_get (map (column_span (len / length columns)) columns) (column_of chunk_size (length (resolved_columns stack columns)) distance)) at
 striped_before stack len chunk_size distance columns lower at stripes inside e =
-    let count = length (found_columns stack columns) in
+    let count = length (resolved_columns stack columns) in
     let column = striped_column stack columns (column_of chunk_size count distance) (in_column chunk_size count distance) lower at e in
     let some = stripes.chunk_some in
     let room = in_column_room chunk_size count stripes.column_len stripes.chunks len distance stripes.chunk_some stripes.some stripes.shares stripes.whole inside in
@@ -110,15 +110,15 @@ striped_before stack len chunk_size distance columns lower at stripes inside e =
 
 -- Any target without a state
 
-plain_in : (stack : Description) (len : ℕ) (target : Target) (distance : ℕ) (lower : Lower) (at : ℕ) → below_plain (found_target stack target) distance ≡ Lies lower at
-    → IsIn stack (slice_get (target_spans len target) (span_index (found_target stack target) distance)) (span_distance (found_target stack target) distance) lower at
+plain_in : (stack : Description) (len : ℕ) (target : Target) (distance : ℕ) (lower : Lower) (at : ℕ) → below_plain (resolved_target stack target) distance ≡ Lies lower at
+    → IsIn stack (slice_get (target_spans len target) (span_index (resolved_target stack target) distance)) (span_distance (resolved_target stack target) distance) lower at
 plain_in stack len (targets.Striped chunk_size columns) distance lower at e =
-    let count = length (found_columns stack columns) in
+    let count = length (resolved_columns stack columns) in
     striped_in stack columns (len / length columns) (column_of chunk_size count distance) (in_column chunk_size count distance) lower at e
 plain_in stack len target distance lower at e = first_of (search (lower_is, sector_is), cc)
 
-pub plain_before : (stack : Description) (device start len : ℕ) (target : Target) (distance : ℕ) (lower : Lower) (at : ℕ) → IsTargetSound stack device start len (found_target stack target) → distance < len → below_plain (found_target stack target) distance ≡ Lies lower at
-    → IsBefore stack (slice_get (target_spans len target) (span_index (found_target stack target) distance)) at
+pub plain_before : (stack : Description) (device start len : ℕ) (target : Target) (distance : ℕ) (lower : Lower) (at : ℕ) → IsTargetSound stack device start len (resolved_target stack target) → distance < len → below_plain (resolved_target stack target) distance ≡ Lies lower at
+    → IsBefore stack (slice_get (target_spans len target) (span_index (resolved_target stack target) distance)) at
 plain_before stack device start len (targets.Striped chunk_size columns) distance lower at sound inside e = striped_before stack len chunk_size distance columns lower at sound inside e
 plain_before stack device start len target distance lower at sound inside e = first_of (cc, grind arith)
 
@@ -134,7 +134,7 @@ there : (stack : Description) (spans : List Span) (index distance : ℕ) (lower 
 there stack spans index distance lower at None is in_span = absurd in_span
 there stack spans index distance lower at (Some span) is in_span = record { span = span; is = is; on = in_span.0; sector = in_span.1; used = in_span.2 }
 
-pub plain_span : (stack : Description) (len : ℕ) (target : Target) (distance : ℕ) (lower : Lower) (at : ℕ) → below_plain (found_target stack target) distance ≡ Lies lower at
-    → IsInSpan stack (target_spans len target) (span_index (found_target stack target) distance) (span_distance (found_target stack target) distance) lower at
+pub plain_span : (stack : Description) (len : ℕ) (target : Target) (distance : ℕ) (lower : Lower) (at : ℕ) → below_plain (resolved_target stack target) distance ≡ Lies lower at
+    → IsInSpan stack (target_spans len target) (span_index (resolved_target stack target) distance) (span_distance (resolved_target stack target) distance) lower at
 plain_span stack len target distance lower at e =
-    there stack (target_spans len target) (span_index (found_target stack target) distance) (span_distance (found_target stack target) distance) lower at _ refl (plain_in stack len target distance lower at e)
+    there stack (target_spans len target) (span_index (resolved_target stack target) distance) (span_distance (resolved_target stack target) distance) lower at _ refl (plain_in stack len target distance lower at e)

@@ -6,12 +6,12 @@ use Rattle.std.proofs.lemmas.Bool.{and_parts}
 use Rattle.dm_table.specs.declared.tables.table.Line.{Line}
 use Rattle.dm_table.specs.declared.tables.table.Target.{Target}
 use Rattle.dm_table.specs.declared.tables.table.Target.TheVariants as targets
-use Rattle.dm_stack.specs.declared.lines.found_line.FoundLine.{FoundLine}
-use Rattle.dm_stack.specs.declared.lines.found_line.FoundSnapshot.{FoundSnapshot}
+use Rattle.dm_stack.specs.declared.lines.resolved_line.ResolvedLine.{ResolvedLine}
+use Rattle.dm_stack.specs.declared.lines.resolved_line.ResolvedSnapshot.{ResolvedSnapshot}
 use Rattle.dm_stack.specs.declared.checks.graph.TheConstants.{MOST_DEPTH}
 use Rattle.dm_stack.specs.declared.id.Lower.{Lower}
 use Rattle.dm_stack.specs.declared.id.Lower.TheVariants.{Device, Disk}
-use Rattle.dm_stack.specs.lines.Below.{Below, Lies, IsError, below, below_line, below_plain, below_target, column_of, found_at, found_columns, found_line, found_target, has_state, holds, line_of, IsTargetSound}
+use Rattle.dm_stack.specs.lines.Below.{Below, Lies, IsError, below, below_line, below_plain, below_target, column_of, found_at, resolved_columns, resolved_line, resolved_target, has_state, holds, line_of, IsTargetSound}
 use Rattle.dm_stack.specs.Description.{Description, device_len, is_ro_at, lines_at, lower_len, lower_of}
 use Rattle.dm_stack.specs.checks.Soundness.{IsSound}
 use Rattle.dm_table.specs.tables.Span.{Span, spans, target_spans}
@@ -35,10 +35,10 @@ use Rattle.dm_map.proofs.walk.UnitRows.{row_same}
 -- What lies below a sector of a store
 
 -- a sector of one that is a level less deep, whatever is said of snapshots
-pub record LiesInStore (stack : Description) (levels : ℕ) (below : (FoundSnapshot → ℕ → Below) → Below) : Type 0 where
+pub record LiesInStore (stack : Description) (levels : ℕ) (below : (ResolvedSnapshot → ℕ → Below) → Below) : Type 0 where
   pub to : Lower
   pub at : ℕ
-  pub is : (over : FoundSnapshot → ℕ → Below) → below over ≡ Lies to at
+  pub is : (over : ResolvedSnapshot → ℕ → Below) → below over ≡ Lies to at
   pub store : is_store_to stack levels to ≡ true
   pub inside : at < lower_len stack to
 
@@ -61,22 +61,22 @@ on_it (Lies to at) goes = record { to = to; at = at; is = refl }
 on_it _ goes = absurd cc
 
 -- a line that a store may be made of has no state, and a sector of what it names below each of its own
-plain_state : (stack : Description) (target : Target) → is_plain target ≡ true → has_state (found_target stack target) ≡ false
+plain_state : (stack : Description) (target : Target) → is_plain target ≡ true → has_state (resolved_target stack target) ≡ false
 plain_state stack (targets.Snapshot origin store kind chunk_size) plain = absurd cc
 plain_state stack (targets.Origin origin) plain = absurd cc
 plain_state stack _ plain = refl
 
-plain_goes : (stack : Description) (device start len : ℕ) (target : Target) (distance : ℕ) → is_plain target ≡ true → IsTargetSound stack device start len (found_target stack target) → goes_on (below_plain (found_target stack target) distance) ≡ true
+plain_goes : (stack : Description) (device start len : ℕ) (target : Target) (distance : ℕ) → is_plain target ≡ true → IsTargetSound stack device start len (resolved_target stack target) → goes_on (below_plain (resolved_target stack target) distance) ≡ true
 plain_goes stack device start len (targets.Striped chunk_size columns) distance plain sound =
-    let found = found_columns stack columns in let some = sound.some in
+    let found = resolved_columns stack columns in let some = sound.some in
     let column = there found (column_of chunk_size (length found) distance) (omega (arith, some)) in
     cc
 plain_goes stack device start len _ distance plain sound = cc
 
 below_plain_line : (stack : Description) (levels device start len : ℕ) (target : Target) (distance : ℕ) → is_plain target ≡ true → list_all (λ span. is_store_to stack levels (lower_of stack span.to)) (target_spans len target) ≡ true
-    → IsTargetSound stack device start len (found_target stack target) → distance < len → LiesInStore stack levels (λ over. below_target over (found_target stack target) distance)
+    → IsTargetSound stack device start len (resolved_target stack target) → distance < len → LiesInStore stack levels (λ over. below_target over (resolved_target stack target) distance)
 below_plain_line stack levels device start len target distance plain stores sound inside =
-    let found = found_target stack target in
+    let found = resolved_target stack target in
     let state = plain_state stack target plain in
     let lies = on_it (below_plain found distance) (plain_goes stack device start len target distance plain sound) in
     let in_span = plain_span stack len target distance lies.to lies.at lies.is in
@@ -89,12 +89,12 @@ below_plain_line stack levels device start len target distance plain stores soun
       inside = plain_inside stack device start len distance found lies.to lies.at sound inside state lies.is;
     }
 
-OnFound : Option FoundLine → (FoundLine → Type 0) → Type 0
+OnFound : Option ResolvedLine → (ResolvedLine → Type 0) → Type 0
 OnFound (Some line) P = P line
 OnFound None P = ⊥
 
 below_held : (stack : Description) (levels device sector : ℕ) (line : Option Line) → AllByRecursion (λ l. (is_plain l.target && list_all (λ span. is_store_to stack levels (lower_of stack span.to)) (spans l)) ≡ true) (lines_at stack device)
-    → line_of (lines_at stack device) sector ≡ line → OnFound (option_map (found_line stack) line) (λ l. HoldsSoundly stack device l sector) → LiesInStore stack levels (λ over. below_line over (option_map (found_line stack) line) sector)
+    → line_of (lines_at stack device) sector ≡ line → OnFound (option_map (resolved_line stack) line) (λ l. HoldsSoundly stack device l sector) → LiesInStore stack levels (λ over. below_line over (option_map (resolved_line stack) line) sector)
 unfolding OnFound
 below_held stack levels device sector None each is soundly = absurd soundly
 below_held stack levels device sector (Some line) each is soundly =
@@ -103,7 +103,7 @@ below_held stack levels device sector (Some line) each is soundly =
     let from = soundly.from in let before = soundly.before in
     below_plain_line stack levels device line.start line.len line.target (sector - line.start) parts.0 parts.1 soundly.target (omega (arith, from, before))
 
-found_on : (stack : Description) (device sector : ℕ) (line : Option FoundLine) → found_at stack device sector ≡ line → IsSound stack → sector < device_len stack device → OnFound line (λ l. HoldsSoundly stack device l sector)
+found_on : (stack : Description) (device sector : ℕ) (line : Option ResolvedLine) → found_at stack device sector ≡ line → IsSound stack → sector < device_len stack device → OnFound line (λ l. HoldsSoundly stack device l sector)
 unfolding OnFound
 found_on stack device sector line is sound inside =
     let f = sector_found stack device sector sound (device_there stack device sector inside) inside in
@@ -118,16 +118,16 @@ below_store stack levels device sector sound store inside =
 
 -- its lines have no state
 
-state_held : (stack : Description) (levels device sector : ℕ) (line : Option Line) (held : FoundLine) → AllByRecursion (λ l. (is_plain l.target && list_all (λ span. is_store_to stack levels (lower_of stack span.to)) (spans l)) ≡ true) (lines_at stack device)
-    → line_of (lines_at stack device) sector ≡ line → option_map (found_line stack) line ≡ Some held → has_state held.target ≡ false
+state_held : (stack : Description) (levels device sector : ℕ) (line : Option Line) (held : ResolvedLine) → AllByRecursion (λ l. (is_plain l.target && list_all (λ span. is_store_to stack levels (lower_of stack span.to)) (spans l)) ≡ true) (lines_at stack device)
+    → line_of (lines_at stack device) sector ≡ line → option_map (resolved_line stack) line ≡ Some held → has_state held.target ≡ false
 state_held stack levels device sector None held each is e = absurd cc
 state_held stack levels device sector (Some line) held each is e =
     let both = (found (λ l. (is_plain l.target && list_all (λ span. is_store_to stack levels (lower_of stack span.to)) (spans l)) ≡ true) (holds sector) (lines_at stack device) line each is).1 in
     let parts = and_parts (is_plain line.target) (list_all (λ span. is_store_to stack levels (lower_of stack span.to)) (spans line)) both in
-    let same : found_line stack line ≡ held = cc in
+    let same : resolved_line stack line ≡ held = cc in
     rw (← same) (plain_state stack line.target parts.0)
 
-pub store_line : (stack : Description) (levels device sector : ℕ) (held : FoundLine) → is_store_to stack (suc levels) (Device device) ≡ true → found_at stack device sector ≡ Some held → has_state held.target ≡ false
+pub store_line : (stack : Description) (levels device sector : ℕ) (held : ResolvedLine) → is_store_to stack (suc levels) (Device device) ≡ true → found_at stack device sector ≡ Some held → has_state held.target ≡ false
 unfolding is_store_to
 store_line stack levels device sector held store is =
     let parts = and_parts (not (is_ro_at stack device)) (list_all (λ l. is_plain l.target && list_all (λ span. is_store_to stack levels (lower_of stack span.to)) (spans l)) (lines_at stack device)) store in

@@ -4,7 +4,7 @@ use Rattle.std.specs.Result.{IsErr}
 use Rattle.std.specs.Prelude.{Result, Ok, Err}
 use Rattle.dm_table.specs.declared.requests.request.Op.{Op}
 use Rattle.dm_table.specs.declared.requests.request.Op.TheVariants.{Read}
-use Rattle.dm_stack.specs.declared.lines.found_line.FoundTarget.{FoundTarget}
+use Rattle.dm_stack.specs.declared.lines.resolved_line.ResolvedTarget.{ResolvedTarget}
 use Rattle.dm_stack.specs.declared.id.Lower.{Lower}
 use Rattle.dm_stack.specs.Description.{Description}
 use Rattle.dm_stack.specs.checks.Soundness.{IsSound}
@@ -65,7 +65,7 @@ Keeps mapping = mapping.op ≡ Read → (stack : Description) (state : State) (s
 pub range_keeps : (op : Op) (levels : ℕ) (lower : Lower) → Keeps (range_mapping op levels lower)
 range_keeps op levels lower is stack state sector = rw is refl
 
-pub target_keeps : (op : Op) (levels device start : ℕ) (target : FoundTarget) → Keeps (target_mapping op levels device start target)
+pub target_keeps : (op : Op) (levels device start : ℕ) (target : ResolvedTarget) → Keeps (target_mapping op levels device start target)
 target_keeps op levels device start target is stack state distance = rw is refl
 
 -- Sectors that are mapped in parts

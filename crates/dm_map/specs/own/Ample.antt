@@ -5,7 +5,7 @@ use Rattle.dm_table.specs.declared.requests.request.Op.{Op}
 use Rattle.dm_table.specs.declared.tables.table.Target.{Target}
 use Rattle.dm_table.specs.declared.tables.table.Target.TheVariants as targets
 use Rattle.dm_stack.specs.declared.id.Lower.TheVariants.{Device}
-use Rattle.dm_stack.specs.declared.lines.found_line.FoundSnapshot.{FoundSnapshot}
+use Rattle.dm_stack.specs.declared.lines.resolved_line.ResolvedSnapshot.{ResolvedSnapshot}
 use Rattle.dm_stack.specs.claims.Claims.{IsTidy, IsTop}
 use Rattle.dm_stack.specs.lines.StoreLayout.{place_count}
 use Rattle.dm_stack.specs.Description.{Description, device_len, lower_len, lower_of}
@@ -47,7 +47,7 @@ pub record AreOwnChunks (chunk len : ℕ) (chunks : List ℕ) : Type 0 where
 pub record IsIntact (stack : Description) (state : State) : Type 0 where
   pub fits : IsFitting stack state
   pub valid : (device : ℕ) → (taken_at state device).valid ≡ true
-  pub chunks : (device : ℕ) (snapshot : FoundSnapshot) → snapshot_at stack device ≡ Some snapshot → AreOwnChunks snapshot.chunk (device_len stack device) (taken_at state device).chunks
+  pub chunks : (device : ℕ) (snapshot : ResolvedSnapshot) → snapshot_at stack device ≡ Some snapshot → AreOwnChunks snapshot.chunk (device_len stack device) (taken_at state device).chunks
 
 -- each sector of a top device has a value, which is that of its row
 pub record AreExact {V : Type 0} (zeros : V) (stack : Description) (state : State) (values : Values V) (rows : Rows V) : Type 0 where

@@ -3,9 +3,9 @@ use Rattle.std.specs.Prelude.{◌≡◌, ◌↔◌, ℕ, ◌<◌, true, false, S
 use Rattle.dm_table.specs.declared.requests.request.Op.{Op}
 use Rattle.dm_stack.specs.declared.id.Lower.{Lower}
 use Rattle.dm_stack.specs.declared.id.Lower.TheVariants.{Device}
-use Rattle.dm_stack.specs.declared.lines.found_line.FoundLine.{FoundLine}
-use Rattle.dm_stack.specs.declared.lines.found_line.FoundSnapshot.{FoundSnapshot}
-use Rattle.dm_stack.specs.declared.lines.found_line.FoundTarget.TheVariants as found
+use Rattle.dm_stack.specs.declared.lines.resolved_line.ResolvedLine.{ResolvedLine}
+use Rattle.dm_stack.specs.declared.lines.resolved_line.ResolvedSnapshot.{ResolvedSnapshot}
+use Rattle.dm_stack.specs.declared.lines.resolved_line.ResolvedTarget.TheVariants as found
 use Rattle.dm_stack.specs.lines.Below.{found_at}
 use Rattle.dm_stack.specs.Description.{Description, device_len}
 use Rattle.dm_map.specs.own.Halts.{state_past}
@@ -21,8 +21,8 @@ use Rattle.dm_map.specs.pieces.Units.{Fails}
 
 -- a read that comes to this sector of a device ends there, as an error: its line is an `error` line, or the device a snapshot that is lost
 pub data EndsHere (stack : Description) (state : State) (device sector : ℕ) : Type 0 where
-  AtError : (line : FoundLine) → found_at stack device sector ≡ Some line → line.target ≡ found.Error → EndsHere stack state device sector
-  AtLost : (snapshot : FoundSnapshot) → snapshot_at stack device ≡ Some snapshot → (taken_at state device).valid ≡ false → EndsHere stack state device sector
+  AtError : (line : ResolvedLine) → found_at stack device sector ≡ Some line → line.target ≡ found.Error → EndsHere stack state device sector
+  AtLost : (snapshot : ResolvedSnapshot) → snapshot_at stack device ≡ Some snapshot → (taken_at state device).valid ≡ false → EndsHere stack state device sector
 
 -- the way of a read meets such a sector
 pub record MeetsError (stack : Description) (state : State) (from : Node) : Type 0 where
@@ -45,3 +45,5 @@ pub record HaveCauses (stack : Description) : Type 0 where
   pub whole : (state : State) (op : Op) (asked start len : ℕ) → (request_step stack op asked start len state).state ≡ state_past stack op asked start len len state
   -- and what is lost stays so
   pub stays : (state : State) (op : Op) (asked start len sectors device : ℕ) → (taken_at state device).valid ≡ false → (taken_at (state_past stack op asked start len sectors state) device).valid ≡ false
+  -- a state that the stack can be in still is one after the first sectors of a request, which may be all
+  pub fits : (state : State) (op : Op) (asked start len sectors : ℕ) → IsFitting stack state → IsFitting stack (state_past stack op asked start len sectors state)

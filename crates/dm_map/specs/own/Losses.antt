@@ -5,11 +5,11 @@ use Rattle.dm_table.specs.declared.requests.request.Op.TheVariants.{Write}
 use Rattle.dm_stack.specs.declared.checks.graph.TheConstants.{MOST_DEPTH}
 use Rattle.dm_stack.specs.declared.id.Lower.{Lower}
 use Rattle.dm_stack.specs.declared.id.Lower.TheVariants.{Device, Disk}
-use Rattle.dm_stack.specs.declared.lines.found_line.FoundLine.{FoundLine}
-use Rattle.dm_stack.specs.declared.lines.found_line.FoundOver.{FoundOver}
-use Rattle.dm_stack.specs.declared.lines.found_line.FoundSnapshot.{FoundSnapshot}
-use Rattle.dm_stack.specs.declared.lines.found_line.FoundTarget.{FoundTarget}
-use Rattle.dm_stack.specs.declared.lines.found_line.FoundTarget.TheVariants as found
+use Rattle.dm_stack.specs.declared.lines.resolved_line.ResolvedLine.{ResolvedLine}
+use Rattle.dm_stack.specs.declared.lines.resolved_line.ResolvedOver.{ResolvedOver}
+use Rattle.dm_stack.specs.declared.lines.resolved_line.ResolvedSnapshot.{ResolvedSnapshot}
+use Rattle.dm_stack.specs.declared.lines.resolved_line.ResolvedTarget.{ResolvedTarget}
+use Rattle.dm_stack.specs.declared.lines.resolved_line.ResolvedTarget.TheVariants as found
 use Rattle.dm_stack.specs.Description.{Description, device_len, is_ro_at}
 use Rattle.dm_stack.specs.lines.Below.{below_plain, found_at}
 use Rattle.dm_map.specs.own.Halts.{state_past}
@@ -25,22 +25,22 @@ use Rattle.dm_map.specs.pieces.Units.{Fails}
 -- a chunk of a snapshot
 pub record Due : Type 0 where
   pub device : ℕ
-  pub snapshot : FoundSnapshot
+  pub snapshot : ResolvedSnapshot
   pub chunk : ℕ
 
 -- the chunks of a sector of an origin, in its snapshots
-abbrev pub due_over : List FoundOver → (sector : ℕ) → List Due
+abbrev pub due_over : List ResolvedOver → (sector : ℕ) → List Due
 due_over over sector = map (λ one. record { device = one.device; snapshot = one.snapshot; chunk = sector / one.snapshot.chunk }) over
 
 -- due for a write at a distance from the start of a line of this target: a snapshot's own chunk, where the write isn't refused; for an origin those of its snapshots, and then what is due below it
-abbrev pub due_at_target : Description → State → (device : ℕ) → FoundTarget → (distance : ℕ) → (Lower → State → ℕ → List Due) → List Due
+abbrev pub due_at_target : Description → State → (device : ℕ) → ResolvedTarget → (distance : ℕ) → (Lower → State → ℕ → List Due) → List Due
 due_at_target stack state device (found.Snapshot snapshot) distance next =
     if is_refused stack snapshot (taken_at state device) (distance / snapshot.chunk) then [] else record { device = device; snapshot = snapshot; chunk = distance / snapshot.chunk } ∷ []
 due_at_target stack state device (found.Origin origin) distance next = due_over origin.over distance ++ next origin.to (serve stack origin.over distance state).state distance
 due_at_target stack state device target distance next = by_below (below_plain target distance) [] [] (λ to sector. next to state sector)
 
 -- by the line that holds the sector
-abbrev pub due_at_line : Description → State → (device : ℕ) → Option FoundLine → (sector : ℕ) → (Lower → State → ℕ → List Due) → List Due
+abbrev pub due_at_line : Description → State → (device : ℕ) → Option ResolvedLine → (sector : ℕ) → (Lower → State → ℕ → List Due) → List Due
 due_at_line stack state device (Some line) sector next = due_at_target stack state device line.target (sector - line.start) next
 due_at_line stack state device None sector next = []
 

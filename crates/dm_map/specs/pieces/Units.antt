@@ -3,7 +3,7 @@ use Rattle.std.specs.Prelude.{ℕ, zero, suc, ◌+◌, ◌<◌, ◌≤◌, List,
 use Rattle.dm_table.specs.declared.requests.request.Op.{Op}
 use Rattle.dm_table.specs.declared.requests.request.Op.TheVariants as ops
 use Rattle.dm_stack.specs.declared.id.Lower.TheVariants.{Device, Disk}
-use Rattle.dm_stack.specs.declared.lines.found_line.FoundTarget.{FoundTarget}
+use Rattle.dm_stack.specs.declared.lines.resolved_line.ResolvedTarget.{ResolvedTarget}
 use Rattle.dm_stack.specs.Description.{Description, disk_len}
 use Rattle.dm_stack.specs.lines.Below.{Below, Lies, below_plain}
 use Rattle.dm_stack.specs.lines.Leg.{LegsView}
@@ -46,7 +46,7 @@ below_unit op (Lies (Disk disk) sector) = disk_unit op disk sector
 below_unit op _ = Fails
 
 -- the units of len sectors of a line, from a distance from its start on, where they lie on disks
-abbrev pub line_units : Op → FoundTarget → (distance len : ℕ) → List BlockUnit
+abbrev pub line_units : Op → ResolvedTarget → (distance len : ℕ) → List BlockUnit
 line_units op target distance zero = []
 line_units op target distance (suc len) = below_unit op (below_plain target distance) ∷ line_units op target (suc distance) len
 

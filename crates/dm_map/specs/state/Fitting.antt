@@ -1,6 +1,6 @@
 -- States that a stack can be in.
 use Rattle.std.specs.Prelude.{ℕ, ◌≡◌, ◌<◌, ◌≤◌, true, Some, length}
-use Rattle.dm_stack.specs.declared.lines.found_line.FoundSnapshot.{FoundSnapshot}
+use Rattle.dm_stack.specs.declared.lines.resolved_line.ResolvedSnapshot.{ResolvedSnapshot}
 use Rattle.dm_stack.specs.Description.{Description, lower_len}
 use Rattle.dm_stack.specs.lines.StoreLayout.{place_count}
 use Rattle.dm_map.specs.state.Snapshots.{has_place}
@@ -10,9 +10,9 @@ use Rattle.dm_map.specs.state.Tables.{snapshot_at}
 -- a list of taken chunks for each device, no longer than the store of a snapshot has places
 pub record IsFitting (stack : Description) (state : State) : Type 0 where
   pub count : length state ≡ length stack.devices
-  pub places : (device number : ℕ) (snapshot : FoundSnapshot) → snapshot_at stack device ≡ Some snapshot → number < length (taken_at state device).chunks → has_place stack snapshot number ≡ true
+  pub places : (device number : ℕ) (snapshot : ResolvedSnapshot) → snapshot_at stack device ≡ Some snapshot → number < length (taken_at state device).chunks → has_place stack snapshot number ≡ true
 
 -- no snapshot took more chunks than its store has places
 abbrev pub IsWithinPlaces : Description → State → Type 0
 IsWithinPlaces stack state =
-    (device : ℕ) (snapshot : FoundSnapshot) → snapshot_at stack device ≡ Some snapshot → length (taken_at state device).chunks ≤ place_count snapshot.kind snapshot.chunk (lower_len stack snapshot.store)
+    (device : ℕ) (snapshot : ResolvedSnapshot) → snapshot_at stack device ≡ Some snapshot → length (taken_at state device).chunks ≤ place_count snapshot.kind snapshot.chunk (lower_len stack snapshot.store)

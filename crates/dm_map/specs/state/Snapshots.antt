@@ -1,6 +1,6 @@
 -- Where a snapshot's sectors are read (the kernel's admin guide, device-mapper/snapshot, and its exception store).
 use Rattle.std.specs.Prelude.{ℕ, suc, Bool, nat_le, ◌+◌, ◌*◌, ◌/◌, ◌%◌, ◌==◌, List, [], ◌∷◌, Option, Some, None, option_map, if◌then◌else◌}
-use Rattle.dm_stack.specs.declared.lines.found_line.FoundSnapshot.{FoundSnapshot}
+use Rattle.dm_stack.specs.declared.lines.resolved_line.ResolvedSnapshot.{ResolvedSnapshot}
 use Rattle.dm_stack.specs.Description.{Description, lower_len}
 use Rattle.dm_stack.specs.lines.Below.{Below, Lies, IsError}
 use Rattle.dm_stack.specs.lines.StoreLayout.{place}
@@ -12,19 +12,19 @@ number_in chunk [] = None
 number_in chunk (first ∷ rest) = if first == chunk then Some 0 else option_map suc (number_in chunk rest)
 
 -- the sector of a store that has a sector of the taken chunk of this number
-abbrev pub store_sector : FoundSnapshot → (number sector : ℕ) → ℕ
+abbrev pub store_sector : ResolvedSnapshot → (number sector : ℕ) → ℕ
 store_sector snapshot number sector = place snapshot.kind snapshot.chunk number * snapshot.chunk + sector % snapshot.chunk
 
 -- a taken chunk is read from the store, any other from the origin
-abbrev pub read_numbered : FoundSnapshot → Option ℕ → ℕ → Below
+abbrev pub read_numbered : ResolvedSnapshot → Option ℕ → ℕ → Below
 read_numbered snapshot (Some number) sector = Lies snapshot.store (store_sector snapshot number sector)
 read_numbered snapshot None sector = Lies snapshot.origin sector
 
 -- what lies below a sector of a snapshot that has taken these: nothing, once it isn't valid
-abbrev pub read_over : Taken → FoundSnapshot → ℕ → Below
+abbrev pub read_over : Taken → ResolvedSnapshot → ℕ → Below
 read_over taken snapshot sector =
     if taken.valid then read_numbered snapshot (number_in (sector / snapshot.chunk) taken.chunks) sector else IsError
 
 -- the store has a place for the taken chunk of this number
-abbrev pub has_place : Description → FoundSnapshot → (number : ℕ) → Bool
+abbrev pub has_place : Description → ResolvedSnapshot → (number : ℕ) → Bool
 has_place stack snapshot number = nat_le ((place snapshot.kind snapshot.chunk number + 1) * snapshot.chunk) (lower_len stack snapshot.store)

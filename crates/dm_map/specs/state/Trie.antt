@@ -1,10 +1,12 @@
--- A trie of taken chunks: ways that lead from a table, by the low bits of a chunk, over forks that test a bit each, to its number.
-use Rattle.std.specs.Prelude.{ℕ, zero, suc, ◌≡◌, ◌<◌, ◌≤◌, ◌+◌, Bool, true, false, List, [], ◌∷◌, length, nat_eq}
+-- A trie of taken chunks: ways that lead from a table, by the slot of a chunk, over forks that test a bit each, to its number.
+use Rattle.std.specs.Prelude.{ℕ, zero, suc, ◌≡◌, ◌<◌, ◌≤◌, ◌+◌, ◌*◌, ◌/◌, ◌%◌, ◌^◌, Bool, true, false, List, [], ◌∷◌, if◌then◌else◌, length, nat_eq, nat_le}
 use Rattle.std.specs.Int.{bit_at}
-use Rattle.std.specs.Int.Bits.{bit_and}
+use Rattle.std.specs.Int.Bits.{bit_and, bit_xor}
 use Rattle.std.specs.List.{list_any, slice_index_or}
 use Rattle.dm_map.specs.declared.state.trie_taken.link.Node.{Node}
 use Rattle.dm_map.specs.declared.state.trie_taken.link.Node.TheVariants.{Empty, Number, Fork}
+use Rattle.dm_map.specs.declared.state.trie_taken.slots.Slots.{Slots}
+use Rattle.dm_map.specs.declared.state.trie_taken.slots.TheConstants.{SPREAD}
 
 -- the node with this index: an empty one where there is none
 abbrev pub node_at : List Node → (at : ℕ) → Node
@@ -24,9 +26,13 @@ unfoldable pub way : List Node → (chunk start steps : ℕ) → ℕ
 way nodes chunk start zero = start
 way nodes chunk start (suc steps) = next_at chunk (way nodes chunk start steps) (node_at nodes (way nodes chunk start steps))
 
+-- where it begins: at the slot of its own number, or at the low bits of the chunk, over which those above them are spread
+abbrev pub slot_of : Slots → (chunk : ℕ) → ℕ
+slot_of slots chunk = if nat_le chunk slots.mask then chunk else bit_and (bit_xor chunk ((bit_and chunk slots.above * SPREAD) % 2 ^ 64 / 2 ^ 28)) slots.mask
+
 -- where its way ends
-abbrev pub end_of : List Node → (mask chunk : ℕ) → ℕ
-end_of nodes mask chunk = way nodes chunk (bit_and chunk mask) 64
+abbrev pub end_of : List Node → Slots → (chunk : ℕ) → ℕ
+end_of nodes slots chunk = way nodes chunk (slot_of slots chunk) 64
 
 -- a node with two below it
 abbrev pub is_fork : Node → Bool
@@ -67,15 +73,15 @@ Fits marks chunks count at (Number number) = IsNumber marks chunks at number
 Fits marks chunks count at (Fork bit pair) = IsFork marks count at bit pair
 
 -- no way tests a bit twice
-pub record HasMarks (chunks : List ℕ) (nodes : List Node) (mask : ℕ) : Type 0 where
+pub record HasMarks (chunks : List ℕ) (nodes : List Node) (slots : Slots) : Type 0 where
   pub marks : Marks
-  pub start : (at : ℕ) → at ≤ mask → marks.tested at ≡ []
+  pub start : (at : ℕ) → at ≤ slots.mask → marks.tested at ≡ []
   pub fits : (at : ℕ) → at < length nodes → Fits marks chunks (length nodes) at (node_at nodes at)
 
 -- and the way of each taken chunk ends at its number
-pub record IsTrie (chunks : List ℕ) (nodes : List Node) (mask : ℕ) : Type 0 where
-  pub marked : HasMarks chunks nodes mask
-  pub ends : (number : ℕ) → number < length chunks → node_at nodes (end_of nodes mask (chunk_at chunks number)) ≡ Number number
+pub record IsTrie (chunks : List ℕ) (nodes : List Node) (slots : Slots) : Type 0 where
+  pub marked : HasMarks chunks nodes slots
+  pub ends : (number : ℕ) → number < length chunks → node_at nodes (end_of nodes slots (chunk_at chunks number)) ≡ Number number
 
 -- each number is in the slot of its own chunk: at the index that is its chunk
 abbrev pub AreInOwnSlots : (chunks : List ℕ) (nodes : List Node) → Type 0

@@ -1,13 +1,13 @@
 -- How much of a snapshot's store is used (the kernel's admin guide, device-mapper/snapshot, status).
 use Rattle.std.specs.Prelude.{length}
-use Rattle.dm_stack.specs.declared.lines.found_line.FoundSnapshot.{FoundSnapshot}
+use Rattle.dm_stack.specs.declared.lines.resolved_line.ResolvedSnapshot.{ResolvedSnapshot}
 use Rattle.dm_stack.specs.Description.{Description, lower_len}
 use Rattle.dm_stack.specs.lines.StoreLayout.{allocated, metadata}
 use Rattle.dm_map.specs.declared.state.usage.Usage.{Usage}
 use Rattle.dm_map.specs.state.State.{Taken}
 
 -- what a snapshot's status says of its store, in sectors
-abbrev pub usage_of : Description → FoundSnapshot → Taken → Usage
+abbrev pub usage_of : Description → ResolvedSnapshot → Taken → Usage
 usage_of stack snapshot taken = record {
   allocated = allocated snapshot.kind snapshot.chunk (length taken.chunks);
   total = lower_len stack snapshot.store;

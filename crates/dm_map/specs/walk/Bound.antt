@@ -2,8 +2,8 @@
 use Rattle.std.specs.Prelude.{ℕ, ◌≡◌, ◌+◌, ◌-◌, ◌*◌, ◌≤◌, List, [], ◌∷◌, Result}
 use Rattle.dm_table.specs.declared.requests.request.Op.{Op}
 use Rattle.dm_table.specs.declared.requests.request.Op.TheVariants.{Read}
-use Rattle.dm_stack.specs.declared.lines.found_line.FoundOrigin.{FoundOrigin}
-use Rattle.dm_stack.specs.declared.lines.found_line.FoundTarget.{FoundTarget}
+use Rattle.dm_stack.specs.declared.lines.resolved_line.ResolvedOrigin.{ResolvedOrigin}
+use Rattle.dm_stack.specs.declared.lines.resolved_line.ResolvedTarget.{ResolvedTarget}
 use Rattle.dm_stack.specs.declared.id.Lower.{Lower}
 use Rattle.dm_stack.specs.declared.id.Lower.TheVariants.{Device}
 use Rattle.dm_stack.specs.lines.Below.{below_target, chunk_at}
@@ -37,16 +37,16 @@ abbrev pub found_mapping : Op → ℕ → (device : ℕ) → Mapping
 found_mapping op levels device = record (range_mapping op levels (Device device)) { found = 1 }
 
 -- that of an origin's device, through at most this many levels of devices below it
-abbrev pub origin_mapping : Op → ℕ → FoundOrigin → Mapping
+abbrev pub origin_mapping : Op → ℕ → ResolvedOrigin → Mapping
 origin_mapping op levels origin = record (range_mapping op levels origin.to) { step = λ stack. served_sector stack op levels origin }
 
 -- the path of a sector at a distance from the start of a line of a device, which has this target, and the mapping of the sectors of the line, through at most this many levels of devices below it
-abbrev pub target_path : Description → State → ℕ → (device start : ℕ) → FoundTarget → (distance : ℕ) → List PathStep
+abbrev pub target_path : Description → State → ℕ → (device start : ℕ) → ResolvedTarget → (distance : ℕ) → List PathStep
 target_path stack state levels device start target distance =
     record { device = device; start = start; chunk = chunk_at target distance } ∷ by_below (below_target (read_over (taken_at state device)) target distance) [] [] (λ to lower. path stack state levels to lower)
 
 -- the mapping of a target on a line that starts at this sector of a device, through this many levels
-abbrev pub target_mapping : Op → ℕ → (device start : ℕ) → FoundTarget → Mapping
+abbrev pub target_mapping : Op → ℕ → (device start : ℕ) → ResolvedTarget → Mapping
 target_mapping op levels device start target =
     record { op = op; step = λ stack. target_step stack op levels device target; path = λ stack state. target_path stack state levels device start target; depth = λ stack. depth_of stack device - 1; found = 0 }
 

@@ -1,6 +1,6 @@
 -- Sectors of one chunk of a snapshot, where they are read, and where they lie once it is taken.
 use Rattle.std.specs.Prelude.{ℕ, ◌≡◌, ◌+◌, ◌%◌, ◌<◌, ◌≤◌, true, Some}
-use Rattle.dm_stack.specs.declared.lines.found_line.FoundSnapshot.{FoundSnapshot}
+use Rattle.dm_stack.specs.declared.lines.resolved_line.ResolvedSnapshot.{ResolvedSnapshot}
 use Rattle.dm_stack.specs.Description.{Description, device_len, lower_len}
 use Rattle.dm_stack.specs.lines.Below.{Lies, IsSnapshotSound}
 use Rattle.dm_map.specs.declared.walk.chunk.ReadAt.{ReadAt}
@@ -12,23 +12,23 @@ use Rattle.dm_map.specs.walk.Homes.{IsFirstHomes}
 use Rattle.dm_map.specs.walk.SnapshotWrites.{count_of, first_of}
 
 -- a device is this snapshot, and has len sectors from this one on
-pub record AreInSnapshot (stack : Description) (device : ℕ) (snapshot : FoundSnapshot) (sector len : ℕ) : Type 0 where
+pub record AreInSnapshot (stack : Description) (device : ℕ) (snapshot : ResolvedSnapshot) (sector len : ℕ) : Type 0 where
   pub is : snapshot_at stack device ≡ Some snapshot
   pub sound : IsSnapshotSound stack device 0 (device_len stack device) snapshot
   pub inside : sector + len ≤ device_len stack device
 
 -- and they are all in one chunk
-pub record AreInChunk (stack : Description) (device : ℕ) (snapshot : FoundSnapshot) (sector len : ℕ) : Type 0 where
+pub record AreInChunk (stack : Description) (device : ℕ) (snapshot : ResolvedSnapshot) (sector len : ℕ) : Type 0 where
   pub whole : AreInSnapshot stack device snapshot sector len
   pub part : sector % snapshot.chunk + len ≤ snapshot.chunk
 
 -- len sectors of one chunk are read one after the other from this sector of a device or a disk on, which has them
-pub record AreReadAt (stack : Description) (state : State) (device : ℕ) (snapshot : FoundSnapshot) (sector len : ℕ) (source : ReadAt) : Type 0 where
+pub record AreReadAt (stack : Description) (state : State) (device : ℕ) (snapshot : ResolvedSnapshot) (sector len : ℕ) (source : ReadAt) : Type 0 where
   pub lies : (i : ℕ) → i < len → read_over (taken_at state device) snapshot (sector + i) ≡ Lies source.to (source.sector + i)
   pub inside : source.sector + len ≤ lower_len stack source.to
 
 -- a valid snapshot has taken a chunk under this number, and the first of its sectors lie here
-pub record IsTakenAs (stack : Description) (state : State) (device : ℕ) (snapshot : FoundSnapshot) (chunk number : ℕ) (home : HomeStretch) : Type 0 where
+pub record IsTakenAs (stack : Description) (state : State) (device : ℕ) (snapshot : ResolvedSnapshot) (chunk number : ℕ) (home : HomeStretch) : Type 0 where
   pub valid : (taken_at state device).valid ≡ true
   pub is : number_in chunk (taken_at state device).chunks ≡ Some number
   pub place : has_place stack snapshot number ≡ true

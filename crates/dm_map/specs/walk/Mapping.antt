@@ -5,9 +5,9 @@ use Rattle.dm_table.specs.declared.requests.request.Op.TheVariants as ops
 use Rattle.dm_table.specs.declared.requests.request.Request.{Request}
 use Rattle.dm_stack.specs.declared.id.Lower.{Lower}
 use Rattle.dm_stack.specs.declared.id.Lower.TheVariants.{Device, Disk}
-use Rattle.dm_stack.specs.declared.lines.found_line.FoundLine.{FoundLine}
-use Rattle.dm_stack.specs.declared.lines.found_line.FoundTarget.{FoundTarget}
-use Rattle.dm_stack.specs.declared.lines.found_line.FoundTarget.TheVariants as found
+use Rattle.dm_stack.specs.declared.lines.resolved_line.ResolvedLine.{ResolvedLine}
+use Rattle.dm_stack.specs.declared.lines.resolved_line.ResolvedTarget.{ResolvedTarget}
+use Rattle.dm_stack.specs.declared.lines.resolved_line.ResolvedTarget.TheVariants as found
 use Rattle.dm_stack.specs.declared.checks.graph.TheConstants.{MOST_DEPTH}
 use Rattle.dm_stack.specs.Description.{Description, device_len, is_ro_at}
 use Rattle.dm_stack.specs.lines.Below.{below_plain, found_at}
@@ -20,13 +20,13 @@ use Rattle.dm_map.specs.walk.Steps.{Step, keep, steps}
 use Rattle.dm_map.specs.pieces.Units.{WriteOf, Drops, Fails}
 
 -- the write of a sector at a distance from the start of a line of this target, by that of a lower one: zeros throw it away, and the snapshots of an origin are served first
-abbrev pub write_target : Description → State → (device : ℕ) → FoundTarget → (distance : ℕ) → (Lower → State → ℕ → Step) → Step
+abbrev pub write_target : Description → State → (device : ℕ) → ResolvedTarget → (distance : ℕ) → (Lower → State → ℕ → Step) → Step
 write_target stack state device (found.Snapshot snapshot) distance next = write_snapshot stack snapshot device state distance
 write_target stack state device (found.Origin origin) distance next = served_step stack origin.over (next origin.to) state distance
 write_target stack state device target distance next = by_below (below_plain target distance) (keep (Drops ∷ []) state) (keep (Fails ∷ []) state) (λ to sector. next to state sector)
 
 -- a write of a sector of a device, by the line that holds it; a sector that no line holds fails
-abbrev pub write_line : Description → State → (device : ℕ) → Option FoundLine → (sector : ℕ) → (Lower → State → ℕ → Step) → Step
+abbrev pub write_line : Description → State → (device : ℕ) → Option ResolvedLine → (sector : ℕ) → (Lower → State → ℕ → Step) → Step
 write_line stack state device (Some line) sector next = write_target stack state device line.target (sector - line.start) next
 write_line stack state device None sector next = keep (Fails ∷ []) state
 

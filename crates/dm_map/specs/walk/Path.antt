@@ -4,7 +4,7 @@ use Rattle.std.specs.Cmp.Lexicographic.{pointwise}
 use Rattle.dm_stack.specs.declared.checks.graph.TheConstants.{MOST_DEPTH}
 use Rattle.dm_stack.specs.declared.id.Lower.{Lower}
 use Rattle.dm_stack.specs.declared.id.Lower.TheVariants.{Device, Disk}
-use Rattle.dm_stack.specs.declared.lines.found_line.FoundLine.{FoundLine}
+use Rattle.dm_stack.specs.declared.lines.resolved_line.ResolvedLine.{ResolvedLine}
 use Rattle.dm_stack.specs.Description.{Description, device_len}
 use Rattle.dm_stack.specs.lines.Below.{below_target, chunk_at, found_at, is_same_chunk}
 use Rattle.dm_map.specs.walk.Reads.{by_below}
@@ -20,13 +20,13 @@ pub record PathStep : Type 0 where
   pub chunk : Option ℕ
 
 -- the step of a line, and the path of what lies below: none below zeros, errors and a snapshot that isn't valid
-abbrev pub line_path : State → (device : ℕ) → FoundLine → (distance : ℕ) → (next : Lower → ℕ → List PathStep) → List PathStep
+abbrev pub line_path : State → (device : ℕ) → ResolvedLine → (distance : ℕ) → (next : Lower → ℕ → List PathStep) → List PathStep
 line_path state device line distance next =
     record { device = device; start = line.start; chunk = chunk_at line.target distance }
     ∷ by_below (below_target (read_over (taken_at state device)) line.target distance) [] [] next
 
 -- the steps from a sector down, by the line that holds it: none where no line does
-abbrev pub found_path : State → (device : ℕ) → Option FoundLine → (sector : ℕ) → (next : Lower → ℕ → List PathStep) → List PathStep
+abbrev pub found_path : State → (device : ℕ) → Option ResolvedLine → (sector : ℕ) → (next : Lower → ℕ → List PathStep) → List PathStep
 found_path state device (Some line) sector next = line_path state device line (sector - line.start) next
 found_path state device None sector next = []
 

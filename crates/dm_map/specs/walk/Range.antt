@@ -4,10 +4,10 @@ use Rattle.dm_table.specs.declared.requests.request.Op.{Op}
 use Rattle.dm_table.specs.declared.requests.request.Op.TheVariants as ops
 use Rattle.dm_table.specs.io.DeviceIo.{fault_of}
 use Rattle.dm_stack.specs.declared.id.Lower.{Lower}
-use Rattle.dm_stack.specs.declared.lines.found_line.FoundLine.{FoundLine}
-use Rattle.dm_stack.specs.declared.lines.found_line.FoundOrigin.{FoundOrigin}
-use Rattle.dm_stack.specs.declared.lines.found_line.FoundSnapshot.{FoundSnapshot}
-use Rattle.dm_stack.specs.declared.lines.found_line.FoundTarget.{FoundTarget}
+use Rattle.dm_stack.specs.declared.lines.resolved_line.ResolvedLine.{ResolvedLine}
+use Rattle.dm_stack.specs.declared.lines.resolved_line.ResolvedOrigin.{ResolvedOrigin}
+use Rattle.dm_stack.specs.declared.lines.resolved_line.ResolvedSnapshot.{ResolvedSnapshot}
+use Rattle.dm_stack.specs.declared.lines.resolved_line.ResolvedTarget.{ResolvedTarget}
 use Rattle.dm_stack.specs.declared.lines.leg.Leg.{Leg}
 use Rattle.dm_stack.specs.declared.checks.limits.TheConstants.{MOST_LENGTH}
 use Rattle.dm_stack.specs.Description.{Description, is_ro_at, lower_len}
@@ -37,13 +37,13 @@ abbrev pub range_step : Description → Op → ℕ → Lower → State → (sect
 range_step stack op levels lower state sector len = steps (sector_step stack op levels lower) state sector len
 
 -- the step of a sector at a distance from the start of a line of this target, of a device, through at most this many levels of devices below it
-abbrev pub target_step : Description → Op → ℕ → (device : ℕ) → FoundTarget → State → (distance : ℕ) → Step
+abbrev pub target_step : Description → Op → ℕ → (device : ℕ) → ResolvedTarget → State → (distance : ℕ) → Step
 target_step stack ops.Read levels device target state distance =
     keep (by_below (below_target (read_over (taken_at state device)) target distance) Zeros Fails (λ to sector. read_unit stack state levels to sector) ∷ []) state
 target_step stack ops.Write levels device target state distance = write_target stack state device target distance (λ to after sector. write_step stack levels to after sector)
 
 -- the step of len sectors of such a line
-abbrev pub line_step : Description → Op → ℕ → (device : ℕ) → FoundTarget → State → (distance len : ℕ) → Step
+abbrev pub line_step : Description → Op → ℕ → (device : ℕ) → ResolvedTarget → State → (distance len : ℕ) → Step
 line_step stack op levels device target state distance len = steps (target_step stack op levels device target) state distance len
 
 -- the step of a sector by what lies below it: it is that of the lower sector
@@ -51,12 +51,12 @@ abbrev pub below_step : Description → Op → ℕ → Below → State → Step
 below_step stack op levels b state = by_below b (keep (zero_unit op ∷ []) state) (keep (Fails ∷ []) state) (λ to sector. sector_step stack op levels to state sector)
 
 -- the step of a sector of an origin's device, through at most this many levels of devices below it, and that of len sectors
-abbrev pub served_sector : Description → Op → ℕ → FoundOrigin → State → (sector : ℕ) → Step
+abbrev pub served_sector : Description → Op → ℕ → ResolvedOrigin → State → (sector : ℕ) → Step
 served_sector stack ops.Read levels origin state sector = sector_step stack ops.Read levels origin.to state sector
 served_sector stack ops.Write levels origin state sector = served_step stack origin.over (sector_step stack ops.Write levels origin.to) state sector
 
 -- the step of sectors in a row of an origin's device
-abbrev pub origin_step : Description → Op → ℕ → FoundOrigin → State → (sector len : ℕ) → Step
+abbrev pub origin_step : Description → Op → ℕ → ResolvedOrigin → State → (sector len : ℕ) → Step
 origin_step stack op levels origin state sector len = steps (served_sector stack op levels origin) state sector len
 
 -- a device fails a request as a whole: one for a write, where it is read-only
@@ -76,31 +76,31 @@ pub record AreAsked {S : Type 0} (past : SinkPast S) (taker : S) (stack : Descri
   pub sink : HasRoomFor past taker stack len
 
 -- they are asked of an origin's device, whose line lists the snapshots of what it names
-pub record AreAskedOfOrigin {S : Type 0} (past : SinkPast S) (taker : S) (stack : Description) (origin : FoundOrigin) (sector len : ℕ) : Type 0 where
+pub record AreAskedOfOrigin {S : Type 0} (past : SinkPast S) (taker : S) (stack : Description) (origin : ResolvedOrigin) (sector len : ℕ) : Type 0 where
   pub over : origin.over ≡ snapshots_over stack origin.to
   pub asked : AreAsked past taker stack origin.to sector len
 
 -- they are asked of a snapshot
-pub record AreAskedOfSnapshot {S : Type 0} (past : SinkPast S) (taker : S) (stack : Description) (device : ℕ) (snapshot : FoundSnapshot) (sector len : ℕ) : Type 0 where
+pub record AreAskedOfSnapshot {S : Type 0} (past : SinkPast S) (taker : S) (stack : Description) (device : ℕ) (snapshot : ResolvedSnapshot) (sector len : ℕ) : Type 0 where
   pub some : 1 ≤ len
   pub inside : AreInSnapshot stack device snapshot sector len
   pub small : sector + len ≤ MOST_LENGTH
   pub sink : HasRoomFor past taker stack len
 
 -- they are asked of one chunk of a snapshot
-pub record AreAskedOfChunk {S : Type 0} (past : SinkPast S) (taker : S) (stack : Description) (device : ℕ) (snapshot : FoundSnapshot) (sector len : ℕ) : Type 0 where
+pub record AreAskedOfChunk {S : Type 0} (past : SinkPast S) (taker : S) (stack : Description) (device : ℕ) (snapshot : ResolvedSnapshot) (sector len : ℕ) : Type 0 where
   pub some : 1 ≤ len
   pub chunk : AreInChunk stack device snapshot sector len
   pub sink : HasRoomFor past taker stack len
 
 -- a walk comes to a sector of this line, of a device that does not refuse it and is not below the last level
-pub record IsAtLine (stack : Description) (op : Op) (levels device : ℕ) (line : FoundLine) (sector : ℕ) : Type 0 where
+pub record IsAtLine (stack : Description) (op : Op) (levels device : ℕ) (line : ResolvedLine) (sector : ℕ) : Type 0 where
   pub deep : 1 ≤ levels
   pub passes : refuses stack op device ≡ false
   pub of : IsLineOf stack device line sector
 
 -- a leg of a line of a device, from a distance from its start on
-pub record IsLegOf (stack : Description) (device : ℕ) (line : FoundLine) (distance : ℕ) (leg : Leg) : Type 0 where
+pub record IsLegOf (stack : Description) (device : ℕ) (line : ResolvedLine) (distance : ℕ) (leg : Leg) : Type 0 where
   pub of : IsLine stack device line
   pub some : 1 ≤ leg.len
   pub inside : distance + leg.len ≤ line.len
@@ -119,6 +119,6 @@ pub record IsWalked {S R F : Type 0} (past : SinkPast S) (result : Result R F) (
   pub looked : AreAdded before.looked after.looked
 
 -- it took those of len writes to a snapshot
-abbrev pub IsSnapshotWritten : {S R F : Type 0} → SinkPast S → Result R F → (old new : S) → (before after : WalkerView) → FoundSnapshot → (device sector len : ℕ) → Type 0
+abbrev pub IsSnapshotWritten : {S R F : Type 0} → SinkPast S → Result R F → (old new : S) → (before after : WalkerView) → ResolvedSnapshot → (device sector len : ℕ) → Type 0
 IsSnapshotWritten past result old new before after snapshot device sector len =
     IsWalked past result old new before after (steps (write_snapshot before.stack snapshot device) before.state sector len) len

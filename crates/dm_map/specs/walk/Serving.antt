@@ -2,28 +2,28 @@
 use Rattle.std.specs.Prelude.{◌≡◌, ℕ, ◌/◌, ◌<◌, ◌≤◌, true, List, [], ◌∷◌, Some}
 use Rattle.std.specs.List.{AllByRecursion}
 use Rattle.dm_stack.specs.Description.{Description, device_len}
-use Rattle.dm_stack.specs.declared.lines.found_line.FoundOver.{FoundOver}
+use Rattle.dm_stack.specs.declared.lines.resolved_line.ResolvedOver.{ResolvedOver}
 use Rattle.dm_map.specs.walk.SnapshotWrites.{is_settled, take_chunk}
 use Rattle.dm_map.specs.state.State.{State, taken_at}
 use Rattle.dm_map.specs.walk.Steps.{Step, keep, and_then}
 use Rattle.dm_map.specs.state.Tables.{snapshot_at}
 
 -- the chunk of a sector is taken in each of these snapshots, in their order
-unfoldable pub serve : Description → List FoundOver → (sector : ℕ) → State → Step
+unfoldable pub serve : Description → List ResolvedOver → (sector : ℕ) → State → Step
 serve stack [] sector state = keep [] state
 serve stack (one ∷ over) sector state =
     and_then (take_chunk stack one.snapshot one.device (sector / one.snapshot.chunk) state) (λ after. serve stack over sector after)
 
 -- nothing is left to do for the chunk of a sector in any of them
-abbrev pub AreSettled : State → List FoundOver → (sector : ℕ) → Type 0
+abbrev pub AreSettled : State → List ResolvedOver → (sector : ℕ) → Type 0
 AreSettled state over sector = AllByRecursion (λ one. is_settled (taken_at state one.device) (sector / one.snapshot.chunk) ≡ true) over
 
 -- the step of a sector of an origin's device, by that of the origin: they are served first
-abbrev pub served_step : Description → List FoundOver → (State → ℕ → Step) → State → (sector : ℕ) → Step
+abbrev pub served_step : Description → List ResolvedOver → (State → ℕ → Step) → State → (sector : ℕ) → Step
 served_step stack over plain state sector = and_then (serve stack over sector state) (λ after. plain after sector)
 
 -- a snapshot of the stack, with at least this many sectors
-pub record IsOver (stack : Description) (len : ℕ) (one : FoundOver) : Type 0 where
+pub record IsOver (stack : Description) (len : ℕ) (one : ResolvedOver) : Type 0 where
   pub is : snapshot_at stack one.device ≡ Some one.snapshot
   pub long : len ≤ device_len stack one.device
 

@@ -4,7 +4,7 @@ use Rattle.dm_table.specs.declared.tables.table.StoreKind.{StoreKind}
 use Rattle.dm_table.specs.declared.tables.table.StoreKind.TheVariants.{Keeping}
 use Rattle.dm_stack.specs.declared.checks.graph.TheConstants.{MOST_DEPTH}
 use Rattle.dm_stack.specs.declared.id.Lower.{Lower}
-use Rattle.dm_stack.specs.declared.lines.found_line.FoundSnapshot.{FoundSnapshot}
+use Rattle.dm_stack.specs.declared.lines.resolved_line.ResolvedSnapshot.{ResolvedSnapshot}
 use Rattle.dm_stack.specs.Description.{Description, device_len}
 use Rattle.dm_map.specs.walk.Homes.{Home, home}
 use Rattle.dm_map.specs.walk.Reads.{read_unit}
@@ -16,11 +16,11 @@ use Rattle.dm_map.specs.pieces.Units.{BlockUnit, ReadOf, WriteOf, Fails, CopyOf,
 -- The sectors of a chunk, as far as the snapshot goes
 
 -- the first sector of a chunk
-abbrev pub first_of : FoundSnapshot → (chunk : ℕ) → ℕ
+abbrev pub first_of : ResolvedSnapshot → (chunk : ℕ) → ℕ
 first_of snapshot chunk = chunk * snapshot.chunk
 
 -- how many sectors a chunk has: the last one of a device may be shorter
-abbrev pub count_of : Description → FoundSnapshot → (device chunk : ℕ) → ℕ
+abbrev pub count_of : Description → ResolvedSnapshot → (device chunk : ℕ) → ℕ
 count_of stack snapshot device chunk = min snapshot.chunk (device_len stack device - first_of snapshot chunk)
 
 -- what f gives for len sectors in a row
@@ -56,11 +56,11 @@ copy_to (ReadOf disk sector) to = CopyOf disk sector to.disk to.sector
 copy_to unit to = FillOf to.disk to.sector
 
 -- where a sector of the chunk with this number is kept
-abbrev pub home_in_store : Description → FoundSnapshot → (number sector : ℕ) → Home
+abbrev pub home_in_store : Description → ResolvedSnapshot → (number sector : ℕ) → Home
 home_in_store stack snapshot number sector = home stack snapshot.store (store_sector snapshot number sector)
 
 -- the copies of sectors in a row to where the chunk with this number keeps them
-abbrev pub copies : Description → State → FoundSnapshot → (number sector len : ℕ) → List BlockUnit
+abbrev pub copies : Description → State → ResolvedSnapshot → (number sector len : ℕ) → List BlockUnit
 copies stack state snapshot number sector len = row (λ s. copy_to (read stack state snapshot.origin s) (home_in_store stack snapshot number s)) sector len
 
 -- A chunk is taken
@@ -70,11 +70,11 @@ abbrev pub is_settled : Taken → (chunk : ℕ) → Bool
 is_settled taken chunk = not taken.valid || is_some (number_in chunk taken.chunks)
 
 -- a chunk of these sectors can be taken: the store has a place for one more, and the origin has them
-abbrev pub can_take : Description → State → FoundSnapshot → (device sector len : ℕ) → Bool
+abbrev pub can_take : Description → State → ResolvedSnapshot → (device sector len : ℕ) → Bool
 can_take stack state snapshot device sector len = has_place stack snapshot (length (taken_at state device).chunks) && reads_all stack state snapshot.origin sector len
 
 -- nothing is done for a settled chunk; any other is copied and taken where it can be, and else the snapshot is lost, as it is where its store is full
-abbrev pub take_chunk : Description → FoundSnapshot → (device chunk : ℕ) → State → Step
+abbrev pub take_chunk : Description → ResolvedSnapshot → (device chunk : ℕ) → State → Step
 take_chunk stack snapshot device chunk state =
     let taken = taken_at state device in
     if is_settled taken chunk then keep [] state
@@ -90,7 +90,7 @@ is_keeping Keeping = true
 is_keeping kind = false
 
 -- a keeping store, which no kernel has, has no place for a chunk that would have to be taken: the write fails, and nothing changes
-abbrev pub is_refused : Description → FoundSnapshot → Taken → (chunk : ℕ) → Bool
+abbrev pub is_refused : Description → ResolvedSnapshot → Taken → (chunk : ℕ) → Bool
 is_refused stack snapshot taken chunk = is_keeping snapshot.kind && (not (has_place stack snapshot (length taken.chunks)) && not (is_settled taken chunk))
 
 -- And then the sector is written
@@ -104,18 +104,18 @@ abbrev pub store_writes : Description → Lower → (sector len : ℕ) → List 
 store_writes stack store sector len = row (λ s. write_to (home stack store s)) sector len
 
 -- a write of a sector of the chunk with this number: it fails where the chunk isn't taken
-abbrev pub write_numbered : Description → FoundSnapshot → Option ℕ → (sector : ℕ) → BlockUnit
+abbrev pub write_numbered : Description → ResolvedSnapshot → Option ℕ → (sector : ℕ) → BlockUnit
 write_numbered stack snapshot (Some number) sector = write_to (home_in_store stack snapshot number sector)
 write_numbered stack snapshot None sector = Fails
 
 -- a write of a sector of a snapshot, by the chunks that it took: it fails where the snapshot is invalid
-abbrev pub unit_in_store : Description → FoundSnapshot → (device : ℕ) → State → (sector : ℕ) → BlockUnit
+abbrev pub unit_in_store : Description → ResolvedSnapshot → (device : ℕ) → State → (sector : ℕ) → BlockUnit
 unit_in_store stack snapshot device state sector =
     let taken = taken_at state device in
     if taken.valid then write_numbered stack snapshot (number_in (sector / snapshot.chunk) taken.chunks) sector else Fails
 
 -- a write of a sector of a snapshot: it fails where it is refused, and takes its chunk first where that isn't taken yet
-abbrev pub write_snapshot : Description → FoundSnapshot → (device : ℕ) → State → (sector : ℕ) → Step
+abbrev pub write_snapshot : Description → ResolvedSnapshot → (device : ℕ) → State → (sector : ℕ) → Step
 write_snapshot stack snapshot device state sector =
     if is_refused stack snapshot (taken_at state device) (sector / snapshot.chunk) then keep (Fails ∷ []) state
     else and_then (take_chunk stack snapshot device (sector / snapshot.chunk) state) (λ after. keep (unit_in_store stack snapshot device after sector ∷ []) after)

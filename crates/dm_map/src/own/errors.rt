@@ -10,7 +10,8 @@ use dm_stack::Stack;
 /// that is lost. A snapshot is lost exactly by a write to it, or to its origin through the origin's
 /// device, that has to take a chunk, and finds no place left or a sector of the chunk that reads as an
 /// error; one whose store is of kind `K` finds no place only through its origin. What is lost stays so.
-/// It does nothing and returns nothing: its contract is the law.
+/// After each request, or its first sectors, the stack still is in a state that it can be in. It does
+/// nothing and returns nothing: its contract is the law.
 pub fn errors_have_causes(stack: &Stack)
     ensures { HaveCauses stack.now }
 {

@@ -9,7 +9,7 @@ ghost use Rattle.dm_map.specs.state.Tables.{AreTables, has_room, state_of};
 
 use crate::state::taken::Taken;
 use crate::state::walker::lower_len;
-use dm_stack::{DeviceId, FoundTarget, Looker, place_count};
+use dm_stack::{DeviceId, Looker, ResolvedTarget, place_count};
 use dm_table::Reserved;
 use std::alloc::{AllocError, Global};
 
@@ -64,7 +64,7 @@ fn places_of(looker: &mut Looker<'_>, device: DeviceId) -> usize
     // Called because its contract says that the stack is sound.
     looker.depth();
     match &looker.look(device, 0).target {
-        FoundTarget::Snapshot(snapshot) => {
+        ResolvedTarget::Snapshot(snapshot) => {
             let len = lower_len(looker, snapshot.store);
             place_count(snapshot.kind, snapshot.chunk, len) as usize
         }

@@ -6,7 +6,7 @@
 //! plainest. A chunk's number, its index in that list, says where in the store it is.
 
 ghost use Rattle.std.specs.Prelude.{◌≡◌, ℕ, ◌<◌, ◌≤◌, ◌==◌, [], ◌∷◌, ◌++◌};
-ghost use Rattle.std.specs.Prelude.{Bool, true, false, List, None, length, nat_eq, IfOk};
+ghost use Rattle.std.specs.Prelude.{Bool, true, false, List, None, is_none, length, nat_eq, IfOk, if◌then◌else◌};
 ghost use Rattle.dm_map.specs.state.Snapshots.{number_in};
 ghost use Rattle.std.specs.List.{IsDistinct};
 
@@ -63,6 +63,24 @@ pub trait Taken: Drop + Sized {
         ensures chunks { chunks self.new ≡ chunks self.old ++ chunk ∷ [] }
         ensures places { places self.new ≡ places self.old }
         ensures valid { valid self.new ≡ true };
+
+    /// Takes a chunk unless it was taken, while a place is left and the snapshot is valid, and says whether it
+    /// took it.
+    fn offer(&mut self, chunk: u64) -> bool
+        requires valid { valid self.old ≡ true }
+        requires room { length (chunks self.old) < places self.old }
+        ensures fresh { result ≡ is_none (number_in chunk (chunks self.old)) }
+        ensures chunks { chunks self.new
+            ≡ (if result then chunks self.old ++ chunk ∷ [] else chunks self.old) }
+        ensures places { places self.new ≡ places self.old }
+        ensures valid { valid self.new ≡ true }
+    {
+        if self.find(chunk).is_some() {
+            return false;
+        }
+        self.take(chunk);
+        true
+    }
 
     /// Makes the snapshot invalid, for good.
     fn invalidate(&mut self)

@@ -1,8 +1,12 @@
 //! Taken chunks as a trie: for snapshots with many of them, in whatever order.
 //!
-//! The chunks lie in the order in which they were taken. A table, by the low bits of a chunk, and below
-//! it forks that test one bit each, lead from a chunk to the number of the only one that it may be. A
+//! The chunks lie in the order in which they were taken. A table, by the slot of a chunk, and below it
+//! forks that test one bit each, lead from a chunk to the number of the only one that it may be. A
 //! chunk whose way ends at another one's number puts a fork there; nothing else is ever moved.
+//!
+//! Slots of their own, and what is read ahead, are here for speed alone: RESULTS.md has their gain as *chunks in slots
+//! of their own* and *a link that is read ahead is asked nothing*. Measure random first writes before and after a
+//! change.
 
 ghost use Rattle.std.specs.Prelude.{◌≡◌, ◌<◌, ◌≤◌, ◌+◌, ◌*◌, ◌^◌, ◌++◌, ◌∷◌, [], None, true, length, nat_eq, replicate, vec_capacity, IfOk, OnOk};
 ghost use Rattle.std.specs.List.{IsDistinct};
@@ -13,11 +17,13 @@ ghost use Rattle.dm_map.specs.state.Snapshots.{number_in};
 ghost use Rattle.dm_map.specs.state.Trie.{AreInOwnSlots, IsTrie, end_of, node_at};
 
 mod link;
+mod slots;
 #[cfg(test)]
 mod tests;
 
 use crate::state::taken::Taken;
 use crate::state::trie_taken::link::{Link, Node};
+use crate::state::trie_taken::slots::Slots;
 use dm_table::Reserved;
 use std::alloc::{AllocError, Global};
 
@@ -27,8 +33,8 @@ const MOST_PLACES: usize = 1 << 23;
 /// The chunks and a trie of their numbers.
 ///
 /// A chunk is found by at most 64 tests of a bit and one comparison. To take one costs as many tests, and
-/// four links are written at most. That holds for whatever chunks: those that have their low bits in
-/// common make a tree of forks.
+/// four links are written at most. That holds for whatever chunks: those that share a slot make a tree of
+/// forks.
 ///
 /// All memory is reserved by `with_places`: 20 to 24 bytes for each place. The table, 4 to 8 of them, is
 /// written then; the chunk itself, 8, and the links of a fork, as many, only when a chunk is taken. It
@@ -38,21 +44,22 @@ pub struct TrieTaken {
     chunks: Reserved<u64>,
     /// The table, and then the two links of each fork.
     links: Reserved<Link>,
-    /// The bits of a chunk that say where in the table its way begins.
-    mask: u64,
-    places: usize,
+    /// Where in the table the way of a chunk begins.
+    slots: Slots,
+    /// At most 2²³. In 32 bits, as the table of a device is found by its size: 72 bytes take fewer steps than 80.
+    places: u32,
     valid: bool,
     /// Whether each taken chunk is in the slot of its own number. Then none is compared there, and the list
     /// of chunks isn't read.
     own_slots: bool,
     ghost reserved: { places ≤ chunks.room },
-    ghost room: { mask + 1 + 2 * places ≤ links.room },
-    ghost small: { mask + 1 + 2 * places < 2 ^ 25 },
-    ghost slots: { mask < length links.items },
-    ghost forks: { length links.items ≤ mask + 1 + 2 * length chunks.items },
+    ghost room: { slots.mask + 1 + 2 * places ≤ links.room },
+    ghost small: { slots.mask + 1 + 2 * places < 2 ^ 25 },
+    ghost table: { slots.mask < length links.items },
+    ghost forks: { length links.items ≤ slots.mask + 1 + 2 * length chunks.items },
     ghost fits: { length chunks.items ≤ places },
     ghost once: { IsDistinct nat_eq chunks.items } by { IsDistinct-prop nat_eq chunks.items },
-    ghost leads: { ∥ IsTrie chunks.items links.items mask ∥₁ },
+    ghost leads: { ∥ IsTrie chunks.items links.items slots ∥₁ },
     ghost own: { ∥ (own_slots ≡ true → AreInOwnSlots chunks.items links.items) ∥₁ },
 }
 
@@ -86,10 +93,10 @@ impl TrieTaken {
 
     /// Where the way of a chunk ends, and how many bits are tested on it.
     fn end_of(&self, chunk: u64) -> (usize, u64)
-        ensures at { result.0 ≡ end_of self.now.links.items self.now.mask chunk }
+        ensures at { result.0 ≡ end_of self.now.links.items self.now.slots chunk }
         ensures few { result.1 ≤ 64 }
     {
-        let mut at = (chunk & self.mask) as usize;
+        let mut at = self.slots.of(chunk);
         let mut tested = 0;
         while let Node::Fork(bit, pair) = self.links[at].node() {
             at = pair as usize + bit_of(chunk, bit);
@@ -102,7 +109,7 @@ impl TrieTaken {
     fn put(&mut self, at: usize, chunk: u64)
         requires room { length self.old.chunks.items < self.old.places }
         requires fresh { number_in chunk self.old.chunks.items ≡ None }
-        requires at { at ≡ end_of self.old.links.items self.old.mask chunk }
+        requires at { at ≡ end_of self.old.links.items self.old.slots chunk }
         requires empty { node_at self.old.links.items at ≡ Empty }
         ensures chunks { self.new.chunks.items ≡ self.old.chunks.items ++ chunk ∷ [] }
         ensures places { self.new.places ≡ self.old.places }
@@ -118,7 +125,7 @@ impl TrieTaken {
     fn part(&mut self, at: usize, other: u32, chunk: u64)
         requires room { length self.old.chunks.items < self.old.places }
         requires fresh { number_in chunk self.old.chunks.items ≡ None }
-        requires at { at ≡ end_of self.old.links.items self.old.mask chunk }
+        requires at { at ≡ end_of self.old.links.items self.old.slots chunk }
         requires other { node_at self.old.links.items at ≡ Number other }
         ensures chunks { self.new.chunks.items ≡ self.old.chunks.items ++ chunk ∷ [] }
         ensures places { self.new.places ≡ self.old.places }
@@ -157,8 +164,8 @@ impl Taken for TrieTaken {
         Ok(TrieTaken {
             chunks: Reserved::from_vec(Vec::with_capacity(alloc, count)?),
             links: Reserved::from_vec(slots_with_room(alloc, slots, slots + 2 * count)?),
-            mask: slots as u64 - 1,
-            places: count,
+            slots: Slots::with_count(slots),
+            places: count as u32,
             valid: true,
             own_slots: true,
         })
@@ -174,7 +181,7 @@ impl Taken for TrieTaken {
     /// the slots are the chunks' own, nothing is asked of the link, as a jump that waits for one lets the links
     /// of other requests wait.
     fn prefetch(&self, chunk: u64) -> u64 {
-        let link = &self.links[(chunk & self.mask) as usize];
+        let link = &self.links[self.slots.of(chunk)];
         if self.own_slots {
             return link.code();
         }
@@ -199,7 +206,7 @@ impl Taken for TrieTaken {
     }
 
     fn is_full(&self) -> bool {
-        self.chunks.len() == self.places
+        self.chunks.len() == self.places as usize
     }
 
     fn is_valid(&self) -> bool {
@@ -207,13 +214,23 @@ impl Taken for TrieTaken {
     }
 
     fn take(&mut self, chunk: u64) {
+        self.offer(chunk);
+    }
+
+    fn offer(&mut self, chunk: u64) -> bool {
         let (at, _) = self.end_of(chunk);
         match self.links[at].node() {
             Node::Empty => self.put(at, chunk),
-            Node::Number(other) => self.part(at, other, chunk),
+            Node::Number(other) => {
+                if self.chunks[other as usize] == chunk {
+                    return false;
+                }
+                self.part(at, other, chunk);
+            }
             // No way goes on after 64 bits.
             Node::Fork(_, _) => unreachable!(),
         }
+        true
     }
 
     fn invalidate(&mut self) {

@@ -11,7 +11,7 @@ ghost use Rattle.dm_map.specs.state.Walker.{stack_state};
 
 use crate::state::taken::Taken;
 use crate::state::walker::Walker;
-use dm_stack::{ChunkSize, DeviceId, FoundTarget, allocated, metadata};
+use dm_stack::{ChunkSize, DeviceId, ResolvedTarget, allocated, metadata};
 use dm_table::StoreKind;
 
 #[cfg(test)]
@@ -43,7 +43,7 @@ pub(crate) fn usage_of<T: Taken>(walker: &mut Walker<'_, T>, device: DeviceId) -
 {
     walker.recall_soundness();
     let line = walker.look(device, 0);
-    let FoundTarget::Snapshot(snapshot) = &line.target else {
+    let ResolvedTarget::Snapshot(snapshot) = &line.target else {
         unreachable!()
     };
     let total = walker.lower_len(snapshot.store);

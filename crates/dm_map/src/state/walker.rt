@@ -4,7 +4,7 @@
 //! that earlier requests left. The state is a table of taken chunks for each device, by its id; the
 //! table of a device that is no snapshot has no place and stays empty.
 
-ghost use Rattle.std.specs.Prelude.{◌≡◌, ℕ, ◌+◌, ◌<◌, ◌≤◌, true, not, None, Some, IfSome, length};
+ghost use Rattle.std.specs.Prelude.{◌≡◌, ℕ, ◌+◌, ◌<◌, ◌≤◌, true, not, None, Some, IfSome, is_none, length, if◌then◌else◌};
 ghost use Rattle.dm_stack.specs.lines.Below.{IsLineOf};
 ghost use Rattle.dm_stack.specs.Description.{device_len, is_ro_at, lower_len};
 ghost use Rattle.dm_stack.specs.checks.Soundness.{IsSound};
@@ -216,6 +216,24 @@ impl<'s, T: Taken> Walker<'s, T> {
     {
         let table = &mut self.tables[device.index()];
         table.take(chunk);
+    }
+
+    /// Takes a chunk of a valid snapshot unless it took it, where its store has a place for it, and says whether
+    /// it was taken.
+    pub(crate) fn offer(&mut self, device: DeviceId, chunk: u64) -> bool
+        requires device { device < length self.old.stack.devices }
+        requires valid { (taken_at self.old.state device).valid ≡ true }
+        requires room { has_room self.old.stack device (length (taken_at self.old.state device).chunks)
+            ≡ true }
+        ensures fresh { result ≡ is_none (number_in chunk (taken_at self.old.state device).chunks) }
+        ensures stack { self.new.stack ≡ self.old.stack }
+        ensures state { self.new.state
+            ≡ (if result then put self.old.state device (with_chunk (taken_at self.old.state device) chunk)
+            else self.old.state) }
+        ensures looked { self.new.looked ≡ self.old.looked }
+    {
+        let table = &mut self.tables[device.index()];
+        table.offer(chunk)
     }
 
     /// Makes a snapshot invalid, for good.

@@ -10,7 +10,7 @@ ghost use Rattle.dm_map.specs.walk.Chunk.{AreInChunk, AreReadAt};
 
 use crate::state::taken::Taken;
 use crate::state::walker::Walker;
-use dm_stack::{ChunkSize, DeviceId, FoundSnapshot, Lower, place};
+use dm_stack::{ChunkSize, DeviceId, Lower, ResolvedSnapshot, place};
 
 /// Where sectors are read: from a sector of a device or a disk on.
 #[derive(Clone, Copy, Drop)]
@@ -27,7 +27,7 @@ pub(crate) fn part_of_chunk(chunk_size: ChunkSize, sector: u64, most: u64) -> u6
 }
 
 /// The sector of a store where a taken chunk begins, which was the `number`th to be taken, from 0.
-pub(crate) fn store_start(snapshot: &FoundSnapshot, number: usize) -> u64
+pub(crate) fn store_start(snapshot: &ResolvedSnapshot, number: usize) -> u64
     requires { (place snapshot.now.kind snapshot.now.chunk number + 1) * snapshot.now.chunk
         ≤ MOST_LENGTH }
     ensures { result ≡ place snapshot.now.kind snapshot.now.chunk number * snapshot.now.chunk }
@@ -38,7 +38,7 @@ pub(crate) fn store_start(snapshot: &FoundSnapshot, number: usize) -> u64
 
 /// The sector of a store that has a sector of a taken chunk, which was the `number`th to be taken,
 /// from 0.
-pub(crate) fn store_sector(snapshot: &FoundSnapshot, number: usize, sector: u64) -> u64
+pub(crate) fn store_sector(snapshot: &ResolvedSnapshot, number: usize, sector: u64) -> u64
     requires { (place snapshot.now.kind snapshot.now.chunk number + 1) * snapshot.now.chunk
         ≤ MOST_LENGTH }
     ensures { result ≡ store_sector snapshot.now number sector }
@@ -51,7 +51,7 @@ pub(crate) fn store_sector(snapshot: &FoundSnapshot, number: usize, sector: u64)
 pub(crate) fn read_at<T: Taken>(
     walker: &Walker<'_, T>,
     device: DeviceId,
-    snapshot: &FoundSnapshot,
+    snapshot: &ResolvedSnapshot,
     sector: u64,
     len: u64,
 ) -> Option<ReadAt>
@@ -73,7 +73,7 @@ pub(crate) fn read_at<T: Taken>(
 pub(crate) fn source_of<T: Taken>(
     walker: &Walker<'_, T>,
     device: DeviceId,
-    snapshot: &FoundSnapshot,
+    snapshot: &ResolvedSnapshot,
     sector: u64,
     len: u64,
 ) -> ReadAt

@@ -1,6 +1,10 @@
 //! Requests whose sectors lie in a row on a disk, as those of most do.
 //!
 //! Where they lie is returned to the caller of the mapper, which then knows that nothing else comes of the request.
+//!
+//! This is here for speed alone, as the walk answers such requests, too: RESULTS.md has its gain as *a range that
+//! lies on one disk is returned and written at once*. It rests on `ResolvedTarget::leg`, as the walk does: a line on a
+//! disk has one leg. Change it only if you measure small requests, and first writes, before and after.
 
 ghost use Rattle.std.specs.Prelude.{◌≡◌, ◌+◌, ◌-◌, ◌≤◌, IfSome};
 ghost use Rattle.dm_stack.specs.lines.Below.{IsLineOf};
@@ -11,7 +15,7 @@ ghost use Rattle.dm_map.specs.walk.Range.{IsLegOf};
 
 use crate::state::taken::Taken;
 use crate::state::walker::Walker;
-use dm_stack::{Beneath, DeviceId, DiskId, FoundLine, FoundTarget, Leg, Lower};
+use dm_stack::{Beneath, DeviceId, DiskId, Leg, Lower, ResolvedLine, ResolvedTarget};
 
 /// Where sectors lie in a row: from a sector of a disk on.
 #[derive(Clone, Copy, Drop)]
@@ -25,7 +29,7 @@ pub struct Home {
 pub(crate) fn home_in<T: Taken>(
     walker: &Walker<'_, T>,
     device: DeviceId,
-    line: &FoundLine,
+    line: &ResolvedLine,
     sector: u64,
     len: u64,
 ) -> Option<Home>
@@ -51,10 +55,10 @@ pub(crate) fn home_in<T: Taken>(
 
 /// Whether a line is a part of a disk.
 #[inline(always)]
-fn is_on_disk(line: &FoundLine) -> bool {
+fn is_on_disk(line: &ResolvedLine) -> bool {
     matches!(
         line.target,
-        FoundTarget::Linear {
+        ResolvedTarget::Linear {
             to: Lower::Disk(_),
             ..
         }

@@ -12,7 +12,7 @@ ghost use Rattle.std.specs.Prelude.{◌≡◌, ◌+◌, ◌<◌, ◌≤◌, true
 ghost use Rattle.dm_table.specs.declared.requests.request.Op.TheVariants.{Read, Write};
 ghost use Rattle.dm_stack.specs.lines.Below.{is_striped, IsLine};
 ghost use Rattle.dm_stack.specs.Description.{Description};
-ghost use Rattle.dm_stack.specs.declared.lines.found_line.FoundTarget.TheVariants.{Snapshot};
+ghost use Rattle.dm_stack.specs.declared.lines.resolved_line.ResolvedTarget.TheVariants.{Snapshot};
 ghost use Rattle.dm_stack.specs.declared.id.Lower.TheVariants.{Device};
 ghost use Rattle.dm_stack.specs.declared.checks.graph.TheConstants.{MOST_DEPTH};
 ghost use Rattle.dm_map.specs.walk.Bound.{found_mapping, origin_mapping, range_mapping, target_mapping};
@@ -35,7 +35,8 @@ use crate::walk::serving::{serve, settled_part};
 use crate::walk::step::part_in;
 use crate::walk::write_chunk::write_snapshot;
 use dm_stack::{
-    Beneath, DeviceId, FoundLine, FoundOrigin, FoundSnapshot, FoundTarget, Leg, Lower, MOST_DEPTH,
+    Beneath, DeviceId, Leg, Lower, MOST_DEPTH, ResolvedLine, ResolvedOrigin, ResolvedSnapshot,
+    ResolvedTarget,
 };
 use dm_table::Op;
 
@@ -100,8 +101,8 @@ pub(crate) fn map_top<S: Sink, T: Taken>(
 
 /// Whether a line is that of a snapshot.
 #[inline(always)]
-fn is_snapshot(line: &FoundLine) -> bool {
-    matches!(line.target, FoundTarget::Snapshot(_))
+fn is_snapshot(line: &ResolvedLine) -> bool {
+    matches!(line.target, ResolvedTarget::Snapshot(_))
 }
 
 /// Hands over the units of sectors of a device. A read-only device fails a write of all of them.
@@ -145,7 +146,7 @@ fn map_lines<S: Sink, T: Taken>(
     op: Op,
     levels: u32,
     device: DeviceId,
-    first: &FoundLine,
+    first: &ResolvedLine,
     sector: u64,
     len: u64,
     sink: &mut S,
@@ -179,7 +180,7 @@ fn map_line<S: Sink, T: Taken>(
     op: Op,
     levels: u32,
     device: DeviceId,
-    line: &FoundLine,
+    line: &ResolvedLine,
     sector: u64,
     len: u64,
     sink: &mut S,
@@ -211,7 +212,7 @@ fn map_legs<S: Sink, T: Taken>(
     op: Op,
     levels: u32,
     device: DeviceId,
-    line: &FoundLine,
+    line: &ResolvedLine,
     distance: u64,
     len: u64,
     sink: &mut S,
@@ -250,9 +251,9 @@ fn map_leg<S: Sink, T: Taken>(
     distance: u64,
     sink: &mut S,
 ) -> Result<(), S::Fault>
-    requires leg { (line : FoundLine) × IsLegOf walker.old.stack device line distance leg.now }
+    requires leg { (line : ResolvedLine) × IsLegOf walker.old.stack device line distance leg.now }
     requires sink { HasRoomFor S.past sink.old walker.old.stack leg.now.len }
-    ensures { (line : FoundLine) → IsLegOf walker.old.stack device line distance leg.now
+    ensures { (line : ResolvedLine) → IsLegOf walker.old.stack device line distance leg.now
         → IsMapped S.past result sink.old sink.new walker.old walker.new
         (target_mapping op levels device line.start line.target) distance leg.now.len }
 {
@@ -276,7 +277,7 @@ fn map_snapshot<S: Sink, T: Taken>(
     op: Op,
     levels: u32,
     device: DeviceId,
-    snapshot: &FoundSnapshot,
+    snapshot: &ResolvedSnapshot,
     sector: u64,
     len: u64,
     sink: &mut S,
@@ -301,7 +302,7 @@ fn read_snapshot<S: Sink, T: Taken>(
     walker: &mut Walker<'_, T>,
     levels: u32,
     device: DeviceId,
-    snapshot: &FoundSnapshot,
+    snapshot: &ResolvedSnapshot,
     sector: u64,
     len: u64,
     sink: &mut S,
@@ -362,7 +363,7 @@ fn map_origin<S: Sink, T: Taken>(
     walker: &mut Walker<'_, T>,
     op: Op,
     levels: u32,
-    origin: &FoundOrigin,
+    origin: &ResolvedOrigin,
     sector: u64,
     len: u64,
     sink: &mut S,
@@ -386,7 +387,7 @@ fn map_origin<S: Sink, T: Taken>(
 fn write_origin<S: Sink, T: Taken>(
     walker: &mut Walker<'_, T>,
     levels: u32,
-    origin: &FoundOrigin,
+    origin: &ResolvedOrigin,
     sector: u64,
     len: u64,
     sink: &mut S,

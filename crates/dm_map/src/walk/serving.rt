@@ -17,12 +17,12 @@ use crate::state::taken::Taken;
 use crate::state::walker::Walker;
 use crate::walk::chunk::part_of_chunk;
 use crate::walk::take_chunk::{is_settled, take_chunk};
-use dm_stack::FoundOver;
+use dm_stack::ResolvedOver;
 
 /// Takes the chunk of a sector of an origin in each of its snapshots, in their order.
 pub(crate) fn serve<S: Sink, T: Taken>(
     walker: &mut Walker<'_, T>,
-    over: &[FoundOver],
+    over: &[ResolvedOver],
     sector: u64,
     sink: &mut S,
 ) -> Result<(), S::Fault>
@@ -48,7 +48,7 @@ pub(crate) fn serve<S: Sink, T: Taken>(
 /// It only looks, at each chunk at most once, and at none of a snapshot that is lost.
 pub(crate) fn settled_part<T: Taken>(
     walker: &Walker<'_, T>,
-    over: &[FoundOver],
+    over: &[ResolvedOver],
     sector: u64,
     most: u64,
 ) -> u64
@@ -67,7 +67,7 @@ pub(crate) fn settled_part<T: Taken>(
 
 /// How many of at most `most` sectors of a snapshot, from `sector` on, lie in chunks for which nothing
 /// is left to do, as nothing is for that of `sector`: as far as it goes.
-fn settled_in<T: Taken>(walker: &Walker<'_, T>, one: &FoundOver, sector: u64, most: u64) -> u64
+fn settled_in<T: Taken>(walker: &Walker<'_, T>, one: &ResolvedOver, sector: u64, most: u64) -> u64
     requires over { IsOver walker.now.stack (sector + most) one.now }
     requires some { 1 ≤ most }
     requires small { sector + most ≤ MOST_LENGTH }

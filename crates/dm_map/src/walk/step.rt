@@ -4,10 +4,10 @@
 
 ghost use Rattle.std.specs.Prelude.{◌≡◌, ◌-◌, ◌<◌, min};
 
-use dm_stack::FoundLine;
+use dm_stack::ResolvedLine;
 
 /// How many of at most `most` sectors, from a distance from its start on, a line has.
-pub(crate) fn part_in(line: &FoundLine, distance: u64, most: u64) -> u64
+pub(crate) fn part_in(line: &ResolvedLine, distance: u64, most: u64) -> u64
     requires { distance < line.now.len }
     ensures { result ≡ min most (line.now.len - distance) }
 {

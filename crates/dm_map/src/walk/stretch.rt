@@ -16,7 +16,7 @@ use crate::state::taken::Taken;
 use crate::state::walker::Walker;
 use crate::walk::chunk::{part_of_chunk, read_at};
 use crate::walk::step::part_in;
-use dm_stack::{Beneath, DeviceId, DiskId, FoundLine, Leg, Lower};
+use dm_stack::{Beneath, DeviceId, DiskId, Leg, Lower, ResolvedLine};
 
 /// What consecutive sectors are read from.
 #[derive(Clone, Copy, PartialEq, Eq, Drop)]
@@ -100,7 +100,7 @@ fn line_stretch<T: Taken>(
     walker: &mut Walker<'_, T>,
     levels: u32,
     device: DeviceId,
-    line: &FoundLine,
+    line: &ResolvedLine,
     distance: u64,
     len: u64,
 ) -> Stretch

@@ -33,7 +33,7 @@ use crate::state::walker::Walker;
 use crate::walk::chunk::store_start;
 use crate::walk::homes::{HomeStretch, first_homes};
 use crate::walk::stretch::{Ground, Stretch, first_stretch};
-use dm_stack::{DeviceId, FoundSnapshot, MOST_DEPTH};
+use dm_stack::{DeviceId, MOST_DEPTH, ResolvedSnapshot};
 
 /// Takes a chunk of a snapshot, before its sectors are written: copies it to the store, and notes that
 /// the store has it.
@@ -44,7 +44,7 @@ use dm_stack::{DeviceId, FoundSnapshot, MOST_DEPTH};
 pub(crate) fn take_chunk<S: Sink, T: Taken>(
     walker: &mut Walker<'_, T>,
     device: DeviceId,
-    snapshot: &FoundSnapshot,
+    snapshot: &ResolvedSnapshot,
     chunk: u64,
     sink: &mut S,
 ) -> Result<(), S::Fault>
@@ -66,7 +66,7 @@ pub(crate) fn take_chunk<S: Sink, T: Taken>(
 pub(crate) fn take_new_chunk<S: Sink, T: Taken>(
     walker: &mut Walker<'_, T>,
     device: DeviceId,
-    snapshot: &FoundSnapshot,
+    snapshot: &ResolvedSnapshot,
     chunk: u64,
     number: usize,
     sink: &mut S,
@@ -108,7 +108,7 @@ pub(crate) fn is_settled<T: Taken>(walker: &Walker<'_, T>, device: DeviceId, chu
 fn first_source<T: Taken>(
     walker: &mut Walker<'_, T>,
     device: DeviceId,
-    snapshot: &FoundSnapshot,
+    snapshot: &ResolvedSnapshot,
     sector: u64,
     len: u64,
 ) -> Option<Stretch>
@@ -147,7 +147,7 @@ fn first_source<T: Taken>(
 /// returned.
 fn copy_chunk<S: Sink, T: Taken>(
     walker: &mut Walker<'_, T>,
-    snapshot: &FoundSnapshot,
+    snapshot: &ResolvedSnapshot,
     number: usize,
     sector: u64,
     len: u64,

@@ -22,7 +22,7 @@ use crate::state::walker::Walker;
 use crate::walk::chunk::{part_of_chunk, store_sector};
 use crate::walk::homes::first_homes;
 use crate::walk::take_chunk::take_new_chunk;
-use dm_stack::{DeviceId, FoundSnapshot, Lower};
+use dm_stack::{DeviceId, Lower, ResolvedSnapshot};
 use dm_table::StoreKind;
 
 /// Hands over the units of writes to sectors of a snapshot, chunk by chunk.
@@ -32,7 +32,7 @@ use dm_table::StoreKind;
 pub(crate) fn write_snapshot<S: Sink, T: Taken>(
     walker: &mut Walker<'_, T>,
     device: DeviceId,
-    snapshot: &FoundSnapshot,
+    snapshot: &ResolvedSnapshot,
     sector: u64,
     len: u64,
     sink: &mut S,
@@ -58,7 +58,7 @@ pub(crate) fn write_snapshot<S: Sink, T: Taken>(
 fn write_chunk<S: Sink, T: Taken>(
     walker: &mut Walker<'_, T>,
     device: DeviceId,
-    snapshot: &FoundSnapshot,
+    snapshot: &ResolvedSnapshot,
     sector: u64,
     len: u64,
     sink: &mut S,
@@ -85,7 +85,7 @@ fn write_chunk<S: Sink, T: Taken>(
 fn write_new_chunk<S: Sink, T: Taken>(
     walker: &mut Walker<'_, T>,
     device: DeviceId,
-    snapshot: &FoundSnapshot,
+    snapshot: &ResolvedSnapshot,
     sector: u64,
     len: u64,
     sink: &mut S,
@@ -120,7 +120,11 @@ fn write_new_chunk<S: Sink, T: Taken>(
 
 /// Whether a write of a chunk that is not taken is refused: its store keeps what it has, and there is no place
 /// for one more.
-fn is_refused<T: Taken>(walker: &Walker<'_, T>, device: DeviceId, snapshot: &FoundSnapshot) -> bool
+fn is_refused<T: Taken>(
+    walker: &Walker<'_, T>,
+    device: DeviceId,
+    snapshot: &ResolvedSnapshot,
+) -> bool
     requires device { device < length walker.now.stack.devices }
     requires is { snapshot_at walker.now.stack device ≡ Some snapshot.now }
     ensures { result ≡ (is_keeping snapshot.now.kind

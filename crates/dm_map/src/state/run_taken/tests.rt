@@ -46,7 +46,7 @@ static TAKES: [Takes; 12] = [
         modulus: 65_537,
         runs: 16_385,
         comparisons: 15_856,
-        bits: 1,
+        bits: 0,
     },
     Takes {
         name: "every second",
@@ -57,7 +57,7 @@ static TAKES: [Takes; 12] = [
         modulus: 65_537,
         runs: 3_000,
         comparisons: 11_892,
-        bits: 375,
+        bits: 251,
     },
     Takes {
         name: "random",
@@ -68,7 +68,7 @@ static TAKES: [Takes; 12] = [
         modulus: 65_537,
         runs: 3_000,
         comparisons: 12_515,
-        bits: 224,
+        bits: 208,
     },
     Takes {
         name: "random rows",
@@ -79,7 +79,7 @@ static TAKES: [Takes; 12] = [
         modulus: 65_537,
         runs: 1_000,
         comparisons: 10_722,
-        bits: 143,
+        bits: 365,
     },
     Takes {
         name: "a power of two less one",
@@ -90,7 +90,7 @@ static TAKES: [Takes; 12] = [
         modulus: 65_537,
         runs: 8_191,
         comparisons: 13_975,
-        bits: 269,
+        bits: 1,
     },
     Takes {
         name: "a power of two",
@@ -101,7 +101,7 @@ static TAKES: [Takes; 12] = [
         modulus: 65_537,
         runs: 8_192,
         comparisons: 14_781,
-        bits: 269,
+        bits: 1,
     },
     Takes {
         name: "a power of two and one",
@@ -123,7 +123,7 @@ static TAKES: [Takes; 12] = [
         modulus: 1 << 50,
         runs: 2_000,
         comparisons: 11_303,
-        bits: 5_893,
+        bits: 295,
     },
     Takes {
         name: "one bit apart",
@@ -134,7 +134,7 @@ static TAKES: [Takes; 12] = [
         modulus: 1 << 50,
         runs: 3_000,
         comparisons: 11_865,
-        bits: 394,
+        bits: 374,
     },
     Takes {
         name: "spread over 2^50",
@@ -145,7 +145,7 @@ static TAKES: [Takes; 12] = [
         modulus: 1 << 50,
         runs: 4_096,
         comparisons: 13_438,
-        bits: 6_456,
+        bits: 5_390,
     },
     Takes {
         name: "wrapped",
@@ -156,7 +156,7 @@ static TAKES: [Takes; 12] = [
         modulus: u64::MAX,
         runs: 3_000,
         comparisons: 12_709,
-        bits: 0,
+        bits: 254,
     },
 ];
 

@@ -7,14 +7,14 @@ use std::test::Fail;
 #[test]
 fn chunks_are_found_by_their_bits(rt: HostRuntime) {
     let mut taken = TrieTaken::with_places(rt.alloc(), 4).expect(&rt, "a trie");
-    // The table has four links: the first three chunks begin at one, and part at bits 3 and 2.
-    for chunk in [0, 8, 12, 3] {
+    // The table has four links: the first three chunks begin at one, and part at bits 3 and 0.
+    for chunk in [0, 8, 13, 3] {
         offer(&mut taken, chunk);
     }
     for (chunk, want, tested) in [
         (0, Some(0), 1),
         (8, Some(1), 2),
-        (12, Some(2), 2),
+        (13, Some(2), 2),
         (3, Some(3), 0),
         (4, None, 1),
         (1, None, 0),

@@ -1,6 +1,7 @@
 use Rattle.dm_stack.specs.declared.id.Lower.TheVariants.{Device}
 use Rattle.dm_map.specs.own.Ways.{node}
 use Rattle.dm_map.proofs.own.ErrorReads.{error_met, meets_error}
+use Rattle.dm_map.proofs.own.KeptRequests.{past_fits}
 use Rattle.dm_map.proofs.own.LostSnapshots.{request_gone, request_loses, request_lost, request_whole, write_loses}
 use Rattle.dm_map.proofs.own.errors.errors_have_causes.Goals as goal
 
@@ -16,4 +17,5 @@ returns c =
       );
       whole = λ state op asked start len. request_whole stack state op asked start len;
       stays = λ state op asked start len sectors device gone. request_gone stack state op asked start len sectors device gone;
+      fits = λ state op asked start len sectors fits. past_fits stack op state asked start len sectors sound fits;
     }

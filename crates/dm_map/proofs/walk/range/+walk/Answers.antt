@@ -2,10 +2,10 @@ use Rattle.std.specs.Prelude.{Result}
 use Rattle.std.proofs.Common.{rules, ◌≡◌, ℕ, ◌+◌, ◌-◌, ◌≤◌, Some, refl, sym, ap, subst, ◌∙◌, arith}
 use Rattle.dm_table.specs.declared.requests.request.Op.{Op}
 use Rattle.dm_table.specs.declared.requests.request.Op.TheVariants.{Read}
-use Rattle.dm_stack.specs.declared.lines.found_line.FoundLine.{FoundLine}
-use Rattle.dm_stack.specs.declared.lines.found_line.FoundSnapshot.{FoundSnapshot}
-use Rattle.dm_stack.specs.declared.lines.found_line.FoundTarget.{FoundTarget}
-use Rattle.dm_stack.specs.declared.lines.found_line.FoundTarget.TheVariants.{Snapshot, Origin}
+use Rattle.dm_stack.specs.declared.lines.resolved_line.ResolvedLine.{ResolvedLine}
+use Rattle.dm_stack.specs.declared.lines.resolved_line.ResolvedSnapshot.{ResolvedSnapshot}
+use Rattle.dm_stack.specs.declared.lines.resolved_line.ResolvedTarget.{ResolvedTarget}
+use Rattle.dm_stack.specs.declared.lines.resolved_line.ResolvedTarget.TheVariants.{Snapshot, Origin}
 use Rattle.dm_stack.specs.declared.lines.leg.Beneath.{Beneath}
 use Rattle.dm_stack.specs.lines.Leg.{AreInside, LegsView}
 use Rattle.dm_stack.specs.declared.id.Lower.TheVariants.{Device}
@@ -22,7 +22,7 @@ use Rattle.dm_map.specs.walk.Chunk.{AreReadAt}
 use Rattle.dm_map.specs.walk.Range.{line_step, origin_step, range_step, AreAsked, AreAskedOfOrigin, AreAskedOfSnapshot, HasRoomFor, IsAtLine, IsLegOf}
 use Rattle.dm_stack.proofs.InStack.{device_there, lower_small}
 use Rattle.dm_stack.proofs.StripeLemmas.{other_chunk}
-use Rattle.dm_map.proofs.state.FoundLines.{first_line}
+use Rattle.dm_map.proofs.state.ResolvedLines.{first_line}
 use Rattle.dm_map.proofs.walk.Bounds.{lines_apart, mapped_below, mapped_line, mapped_target, parts_apart}
 use Rattle.dm_map.proofs.walk.Chunks.{chunk_read, in_snapshot, lost_read, read_on, write_line_step}
 use Rattle.dm_map.proofs.walk.DiskColumns.{legs_on_disks, mapped_on_disks}
@@ -120,7 +120,7 @@ map_line-leg-leg-requires-clause-there g t c =
 pub map_line-map_leg-requires : goal.map_line-map_leg-requires
 map_line-map_leg-requires g t c κs within =
     let a = c.args in
-    let leg : (line : FoundLine) × IsLegOf a.walker.now.stack a.device line (a.sector - a.line.now.start) c.leg-leg.result =
+    let leg : (line : ResolvedLine) × IsLegOf a.walker.now.stack a.device line (a.sector - a.line.now.start) c.leg-leg.result =
     (a.line.now, leg_of a.walker.now.stack a.device (a.sector - a.line.now.start) a.len a.line.now c.leg-leg.result c.requires.at.of.is (omega (arith, c.requires.inside, c.requires.at.of.from)) c.leg-leg.ensures.leg c.leg-leg.ensures.inside) in
     search rules
 
@@ -163,7 +163,7 @@ pub map_legs-map_leg-requires : goal.map_legs-map_leg-requires
 map_legs-map_leg-requires g t c κs within =
     let a = c.args in let l = c.legs in let leg = c.in-Some.leg in let so_far = l.invariant.so_far in let walked = so_far.mapped.walked in
     let is = leg_at a.line.now.target l.legs.target l.legs.distance l.at l.legs.left leg l.invariant.target l.invariant.here c.in-Some.ensures.leg in
-    let of : (line : FoundLine) × IsLegOf l.walker.stack a.device line l.at leg = (a.line.now, leg_within l.walker.stack a.walker.now.stack a.device l.at l.legs.left a.line.now leg walked.stack c.requires.line (omega (arith, so_far.position, c.requires.inside)) is) in
+    let of : (line : ResolvedLine) × IsLegOf l.walker.stack a.device line l.at leg = (a.line.now, leg_within l.walker.stack a.walker.now.stack a.device l.at l.legs.left a.line.now leg walked.stack c.requires.line (omega (arith, so_far.position, c.requires.inside)) is) in
     let stack : (g.S.Sink.past.view l.sink).stack ≡ l.walker.stack = walked.kept ∙ c.requires.sink.stack ∙ sym walked.stack in
     let room : leg.len ≤ (g.S.Sink.past.view l.sink).room = omega (arith, is.within, c.requires.sink.room, walked.room, so_far.within) in
     search rules
@@ -235,14 +235,14 @@ pub map_leg-returns-in-Snapshot : goal.map_leg-returns-in-Snapshot
 map_leg-returns-in-Snapshot g t c line of =
     let a = c.args in let snapshot = c.in-Snapshot.snapshot.now in
     let kind = beneath_as line.target a.distance a.leg.now.len _ _ c.in-Snapshot.is of.is in
-    let sound : IsSnapshotSound a.walker.now.stack a.device line.start line.len snapshot = subst (λ (t : FoundTarget). IsTargetSound a.walker.now.stack a.device line.start line.len t) kind of.of.target in
+    let sound : IsSnapshotSound a.walker.now.stack a.device line.start line.len snapshot = subst (λ (t : ResolvedTarget). IsTargetSound a.walker.now.stack a.device line.start line.len t) kind of.of.target in
     mapped_target a.op a.levels a.device line.start 0 line.target (Snapshot snapshot) sound.from kind c.map_snapshot.ensures
 
 pub map_leg-map_origin-requires : goal.map_leg-map_origin-requires
 map_leg-map_origin-requires g t c κs within =
     let a = c.args in let line = c.requires.leg.0 in let of = c.requires.leg.1 in let origin = c.in-Origin.origin.now in
     let kind = beneath_as line.target a.distance a.leg.now.len _ _ c.in-Origin.is of.is in
-    let sound : IsOriginSound a.walker.now.stack a.device line.start line.len origin = subst (λ (t : FoundTarget). IsTargetSound a.walker.now.stack a.device line.start line.len t) kind of.of.target in
+    let sound : IsOriginSound a.walker.now.stack a.device line.start line.len origin = subst (λ (t : ResolvedTarget). IsTargetSound a.walker.now.stack a.device line.start line.len t) kind of.of.target in
     let asked : AreAskedOfOrigin g.S.Sink.past a.sink.now a.walker.now.stack origin a.distance a.leg.now.len =
     record { over = sound.over; asked = record { some = of.some; inside = omega (arith, sound.same, of.inside); sink = c.requires.sink } } in
     search rules
@@ -273,7 +273,7 @@ map_snapshot-returns-in-Write g t c =
 -- A read of it, run by run
 
 -- sectors that are read in a row, in the state that a walk began with
-run : {S R F : Type 0} {past : SinkPast S} {result : Result R F} {old new : S} {before after : WalkerView} (levels device sector n : ℕ) (snapshot : FoundSnapshot) (source : ReadAt) (first : WalkerView)
+run : {S R F : Type 0} {past : SinkPast S} {result : Result R F} {old new : S} {before after : WalkerView} (levels device sector n : ℕ) (snapshot : ResolvedSnapshot) (source : ReadAt) (first : WalkerView)
     → stack_state before ≡ stack_state first → snapshot_at first.stack device ≡ Some snapshot → 1 ≤ n → AreReadAt first.stack first.state device snapshot sector n source
     → IsMapped past result old new before after (range_mapping Read levels source.to) source.sector n → IsMapped past result old new before after (target_mapping Read levels device 0 (Snapshot snapshot)) sector n
 run {before} levels device sector n snapshot source first same is some at mapped =

@@ -1,7 +1,7 @@
 use Rattle.std.proofs.Common.{◌≡◌, ◌+◌, List, take, sym, ap, subst, ◌∙◌, arith}
 use Rattle.std.proofs.lemmas.List.{take_all}
 use Rattle.std.proofs.lemmas.List.Elements.{recursion_from_All}
-use Rattle.dm_stack.specs.declared.lines.found_line.FoundOver.{FoundOver}
+use Rattle.dm_stack.specs.declared.lines.resolved_line.ResolvedOver.{ResolvedOver}
 use Rattle.dm_map.specs.walk.Serving.{AreSettled, IsOver, serve}
 use Rattle.dm_map.specs.state.State.{State}
 use Rattle.dm_map.proofs.walk.Served.{chunk_there, over_at, over_there, serve_settled, served_cut, served_on}
@@ -36,4 +36,4 @@ returns-clause-settled g c =
     let all : take l.one-index over ≡ over = take_all l.one-index over (omega (arith, c.loop-one-test.false)) in
     let there = over_there w.stack w.state (a.sector + 1) over c.recall_tables.ensures (omega arith) (recursion_from_All (IsOver w.stack (a.sector + 1)) over c.requires.over) in
     let settled = serve_settled w.stack over a.sector w.state there in
-    subst (λ (s : State). AreSettled s over a.sector) (sym (l.invariant.state ∙ ap (λ (xs : List FoundOver). (serve w.stack xs a.sector w.state).state) all)) settled
+    subst (λ (s : State). AreSettled s over a.sector) (sym (l.invariant.state ∙ ap (λ (xs : List ResolvedOver). (serve w.stack xs a.sector w.state).state) all)) settled

@@ -1,6 +1,6 @@
 use Rattle.std.proofs.Common.{rules, ◌≡◌, ℕ, ◌+◌, ◌-◌, ◌<◌, ◌≤◌, Some, sym, ap, subst, refl, ◌∙◌, arith}
 use Rattle.dm_table.specs.declared.requests.request.Op.TheVariants.{Read}
-use Rattle.dm_stack.specs.declared.lines.found_line.FoundTarget.{FoundTarget}
+use Rattle.dm_stack.specs.declared.lines.resolved_line.ResolvedTarget.{ResolvedTarget}
 use Rattle.dm_stack.specs.declared.id.Lower.{Lower}
 use Rattle.dm_stack.specs.declared.id.Lower.TheVariants.{Device}
 use Rattle.dm_stack.specs.declared.lines.leg.Beneath.{Beneath}
@@ -115,7 +115,7 @@ line_stretch-first_stretch-requires-in-Origin g t c κs within =
     let a = c.args in let leg = c.leg-below.ensures.leg in
     let some = leg.some in
     let kind = beneath_as a.line.now.target a.distance c.leg-below.result.len _ _ c.in-Origin.is leg.is in
-    let it : IsOriginSound a.walker.now.stack a.device a.line.now.start a.line.now.len c.in-Origin.origin.now = subst (λ (target : FoundTarget). IsTargetSound a.walker.now.stack a.device a.line.now.start a.line.now.len target) kind c.requires.line.target in
+    let it : IsOriginSound a.walker.now.stack a.device a.line.now.start a.line.now.len c.in-Origin.origin.now = subst (λ (target : ResolvedTarget). IsTargetSound a.walker.now.stack a.device a.line.now.start a.line.now.len target) kind c.requires.line.target in
     let same = it.same in
     let there : a.distance + c.leg-below.result.len ≤ lower_len a.walker.now.stack c.in-Origin.origin.now.to = omega (arith, same, leg.within, c.requires.inside) in
     search rules

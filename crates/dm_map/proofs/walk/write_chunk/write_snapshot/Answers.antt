@@ -1,8 +1,8 @@
 use Rattle.std.proofs.Common.{ℕ, sym, ◌∙◌, arith}
 use Rattle.std.specs.Prelude.{Result}
-use Rattle.dm_stack.specs.declared.lines.found_line.FoundTarget.TheVariants.{Snapshot}
+use Rattle.dm_stack.specs.declared.lines.resolved_line.ResolvedTarget.TheVariants.{Snapshot}
 use Rattle.dm_table.specs.declared.requests.request.Op.TheVariants.{Write}
-use Rattle.dm_stack.specs.declared.lines.found_line.FoundSnapshot.{FoundSnapshot}
+use Rattle.dm_stack.specs.declared.lines.resolved_line.ResolvedSnapshot.{ResolvedSnapshot}
 use Rattle.dm_map.specs.pieces.Sink.{SinkPast}
 use Rattle.dm_map.specs.state.Walker.{WalkerView}
 use Rattle.dm_map.specs.walk.Bound.{IsMapped, target_mapping}
@@ -12,11 +12,11 @@ use Rattle.dm_map.proofs.walk.Rows.{walked_as}
 use Rattle.dm_map.proofs.walk.WalkedOn.{mapped_cut, mapped_on, mapped_whole}
 use Rattle.dm_map.proofs.walk.write_chunk.write_snapshot.Goals as goal
 
-written : {S R F : Type 0} {past : SinkPast S} {result : Result R F} {old new : S} {before after : WalkerView} (device sector n : ℕ) (snapshot : FoundSnapshot)
+written : {S R F : Type 0} {past : SinkPast S} {result : Result R F} {old new : S} {before after : WalkerView} (device sector n : ℕ) (snapshot : ResolvedSnapshot)
     → IsSnapshotWritten past result old new before after snapshot device sector n → IsMapped past result old new before after (target_mapping Write 0 device 0 (Snapshot snapshot)) sector n
 written {before} device sector n snapshot walked = record { walked = walked_as (write_line_step before.stack 0 device sector n snapshot before.state) walked; bounded = λ is sound. absurd cc }
 
-all_written : {S R F : Type 0} {past : SinkPast S} {result : Result R F} {old new : S} {before after : WalkerView} (device sector n : ℕ) (snapshot : FoundSnapshot)
+all_written : {S R F : Type 0} {past : SinkPast S} {result : Result R F} {old new : S} {before after : WalkerView} (device sector n : ℕ) (snapshot : ResolvedSnapshot)
     → IsMapped past result old new before after (target_mapping Write 0 device 0 (Snapshot snapshot)) sector n → IsSnapshotWritten past result old new before after snapshot device sector n
 all_written {before} device sector n snapshot mapped = walked_as (sym (write_line_step before.stack 0 device sector n snapshot before.state)) mapped.walked
 

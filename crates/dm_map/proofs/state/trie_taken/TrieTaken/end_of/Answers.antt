@@ -1,8 +1,7 @@
-use Rattle.std.proofs.Common.{◌≡◌, ◌∙◌, ◌+◌, ◌<◌, false, ap, length, bit_and, sym, arith, add-one}
-use Rattle.std.proofs.lemmas.Nat.{and_le_r}
+use Rattle.std.proofs.Common.{◌≡◌, ◌∙◌, ◌+◌, ◌<◌, false, ap, length, sym, arith, add-one}
 use Rattle.std.proofs.lemmas.Nat.Bits.{bit_at-lt}
 use Rattle.dm_map.specs.declared.state.trie_taken.link.Node.TheVariants.{Fork}
-use Rattle.dm_map.specs.state.Trie.{is_fork, next_at, node_at, way}
+use Rattle.dm_map.specs.state.Trie.{is_fork, next_at, node_at, slot_of, way}
 use Rattle.dm_map.proofs.state.TrieLemmas.{bit_ahead, no_fork, node_read, stays, way-suc, way-zero}
 use Rattle.dm_map.proofs.state.trie_taken.TrieTaken.end_of.Goals.{In-Fork}
 use Rattle.dm_map.proofs.state.trie_taken.TrieTaken.end_of.Goals as goal
@@ -11,8 +10,8 @@ pub loop-bit-init : goal.loop-bit-init
 loop-bit-init c =
     let taken = c.args.self.now in
     record {
-      there = sym (way-zero taken.links.items c.args.chunk (bit_and c.args.chunk taken.mask));
-      within = omega (arith, and_le_r c.args.chunk taken.mask, taken.slots);
+      there = c.of-at.ensures.slot ∙ sym (way-zero taken.links.items c.args.chunk (slot_of taken.slots c.args.chunk));
+      within = omega (arith, c.of-at.ensures.within, taken.table);
       few = omega arith;
     }
 
@@ -39,8 +38,8 @@ loop-bit-preserved c =
     let l = c.loop-bit in
     let fork = (goal.at.loop-bit-preserved c).In-Fork in
     let more = fork_ahead fork in
-    let next : way nodes c.args.chunk (bit_and c.args.chunk taken.mask) (l.tested + 1) ≡ next_at c.args.chunk l.at (node_at nodes l.at) =
-    rw (add-one l.tested, way-suc nodes c.args.chunk (bit_and c.args.chunk taken.mask) l.tested, l.invariant.there) in
+    let next : way nodes c.args.chunk (slot_of taken.slots c.args.chunk) (l.tested + 1) ≡ next_at c.args.chunk l.at (node_at nodes l.at) =
+    rw (add-one l.tested, way-suc nodes c.args.chunk (slot_of taken.slots c.args.chunk) l.tested, l.invariant.there) in
     record {
       there = rw (c.bit_of.ensures, next, fork_is fork);
       within = omega (arith, more.2, c.bit_of.ensures, bit_at-lt c.args.chunk c.in-Fork.bit);
@@ -56,6 +55,6 @@ returns c =
     let none : is_fork (node_at nodes l.at) ≡ false = ap is_fork is ∙ no_fork c.node.result c.in_default.not-Fork in
     let there = l.invariant.there in
     record {
-      at = there ∙ sym (stays nodes c.args.chunk (bit_and c.args.chunk taken.mask) l.tested 64 l.invariant.few (rw (← there) none));
+      at = there ∙ sym (stays nodes c.args.chunk (slot_of taken.slots c.args.chunk) l.tested 64 l.invariant.few (rw (← there) none));
       few = l.invariant.few;
     }

@@ -1,11 +1,11 @@
 -- this many steps from the slot
-use Rattle.std.proofs.Common.{◌≡◌, ◌-◌, ◌<◌, ◌≤◌, bit_and, length}
-use Rattle.dm_map.specs.state.Trie.{way}
+use Rattle.std.proofs.Common.{◌≡◌, ◌-◌, ◌<◌, ◌≤◌, length}
+use Rattle.dm_map.specs.state.Trie.{slot_of, way}
 use Rattle.dm_map.proofs.state.trie_taken.TrieTaken.end_of.Given as goal
 
 abbrev pub invariant-loop-bit : goal.invariant-loop-bit
 invariant-loop-bit l = record {
-  there : l.at ≡ way l.self.links.items l.chunk (bit_and l.chunk l.self.mask) l.tested;
+  there : l.at ≡ way l.self.links.items l.chunk (slot_of l.self.slots l.chunk) l.tested;
   within : l.at < length l.self.links.items;
   few : l.tested ≤ 64;
 }

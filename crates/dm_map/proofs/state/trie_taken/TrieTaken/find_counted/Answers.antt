@@ -1,10 +1,8 @@
-use Rattle.std.proofs.Common.{◌≡◌, ◌∙◌, ap, get_or, sym, arith}
-use Rattle.std.proofs.lemmas.List.{get_or_read}
-use Rattle.dm_map.specs.declared.state.trie_taken.link.Node.TheVariants.{Number}
+use Rattle.std.proofs.Common.{◌≡◌, ◌∙◌, ap, sym, arith}
 use Rattle.dm_map.specs.state.Snapshots.{number_in}
-use Rattle.dm_map.specs.state.Trie.{chunk_at, end_of, node_at}
+use Rattle.dm_map.specs.state.Trie.{end_of, node_at}
 use Rattle.dm_map.proofs.state.Numbers.{number_distinct}
-use Rattle.dm_map.proofs.state.TrieLemmas.{end_within, last_read, not_taken, number_within, own_number}
+use Rattle.dm_map.proofs.state.TrieLemmas.{end_within, its_number, last_read, not_other, not_taken, number_within, own_number}
 use Rattle.dm_map.proofs.state.trie_taken.TrieTaken.find_counted.Goals as goal
 
 pub index-requires : goal.index-requires
@@ -26,7 +24,7 @@ pub returns-then-at-chunk-clause-found : goal.returns-then-at-chunk-clause-found
 returns-then-at-chunk-clause-found c =
     let taken = c.args.self.now in
     let last = last_read taken c.args.chunk _ _ _ c.end_of-at.ensures.at c.index.ensures c.node.ensures ∙ c.in-Number.is in
-    let at : end_of taken.links.items taken.mask c.args.chunk ≡ c.args.chunk = omega (arith, c.end_of-at.ensures.at, c.if-at-chunk.true) in
+    let at : end_of taken.links.items taken.slots c.args.chunk ≡ c.args.chunk = omega (arith, c.end_of-at.ensures.at, c.if-at-chunk.true) in
     let own = own_number taken c.args.chunk c.in-Number.number c.if-self.true (omega (arith, at, end_within taken c.args.chunk)) (ap (node_at taken.links.items) (sym at) ∙ last) in
     sym (ap (λ chunk. number_in chunk taken.chunks.items) (sym own) ∙ number_distinct taken.chunks.items c.in-Number.number 0 taken.once (number_within taken c.args.chunk c.in-Number.number last))
 
@@ -40,17 +38,10 @@ pub returns-then-index-chunk-clause-found : goal.returns-then-index-chunk-clause
 returns-then-index-chunk-clause-found c =
     let taken = c.args.self.now in
     let last = last_read taken c.args.chunk _ _ _ c.end_of-at.ensures.at c.index.ensures c.node.ensures ∙ c.in-Number.is in
-    let there = number_within taken c.args.chunk c.in-Number.number last in
-    let seen = get_or_read taken.chunks.items c.in-Number.number c.index-2.result.now there c.index-2.ensures 0 in
-    let same : get_or taken.chunks.items c.in-Number.number 0 ≡ c.args.chunk = sym seen ∙ c.if-index-chunk.true in
-    rw (← number_distinct taken.chunks.items c.in-Number.number 0 taken.once there, same)
+    sym (its_number taken c.args.chunk c.in-Number.number c.index-2.result.now last c.index-2.ensures c.if-index-chunk.true)
 
 pub returns-else-index-chunk-clause-found : goal.returns-else-index-chunk-clause-found
 returns-else-index-chunk-clause-found c =
     let taken = c.args.self.now in
     let last = last_read taken c.args.chunk _ _ _ c.end_of-at.ensures.at c.index.ensures c.node.ensures ∙ c.in-Number.is in
-    let seen = get_or_read taken.chunks.items c.in-Number.number c.index-2.result.now (number_within taken c.args.chunk c.in-Number.number last) c.index-2.ensures 0 in
-    sym (not_taken taken c.args.chunk (λ number is_chunk found.
-    let one : Number c.in-Number.number ≡ Number number = sym last ∙ found in
-    let same : c.in-Number.number ≡ number = cc in
-    c.if-index-chunk.false (seen ∙ ap (chunk_at taken.chunks.items) same ∙ is_chunk)))
+    sym (not_other taken c.args.chunk c.in-Number.number c.index-2.result.now last c.index-2.ensures c.if-index-chunk.false)

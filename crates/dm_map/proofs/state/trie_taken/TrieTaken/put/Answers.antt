@@ -20,8 +20,8 @@ invariant_of-self c =
     let items = c.push.ensures.items in
     let more = ap length items ∙ length_push chunks c.args.chunk in
     let empty = rw c.requires.at at c.requires.empty in
-    let made : ∥ IsTrie (chunks ++ c.args.chunk ∷ []) (set nodes (end_of nodes taken.mask c.args.chunk) (Number (length chunks))) taken.mask ∥₁ =
-    ∥∥₁_map taken.leads (λ trie. put_trie chunks nodes taken.mask c.args.chunk trie taken.slots empty) in
+    let made : ∥ IsTrie (chunks ++ c.args.chunk ∷ []) (set nodes (end_of nodes taken.slots c.args.chunk) (Number (length chunks))) taken.slots ∥₁ =
+    ∥∥₁_map taken.leads (λ trie. put_trie chunks nodes taken.slots c.args.chunk trie taken.table empty) in
     let number : c.number.result ≡ Number (length chunks) = c.number.ensures ∙ ap Number c.len.ensures in
     let same = length-set nodes c.args.at c.number.result in
     let in_slots : ∥ ((taken.own_slots && (c.args.at == c.args.chunk)) ≡ true → AreInOwnSlots (chunks ++ c.args.chunk ∷ []) (set nodes c.args.at (Number (length chunks)))) ∥₁ =
@@ -32,7 +32,7 @@ invariant_of-self c =
       reserved = omega (arith, taken.reserved, c.push.ensures.room);
       room = taken.room;
       small = taken.small;
-      slots = omega (arith, taken.slots, same);
+      table = omega (arith, taken.table, same);
       forks = omega (arith, taken.forks, same, more);
       fits = omega (arith, c.requires.room, more);
       once = rw items (distinct_more c.args.chunk chunks taken.once c.requires.fresh);

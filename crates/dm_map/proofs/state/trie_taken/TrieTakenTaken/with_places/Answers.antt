@@ -1,4 +1,4 @@
-use Rattle.std.proofs.Common.{◌≡◌, ◌∙◌, ◌-◌, ◌<◌, [], ap, length, replicate, arith}
+use Rattle.std.proofs.Common.{◌≡◌, ◌∙◌, ◌<◌, [], ap, length, replicate, arith}
 use Rattle.std.specs.List.{IsDistinct}
 use Rattle.std.proofs.lemmas.Grind.{merely}
 use Rattle.std.proofs.lemmas.List.{length-replicate}
@@ -17,12 +17,12 @@ invariant_of-result c =
     let some : 0 < slots = let power = c.next_power_of_two-slots.ensures.power in omega (arith, power.1, pow_pos power.0) in
     record {
       reserved = omega (arith, c.from_vec.ensures.room, c.in_ok-with_capacity.ensures.capacity);
-      room = omega (arith, some, c.from_vec-2.ensures.room, c.in_ok-slots_with_room.ensures.room);
-      small = omega (arith, some, c.next_power_of_two-slots.ensures.upper_bound);
-      slots = omega (arith, some, count);
-      forks = omega (arith, some, count);
+      room = omega (arith, c.with_count.ensures, c.from_vec-2.ensures.room, c.in_ok-slots_with_room.ensures.room);
+      small = omega (arith, c.with_count.ensures, c.next_power_of_two-slots.ensures.upper_bound);
+      table = omega (arith, some, count, c.with_count.ensures);
+      forks = omega (arith, c.with_count.ensures, count);
       fits = rw none (omega arith);
       once = rw none tt;
-      leads = rw (none, empty) (merely (no_trie slots (slots - 1)));
+      leads = rw (none, empty) (merely (no_trie slots c.with_count.result));
       own = rw (none, empty) (merely (λ on. none_own slots));
     }

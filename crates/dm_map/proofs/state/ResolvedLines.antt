@@ -4,12 +4,12 @@ use Rattle.std.specs.Prelude.{option_map, nat_le, nat_lt}
 use Rattle.std.proofs.lemmas.Bool.{and_parts, cases_lt, ltb-true}
 use Rattle.std.proofs.lemmas.Option.{slice_get_past}
 use Rattle.dm_table.specs.declared.tables.table.Line.{Line}
-use Rattle.dm_stack.specs.declared.lines.found_line.FoundLine.{FoundLine}
-use Rattle.dm_stack.specs.declared.lines.found_line.FoundOrigin.{FoundOrigin}
-use Rattle.dm_stack.specs.declared.lines.found_line.FoundSnapshot.{FoundSnapshot}
-use Rattle.dm_stack.specs.declared.lines.found_line.FoundTarget.{FoundTarget}
-use Rattle.dm_stack.specs.declared.lines.found_line.FoundTarget.TheVariants as founds
-use Rattle.dm_stack.specs.lines.Below.{found_at, found_line, holds, line_of, IsOriginSound, IsSnapshotSound}
+use Rattle.dm_stack.specs.declared.lines.resolved_line.ResolvedLine.{ResolvedLine}
+use Rattle.dm_stack.specs.declared.lines.resolved_line.ResolvedOrigin.{ResolvedOrigin}
+use Rattle.dm_stack.specs.declared.lines.resolved_line.ResolvedSnapshot.{ResolvedSnapshot}
+use Rattle.dm_stack.specs.declared.lines.resolved_line.ResolvedTarget.{ResolvedTarget}
+use Rattle.dm_stack.specs.declared.lines.resolved_line.ResolvedTarget.TheVariants as founds
+use Rattle.dm_stack.specs.lines.Below.{found_at, resolved_line, holds, line_of, IsOriginSound, IsSnapshotSound}
 use Rattle.dm_stack.specs.Description.{Description, device_len, end_of}
 use Rattle.dm_stack.specs.checks.Soundness.{IsSound}
 use Rattle.dm_stack.proofs.LayoutLemmas.{AreInRow}
@@ -40,18 +40,18 @@ line_inside end sector (first ∷ []) line row is = inside_by end sector first l
 line_inside end sector (first ∷ next ∷ lines) line row is =
     inside_by end sector first line (next ∷ lines) (holds sector first) row refl (λ later. line_inside (first.start + first.len) sector (next ∷ lines) line row.1 later) is
 
-some_line : (stack : Description) (line : Option Line) (found : FoundLine) → option_map (found_line stack) line ≡ Some found → (it : Line) × (line ≡ Some it)
+some_line : (stack : Description) (line : Option Line) (found : ResolvedLine) → option_map (resolved_line stack) line ≡ Some found → (it : Line) × (line ≡ Some it)
 some_line stack None found is = absurd cc
 some_line stack (Some it) found is = (it, refl)
 
 -- what is said of the line of a sector
-pub record IsLineOf (stack : Description) (device sector : ℕ) (line : FoundLine) : Type 0 where
+pub record IsLineOf (stack : Description) (device sector : ℕ) (line : ResolvedLine) : Type 0 where
   pub there : device < length stack.devices
   pub inside : sector < device_len stack device
   pub soundly : HoldsSoundly stack device line sector
 
 -- a device that has a line is one of the stack
-pub line_there : (stack : Description) (device sector : ℕ) (line : FoundLine) → found_at stack device sector ≡ Some line → device < length stack.devices
+pub line_there : (stack : Description) (device sector : ℕ) (line : ResolvedLine) → found_at stack device sector ≡ Some line → device < length stack.devices
 line_there stack device sector line is =
     elim (cases_lt device (length stack.devices)) [
       | inl there ↦ there
@@ -61,7 +61,7 @@ line_there stack device sector line is =
     none : None ≡ Some line → ⊥
     none e = cc
 
-pub line_sound : (stack : Description) (device sector : ℕ) (line : FoundLine) → IsSound stack → found_at stack device sector ≡ Some line → IsLineOf stack device sector line
+pub line_sound : (stack : Description) (device sector : ℕ) (line : ResolvedLine) → IsSound stack → found_at stack device sector ≡ Some line → IsLineOf stack device sector line
 line_sound stack device sector line sound is =
     let within = line_there stack device sector line is in
     let d = there stack.devices device within in
@@ -74,35 +74,35 @@ line_sound stack device sector line sound is =
     record { there = within; inside = inside; soundly = rw same at f.soundly }
 
 -- a line that begins at 0 is its device's first
-first_found : (stack : Description) (device sector : ℕ) (line : FoundLine) → IsSound stack → found_at stack device sector ≡ Some line → line.start ≡ 0 → found_at stack device 0 ≡ Some line
+first_found : (stack : Description) (device sector : ℕ) (line : ResolvedLine) → IsSound stack → found_at stack device sector ≡ Some line → line.start ≡ 0 → found_at stack device 0 ≡ Some line
 first_found stack device sector line sound is from =
     let of = line_sound stack device sector line sound is in let before = of.soundly.before in
     same_found stack device sector 0 line sound of.there is (omega (arith, from)) (omega (arith, from, before))
 
 -- A snapshot is all of its device
 
-pub record IsSnapshotOf (stack : Description) (device : ℕ) (snapshot : FoundSnapshot) : Type 0 where
+pub record IsSnapshotOf (stack : Description) (device : ℕ) (snapshot : ResolvedSnapshot) : Type 0 where
   pub there : device < length stack.devices
   pub some : 0 < device_len stack device
   pub soundly : IsSnapshotSound stack device 0 (device_len stack device) snapshot
   -- each of its sectors has that line
-  pub each : (sector : ℕ) (line : FoundLine) → found_at stack device sector ≡ Some line → (line.start ≡ 0) × (line.target ≡ founds.Snapshot snapshot)
+  pub each : (sector : ℕ) (line : ResolvedLine) → found_at stack device sector ≡ Some line → (line.start ≡ 0) × (line.target ≡ founds.Snapshot snapshot)
 
-pub line_snapshot : (stack : Description) (device sector : ℕ) (line : FoundLine) (snapshot : FoundSnapshot) → IsSound stack → found_at stack device sector ≡ Some line → line.target ≡ founds.Snapshot snapshot
+pub line_snapshot : (stack : Description) (device sector : ℕ) (line : ResolvedLine) (snapshot : ResolvedSnapshot) → IsSound stack → found_at stack device sector ≡ Some line → line.target ≡ founds.Snapshot snapshot
     → (line.start ≡ 0) × (snapshot_at stack device ≡ Some snapshot)
 line_snapshot stack device sector line snapshot sound is target =
     let over : IsSnapshotSound stack device line.start line.len snapshot = rw target at (line_sound stack device sector line sound is).soundly.target in
     (over.from, rw (first_found stack device sector line sound is over.from, target) refl)
 
-target_snapshot : (line : FoundLine) (target : FoundTarget) (snapshot : FoundSnapshot) → line.target ≡ target → snapshot_of target ≡ Some snapshot → line.target ≡ founds.Snapshot snapshot
+target_snapshot : (line : ResolvedLine) (target : ResolvedTarget) (snapshot : ResolvedSnapshot) → line.target ≡ target → snapshot_of target ≡ Some snapshot → line.target ≡ founds.Snapshot snapshot
 target_snapshot line (founds.Snapshot other) snapshot is e = is ∙ ap founds.Snapshot cc
 target_snapshot line target snapshot is e = absurd cc
 
-pub first_line : (stack : Description) (device : ℕ) (snapshot : FoundSnapshot) (found : Option FoundLine) → found_at stack device 0 ≡ found → snapshot_of_line found ≡ Some snapshot → (line : FoundLine) × (found_at stack device 0 ≡ Some line) × (line.target ≡ founds.Snapshot snapshot)
+pub first_line : (stack : Description) (device : ℕ) (snapshot : ResolvedSnapshot) (found : Option ResolvedLine) → found_at stack device 0 ≡ found → snapshot_of_line found ≡ Some snapshot → (line : ResolvedLine) × (found_at stack device 0 ≡ Some line) × (line.target ≡ founds.Snapshot snapshot)
 first_line stack device snapshot None is e = absurd cc
 first_line stack device snapshot (Some line) is e = (line, is, target_snapshot line line.target snapshot refl e)
 
-pub snapshot_sound : (stack : Description) (device : ℕ) (snapshot : FoundSnapshot) → IsSound stack → snapshot_at stack device ≡ Some snapshot → IsSnapshotOf stack device snapshot
+pub snapshot_sound : (stack : Description) (device : ℕ) (snapshot : ResolvedSnapshot) → IsSound stack → snapshot_at stack device ≡ Some snapshot → IsSnapshotOf stack device snapshot
 snapshot_sound stack device snapshot sound at =
     let first = first_line stack device snapshot (found_at stack device 0) refl at in
     let of = line_sound stack device 0 first.0 sound first.1 in
@@ -120,26 +120,26 @@ snapshot_sound stack device snapshot sound at =
 
 -- An origin's line is all of its device
 
-pub record IsOriginOf (stack : Description) (device : ℕ) (origin : FoundOrigin) : Type 0 where
+pub record IsOriginOf (stack : Description) (device : ℕ) (origin : ResolvedOrigin) : Type 0 where
   pub there : device < length stack.devices
   pub some : 0 < device_len stack device
   pub soundly : IsOriginSound stack device 0 (device_len stack device) origin
 
-pub line_origin : (stack : Description) (device sector : ℕ) (line : FoundLine) (origin : FoundOrigin) → IsSound stack → found_at stack device sector ≡ Some line → line.target ≡ founds.Origin origin
+pub line_origin : (stack : Description) (device sector : ℕ) (line : ResolvedLine) (origin : ResolvedOrigin) → IsSound stack → found_at stack device sector ≡ Some line → line.target ≡ founds.Origin origin
     → (line.start ≡ 0) × (origin_at stack device ≡ Some origin)
 line_origin stack device sector line origin sound is target =
     let it : IsOriginSound stack device line.start line.len origin = rw target at (line_sound stack device sector line sound is).soundly.target in
     (it.from, rw (first_found stack device sector line sound is it.from, target) refl)
 
-target_origin : (line : FoundLine) (target : FoundTarget) (origin : FoundOrigin) → line.target ≡ target → origin_of target ≡ Some origin → line.target ≡ founds.Origin origin
+target_origin : (line : ResolvedLine) (target : ResolvedTarget) (origin : ResolvedOrigin) → line.target ≡ target → origin_of target ≡ Some origin → line.target ≡ founds.Origin origin
 target_origin line (founds.Origin other) origin is e = is ∙ ap founds.Origin cc
 target_origin line target origin is e = absurd cc
 
-pub first_origin : (stack : Description) (device : ℕ) (origin : FoundOrigin) (found : Option FoundLine) → found_at stack device 0 ≡ found → origin_of_line found ≡ Some origin → (line : FoundLine) × (found_at stack device 0 ≡ Some line) × (line.target ≡ founds.Origin origin)
+pub first_origin : (stack : Description) (device : ℕ) (origin : ResolvedOrigin) (found : Option ResolvedLine) → found_at stack device 0 ≡ found → origin_of_line found ≡ Some origin → (line : ResolvedLine) × (found_at stack device 0 ≡ Some line) × (line.target ≡ founds.Origin origin)
 first_origin stack device origin None is e = absurd cc
 first_origin stack device origin (Some line) is e = (line, is, target_origin line line.target origin refl e)
 
-pub origin_sound : (stack : Description) (device : ℕ) (origin : FoundOrigin) → IsSound stack → origin_at stack device ≡ Some origin → IsOriginOf stack device origin
+pub origin_sound : (stack : Description) (device : ℕ) (origin : ResolvedOrigin) → IsSound stack → origin_at stack device ≡ Some origin → IsOriginOf stack device origin
 origin_sound stack device origin sound at =
     let first = first_origin stack device origin (found_at stack device 0) refl at in
     let of = line_sound stack device 0 first.0 sound first.1 in

@@ -1,0 +1,53 @@
+-- What a chunk that is due leaves as it is, the first sectors of a request do; so a state that fits its stack still fits after them.
+use Rattle.std.proofs.Common.{ℕ, zero, suc, ◌+◌, Bool, true, false, List, [], ◌∷◌, nat_lt}
+use Rattle.std.specs.List.{AllByRecursion}
+use Rattle.dm_table.specs.declared.requests.request.Op.{Op}
+use Rattle.dm_table.specs.declared.requests.request.Op.TheVariants as ops
+use Rattle.dm_stack.specs.declared.checks.graph.TheConstants.{MOST_DEPTH}
+use Rattle.dm_stack.specs.declared.id.Lower.TheVariants.{Device}
+use Rattle.dm_stack.specs.Description.{Description, device_len}
+use Rattle.dm_stack.specs.checks.Soundness.{IsSound}
+use Rattle.dm_map.specs.own.Halts.{state_past}
+use Rattle.dm_map.specs.own.Losses.{Due, due}
+use Rattle.dm_map.specs.state.Fitting.{IsFitting}
+use Rattle.dm_map.specs.state.State.{State}
+use Rattle.dm_map.specs.walk.Mapping.{sector_step}
+use Rattle.dm_map.specs.walk.SnapshotWrites.{take_chunk}
+use Rattle.dm_map.proofs.own.ChunkOutcomes.{full_outcome, full_outcome_fits}
+use Rattle.dm_map.proofs.own.DueChunks.{IsDue, all_due, all_taken, due_taken, write_leaves}
+use Rattle.dm_map.proofs.own.LostSnapshots.{due_there, past_by, state_at}
+
+-- it stays so where a chunk that is due is taken, or can't be
+abbrev pub IsKept : Description → (State → Type 0) → Type 0
+IsKept stack IsSo = (state : State) (one : Due) → IsDue stack one → IsSo state → IsSo (due_taken stack state one)
+
+all_keep : (stack : Description) (IsSo : State → Type 0) (state : State) (dues : List Due) → IsKept stack IsSo → AllByRecursion (IsDue stack) dues → IsSo state → IsSo (all_taken stack state dues)
+all_keep stack IsSo state [] kept each is = is
+all_keep stack IsSo state (one ∷ later) kept each is = all_keep stack IsSo (due_taken stack state one) later kept each.1 (kept state one each.0 is)
+
+step_keeps : (stack : Description) (IsSo : State → Type 0) (op : Op) (state : State) (asked sector : ℕ) → IsSound stack → IsKept stack IsSo → IsSo state → IsSo (sector_step stack op MOST_DEPTH (Device asked) state sector).state
+step_keeps stack IsSo ops.Read state asked sector sound kept is = is
+step_keeps stack IsSo ops.Write state asked sector sound kept is =
+    rw (write_leaves stack MOST_DEPTH (Device asked) state sector) (all_keep stack IsSo state (due stack state (Device asked) sector) kept (all_due stack MOST_DEPTH (Device asked) state sector sound) is)
+
+sectors_keep : (stack : Description) (IsSo : State → Type 0) (op : Op) (state : State) (asked start sectors : ℕ) → IsSound stack → IsKept stack IsSo → IsSo state → IsSo (state_at stack op asked start sectors state)
+sectors_keep stack IsSo op state asked start zero sound kept is = is
+sectors_keep stack IsSo op state asked start (suc sectors) sound kept is =
+    sectors_keep stack IsSo op (sector_step stack op MOST_DEPTH (Device asked) state start).state asked (suc start) sectors sound kept (step_keeps stack IsSo op state asked start sound kept is)
+
+pub past_keeps : (stack : Description) (IsSo : State → Type 0) (op : Op) (state : State) (asked start len sectors : ℕ) → IsSound stack → IsKept stack IsSo → IsSo state → IsSo (state_past stack op asked start len sectors state)
+past_keeps stack IsSo op state asked start len sectors sound kept is = by_end (nat_lt (device_len stack asked) (start + len))
+  where
+    by_end : (past : Bool) → IsSo (past_by past stack op asked start sectors state)
+    by_end true = is
+    by_end false = sectors_keep stack IsSo op state asked start sectors sound kept is
+
+-- A state that fits
+
+pub due_fits : (stack : Description) (state : State) (one : Due) → IsSound stack → IsDue stack one → IsFitting stack state → IsFitting stack (due_taken stack state one)
+due_fits stack state one sound is fits =
+    let there = due_there stack state one sound fits.count is in
+    full_outcome_fits stack state one.device one.chunk one.snapshot (take_chunk stack one.snapshot one.device one.chunk state) fits there (full_outcome stack state one.device one.chunk one.snapshot is.is there)
+
+pub past_fits : (stack : Description) (op : Op) (state : State) (asked start len sectors : ℕ) → IsSound stack → IsFitting stack state → IsFitting stack (state_past stack op asked start len sectors state)
+past_fits stack op state asked start len sectors sound fits = past_keeps stack (IsFitting stack) op state asked start len sectors sound (λ before one is so. due_fits stack before one sound is so) fits
