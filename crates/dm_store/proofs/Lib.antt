@@ -6,5 +6,6 @@ pub mod RowLemmas
 pub mod SpellingLemmas
 pub mod SpeltLemmas
 pub mod StartLemmas
+pub mod StateLemmas
 pub mod StoreLemmas
 pub mod WalkLemmas

@@ -6,10 +6,10 @@ use Rattle.std.proofs.lemmas.List.{get_or-set_other, get_or_default, get_or_past
 use Rattle.std.proofs.lemmas.List.Elements.{All-get_or}
 use Rattle.std.proofs.Math.Nat.{le-suc_iff}
 use Rattle.std.proofs.Math.Seq.{take-suc}
-use Rattle.dm_stack.specs.declared.lines.found_line.FoundLine.{FoundLine}
-use Rattle.dm_stack.specs.declared.lines.found_line.FoundSnapshot.{FoundSnapshot}
-use Rattle.dm_stack.specs.declared.lines.found_line.FoundTarget.{FoundTarget}
-use Rattle.dm_stack.specs.declared.lines.found_line.FoundTarget.TheVariants as found
+use Rattle.dm_stack.specs.declared.lines.resolved_line.ResolvedLine.{ResolvedLine}
+use Rattle.dm_stack.specs.declared.lines.resolved_line.ResolvedSnapshot.{ResolvedSnapshot}
+use Rattle.dm_stack.specs.declared.lines.resolved_line.ResolvedTarget.{ResolvedTarget}
+use Rattle.dm_stack.specs.declared.lines.resolved_line.ResolvedTarget.TheVariants as found
 use Rattle.dm_stack.specs.Description.{Description, lines_at}
 use Rattle.dm_stack.specs.checks.Snapshots.{AreSnapshots, IsSnapshot, has_snapshot, snapshots}
 use Rattle.dm_stack.specs.lines.Below.{found_at}
@@ -77,12 +77,12 @@ gap xs most next i rising before below there =
 
 -- ---- a device that is no snapshot has nothing
 
-not_there : (stack : Description) (disks : DiskContents) (device : ℕ) (line : Option FoundLine)
-    → ((there : FoundLine) (snapshot : FoundSnapshot) → line ≡ Some there → there.target ≡ found.Snapshot snapshot → ⊥) → taken_if stack disks (store_if stack device (snapshot_of_line line)) ≡ Ok none_taken
-not_there stack disks device None none = refl
-not_there stack disks device (Some line) none = by_target line.target refl
+pub no_snapshot_in : (stack : Description) (disks : DiskContents) (device : ℕ) (line : Option ResolvedLine)
+    → ((there : ResolvedLine) (snapshot : ResolvedSnapshot) → line ≡ Some there → there.target ≡ found.Snapshot snapshot → ⊥) → taken_if stack disks (store_if stack device (snapshot_of_line line)) ≡ Ok none_taken
+no_snapshot_in stack disks device None none = refl
+no_snapshot_in stack disks device (Some line) none = by_target line.target refl
   where
-    by_target : (target : FoundTarget) → line.target ≡ target → taken_if stack disks (store_if stack device (snapshot_of_line (Some line))) ≡ Ok none_taken
+    by_target : (target : ResolvedTarget) → line.target ≡ target → taken_if stack disks (store_if stack device (snapshot_of_line (Some line))) ≡ Ok none_taken
     by_target (found.Snapshot snapshot) is = absurd (none line snapshot refl is)
     by_target (found.Linear to offset) is = rw is refl
     by_target (found.Striped chunk columns) is = rw is refl
@@ -91,7 +91,7 @@ not_there stack disks device (Some line) none = by_target line.target refl
     by_target (found.Origin origin) is = rw is refl
 
 pub no_snapshot : (stack : Description) (disks : DiskContents) (devices : List ℕ) (device : ℕ) → AreSnapshots stack devices → (Contains devices device → ⊥) → start_of stack disks device ≡ Ok none_taken
-no_snapshot stack disks devices device are none = not_there stack disks device (found_at stack device 0) (λ line snapshot is target. none (are.among device line snapshot is target))
+no_snapshot stack disks devices device are none = no_snapshot_in stack disks device (found_at stack device 0) (λ line snapshot is target. none (are.among device line snapshot is target))
 
 -- ---- snapshots in their order
 

@@ -2,7 +2,7 @@
 use Rattle.std.specs.Prelude.{ℕ, zero, suc, ◌-◌, ◌/◌, true, [], ◌∷◌, ◌++◌, Option, Some, None, Result, Ok, Err, length}
 use Rattle.dm_table.specs.declared.tables.table.StoreKind.{StoreKind}
 use Rattle.dm_table.specs.declared.tables.table.StoreKind.TheVariants.{Transient}
-use Rattle.dm_stack.specs.declared.lines.found_line.FoundSnapshot.{FoundSnapshot}
+use Rattle.dm_stack.specs.declared.lines.resolved_line.ResolvedSnapshot.{ResolvedSnapshot}
 use Rattle.dm_stack.specs.Description.{Description, device_len, lower_len}
 use Rattle.dm_stack.specs.lines.StoreLayout.{place_count}
 use Rattle.dm_map.specs.state.State.{State, Taken, lost, none_taken}
@@ -16,7 +16,7 @@ use Rattle.dm_store.specs.Pairs.{Sectors}
 use Rattle.dm_store.specs.Stored.{Stored, Fresh, Lost, Holds, Refused, stored}
 
 -- the store of a snapshot of a device
-abbrev pub snapshot_store : Description → (device : ℕ) → FoundSnapshot → Store
+abbrev pub snapshot_store : Description → (device : ℕ) → ResolvedSnapshot → Store
 snapshot_store stack device snapshot = record {
   lower = snapshot.store;
   chunk = snapshot.chunk;
@@ -31,7 +31,7 @@ if_listing Transient store = None
 if_listing kind store = Some store
 
 -- the store of a device to read, if there is one
-abbrev pub store_if : Description → (device : ℕ) → Option FoundSnapshot → Option Store
+abbrev pub store_if : Description → (device : ℕ) → Option ResolvedSnapshot → Option Store
 store_if stack device (Some snapshot) = if_listing snapshot.kind (snapshot_store stack device snapshot)
 store_if stack device None = None
 

@@ -27,7 +27,7 @@ impl Model for DiskImages {
 
 impl DiskImages {
     /// The images of disks by their ids. No memory is taken.
-    pub fn of_places(places: Vec<Option<ImagePlace>>) -> DiskImages
+    pub(crate) fn of_places(places: Vec<Option<ImagePlace>>) -> DiskImages
         ensures { result ≡ places.items }
     {
         DiskImages { places }

@@ -26,7 +26,7 @@ impl Model for ImagePlace {
 
 impl ImagePlace {
     /// The image at a path, from a sector of it on. No memory is taken.
-    pub fn new(path: String, start: u64) -> ImagePlace
+    pub(crate) fn new(path: String, start: u64) -> ImagePlace
         requires { start < 2 ^ 51 }
         ensures { result ≡ record { path = string_bytes path; start = start } }
     {

@@ -1,10 +1,11 @@
-//! Laws of what a store holds: it fits the store, and is spelled there. They do nothing: their contracts are the
-//! laws.
+//! Laws of what a store holds, which fits the store and is spelled there, and of the state that the stores of a stack
+//! hold, which fits the stack. They do nothing: their contracts are the laws.
 
-ghost use Rattle.dm_store.specs.Fitting.{AlwaysFit};
+ghost use Rattle.dm_store.specs.Fitting.{AlwaysFit, AlwaysHaveRows, AlwaysStart};
 ghost use Rattle.dm_store.specs.Spelled.{IsSpelled, ReadsBack};
 
 use crate::store::Store;
+use dm_stack::Stack;
 
 /// Whatever the sectors of a store are, the chunks that it holds are no more than it has places, and none is there
 /// twice.
@@ -21,3 +22,16 @@ pub fn reads_back(store: &Store)
 pub fn is_spelled(store: &Store)
     ensures { IsSpelled store.now }
 {}
+
+/// Whatever is on the disks, where no store is refused, the stores hold a state that the stack can be in. Each
+/// snapshot took none but its own chunks there, and none twice, and it is lost exactly where its store says so. So
+/// what `errors_have_causes` and `nothing_is_lost` of `dm_map` say of such a state holds from there on. Each top
+/// device has its row there, as `requests_are_alone` says of the start; and exactly its row, as `nothing_is_lost`
+/// does, where the stack can lose nothing and no store says that its snapshot is lost.
+pub fn stored_states_fit<V>(stack: &Stack)
+    ensures start { AlwaysStart stack.now }
+    ensures rows { AlwaysHaveRows V stack.now }
+{
+    // Called because its contract says that the stack is sound.
+    stack.depth();
+}

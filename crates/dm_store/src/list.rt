@@ -64,11 +64,11 @@ fn note<T: Taken>(
         _ if pair.old > store.last => Some(ListFault::Range),
         Some(fault) => Some(fault),
         None => {
-            if mapper.number_of(device, pair.old).is_some() {
-                return Some(ListFault::Again);
+            if mapper.restore(device, pair.old) {
+                None
+            } else {
+                Some(ListFault::Again)
             }
-            mapper.restore(device, pair.old);
-            None
         }
     }
 }

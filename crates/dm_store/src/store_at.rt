@@ -7,7 +7,7 @@ ghost use Rattle.dm_store.specs.Start.{store_at};
 
 use crate::store::Store;
 use dm_map::lower_len;
-use dm_stack::{DeviceId, FoundTarget, Stack, place_count};
+use dm_stack::{DeviceId, ResolvedTarget, Stack, place_count};
 use dm_table::StoreKind;
 
 /// The store of a snapshot, unless it is transient, which no one reads: such a snapshot is always fresh.
@@ -19,7 +19,7 @@ pub(crate) fn store_at(stack: &Stack, device: DeviceId) -> Option<Store>
     // Called because its contract says that the stack is sound.
     stack.depth();
     let mut looker = stack.looker();
-    let FoundTarget::Snapshot(snapshot) = &looker.look(device, 0).target else {
+    let ResolvedTarget::Snapshot(snapshot) = &looker.look(device, 0).target else {
         unreachable!()
     };
     if snapshot.kind == StoreKind::Transient {

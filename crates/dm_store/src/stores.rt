@@ -114,7 +114,7 @@ fn read_snapshot<I: Images, T: Taken>(
 /// stores hold from then on. Snapshots are read in the order of the source, up to the first refusal.
 ///
 /// A store is read in blocks of at most 64 KiB: its header, and its list up to the first pair that is free.
-/// No memory is taken. Cost: linear in the pairs, with a look-up of a chunk and a new one for each.
+/// No memory is taken. Cost: linear in the pairs, with one look-up of a chunk for each.
 ///
 /// # Errors
 ///

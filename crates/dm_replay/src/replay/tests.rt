@@ -296,7 +296,7 @@ fn answers_after_stops_of_stacks(rt: HostRuntime) {
     }
 }
 
-/// More rows are read where the test runs, if they are there: `tests/outside/halts.py` writes them.
+/// More rows are read where the test runs, if they are there: `tests/outside/program/halts.py` writes them.
 #[test]
 fn answers_after_stops_of_a_file(rt: HostRuntime) {
     let Ok(rows) = fs::read_to_string(&rt, "stops") else {

@@ -1,6 +1,6 @@
 //! Stops in replays of stacks without a clash, and the lines of what is answered.
 //!
-//! Rows of one text, so that a file of many more is read in the same way, as `tests/outside/halts.py` writes
+//! Rows of one text, so that a file of many more is read in the same way, as `tests/outside/program/halts.py` writes
 //! it, which also works out these answers by the plain rules. Each row but the first comes after a `#`, and
 //! has its parts with a `|` between them: what it shows, devices as concise text, disks, requests, and the
 //! lines of what they answer. A request comes after the number of units after which it is halted, and is
