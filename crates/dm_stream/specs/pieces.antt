@@ -1,4 +1,5 @@
 -- The fewest pieces of units, and their lines.
+pub mod DiskText
 pub mod Join
 pub mod LineEnds
 pub mod NumberPrefix

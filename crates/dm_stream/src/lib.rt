@@ -9,13 +9,14 @@ mod pieces;
 mod requests;
 mod runs;
 
+pub use pieces::disk_texts::DiskTexts;
 pub use pieces::join::Join;
 pub use requests::exchange::Exchange;
 pub use requests::handler::{Handler, HandlesFrom, ReadsFrom};
-pub use requests::handling::{MOST_REQUESTS, handle_requests};
-pub use requests::lines::{Lines, MOST_LINE_BYTES, Next};
+pub use requests::handling::handle_requests;
+pub use requests::lines::{Lines, Next};
 pub use runs::closing::close_and_tell;
 pub use runs::earlier::{EarlierFault, play_earlier};
 pub use runs::ending::{Ending, RequestWord};
 pub use runs::map_run::run;
-pub use runs::message::{Message, earlier_message, message_of, refused_request, tell};
+pub use runs::message::{earlier_message, message_of, refused_request, tell};

@@ -21,6 +21,7 @@ mod map_whole;
 mod messages;
 mod other_whole;
 mod part_file;
+mod prepared;
 mod printing;
 mod replay_run;
 mod status;

@@ -20,7 +20,7 @@ mod tests;
 use crate::exit::{Exit, Refusal};
 use crate::job::Format;
 use crate::load::load;
-use dm_map::{Mapper, TrieTaken};
+use crate::prepared::{Prepared, prepare};
 use dm_stream::{Exchange, play_earlier, run};
 use dm_table::{Input, LoadFault, Output, Part};
 use std::alloc::Global;
@@ -84,14 +84,23 @@ pub fn map_after<S: Input, D: Input, B: Input, Q: Exchange<W>, W: Output, M: Out
         Ok(stack) => stack,
         Err(fault) => return Exit::unloaded(fault).tell(messages),
     };
-    let mut mapper = match Mapper::<TrieTaken>::new(alloc, stack.looker()) {
-        Ok(mapper) => mapper,
+    let Prepared { mut mapper, texts } = match prepare(alloc, &stack) {
+        Ok(prepared) => prepared,
         Err(_) => return Exit::unloaded(LoadFault::memory(Part::Source)).tell(messages),
     };
     match play_earlier(&stack, &mut mapper, earlier) {
         Ok(()) => {
-            let ending = run(&stack, &mut mapper, requests, output, messages, status);
+            let ending = run(
+                &stack,
+                &mut mapper,
+                &texts,
+                requests,
+                output,
+                messages,
+                status,
+            );
             // The program ends with this call, and the system takes memory back at once, all together.
+            forget(texts);
             forget(mapper);
             forget(stack);
             Exit::Ended(ending).status()

@@ -23,6 +23,7 @@ use crate::disk_paths::load_images;
 use crate::exit::{Exit, Refusal, refuse};
 use crate::job::Format;
 use crate::load::load;
+use crate::prepared::{Prepared, prepare};
 use dm_map::{Mapper, TrieTaken};
 use dm_stack::Stack;
 use dm_store::{Images, read_stores};
@@ -121,8 +122,8 @@ pub fn map_stored<
         Ok(places) => places,
         Err(fault) => return Exit::unloaded(fault).tell(messages),
     };
-    let mut mapper = match Mapper::<TrieTaken>::new(alloc, stack.looker()) {
-        Ok(mapper) => mapper,
+    let Prepared { mut mapper, texts } = match prepare(alloc, &stack) {
+        Ok(prepared) => prepared,
         Err(_) => return Exit::unloaded(LoadFault::memory(Part::Source)).tell(messages),
     };
     if let Err(refusal) = read_stores(images, &places, &stack, &mut mapper) {
@@ -130,8 +131,17 @@ pub fn map_stored<
     }
     match play_if(&stack, &mut mapper, earlier) {
         Ok(()) => {
-            let ending = run(&stack, &mut mapper, requests, output, messages, status);
+            let ending = run(
+                &stack,
+                &mut mapper,
+                &texts,
+                requests,
+                output,
+                messages,
+                status,
+            );
             // The program ends with this call, and the system takes memory back at once, all together.
+            forget(texts);
             forget(mapper);
             forget(places);
             forget(stack);

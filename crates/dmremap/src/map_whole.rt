@@ -27,7 +27,7 @@ mod tests;
 use crate::exit::Exit;
 use crate::job::Format;
 use crate::load::load;
-use dm_map::{Mapper, TrieTaken};
+use crate::prepared::{Prepared, prepare};
 use dm_stream::{Exchange, run};
 use dm_table::{Input, LoadFault, Output, Part};
 use std::alloc::Global;
@@ -99,10 +99,20 @@ pub fn map_whole<S: Input, D: Input, Q: Exchange<W>, W: Output, M: Output>(
         Ok(stack) => stack,
         Err(fault) => return Exit::unloaded(fault).tell(messages),
     };
-    match Mapper::<TrieTaken>::new(alloc, stack.looker()) {
-        Ok(mut mapper) => {
-            let ending = run(&stack, &mut mapper, requests, output, messages, status);
+    match prepare(alloc, &stack) {
+        Ok(prepared) => {
+            let Prepared { mut mapper, texts } = prepared;
+            let ending = run(
+                &stack,
+                &mut mapper,
+                &texts,
+                requests,
+                output,
+                messages,
+                status,
+            );
             // The program ends with this call, and the system takes memory back at once, all together.
+            forget(texts);
             forget(mapper);
             forget(stack);
             Exit::Ended(ending).status()

@@ -4,7 +4,7 @@ use Rattle.std.specs.List.{flat_map}
 use Rattle.dm_table.specs.words.Bytes.{code}
 use Rattle.dm_stack.specs.Description.{Description, device_len, name_at}
 use Rattle.dm_stack.specs.checks.Snapshots.{snapshots}
-use Rattle.dm_stack.specs.declared.lines.found_line.FoundSnapshot.{FoundSnapshot}
+use Rattle.dm_stack.specs.declared.lines.resolved_line.ResolvedSnapshot.{ResolvedSnapshot}
 use Rattle.dm_map.specs.declared.state.usage.Usage.{Usage}
 use Rattle.dm_map.specs.state.State.{State, taken_at}
 use Rattle.dm_map.specs.state.Tables.{snapshot_at}
@@ -20,12 +20,12 @@ abbrev pub after_name : (len : ℕ) → Usage → List ℕ
 after_name len usage = codes ": 0 " ++ decimal len ++ codes " snapshot " ++ usage_text usage ++ code "\n" ∷ []
 
 -- the line of a snapshot, with what its store has taken
-abbrev pub snapshot_line : Description → State → (device : ℕ) → FoundSnapshot → List ℕ
+abbrev pub snapshot_line : Description → State → (device : ℕ) → ResolvedSnapshot → List ℕ
 snapshot_line stack state device snapshot =
     name_at stack device ++ after_name (device_len stack device) (usage_of stack snapshot (taken_at state device))
 
 -- the line of a device that is a snapshot; any other has none
-abbrev pub line_if : Description → State → (device : ℕ) → Option FoundSnapshot → List ℕ
+abbrev pub line_if : Description → State → (device : ℕ) → Option ResolvedSnapshot → List ℕ
 line_if stack state device (Some snapshot) = snapshot_line stack state device snapshot
 line_if stack state device None = []
 

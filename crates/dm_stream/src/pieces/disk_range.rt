@@ -8,8 +8,10 @@ ghost use Rattle.dm_map.specs.pieces.Units.{IsOnDisk, disk_unit, first_unit, uni
 ghost use Rattle.dm_stream.specs.pieces.Pending.{Fits, IsHeld, IsNoRange, piece_of};
 ghost use Rattle.dm_stream.specs.pieces.Pieces.{is_after};
 
+use crate::pieces::disk_texts::DiskTexts;
+use crate::pieces::letter::Letter;
 use dm_map::{Home, Piece};
-use dm_stack::{DiskId, Letter, Stack};
+use dm_stack::DiskId;
 use dm_table::Op;
 
 /// Consecutive sectors of a disk, and the letter of what is done at them.
@@ -68,13 +70,13 @@ impl DiskRange {
 
     /// This range, longer by `more` sectors.
     #[inline(always)]
-    pub(crate) fn longer(&self, stack: &Stack, more: u64) -> DiskRange
-        requires { Fits stack.now (first_unit (piece_of self.now)) (self.now.len + more) }
+    pub(crate) fn longer(&self, disks: &DiskTexts<'_>, more: u64) -> DiskRange
+        requires { Fits disks.now (first_unit (piece_of self.now)) (self.now.len + more) }
         ensures first { first_unit (piece_of result) ≡ first_unit (piece_of self.now) }
         ensures len { result.len ≡ self.now.len + more }
     {
         // A stack is sound by its type, so no disk of it is too long for the sum.
-        stack.depth();
+        disks.recall_soundness();
         DiskRange {
             len: self.len + more,
             ..*self

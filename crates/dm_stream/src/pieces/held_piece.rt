@@ -2,6 +2,11 @@
 //!
 //! Its invariant keeps it on the disks of the stack, so that its line can always be written. For a
 //! new kind of piece, say here when one continues another.
+//!
+//! Ranges are held apart from other pieces, and rows and whole answers have ways in of their own, for speed alone:
+//! RESULTS.md has the gain as *legs on disks in one go* and *a range that lies on one disk is returned and written
+//! at once*. All that rests on `AreApart`: a range and another piece are never held together. Change it only if you
+//! measure small requests, and requests over stripes, before and after.
 
 ghost use Rattle.std.specs.Bool.{OnTrue, OnFalse};
 ghost use Rattle.std.specs.Prelude.{◌≡◌, ◌+◌, ◌-◌, ◌≤◌, ◌++◌, ◌^◌, IfOk, List, OnErr, OnOk, Some, None};
@@ -14,19 +19,19 @@ ghost use Rattle.dm_stream.specs.pieces.Pieces.{fewest, is_after};
 ghost use Rattle.dm_table.specs.io.Progress.{HasWritten, Wrote};
 
 use crate::pieces::disk_range::{DiskRange, follows};
+use crate::pieces::disk_texts::DiskTexts;
 use crate::pieces::line_ends::LineEnds;
 use crate::pieces::number_prefix::NumberPrefix;
 use crate::pieces::piece_text::{put_other, put_range};
 use crate::pieces::range_text::RangeText;
 use dm_map::Piece;
-use dm_stack::Stack;
 use dm_table::{OutFault, Output};
 use std::marker::Model;
 
 /// At most one piece of a request to a stack's devices, under the request's number.
 #[derive(Drop)]
 pub(crate) struct HeldPiece<'s> {
-    stack: &'s Stack,
+    disks: &'s DiskTexts<'s>,
     /// The read or write that is held, if one is.
     range: Option<DiskRange>,
     /// The piece of another kind that is held, if one is.
@@ -44,22 +49,22 @@ impl<'s> Model for HeldPiece<'s> {
     ghost Value = { Pending };
 
     ghost view = { λ held. record {
-      stack = held.stack.now;
+      stack = held.disks.now;
       number = held.prefix;
       piece = held_of held.range held.other;
     } };
 
-    ghost invariant = { λ held. IsHeld held.stack.now (held_of held.range held.other)
+    ghost invariant = { λ held. IsHeld held.disks.now (held_of held.range held.other)
         × AreApart held.range held.other };
 }
 
 impl<'s> HeldPiece<'s> {
     /// No piece, under the number 0.
-    pub(crate) fn new(stack: &'s Stack) -> HeldPiece<'s>
-        ensures { result ≡ record { stack = stack.now; number = 0; piece = None } }
+    pub(crate) fn new(disks: &'s DiskTexts<'s>) -> HeldPiece<'s>
+        ensures { result ≡ record { stack = disks.now; number = 0; piece = None } }
     {
         HeldPiece {
-            stack,
+            disks,
             range: None,
             other: None,
             prefix: NumberPrefix::new(),
@@ -100,9 +105,9 @@ impl<'s> HeldPiece<'s> {
         }
         let more = piece.len();
         if let Some(range) = &self.range {
-            self.range = Some(range.longer(self.stack, more));
+            self.range = Some(range.longer(self.disks, more));
         } else if let Some(other) = &self.other {
-            self.other = Some(longer(self.stack, other, more));
+            self.other = Some(longer(self.disks, other, more));
         }
         true
     }
@@ -147,7 +152,7 @@ impl<'s> HeldPiece<'s> {
                 &self.prefix,
                 &self.ends,
                 &self.text,
-                self.stack,
+                self.disks,
                 range,
             ) {
                 self.range = None;
@@ -218,7 +223,7 @@ impl<'s> HeldPiece<'s> {
             (units_of (piece_of next)) (W.past writer.old).written (W.past writer.new).written) }
     {
         if range.goes_on(&next) {
-            return Ok(range.longer(self.stack, next.len));
+            return Ok(range.longer(self.disks, next.len));
         }
         self.text.note(range.start, range.len);
         put_range(
@@ -226,7 +231,7 @@ impl<'s> HeldPiece<'s> {
             &self.prefix,
             &self.ends,
             &self.text,
-            self.stack,
+            self.disks,
             range,
         )?;
         Ok(next)
@@ -257,7 +262,7 @@ impl<'s> HeldPiece<'s> {
                 &self.prefix,
                 &self.ends,
                 &self.text,
-                self.stack,
+                self.disks,
                 range,
             );
             self.range = None;
@@ -278,7 +283,7 @@ impl<'s> HeldPiece<'s> {
         let Some(other) = &self.other else {
             return Ok(());
         };
-        let wrote = put_other(writer, &self.prefix, &self.ends, self.stack, other);
+        let wrote = put_other(writer, &self.prefix, &self.ends, self.disks, other);
         self.other = None;
         wrote
     }
@@ -296,7 +301,7 @@ impl<'s> HeldPiece<'s> {
     {
         // The next range isn't likely to be the same, so none is noted.
         let none = RangeText::new();
-        put_range(writer, &self.prefix, &self.ends, &none, self.stack, range)
+        put_range(writer, &self.prefix, &self.ends, &none, self.disks, range)
     }
 }
 
@@ -333,13 +338,13 @@ fn goes_on(held: &Piece, piece: &Piece) -> bool
 
 /// A piece that is longer by `more` sectors.
 #[inline(always)]
-fn longer(stack: &Stack, held: &Piece, more: u64) -> Piece
-    requires { Fits stack.now (first_unit held.now) (piece_len held.now + more) }
+fn longer(disks: &DiskTexts<'_>, held: &Piece, more: u64) -> Piece
+    requires { Fits disks.now (first_unit held.now) (piece_len held.now + more) }
     ensures first { first_unit result ≡ first_unit held.now }
     ensures len { piece_len result ≡ piece_len held.now + more }
-    ensures lies { IsOnDisks stack.now result }
+    ensures lies { IsOnDisks disks.now result }
 {
     // A stack is sound by its type, so no disk of it is too long for the sum.
-    stack.depth();
+    disks.recall_soundness();
     held.with_len(held.len() + more)
 }

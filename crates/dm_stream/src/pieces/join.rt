@@ -17,9 +17,10 @@ ghost use Rattle.dm_stream.specs.laws.Join.{join_lawful};
 ghost use Rattle.dm_table.specs.io.Progress.{HasWrittenTo, IsSameReference, Wrote};
 
 use crate::pieces::disk_range::DiskRange;
+use crate::pieces::disk_texts::DiskTexts;
 use crate::pieces::held_piece::HeldPiece;
 use dm_map::{Home, Piece, Sink};
-use dm_stack::{Leg, Legs, Stack};
+use dm_stack::{Leg, Legs};
 use dm_table::{Op, OutFault, Output};
 
 /// A sink that joins the pieces of a request to the fewest, and writes each as a line.
@@ -35,14 +36,15 @@ pub struct Join<'s, W> {
 }
 
 impl<'s, W: Output> Join<'s, W> {
-    /// A join that holds nothing, for requests to the devices of a stack. The number is 0.
-    pub fn new(stack: &'s Stack, writer: &'s mut W) -> Join<'s, W>
-        ensures nothing { result.held ≡ record { stack = stack.now; number = 0; piece = None } }
+    /// A join that holds nothing, for requests to the devices of a stack, by the texts of its disks. The number
+    /// is 0.
+    pub fn new(texts: &'s DiskTexts<'s>, writer: &'s mut W) -> Join<'s, W>
+        ensures nothing { result.held ≡ record { stack = texts.now; number = 0; piece = None } }
         ensures writer { result.writer.now ≡ writer.old }
         ensures same_reference { IsSameReference writer.entry result.writer }
     {
         Join {
-            held: HeldPiece::new(stack),
+            held: HeldPiece::new(texts),
             writer,
         }
     }

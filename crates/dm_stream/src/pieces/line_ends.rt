@@ -2,6 +2,9 @@
 //!
 //! Most requests have fewer than 1,000 sectors, and no jump depends on how many digits a length has
 //! that is copied from here.
+//!
+//! This is here for speed alone: RESULTS.md has its gain as *texts kept ready*. It rests on the table that `new`
+//! makes. Change it only if you measure small requests, and large ones over 16 columns, before and after.
 
 ghost use Rattle.std.specs.Prelude.{◌≡◌, ◌+◌, ◌<◌, ◌≤◌, length};
 ghost use Rattle.dm_table.specs.io.Block.{IsPut};

@@ -2,6 +2,9 @@
 //!
 //! The numbers of requests mostly rise by one, so if only the last digit differs it is changed in
 //! place. The room is copied whole.
+//!
+//! This is here for speed alone: RESULTS.md has its gain as *texts kept ready*. It rests on the room always having
+//! the text of its number. Change it only if you measure small requests before and after.
 
 ghost use Rattle.std.specs.Prelude.{◌≡◌, ◌+◌, ◌≤◌, length, take};
 ghost use Rattle.dm_table.specs.io.Block.{IsPut};

@@ -3,11 +3,15 @@
 //! Reads and writes come by the hundreds of millions, so they are put in line; the other kinds go
 //! through a function of their own. A new kind of piece is an arm of `put_other` or `put_rare` here and of
 //! `unit_text` in `specs/pieces/PieceText`.
+//!
+//! That is for speed alone, with the rooms that lines are copied from: RESULTS.md has the gain as *texts kept ready*.
+//! It rests on no line being longer than `TEXT_ROOM`. Change it only if you measure small requests, and large ones
+//! over 16 columns, before and after.
 
 ghost use Rattle.std.specs.Prelude.{◌≡◌, ◌++◌, ◌+◌, ◌<◌, ◌≤◌, ◌∷◌, [], length, decimal};
 ghost use Rattle.dm_table.specs.io.Block.{IsPut};
 ghost use Rattle.dm_stack.specs.Description.{disk_name_at};
-ghost use Rattle.dm_stack.specs.names.DiskText.{disk_text};
+ghost use Rattle.dm_stream.specs.pieces.DiskText.{disk_text};
 ghost use Rattle.dm_map.specs.pieces.Units.{CopyOf, FillOf, IsOnDisks, first_unit, piece_len};
 ghost use Rattle.dm_stream.specs.pieces.Pending.{IsNoRange, piece_of, piece_view};
 ghost use Rattle.dm_stream.specs.pieces.PieceText.{IsOther, piece_text, sector_text, unit_text};
@@ -16,12 +20,13 @@ ghost use Rattle.dm_table.specs.io.Progress.{Wrote};
 ghost use Rattle.dm_table.specs.words.Bytes.{code};
 
 use crate::pieces::disk_range::DiskRange;
+use crate::pieces::disk_texts::DiskTexts;
 use crate::pieces::line_ends::LineEnds;
 use crate::pieces::number_prefix::NumberPrefix;
 use crate::pieces::plain_word::PlainWord;
 use crate::pieces::range_text::RangeText;
 use dm_map::Piece;
-use dm_stack::{DiskId, Stack};
+use dm_stack::DiskId;
 use dm_table::{OutFault, Output, Text, put_bytes, put_digits};
 use std::marker::Model;
 
@@ -31,23 +36,23 @@ struct RangeLine<'a> {
     prefix: &'a NumberPrefix,
     ends: &'a LineEnds,
     text: &'a RangeText,
-    stack: &'a Stack,
+    disks: &'a DiskTexts<'a>,
     range: &'a DiskRange,
 }
 
 impl<'a> Model for RangeLine<'a> {
     ghost use Rattle.std.specs.Prelude.{ℕ, List, ◌<◌, length};
-    ghost use Rattle.dm_stack.specs.names.DiskText.{letter_for};
+    ghost use Rattle.dm_stream.specs.pieces.DiskText.{letter_for};
     ghost use Rattle.dm_stream.specs.pieces.RangeText.{IsKept};
     ghost use Rattle.dm_stream.specs.pieces.PieceText.{range_line};
 
     ghost Value = { List ℕ };
 
-    ghost view = { λ line. range_line line.stack.now line.prefix.now
+    ghost view = { λ line. range_line line.disks.now line.prefix.now
         (letter_for line.range.now.letter) line.range.now.disk line.range.now.start
         line.range.now.len };
 
-    ghost invariant = { λ line. (line.range.now.disk < length line.stack.now.disks)
+    ghost invariant = { λ line. (line.range.now.disk < length line.disks.now.disks)
         × IsKept line.text.now line.range.now.start line.range.now.len };
 }
 
@@ -58,7 +63,7 @@ impl<'a> Text for RangeLine<'a> {
     fn put_into(&self, block: &mut [u8], at: usize) -> usize {
         let range = self.range;
         let at = self.prefix.put_into(block, at);
-        let name = self.stack.disk_text(range.disk);
+        let name = self.disks.of(range.disk);
         let at = name.put_head(block, at, range.letter);
         self.text
             .put_into(self.ends, block, at, range.start, range.len)
@@ -98,7 +103,7 @@ impl<'a> Text for PlainLine<'a> {
 #[derive(Drop)]
 struct RareLine<'a> {
     prefix: &'a NumberPrefix,
-    stack: &'a Stack,
+    disks: &'a DiskTexts<'a>,
     piece: &'a Piece,
 }
 
@@ -110,9 +115,9 @@ impl<'a> Model for RareLine<'a> {
 
     ghost Value = { List ℕ };
 
-    ghost view = { λ line. piece_text line.stack.now line.prefix.now (piece_view line.piece.now) };
+    ghost view = { λ line. piece_text line.disks.now line.prefix.now (piece_view line.piece.now) };
 
-    ghost invariant = { λ line. IsOnDisks line.stack.now line.piece.now × IsOther line.piece.now };
+    ghost invariant = { λ line. IsOnDisks line.disks.now line.piece.now × IsOther line.piece.now };
 }
 
 impl<'a> Text for RareLine<'a> {
@@ -121,7 +126,7 @@ impl<'a> Text for RareLine<'a> {
     #[inline(always)]
     fn put_into(&self, block: &mut [u8], at: usize) -> usize {
         let at = self.prefix.put_into(block, at);
-        put_rare(block, at, self.stack, self.piece)
+        put_rare(block, at, self.disks, self.piece)
     }
 }
 
@@ -133,19 +138,19 @@ pub(crate) fn put_range<W: Output>(
     prefix: &NumberPrefix,
     ends: &LineEnds,
     text: &RangeText,
-    stack: &Stack,
+    disks: &DiskTexts<'_>,
     range: &DiskRange,
 ) -> Result<(), OutFault>
-    requires lies { IsOnDisks stack.now (piece_of range.now) }
+    requires lies { IsOnDisks disks.now (piece_of range.now) }
     requires kept { IsKept text.now range.now.start range.now.len }
     ensures { Wrote (W.past writer.old) (W.past writer.new) result
-        (piece_text stack.now prefix.now (piece_view (piece_of range.now))) }
+        (piece_text disks.now prefix.now (piece_view (piece_of range.now))) }
 {
     writer.put(&RangeLine {
         prefix,
         ends,
         text,
-        stack,
+        disks,
         range,
     })
 }
@@ -157,13 +162,13 @@ pub(crate) fn put_other<W: Output>(
     writer: &mut W,
     prefix: &NumberPrefix,
     ends: &LineEnds,
-    stack: &Stack,
+    disks: &DiskTexts<'_>,
     piece: &Piece,
 ) -> Result<(), OutFault>
-    requires lies { IsOnDisks stack.now piece.now }
+    requires lies { IsOnDisks disks.now piece.now }
     requires other { IsNoRange piece.now }
     ensures { Wrote (W.past writer.old) (W.past writer.new) result
-        (piece_text stack.now prefix.now (piece_view piece.now)) }
+        (piece_text disks.now prefix.now (piece_view piece.now)) }
 {
     match *piece {
         Piece::Zero { len } | Piece::Drop { len } | Piece::Error { len } => {
@@ -176,7 +181,7 @@ pub(crate) fn put_other<W: Output>(
         }
         _ => writer.put(&RareLine {
             prefix,
-            stack,
+            disks,
             piece,
         }),
     }
@@ -186,11 +191,11 @@ pub(crate) fn put_other<W: Output>(
 /// never inlined, since these are rare.
 #[cold]
 #[inline(never)]
-fn put_rare(block: &mut [u8], at: usize, stack: &Stack, piece: &Piece) -> usize
+fn put_rare(block: &mut [u8], at: usize, disks: &DiskTexts<'_>, piece: &Piece) -> usize
     requires room { at + 800 ≤ length block.old }
-    requires lies { IsOnDisks stack.now piece.now }
+    requires lies { IsOnDisks disks.now piece.now }
     requires other { IsOther piece.now }
-    ensures put { IsPut (unit_text stack.now (first_unit piece.now) (piece_len piece.now) ++ code "\n" ∷ []) at
+    ensures put { IsPut (unit_text disks.now (first_unit piece.now) (piece_len piece.now) ++ code "\n" ∷ []) at
         block.old block.new result }
     ensures few { result ≤ at + 800 }
 {
@@ -201,8 +206,8 @@ fn put_rare(block: &mut [u8], at: usize, stack: &Stack, piece: &Piece) -> usize
             len,
             to,
             to_start,
-        } => put_copy(block, at, stack, disk, start, len, to, to_start),
-        Piece::Fill { len, disk, start } => put_fill(block, at, stack, disk, start, len),
+        } => put_copy(block, at, disks, disk, start, len, to, to_start),
+        Piece::Fill { len, disk, start } => put_fill(block, at, disks, disk, start, len),
         _ => unreachable!(),
     }
 }
@@ -211,7 +216,7 @@ fn put_rare(block: &mut [u8], at: usize, stack: &Stack, piece: &Piece) -> usize
 fn put_copy(
     block: &mut [u8],
     at: usize,
-    stack: &Stack,
+    disks: &DiskTexts<'_>,
     disk: DiskId,
     start: u64,
     len: u64,
@@ -219,43 +224,56 @@ fn put_copy(
     to_start: u64,
 ) -> usize
     requires room { at + 800 ≤ length block.old }
-    requires there { disk < length stack.now.disks }
-    requires target { to < length stack.now.disks }
-    ensures put { IsPut (unit_text stack.now (CopyOf disk start to to_start) len ++ code "\n" ∷ []) at block.old
+    requires there { disk < length disks.now.disks }
+    requires target { to < length disks.now.disks }
+    ensures put { IsPut (unit_text disks.now (CopyOf disk start to to_start) len ++ code "\n" ∷ []) at block.old
         block.new result }
     ensures few { result ≤ at + 800 }
 {
     let at = put_bytes(block, at, b"copy ");
-    let at = put_sector(block, at, stack, disk, start);
+    let at = put_sector(block, at, disks, disk, start);
     let at = put_bytes(block, at, b" ");
     let at = put_digits(block, at, len);
     let at = put_bytes(block, at, b" ");
-    let at = put_sector(block, at, stack, to, to_start);
+    let at = put_sector(block, at, disks, to, to_start);
     put_bytes(block, at, b"\n")
 }
 
 /// Puts what a fill is and a newline at an offset in a block.
-fn put_fill(block: &mut [u8], at: usize, stack: &Stack, disk: DiskId, start: u64, len: u64) -> usize
+fn put_fill(
+    block: &mut [u8],
+    at: usize,
+    disks: &DiskTexts<'_>,
+    disk: DiskId,
+    start: u64,
+    len: u64,
+) -> usize
     requires room { at + 800 ≤ length block.old }
-    requires there { disk < length stack.now.disks }
-    ensures put { IsPut (unit_text stack.now (FillOf disk start) len ++ code "\n" ∷ []) at block.old block.new
+    requires there { disk < length disks.now.disks }
+    ensures put { IsPut (unit_text disks.now (FillOf disk start) len ++ code "\n" ∷ []) at block.old block.new
         result }
     ensures few { result ≤ at + 400 }
 {
     let at = put_bytes(block, at, b"fill ");
     let at = put_digits(block, at, len);
     let at = put_bytes(block, at, b" ");
-    let at = put_sector(block, at, stack, disk, start);
+    let at = put_sector(block, at, disks, disk, start);
     put_bytes(block, at, b"\n")
 }
 
 /// Puts a sector of a disk of the stack at an offset in a block: the name of the disk and the sector.
-fn put_sector(block: &mut [u8], at: usize, stack: &Stack, disk: DiskId, sector: u64) -> usize
+fn put_sector(
+    block: &mut [u8],
+    at: usize,
+    disks: &DiskTexts<'_>,
+    disk: DiskId,
+    sector: u64,
+) -> usize
     requires room { at + 300 ≤ length block.old }
-    requires there { disk < length stack.now.disks }
-    ensures put { IsPut (sector_text stack.now disk sector) at block.old block.new result }
+    requires there { disk < length disks.now.disks }
+    ensures put { IsPut (sector_text disks.now disk sector) at block.old block.new result }
     ensures few { result ≤ at + 276 }
 {
-    let at = stack.disk_text(disk).put_into(block, at);
+    let at = disks.of(disk).put_into(block, at);
     put_digits(block, at, sector)
 }

@@ -1,5 +1,5 @@
 //! What the lines of pieces without a disk begin with after the number: a word and a space, which are
-//! copied as one room.
+//! copied as one room, as *texts kept ready* of RESULTS.md are.
 
 ghost use Rattle.std.specs.Prelude.{◌≡◌, ◌+◌, ◌≤◌, length};
 ghost use Rattle.dm_table.specs.io.Block.{IsPut};

@@ -3,6 +3,10 @@
 //! Over many columns the same range comes once for each column. Its text is kept as soon as it comes
 //! a second time, and then copied whole; a range after one that came again is kept at once. Any other
 //! has its digits written where they belong, and its end copied where its length is short.
+//!
+//! This is here for speed alone: RESULTS.md has its gain as *the kept text of a range*. It rests on `note`, which
+//! is called before each line. Change it only if you measure large requests over 16 columns, and others that never
+//! repeat a range, before and after.
 
 ghost use Rattle.std.specs.Prelude.{◌≡◌, ◌+◌, ◌≤◌, ℕ, length};
 ghost use Rattle.dm_table.specs.io.Block.{IsPut};

@@ -1,4 +1,8 @@
 //! Requests at the front of held bytes, which are read where they stand.
+//!
+//! This is here for speed alone, as `handling` reads any line: RESULTS.md has its gain as *requests read where they
+//! stand*. It rests on `FRONT_ROOM` bytes being held, and gives up on every line of which it isn't sure. Change it
+//! only if you measure small requests before and after.
 
 ghost use Rattle.std.specs.Prelude.{◌≡◌, ◌+◌, ◌<◌, ◌≤◌, ◌∷◌, [], length, take, drop, IfSome, Some};
 ghost use Rattle.dm_stream.specs.requests.Lines.{line_parts};

@@ -203,7 +203,7 @@ impl Lines {
     }
 
     /// The same of requests that somebody answers.
-    pub fn next_for<Q, H: ReadsFrom<Q>>(&mut self, requests: &mut Q, handler: &H) -> Next<'_>
+    pub(crate) fn next_for<Q, H: ReadsFrom<Q>>(&mut self, requests: &mut Q, handler: &H) -> Next<'_>
         // Nothing is read where a whole line is held, and else all answers are out.
         requires { line_parts self.old ≡ self.old ∷ [] → H.is_out handler.now }
         ensures* after { sem 𝓛 (Rests the_row self.entry (λ new.

@@ -15,6 +15,7 @@ ghost use Rattle.dm_stream.specs.declared.requests.handling.TheConstants.{MOST_R
 ghost use Rattle.dm_table.specs.io.DeviceIo.{OutputPast, delivery, written_since};
 ghost use Rattle.dm_table.specs.io.Progress.{HasWritten, Wrote};
 
+use crate::pieces::disk_texts::DiskTexts;
 use crate::pieces::join::Join;
 use crate::requests::exchange::Exchange;
 use crate::requests::handling::handle_requests;
@@ -43,15 +44,17 @@ fn ending_of(cause: NotMapped) -> Ending
 fn map_requests<'s, T: Taken, R: Exchange<W>, W: Output>(
     stack: &'s Stack,
     mapper: &mut Mapper<'s, T>,
+    texts: &DiskTexts<'s>,
     requests: &mut R,
     output: &mut W,
 ) -> Ending
-    requires { CanMap stack.now mapper.old }
+    requires mapper { CanMap stack.now mapper.old }
+    requires texts { texts.now ≡ stack.now }
     ensures { HasMappedAll stack.now mapper.old mapper.new (R.past requests.old) (R.past requests.new)
         (W.past output.old) (W.past output.new) result }
 {
     let mut handler = RequestMapper {
-        join: Join::new(stack, output),
+        join: Join::new(texts, output),
         prefetched: 0,
         mapper: PhantomData,
     };
@@ -98,8 +101,8 @@ fn write_rest<T: Taken, W: Output>(
 /// | `ReadFault` | reading requests failed; those before it were answered |
 /// | `WriteFault` | writing or flushing the output failed; a beginning of what there was to write was written |
 ///
-/// The mapper is one of this stack and has not failed; its state moves on with the requests. The output
-/// is flushed once at the end, unless a write failed; then a message of one line is written, except
+/// The mapper and the texts are of this stack, and the mapper has not failed; its state moves on with the
+/// requests. The output is flushed once at the end, unless a write failed; then a message of one line is written, except
 /// at `Done`. An output is not written to if there is nothing to write. No request is waited for while the
 /// output keeps an answer back: each read requires that it has passed on all that it took, or failed to.
 ///
@@ -108,12 +111,14 @@ fn write_rest<T: Taken, W: Output>(
 pub fn run<'s, T: Taken, R: Exchange<W>, W: Output, E: Output>(
     stack: &'s Stack,
     mapper: &mut Mapper<'s, T>,
+    texts: &DiskTexts<'s>,
     requests: &mut R,
     output: &mut W,
     messages: &mut E,
     status: bool,
 ) -> Ending
-    requires { CanMap stack.now mapper.old }
+    requires mapper { CanMap stack.now mapper.old }
+    requires texts { texts.now ≡ stack.now }
     // The mapper can go on unless the output failed. Requests are only read on, up to the first bad line, an end or
     // a fault.
     ensures left { IsLeft mapper.old mapper.new (R.past requests.old) (R.past requests.new) result }
@@ -130,7 +135,7 @@ pub fn run<'s, T: Taken, R: Exchange<W>, W: Output, E: Output>(
     // The figures of the limits.
     ensures limits { (MOST_LINE_BYTES ≡ 4096) × (MOST_REQUESTS ≡ 1000000000000) }
 {
-    let ending = map_requests(stack, mapper, requests, output);
+    let ending = map_requests(stack, mapper, texts, requests, output);
     let written = write_rest(stack, mapper, ending, status, output);
     match close_and_tell(written, message_of(ending).as_slice(), output, messages) {
         Ok(()) => ending,

@@ -27,24 +27,24 @@ returns-in-Err-clause-earlier g c = inl refl
 
 -- ---- there was no memory for requests
 
-pub returns-in-Err-new-clause-earlier : goal.returns-in-Err-new-clause-earlier
-returns-in-Err-new-clause-earlier g c = inl refl
+pub returns-in-Err-prepare-clause-earlier : goal.returns-in-Err-prepare-clause-earlier
+returns-in-Err-prepare-clause-earlier g c = inl refl
 
-pub returns-in-Err-new-clause-requests : goal.returns-in-Err-new-clause-requests
-returns-in-Err-new-clause-requests g c =
-    unasked_requests (refusals.Load c.memory.result) _ _ _ (c.tell-in-Err-new.ensures.is ∙ ap exit_status c.unloaded-in-Err-new.ensures)
+pub returns-in-Err-prepare-clause-requests : goal.returns-in-Err-prepare-clause-requests
+returns-in-Err-prepare-clause-requests g c =
+    unasked_requests (refusals.Load c.memory.result) _ _ _ (c.tell-in-Err-prepare.ensures.is ∙ ap exit_status c.unloaded-in-Err-prepare.ensures)
     (read_on_none _) refl
 
-pub returns-in-Err-new-clause-output : goal.returns-in-Err-new-clause-output
-returns-in-Err-new-clause-output g c =
-    refused_output _ (refusals.Load c.memory.result) _ (c.tell-in-Err-new.ensures.is ∙ ap exit_status c.unloaded-in-Err-new.ensures)
+pub returns-in-Err-prepare-clause-output : goal.returns-in-Err-prepare-clause-output
+returns-in-Err-prepare-clause-output g c =
+    refused_output _ (refusals.Load c.memory.result) _ (c.tell-in-Err-prepare.ensures.is ∙ ap exit_status c.unloaded-in-Err-prepare.ensures)
 
 -- ---- the earlier requests were played, and the others run
 
 pub returns-in-Ok-play_earlier-clause-whole : goal.returns-in-Ok-play_earlier-clause-whole
 returns-in-Ok-play_earlier-clause-whole g c = λ five six.
     let before = delivery (g.B.Input.past c.args.earlier.now) (g.B.Input.past c.play_earlier.new.requests) in
-    let starts : c.in-Ok-new.mapper.state ≡ start_state c.in-Ok.stack = c.in-Ok-new.ensures.state ∙ ap start_state c.looker.ensures.stack in
+    let starts : c.in-Ok-prepare.prepared.mapper.state ≡ start_state c.in-Ok.stack = c.in-Ok-prepare.ensures.state in
     let done = c.in-Ok-play_earlier.ensures.played.done in
     record {
       message = ending_message c.run-ending.result;
@@ -57,7 +57,7 @@ pub returns-in-Ok-play_earlier-clause-beginning : goal.returns-in-Ok-play_earlie
 returns-in-Ok-play_earlier-clause-beginning g c = λ five.
     let before = delivery (g.B.Input.past c.args.earlier.now) (g.B.Input.past c.play_earlier.new.requests) in
     let requests = delivery (g.Q.Exchange.past c.args.requests.now) (g.Q.Exchange.past c.run-ending.new.requests) in
-    let starts : c.in-Ok-new.mapper.state ≡ start_state c.in-Ok.stack = c.in-Ok-new.ensures.state ∙ ap start_state c.looker.ensures.stack in
+    let starts : c.in-Ok-prepare.prepared.mapper.state ≡ start_state c.in-Ok.stack = c.in-Ok-prepare.ensures.state in
     let done = c.in-Ok-play_earlier.ensures.played.done in
     record {
       description = c.in-Ok.stack;
@@ -69,7 +69,7 @@ returns-in-Ok-play_earlier-clause-beginning g c = λ five.
 pub returns-in-Ok-play_earlier-clause-earlier : goal.returns-in-Ok-play_earlier-clause-earlier
 returns-in-Ok-play_earlier-clause-earlier g c =
     let before = delivery (g.B.Input.past c.args.earlier.now) (g.B.Input.past c.play_earlier.new.requests) in
-    let starts : c.in-Ok-new.mapper.state ≡ start_state c.in-Ok.stack = c.in-Ok-new.ensures.state ∙ ap start_state c.looker.ensures.stack in
+    let starts : c.in-Ok-prepare.prepared.mapper.state ≡ start_state c.in-Ok.stack = c.in-Ok-prepare.ensures.state in
     inr (
       c.in-Ok.stack,
       c.in-Ok.ensures.gives.sound,
@@ -94,7 +94,7 @@ returns-in-Ok-play_earlier-clause-output g c = ran_output c.run-ending.result _ 
 pub returns-in-Err-play_earlier-clause-whole : goal.returns-in-Err-play_earlier-clause-whole
 returns-in-Err-play_earlier-clause-whole g c = λ five six.
     let before = delivery (g.B.Input.past c.args.earlier.now) (g.B.Input.past c.play_earlier.new.requests) in
-    let starts : c.in-Ok-new.mapper.state ≡ start_state c.in-Ok.stack = c.in-Ok-new.ensures.state ∙ ap start_state c.looker.ensures.stack in
+    let starts : c.in-Ok-prepare.prepared.mapper.state ≡ start_state c.in-Ok.stack = c.in-Ok-prepare.ensures.state in
     let fault = c.in-Err-play_earlier.fault in
     record {
       message = exit_message (exits.Refused (refusals.Earlier fault));
@@ -107,7 +107,7 @@ returns-in-Err-play_earlier-clause-whole g c = λ five six.
 pub returns-in-Err-play_earlier-clause-earlier : goal.returns-in-Err-play_earlier-clause-earlier
 returns-in-Err-play_earlier-clause-earlier g c =
     let before = delivery (g.B.Input.past c.args.earlier.now) (g.B.Input.past c.play_earlier.new.requests) in
-    let starts : c.in-Ok-new.mapper.state ≡ start_state c.in-Ok.stack = c.in-Ok-new.ensures.state ∙ ap start_state c.looker.ensures.stack in
+    let starts : c.in-Ok-prepare.prepared.mapper.state ≡ start_state c.in-Ok.stack = c.in-Ok-prepare.ensures.state in
     let fault = c.in-Err-play_earlier.fault in
     inr (
       c.in-Ok.stack,
@@ -130,8 +130,8 @@ returns-in-Err-play_earlier-clause-output g c = refused_output _ (refusals.Earli
 pub returns-in-Err-clause-one : goal.returns-in-Err-clause-one
 returns-in-Err-clause-one g c = one_after
 
-pub returns-in-Err-new-clause-one : goal.returns-in-Err-new-clause-one
-returns-in-Err-new-clause-one g c = one_after
+pub returns-in-Err-prepare-clause-one : goal.returns-in-Err-prepare-clause-one
+returns-in-Err-prepare-clause-one g c = one_after
 
 pub returns-in-Ok-play_earlier-clause-one : goal.returns-in-Ok-play_earlier-clause-one
 returns-in-Ok-play_earlier-clause-one g c = one_after

@@ -54,17 +54,17 @@ returns-in-Err-load_images-clause-one g c = one_from
 
 -- ---- there was no memory for requests
 
-pub returns-in-Err-new-clause-requests : goal.returns-in-Err-new-clause-requests
-returns-in-Err-new-clause-requests g c =
-    unasked_requests (refusals.Load c.memory.result) _ _ _ (c.tell-in-Err-new.ensures.is ∙ ap exit_status c.unloaded-in-Err-new.ensures)
+pub returns-in-Err-prepare-clause-requests : goal.returns-in-Err-prepare-clause-requests
+returns-in-Err-prepare-clause-requests g c =
+    unasked_requests (refusals.Load c.memory.result) _ _ _ (c.tell-in-Err-prepare.ensures.is ∙ ap exit_status c.unloaded-in-Err-prepare.ensures)
     (read_on_none _) refl
 
-pub returns-in-Err-new-clause-output : goal.returns-in-Err-new-clause-output
-returns-in-Err-new-clause-output g c =
-    refused_output _ (refusals.Load c.memory.result) _ (c.tell-in-Err-new.ensures.is ∙ ap exit_status c.unloaded-in-Err-new.ensures)
+pub returns-in-Err-prepare-clause-output : goal.returns-in-Err-prepare-clause-output
+returns-in-Err-prepare-clause-output g c =
+    refused_output _ (refusals.Load c.memory.result) _ (c.tell-in-Err-prepare.ensures.is ∙ ap exit_status c.unloaded-in-Err-prepare.ensures)
 
-pub returns-in-Err-new-clause-one : goal.returns-in-Err-new-clause-one
-returns-in-Err-new-clause-one g c = one_from
+pub returns-in-Err-prepare-clause-one : goal.returns-in-Err-prepare-clause-one
+returns-in-Err-prepare-clause-one g c = one_from
 
 -- ---- a store was refused
 
@@ -167,14 +167,14 @@ returns-in-Err-load_images-clause-images_read g c = inl refl
 pub returns-in-Err-load_images-clause-earlier : goal.returns-in-Err-load_images-clause-earlier
 returns-in-Err-load_images-clause-earlier g c = λ held seen. unasked_if _ _ _ _ _ c.args.earlier.now
 
-pub returns-in-Err-new-clause-paths : goal.returns-in-Err-new-clause-paths
-returns-in-Err-new-clause-paths g c = inr (c.in-Ok.stack, c.in-Ok.ensures.gives.sound)
+pub returns-in-Err-prepare-clause-paths : goal.returns-in-Err-prepare-clause-paths
+returns-in-Err-prepare-clause-paths g c = inr (c.in-Ok.stack, c.in-Ok.ensures.gives.sound)
 
-pub returns-in-Err-new-clause-images_read : goal.returns-in-Err-new-clause-images_read
-returns-in-Err-new-clause-images_read g c = inl refl
+pub returns-in-Err-prepare-clause-images_read : goal.returns-in-Err-prepare-clause-images_read
+returns-in-Err-prepare-clause-images_read g c = inl refl
 
-pub returns-in-Err-new-clause-earlier : goal.returns-in-Err-new-clause-earlier
-returns-in-Err-new-clause-earlier g c = λ held seen. unasked_if _ _ _ _ _ c.args.earlier.now
+pub returns-in-Err-prepare-clause-earlier : goal.returns-in-Err-prepare-clause-earlier
+returns-in-Err-prepare-clause-earlier g c = λ held seen. unasked_if _ _ _ _ _ c.args.earlier.now
 
 pub returns-in-Err-read_stores-clause-paths : goal.returns-in-Err-read_stores-clause-paths
 returns-in-Err-read_stores-clause-paths g c = inr (c.in-Ok.stack, c.in-Ok.ensures.gives.sound)

@@ -24,70 +24,70 @@ returns-in-Err-clause-whole g c = λ five six. record {
 
 -- ---- the requests were run
 
-pub returns-in-Ok-new-clause-whole : goal.returns-in-Ok-new-clause-whole
-returns-in-Ok-new-clause-whole g c = λ five six.
-    let starts : c.in-Ok-new.mapper.state ≡ start_state c.in-Ok.stack = c.in-Ok-new.ensures.state ∙ ap start_state c.looker.ensures.stack in
+pub returns-in-Ok-prepare-clause-whole : goal.returns-in-Ok-prepare-clause-whole
+returns-in-Ok-prepare-clause-whole g c = λ five six.
+    let starts : c.in-Ok-prepare.prepared.mapper.state ≡ start_state c.in-Ok.stack = c.in-Ok-prepare.ensures.state in
     record {
       message = ending_message c.run-ending.result;
-      gives = ran_whole _ _ _ _ _ _ None _ c.in-Ok.stack c.in-Ok-new.mapper.state _ c.run-ending.result _ c.in-Ok.ensures.gives.sound refl starts c.run-ending.ensures.ran c.status.ensures five;
+      gives = ran_whole _ _ _ _ _ _ None _ c.in-Ok.stack c.in-Ok-prepare.prepared.mapper.state _ c.run-ending.result _ c.in-Ok.ensures.gives.sound refl starts c.run-ending.ensures.ran c.status.ensures five;
       told = c.run-ending.ensures.told.told;
     }
 
-pub returns-in-Ok-new-clause-beginning : goal.returns-in-Ok-new-clause-beginning
-returns-in-Ok-new-clause-beginning g c = λ five.
+pub returns-in-Ok-prepare-clause-beginning : goal.returns-in-Ok-prepare-clause-beginning
+returns-in-Ok-prepare-clause-beginning g c = λ five.
     let requests = delivery (g.Q.Exchange.past c.args.requests.now) (g.Q.Exchange.past c.run-ending.new.requests) in
-    let starts : c.in-Ok-new.mapper.state ≡ start_state c.in-Ok.stack = c.in-Ok-new.ensures.state ∙ ap start_state c.looker.ensures.stack in
+    let starts : c.in-Ok-prepare.prepared.mapper.state ≡ start_state c.in-Ok.stack = c.in-Ok-prepare.ensures.state in
     record {
       description = c.in-Ok.stack;
       loaded = c.in-Ok.ensures.gives.sound;
-      fails = ran_failed _ _ c.args.status None requests c.in-Ok.stack c.in-Ok-new.mapper.state _ c.run-ending.result _ refl starts c.run-ending.ensures.ran c.status.ensures five;
+      fails = ran_failed _ _ c.args.status None requests c.in-Ok.stack c.in-Ok-prepare.prepared.mapper.state _ c.run-ending.result _ refl starts c.run-ending.ensures.ran c.status.ensures five;
     }
 
-pub returns-in-Ok-new-clause-requests : goal.returns-in-Ok-new-clause-requests
-returns-in-Ok-new-clause-requests g c = ran_requests c.run-ending.result _ _ _ c.status.ensures c.run-ending.ensures.left.reads c.run-ending.ensures.left.met
+pub returns-in-Ok-prepare-clause-requests : goal.returns-in-Ok-prepare-clause-requests
+returns-in-Ok-prepare-clause-requests g c = ran_requests c.run-ending.result _ _ _ c.status.ensures c.run-ending.ensures.left.reads c.run-ending.ensures.left.met
 
-pub returns-in-Ok-new-clause-output : goal.returns-in-Ok-new-clause-output
-returns-in-Ok-new-clause-output g c = ran_output c.run-ending.result _ _ _ _ _ c.status.ensures c.run-ending.ensures.ran
+pub returns-in-Ok-prepare-clause-output : goal.returns-in-Ok-prepare-clause-output
+returns-in-Ok-prepare-clause-output g c = ran_output c.run-ending.result _ _ _ _ _ c.status.ensures c.run-ending.ensures.ran
 
-pub returns-in-Ok-new-clause-messages : goal.returns-in-Ok-new-clause-messages
-returns-in-Ok-new-clause-messages g c = exits_told {exit = exits.Ended c.run-ending.result} (record { is = c.status.ensures; told = c.run-ending.ensures.told })
+pub returns-in-Ok-prepare-clause-messages : goal.returns-in-Ok-prepare-clause-messages
+returns-in-Ok-prepare-clause-messages g c = exits_told {exit = exits.Ended c.run-ending.result} (record { is = c.status.ensures; told = c.run-ending.ensures.told })
 
-pub returns-in-Ok-new-clause-memory : goal.returns-in-Ok-new-clause-memory
-returns-in-Ok-new-clause-memory g c = λ six. absurd (never_memory c.run-ending.result (sym c.status.ensures ∙ six))
+pub returns-in-Ok-prepare-clause-memory : goal.returns-in-Ok-prepare-clause-memory
+returns-in-Ok-prepare-clause-memory g c = λ six. absurd (never_memory c.run-ending.result (sym c.status.ensures ∙ six))
 
 -- ---- there was no memory for them
 
-pub returns-in-Err-new-clause-requests : goal.returns-in-Err-new-clause-requests
-returns-in-Err-new-clause-requests g c =
-    unasked_requests (refusals.Load c.memory.result) _ _ _ (c.tell-in-Err-new.ensures.is ∙ ap exit_status c.unloaded-in-Err-new.ensures)
+pub returns-in-Err-prepare-clause-requests : goal.returns-in-Err-prepare-clause-requests
+returns-in-Err-prepare-clause-requests g c =
+    unasked_requests (refusals.Load c.memory.result) _ _ _ (c.tell-in-Err-prepare.ensures.is ∙ ap exit_status c.unloaded-in-Err-prepare.ensures)
     (read_on_none _) refl
 
-pub returns-in-Err-new-clause-output : goal.returns-in-Err-new-clause-output
-returns-in-Err-new-clause-output g c =
-    refused_output _ (refusals.Load c.memory.result) _ (c.tell-in-Err-new.ensures.is ∙ ap exit_status c.unloaded-in-Err-new.ensures)
+pub returns-in-Err-prepare-clause-output : goal.returns-in-Err-prepare-clause-output
+returns-in-Err-prepare-clause-output g c =
+    refused_output _ (refusals.Load c.memory.result) _ (c.tell-in-Err-prepare.ensures.is ∙ ap exit_status c.unloaded-in-Err-prepare.ensures)
 
 -- ---- the clauses that speak of no run are laws of the definitions
 
 pub returns-in-Err-clause-one : goal.returns-in-Err-clause-one
 returns-in-Err-clause-one g c = λ f flag s d q a b. one_after f flag s d None q a b
 
-pub returns-in-Ok-new-clause-one : goal.returns-in-Ok-new-clause-one
-returns-in-Ok-new-clause-one g c = λ f flag s d q a b. one_after f flag s d None q a b
+pub returns-in-Ok-prepare-clause-one : goal.returns-in-Ok-prepare-clause-one
+returns-in-Ok-prepare-clause-one g c = λ f flag s d q a b. one_after f flag s d None q a b
 
-pub returns-in-Err-new-clause-one : goal.returns-in-Err-new-clause-one
-returns-in-Err-new-clause-one g c = λ f flag s d q a b. one_after f flag s d None q a b
+pub returns-in-Err-prepare-clause-one : goal.returns-in-Err-prepare-clause-one
+returns-in-Err-prepare-clause-one g c = λ f flag s d q a b. one_after f flag s d None q a b
 
 pub returns-in-Err-clause-fewest : goal.returns-in-Err-clause-fewest
 returns-in-Err-clause-fewest g c = fewest_is
 
-pub returns-in-Err-new-clause-fewest : goal.returns-in-Err-new-clause-fewest
-returns-in-Err-new-clause-fewest g c = fewest_is
+pub returns-in-Err-prepare-clause-fewest : goal.returns-in-Err-prepare-clause-fewest
+returns-in-Err-prepare-clause-fewest g c = fewest_is
 
 pub returns-in-Err-clause-levels : goal.returns-in-Err-clause-levels
 returns-in-Err-clause-levels g c = λ description sound. (reads_free description sound, writes_free description sound, homes_free description sound)
 
-pub returns-in-Ok-new-clause-levels : goal.returns-in-Ok-new-clause-levels
-returns-in-Ok-new-clause-levels g c = λ description sound. (reads_free description sound, writes_free description sound, homes_free description sound)
+pub returns-in-Ok-prepare-clause-levels : goal.returns-in-Ok-prepare-clause-levels
+returns-in-Ok-prepare-clause-levels g c = λ description sound. (reads_free description sound, writes_free description sound, homes_free description sound)
 
-pub returns-in-Err-new-clause-levels : goal.returns-in-Err-new-clause-levels
-returns-in-Err-new-clause-levels g c = λ description sound. (reads_free description sound, writes_free description sound, homes_free description sound)
+pub returns-in-Err-prepare-clause-levels : goal.returns-in-Err-prepare-clause-levels
+returns-in-Err-prepare-clause-levels g c = λ description sound. (reads_free description sound, writes_free description sound, homes_free description sound)

@@ -9,8 +9,8 @@ ghost use Rattle.dm_stack.specs.Description.{disk_len};
 
 use super::*;
 use dm_map::{Mapper, Piece, PlainTaken, Sink};
-use dm_stack::{DiskId, FoundTarget, Lower, Stack};
-use dm_stream::{Ending, Join, run};
+use dm_stack::{DiskId, Lower, ResolvedTarget, Stack};
+use dm_stream::{DiskTexts, Ending, Join, run};
 use dm_table::{CheckFault, DiskName, Name, parse_disks, parse_table};
 
 /// A text, and whether it is the name of a device, and of a disk.
@@ -128,12 +128,14 @@ fn buckets_of_the_most_lines(rt: HostRuntime) {
 /// Runs requests to a stack, and asserts what is written.
 fn check_run(rt: &impl Abort, alloc: Global, stack: &Stack, requests: &[u8], want: &[u8]) {
     let mut mapper = Mapper::<PlainTaken>::new(alloc, stack.looker()).expect(rt, "a mapper");
+    let texts = DiskTexts::new(alloc, stack).expect(rt, "texts of disks");
     let mut requests = input(requests, PLENTY, None);
     let mut written = output(rt, alloc, PLENTY, None, false);
     let mut messages = output(rt, alloc, PLENTY, None, false);
     let ending = run(
         stack,
         &mut mapper,
+        &texts,
         &mut requests,
         &mut written,
         &mut messages,
@@ -161,7 +163,7 @@ fn disk_below(rt: &impl Abort, stack: &Stack, name: &str) -> DiskId
     let mut looker = stack.looker();
     assert!(rt; 0 < looker.len(device), "a first sector");
     let line = looker.look(device, 0);
-    let FoundTarget::Linear {
+    let ResolvedTarget::Linear {
         to: Lower::Disk(disk),
         ..
     } = line.target
@@ -193,7 +195,8 @@ fn copies_join_where_both_sides_continue(rt: HostRuntime) {
     let disk = disk_below(&rt, &stack, "a");
     let to = disk_below(&rt, &stack, "b");
     let mut output = ShortOut::new(rt.alloc(), 1, PLENTY).expect(&rt, "an output");
-    let mut join = Join::new(&stack, &mut output);
+    let texts = DiskTexts::new(rt.alloc(), &stack).expect(&rt, "texts of disks");
+    let mut join = Join::new(&texts, &mut output);
     join.begin(7);
     join.piece(copy(disk, 0, to, 16)).expect(&rt, "a copy");
     join.piece(copy(disk, 8, to, 24))

@@ -18,11 +18,11 @@ fits_there stack (coded.Fill len disk start) fits = fits
 
 pub overflow_add-len : goal.overflow_add-len
 overflow_add-len c =
-    let fits = fits_few c.args.stack.now (first_unit c.args.held.now) _ c.depth.ensures.sound c.requires in
+    let fits = fits_few c.args.disks.now (first_unit c.args.held.now) _ c.recall_soundness.ensures c.requires in
     omega (arith, fits, c.len.ensures)
 
 pub returns-clause-lies : goal.returns-clause-lies
 returns-clause-lies c =
-    fits_there c.args.stack.now c.with_len.result
-    (subst (λ (u : BlockUnit). Fits c.args.stack.now u (piece_len c.with_len.result)) (sym c.with_len.ensures.first)
-    (subst (λ (n : ℕ). Fits c.args.stack.now (first_unit c.args.held.now) n) (sym (c.with_len.ensures.len ∙ ap (λ (n : ℕ). n + c.args.more) c.len.ensures)) c.requires))
+    fits_there c.args.disks.now c.with_len.result
+    (subst (λ (u : BlockUnit). Fits c.args.disks.now u (piece_len c.with_len.result)) (sym c.with_len.ensures.first)
+    (subst (λ (n : ℕ). Fits c.args.disks.now (first_unit c.args.held.now) n) (sym (c.with_len.ensures.len ∙ ap (λ (n : ℕ). n + c.args.more) c.len.ensures)) c.requires))

@@ -1,0 +1,6 @@
+use Rattle.std.proofs.Common.{◌≡◌, map, take}
+use Rattle.dm_stream.specs.pieces.DiskText.{disk_text}
+use Rattle.dm_stream.proofs.pieces.disk_texts.texts_of.Given as goal
+
+abbrev pub invariant-loop-disk : goal.invariant-loop-disk
+invariant-loop-disk l = l.texts.items ≡ map (λ disk. disk_text disk.name) (take l.disk-index l.disks)

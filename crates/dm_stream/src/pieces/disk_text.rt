@@ -1,0 +1,130 @@
+//! The name of a disk as lines have it: with a space after it, and in lines of reads and writes a letter and a
+//! space before it.
+//!
+//! A name is mostly short, and then a room of a fixed size is copied, past the end of its text.
+//!
+//! This is here for speed alone: RESULTS.md has its gain as *letter and disk's name in one room* and *texts kept
+//! ready*. It rests on a room that is longer than a short text, and on a block with space after it. Change it only
+//! if you measure small requests, and large ones over 16 columns, before and after.
+
+ghost use Rattle.std.specs.Prelude.{◌≡◌, ◌∷◌, ◌+◌, ◌≤◌, length, take};
+ghost use Rattle.dm_table.specs.io.Block.{IsPut};
+ghost use Rattle.dm_table.specs.words.Bytes.{code};
+ghost use Rattle.dm_stream.specs.pieces.DiskText.{disk_text, line_head};
+
+use crate::pieces::letter::Letter;
+use dm_table::{DiskName, put_bytes, put_room};
+use std::marker::Model;
+
+/// The bytes of the longest text: those of a name, and a space.
+const ROOM: usize = 256;
+
+/// The bytes that are copied of a short text.
+const SHORT: usize = 32;
+
+/// The letters of reads and of writes.
+const LETTERS: [u8; 2] = [b'R', b'W'];
+
+/// The name of a disk and a space. A clause sees these bytes.
+#[derive(Drop)]
+pub(crate) struct DiskText {
+    len: usize,
+    /// What lines of reads and of writes have of it, if it is short.
+    heads: [[u8; SHORT]; 2],
+    text: [u8; ROOM],
+}
+
+impl Model for DiskText {
+    ghost use Rattle.std.specs.Prelude.{◌≤◌, List, ℕ, take};
+    ghost use Rattle.dm_stream.specs.pieces.DiskText.{AreHeads};
+
+    ghost Value = { List ℕ };
+
+    ghost view = { λ disk. take disk.len disk.text };
+
+    ghost invariant = { λ disk. (disk.len ≤ 256)
+        × (disk.len ≤ 30 → AreHeads disk.heads (take disk.len disk.text)) };
+}
+
+impl DiskText {
+    /// The text of a name.
+    pub(crate) fn new(name: &DiskName) -> DiskText
+        ensures { result ≡ disk_text name.now }
+    {
+        let mut text = [b' '; ROOM];
+        let end = put_bytes(&mut text, 0, name.as_str().as_bytes());
+        let len = put_bytes(&mut text, end, b" ");
+        let heads = [
+            short_head(LETTERS[0], &text[..len]),
+            short_head(LETTERS[1], &text[..len]),
+        ];
+        DiskText { len, heads, text }
+    }
+
+    /// Puts the name and the space at an offset of a block, and returns where they end. The block has
+    /// 256 bytes from there on.
+    #[inline(always)]
+    pub(crate) fn put_into(&self, block: &mut [u8], at: usize) -> usize
+        requires { at + ROOM ≤ length block.old }
+        ensures put { IsPut self.now at block.old block.new result }
+        ensures few { result ≤ at + ROOM }
+    {
+        if self.len > SHORT {
+            return put_long(block, at, &self.text, self.len);
+        }
+        let Some(room) = self.text.first_chunk::<SHORT>() else {
+            unreachable!()
+        };
+        put_room(block, at, room, self.len)
+    }
+
+    /// Puts what lines of reads or of writes have of it, a letter and a space before the name, at an
+    /// offset of a block, and returns where they end. The block has 258 bytes from there on.
+    #[inline(always)]
+    pub(crate) fn put_head(&self, block: &mut [u8], at: usize, letter: Letter) -> usize
+        requires { at + ROOM + 2 ≤ length block.old }
+        ensures put { IsPut (line_head letter self.now) at block.old block.new result }
+        ensures few { result ≤ at + ROOM + 2 }
+    {
+        if self.len > SHORT - 2 {
+            return put_long_head(block, at, letter, &self.text, self.len);
+        }
+        put_room(block, at, &self.heads[letter.index()], self.len + 2)
+    }
+}
+
+/// A letter, a space and a text at the front of a room, if they fit.
+fn short_head(letter: u8, text: &[u8]) -> [u8; SHORT]
+    ensures { length text.now ≤ 30
+        → take (length text.now + 2) result ≡ letter ∷ code " " ∷ text.now }
+{
+    let mut head = [b' '; SHORT];
+    if text.len() <= SHORT - 2 {
+        let at = put_bytes(&mut head, 0, &[letter, b' ']);
+        let _end = put_bytes(&mut head, at, text);
+    }
+    head
+}
+
+/// Puts the first bytes of a text at an offset of a block. It is never inlined, since long names are rare.
+#[cold]
+#[inline(never)]
+fn put_long(block: &mut [u8], at: usize, text: &[u8], len: usize) -> usize
+    requires within { len ≤ length text.now }
+    requires room { at + len ≤ length block.old }
+    ensures { IsPut (take len text.now) at block.old block.new result }
+{
+    put_bytes(block, at, &text[..len])
+}
+
+/// The same after a letter and a space.
+#[cold]
+#[inline(never)]
+fn put_long_head(block: &mut [u8], at: usize, letter: Letter, text: &[u8], len: usize) -> usize
+    requires within { len ≤ length text.now }
+    requires room { at + 2 + len ≤ length block.old }
+    ensures { IsPut (line_head letter (take len text.now)) at block.old block.new result }
+{
+    let at = put_bytes(block, at, &[LETTERS[letter.index()], b' ']);
+    put_bytes(block, at, &text[..len])
+}

@@ -1,0 +1,56 @@
+//! The letters of reads and writes.
+//!
+//! They are here for speed alone, as an `Op` says the same: RESULTS.md has the gain as *letter and disk's name in
+//! one room*. Measure small requests before and after a change.
+
+ghost use Rattle.std.specs.Prelude.{◌≡◌, if◌then◌else◌, not};
+
+use std::marker::Model;
+
+/// The letter of a write, or else of a read. A clause sees whether it is that of a write.
+///
+/// It is kept as a whole word, 1 or 0: around a byte, bytes would be cleared each time that one is kept.
+#[derive(Clone, Copy, Drop)]
+pub(crate) struct Letter {
+    word: u64,
+}
+
+impl Model for Letter {
+    ghost use Rattle.std.specs.Prelude.{◌≡◌, ◌==◌, if◌then◌else◌, Bool};
+
+    ghost Value = { Bool };
+
+    ghost view = { λ letter. letter.word == 1 };
+
+    ghost inverse = { λ is_write. record { word = if is_write then 1 else 0 } };
+
+    ghost invariant = { λ letter. letter.word ≡ (if letter.word == 1 then 1 else 0) };
+}
+
+impl Letter {
+    /// The letter of a write, or of a read.
+    #[inline(always)]
+    pub(crate) fn new(is_write: bool) -> Letter
+        ensures { result ≡ is_write }
+    {
+        Letter {
+            word: if is_write { 1 } else { 0 },
+        }
+    }
+
+    /// 1 for that of a write, or else 0.
+    #[inline(always)]
+    pub(crate) fn index(self) -> usize
+        ensures { result ≡ (if self then 1 else 0) }
+    {
+        self.word as usize
+    }
+
+    /// Whether another one is the same.
+    #[inline(always)]
+    pub(crate) fn is(self, other: Letter) -> bool
+        ensures { result ≡ (if self then other else not other) }
+    {
+        self.word == other.word
+    }
+}
