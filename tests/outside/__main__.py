@@ -1,103 +1,50 @@
 """Drives the built program as a shell does, and looks at what only the outside sees.
 
-    python3 tests/outside [PROGRAM [MODULE..]]
+    python3 tests/outside [-k PATTERN].. [-j N] [--durations N] [PROGRAM [MODULE..]]
 
-PROGRAM is the program that `rt ci` and ./dmremap leave, if no other is given, and each MODULE one of those beside this
-file; all of them run where none is named. A line tells each case that failed; the last line is `N passed, M failed`,
-and the status is 0 where none failed.
+PROGRAM is the program that `rt ci` and ./dmremap leave, if no other is given, and each MODULE one of those in the folders
+beside this file; all of them run where none is named, N at a time. With -k only those tests run whose names have PATTERN.
+A line tells each case that failed; the last line is `N passed, M failed`, and the status is 0 where none failed.
 
 What the answers to requests are is proved. Here are the worked rows: texts, and the exact bytes,
 message and status that must come of them. And here is what a proof can't speak of: real files and
 streams, exit statuses as a shell gets them, the command line, large inputs, and the scripts at the top.
-A new case is a row of a table in one of the modules beside this file.
+The folders say what their modules drive; a new case is a row of a table in one of these.
 """
 
-import inspect
+import argparse
+import concurrent.futures
+import glob
+import importlib
+import multiprocessing
 import os
 import shutil
 import signal
 import sys
 import tempfile
+import unittest
+from concurrent.futures.process import BrokenProcessPool
 
 sys.dont_write_bytecode = True
+HERE = os.path.dirname(os.path.abspath(__file__))
+FOLDERS = [os.path.join(HERE, name) for name in ("program", "tools", "scripts", "documents")]
+sys.path += [*FOLDERS, os.path.join(os.path.dirname(os.path.dirname(HERE)), "tools")]
 
-import answers
-import array_members
-import backups
-import before
-import building
-import completions
-import crate_pages
-import documents
-import explained
-import field_lengths
-import files
-import groups
-import growths
-import halts
-import help_messages
-import help_texts
-import hostile
-import installs
-import kinds
-import launcher
-import layers
-import layouts
-import limits
-import loads
-import lookers
-import lvm2_texts
-import machines
-import manual
-import metadata_areas
-import models
-import next_steps
-import origins
-import owners
-import pictures
-import power_cuts
-import printing
-import ranges
-import reading_list
-import recipes
-import records
-import refusals
-import replays
-import reports
-import request_lines
-import saves
-import sector_files
-import snapshot_readers
-import snapshot_rows
-import snapshots
-import source_names
-import stored
-import streams
-import tool_answers
-import tool_documents
-import tool_requests
-import tool_streams
-import trace_parts
-import trying
-import used
-import walks
-import words
-import worked
-from harness import Program, Tally
+from harness import Case, Program, Tally
 
-TOP = os.path.dirname(os.path.dirname(os.path.dirname(os.path.abspath(__file__))))
+TOP = os.path.dirname(os.path.dirname(HERE))
 BUILT = os.path.join(TOP, "crates", "dmremap", "out", "dmremap")
+# The modules that take longest, which begin first, and those that measure time or memory, which run at the end, one by one.
+LONG = ["tool_streams", "launcher", "building", "installs", "models", "trying", "saves", "explained", "metadata_areas",
+        "reading_list"]
+ALONE = ["limits", "hostile", "growths"]
 
 
-# The modules, in the order in which they run.
-PARTS = (
-    words, before, stored, files, loads, backups, groups, records, printing, reports, request_lines, field_lengths, answers,
-    ranges, snapshot_rows, snapshots, origins, kinds, replays, streams, limits, hostile, growths, help_texts, help_messages,
-    launcher, building, trying, installs, documents, crate_pages, worked, manual, completions, reading_list, source_names, recipes,
-    tool_requests, tool_answers, tool_documents, tool_streams, layouts, layers, explained, used, snapshot_readers, pictures,
-    trace_parts, sector_files, saves, models, owners, machines, metadata_areas, array_members, lvm2_texts, walks, lookers, refusals,
-    next_steps, halts, power_cuts,
-)
+class Loader(unittest.TestLoader):
+    """Takes the tests of a case in the order in which they stand."""
+
+    def getTestCaseNames(self, testCaseClass):
+        return sorted(super().getTestCaseNames(testCaseClass), key=list(vars(testCaseClass)).index)
 
 
 def main():
@@ -105,24 +52,77 @@ def main():
     for number in signal.SIGINT, signal.SIGHUP:
         if signal.getsignal(number) is signal.SIG_IGN:
             signal.signal(number, lambda *_: None)
-    built = os.path.abspath(sys.argv[1]) if len(sys.argv) > 1 else BUILT
-    wanted = sys.argv[2:] or [it.__name__ for it in PARTS]
-    tally = Tally()
-    for name in set(wanted) - {it.__name__ for it in PARTS}:
+    asked = parser().parse_intermixed_args()
+    tally = Tally(lambda line: print(line, flush=True))
+    suites = suites_of(asked.modules, asked.patterns, tally)
+    if os.access(asked.program, os.X_OK):
+        with tempfile.TemporaryDirectory(prefix="dmremap-outside-") as folder:
+            os.chmod(folder, 0o755)
+            run_all(suites, os.path.abspath(asked.program), asked.jobs, folder, tally)
+    else:
+        tally.fail("the program", "there is none at " + os.path.relpath(asked.program))
+    return tally.close(asked.durations)
+
+
+def parser():
+    words = argparse.ArgumentParser(prog="tests/outside")
+    words.add_argument("-k", metavar="PATTERN", dest="patterns", action="append", default=[], help="run the tests with this in their names")
+    words.add_argument("-j", metavar="N", dest="jobs", type=int, default=min(4, os.cpu_count() or 1), help="run N modules at a time")
+    words.add_argument("--durations", metavar="N", type=int, default=0, help="tell the N slowest tests")
+    words.add_argument("program", metavar="PROGRAM", nargs="?", default=BUILT)
+    words.add_argument("modules", metavar="MODULE", nargs="*")
+    return words
+
+
+def suites_of(modules, patterns, tally):
+    """The tests of modules by their names, of all where none is named."""
+    loader = Loader()
+    loader.testNamePatterns = ["*%s*" % it for it in patterns] or None
+    paths = [it for folder in FOLDERS for it in sorted(glob.glob(os.path.join(folder, "*.py")))]
+    names = [os.path.basename(it)[:-len(".py")] for it in paths]
+    for name in set(modules) - set(names):
         tally.fail("the modules", "there is none named " + name)
-    if not os.access(built, os.X_OK):
-        tally.fail("the program", "there is none at " + os.path.relpath(built))
-        return tally.close()
-    with tempfile.TemporaryDirectory(prefix="dmremap-outside-") as room:
+    suites = {name: loader.loadTestsFromModule(importlib.import_module(name)) for name in names if name in modules or not modules}
+    return {name: suite for name, suite in suites.items() if suite.countTestCases()}
+
+
+def run_all(suites, program, jobs, folder, tally):
+    """Runs the modules in rooms of this folder, several at a time where that is asked for."""
+    order = sorted(suites, key=lambda name: LONG.index(name) if name in LONG else len(LONG))
+    together = [name for name in order if name not in ALONE] if jobs > 1 and len(order) > 1 else []
+    with concurrent.futures.ProcessPoolExecutor(jobs, multiprocessing.get_context("fork")) as workers:
+        running = {workers.submit(run_apart, suites[name], program, folder): name for name in together}
+        try:
+            for future in concurrent.futures.as_completed(running):
+                try:
+                    tally.add(*future.result())
+                except BrokenProcessPool:
+                    tally.fail(running[future], "a process ended before its tests did")
+        except KeyboardInterrupt:
+            for process in multiprocessing.active_children():
+                process.terminate()
+            raise
+    for name in order:
+        if name not in together:
+            run(suites[name], program, folder, tally)
+
+
+def run_apart(suite, program, folder):
+    """Runs the tests of a module in this process, which tells nothing itself."""
+    lines = []
+    tally = Tally(lines.append)
+    run(suite, program, folder, tally)
+    return lines, tally.passed, tally.failed, tally.seconds
+
+
+def run(suite, program, folder, tally):
+    """Runs the tests of a module, in a room of its own."""
+    with tempfile.TemporaryDirectory(dir=folder) as room:
         # As root the cases of unreadable files run as nobody, who has to come to the program.
         os.chmod(room, 0o755)
-        program = Program(shutil.copy(built, os.path.join(room, "dmremap")), room)
-        known = {"tally": tally, "program": program, "top": TOP, "room": room, "is_own": built == BUILT}
-        for part in PARTS:
-            if part.__name__ in wanted:
-                # each takes those of these that it names
-                part.check(*[known[it] for it in inspect.signature(part.check).parameters])
-    return tally.close()
+        Case.top, Case.room, Case.is_own = TOP, room, program == BUILT
+        Case.program = Program(shutil.copy(program, os.path.join(room, "dmremap")), room)
+        suite.run(tally)
 
 
 sys.exit(main())

@@ -1,10 +1,14 @@
 """Runs the program once, and compares what it did with what was wanted."""
 
+import inspect
 import os
 import signal
 import struct
 import subprocess
 import termios
+import time
+import traceback
+import unittest
 
 SECONDS = 60
 # The segments of a program that asks for a loader, and for libraries.
@@ -29,41 +33,6 @@ def is_static(path):
     return kinds and not kinds & {INTERPRETER, DYNAMIC}
 
 
-class Tally:
-    """Counts the cases, and tells each that failed."""
-
-    def __init__(self):
-        self.passed = self.failed = 0
-
-    def fail(self, name, why):
-        self.failed += 1
-        print("FAILED %s: %s" % (name, why), flush=True)
-
-    def holds(self, name, is_so, why):
-        """Counts a case that is more than a comparison of outcomes, and says whether it holds."""
-        if is_so:
-            self.passed += 1
-        else:
-            self.fail(name, why)
-        return is_so
-
-    def same(self, name, got, status=0, out="", err=""):
-        """Counts a case: the status, and the bytes of both streams."""
-        found = [("status", status, got.status), ("standard output", as_bytes(out), got.out),
-                 ("standard error", as_bytes(err), got.err)]
-        wrong = ["%s is %s and not %s" % (what, short(was), short(wanted))
-                 for what, wanted, was in found if was != wanted]
-        self.holds(name, not wrong, "; ".join(wrong))
-
-    def skip(self, name, why):
-        """Tells a case that this system can't make; it is counted nowhere."""
-        print("not tried: %s: %s" % (name, why), flush=True)
-
-    def close(self):
-        print("%d passed, %d failed" % (self.passed, self.failed), flush=True)
-        return 1 if self.failed else 0
-
-
 class Program:
     """The program, and the folder that its files are made in."""
 
@@ -85,6 +54,101 @@ class Program:
         """Maps requests through these texts."""
         words = ["map", "table", self.file("table", table), self.file("disks", disks)]
         return self.run(words, given=requests, **how)
+
+
+class Tally(unittest.TestResult):
+    """Counts the cases, and tells each that failed. A test whose code fails counts as one, too."""
+
+    def __init__(self, tell):
+        super().__init__()
+        self.tell, self.passed, self.failed, self.seconds = tell, 0, 0, {}
+
+    def startTest(self, test):
+        super().startTest(test)
+        self.seconds[test.id()] = -time.monotonic()
+
+    def stopTest(self, test):
+        self.seconds[test.id()] += time.monotonic()
+        super().stopTest(test)
+
+    def addSubTest(self, test, subtest, err):
+        if err is None:
+            self.passed += 1
+        else:
+            self.fail(subtest.params["name"], err[1])
+
+    def addError(self, test, err):
+        self.fail(test.id(), "".join(traceback.format_exception(*err)).strip())
+
+    addFailure = addError
+
+    def addSkip(self, test, reason):
+        """Tells what this system can't make; it is counted nowhere."""
+        self.tell("not tried: " + reason)
+
+    def fail(self, name, why):
+        self.failed += 1
+        self.tell("FAILED %s: %s" % (name, why))
+
+    def add(self, lines, passed, failed, seconds):
+        """Adds what another one counted, and tells its lines."""
+        for line in lines:
+            self.tell(line)
+        self.passed += passed
+        self.failed += failed
+        self.seconds.update(seconds)
+
+    def close(self, slowest):
+        """Tells so many of the slowest tests, and what was counted. Returns the status."""
+        for name, seconds in sorted(self.seconds.items(), key=lambda row: -row[1])[:slowest]:
+            self.tell("%.1f s %s" % (seconds, name))
+        self.tell("%d passed, %d failed" % (self.passed, self.failed))
+        return 1 if self.failed else 0
+
+
+class Case(unittest.TestCase):
+    """The tests of a module. Each function of `checks` is one, by its name with `test` in place of `check`: it gets what the
+    case has under the names of its arguments, of which `tally` is the case itself, and others what `setUp` adds."""
+
+    program: Program
+    top: str  # of the repository
+    room: str  # the module's own folder
+    is_own: bool  # whether the program is that of this repository
+
+    def __init_subclass__(cls, checks=(), **others):
+        super().__init_subclass__(**others)
+        for check in checks:
+            setattr(cls, check.__name__.replace("check", "test", 1), _test(check))
+
+    @property
+    def tally(self):
+        return self
+
+    def holds(self, name, is_so, why):
+        """Counts a case that is more than a comparison of outcomes, and says whether it holds."""
+        with self.subTest(name=name):
+            if not is_so:
+                raise self.failureException(why)
+        return is_so
+
+    def same(self, name, got, status=0, out="", err=""):
+        """Counts a case: the status, and the bytes of both streams."""
+        found = [("status", status, got.status), ("standard output", as_bytes(out), got.out),
+                 ("standard error", as_bytes(err), got.err)]
+        wrong = ["%s is %s and not %s" % (what, short(was), short(wanted))
+                 for what, wanted, was in found if was != wanted]
+        self.holds(name, not wrong, "; ".join(wrong))
+
+    def skip(self, name, why):
+        """Tells a case that this system can't make; it is counted nowhere."""
+        with self.subTest(name=name):
+            self.skipTest("%s: %s" % (name, why))
+
+
+def _test(check):
+    """A function as a method."""
+    names = list(inspect.signature(check).parameters)
+    return lambda case: check(*[getattr(case, name) for name in names])
 
 
 def run(words, given=b"", stdin=None, stdout=None, stderr=None, before=None, folder=None, env=None):

@@ -1,0 +1,121 @@
+"""What is made of the texts of the commands of dmremap-tools, the manual and the completions, is made of them as they are,
+shows without a warning, and offers what there is. And one sources' folder packs into the same bytes, which work. Where what
+is made can't be written, a line says so."""
+
+import importlib.util
+import os
+import shutil
+from importlib.machinery import SourceFileLoader
+
+import manual
+from harness import Case, run
+from tool_calls import TOOL, samples
+
+# What a shell runs to print what is offered for the last of the words after the script, one on each line.
+BASH = """
+source "$1" || exit
+shift
+COMP_WORDS=("$@") COMP_CWORD=$(($# - 1))
+_dmremap_tools
+printf '%s\\n' "${COMPREPLY[@]}"
+"""
+ZSH = """
+_describe() { print -l -- ${${(P)@[-1]}%%:*} }
+_wanted() { $4 }
+_files() { print -l -- $words[CURRENT]*(N) }
+complete() {
+    local script=$1
+    shift
+    local -a words=("$@")
+    local CURRENT=$#
+    source $script
+}
+complete "$@" || true
+"""
+SHELLS = [
+    ("bash", ["bash", "--norc", "-c", BASH, "bash"], "dmremap-tools.bash"),
+    ("zsh", ["zsh", "-f", "-c", ZSH, "zsh"], "_dmremap-tools"),
+]
+
+
+def check_made(tally, top, derive):
+    for name, text in derive.made().items():
+        with open(os.path.join(top, name), encoding="utf-8") as it:
+            tally.holds(name, it.read() == text, "it isn't what tools/derive writes")
+    manual.check_shown(tally, os.path.join(top, "docs", TOOL + ".1"))
+
+
+def loaded(path):
+    """A script as a module."""
+    loader = SourceFileLoader("loaded_" + os.path.basename(path), path)
+    module = importlib.util.module_from_spec(importlib.util.spec_from_loader(loader.name, loader))
+    loader.exec_module(module)
+    return module
+
+
+def check_offered(tally, program, top, derive):
+    """The commands, and the options of each."""
+    found = list(derive.parsers())
+    rows = [([""], {command.name for command, _, _ in found}), (["met"], {"metadata"})]
+    rows += [([command.name, "-"], set(derive.names(parser))) for command, _, parser in found]
+    folder = os.path.dirname(program.file("offered/a file"))
+    for shell, words, script in SHELLS:
+        if shutil.which(shell) is None:
+            tally.skip("the completions of " + shell, "it isn't there")
+            continue
+        for given, wanted in rows:
+            got = run(words + [os.path.join(top, "tools", "packaging", "completions", script), TOOL] + given, folder=folder)
+            offered = {it for it in got.out.decode().split("\n") if it.startswith(given[-1])} - {"", "--help"}
+            is_so = (got.status, got.err) == (0, b"") and offered == wanted - {"--help"}
+            tally.holds("what %s offers after %s" % (shell, given), is_so, "status %s, %r, %s" % (got.status, got.err, offered))
+
+
+def check_derived(tally, program, top):
+    """A manual that doesn't fit on the disk, and completions without their folder."""
+    room = os.path.join(os.path.realpath(program.room), "derived")
+    shutil.copytree(os.path.join(top, "tools"), os.path.join(room, "tools"), ignore=shutil.ignore_patterns("completions"))
+    page = os.path.join(room, "docs", TOOL + ".1")
+    os.makedirs(os.path.dirname(page))
+    shutil.copy(os.path.join(top, "docs", "dmremap.1"), os.path.dirname(page))
+    os.symlink("/dev/full", page)
+    script = [os.path.join(room, "tools", "derive")]
+    tally.same("tools/derive on a full disk", run(script), 5, "", "derive: %s: No space left on device\n" % page)
+    os.unlink(page)
+    lost = os.path.join(room, "tools", "packaging", "completions", TOOL + ".bash")
+    tally.same("tools/derive without a folder", run(script), 5, "", "derive: %s: No such file or directory\n" % lost)
+    with open(page, encoding="utf-8") as one, open(os.path.join(top, "docs", TOOL + ".1"), encoding="utf-8") as other:
+        tally.holds("what it wrote before", one.read() == other.read(), "it is another")
+
+
+def check_packed(tally, program, top):
+    """The packed file is the same each time, and does what the sources do, from anywhere."""
+    packed = [os.path.join(program.room, "packed", str(it), TOOL) for it in range(2)]
+    for path in packed:
+        os.makedirs(os.path.dirname(path))
+        tally.same("tools/pack", run([os.path.join(top, "tools", "pack"), path]))
+    with open(packed[0], "rb") as one, open(packed[1], "rb") as other:
+        tally.holds("two runs of tools/pack", one.read() == other.read(), "their bytes differ")
+    words = ["report", os.path.join(samples(top), "pieces.txt")]
+    wanted = run([os.path.join(top, TOOL), *words])
+    tally.holds("report", wanted.status == 0 and wanted.out, wanted.err)
+    tally.same("report by the packed file", run([packed[0], *words], folder="/"), 0, wanted.out)
+    for it in (run([os.path.join(top, "tools", "pack")]), run([os.path.join(top, "tools", "pack"), "a", "b"])):
+        tally.same("tools/pack with wrong words", it, 1, "", "usage: pack OUT\n")
+    for path, why in (("/dev/full", "No space left on device"), ("no/wh\x1bere", "No such file or directory")):
+        tally.same("tools/pack to " + path, run([os.path.join(top, "tools", "pack"), path]), 5, "", "pack: %s: %s\n" % (ascii(path)[1:-1], why))
+
+
+def check_started(tally, program, top):
+    """The script at the top works by a link, from any folder."""
+    link = os.path.join(program.room, "a link to the tool")
+    os.symlink(os.path.join(top, TOOL), link)
+    wanted = run([os.path.join(top, TOOL), "--help"])
+    tally.same("the tool by a link", run([link, "--help"], folder="/"), 0, wanted.out)
+
+
+class ToolDocuments(Case, checks=[check_made, check_offered, check_derived, check_packed, check_started]):
+    """What is made of the tools' texts, and of the tools."""
+
+    @classmethod
+    def setUpClass(cls):
+        cls.derive = loaded(os.path.join(cls.top, "tools", "derive"))

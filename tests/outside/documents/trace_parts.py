@@ -1,0 +1,59 @@
+"""A long trace in parts: the commands that docs/RECIPES.md has for it give what one run gives. Parts are made smaller here."""
+
+import os
+import random
+import re
+import shutil
+
+import transcripts
+from documents import text_of
+from harness import Case, run
+from tool_calls import TOOL
+
+SECTION = re.compile(r"\n### A long trace in parts\n(.*?)\n##", re.S)
+SMALLER = (("--block 10M", "--block 20k"), ("1000000", "700"))
+COUNT = 5000
+
+
+def check_commands(tally, program, top):
+    found = SECTION.search(text_of(os.path.join(top, "docs", "RECIPES.md")))
+    commands = [smaller("\n".join(lines)) for _, lines in transcripts.blocks(found[1])] if found else []
+    if not tally.holds("the commands for a long trace", len(commands) == 2, "RECIPES has %d" % len(commands)):
+        return
+    folder = make_room(program, top)
+    pieces = run(["./dmremap", "map", "lvm", "vg0.backup"], given=bytes_of(folder, "requests"), folder=folder)
+    totals = run(["sh", "-c", "./dmremap map lvm vg0.backup < requests | ./dmremap-tools report | grep ^total | sort"], folder=folder)
+    tally.holds("one run over a long trace", pieces.status == totals.status == 0 and totals.out.count(b"\n") == 2, totals.err)
+    if not shutil.which("parallel"):
+        tally.skip("a long trace in parts", "there is no parallel")
+        return
+    tally.same("totals by parts", run(["bash", "-c", commands[0]], folder=folder), 0, totals.out)
+    tally.same("pieces by parts", run(["bash", "-c", commands[1]], folder=folder))
+    tally.holds("numbers by parts", bytes_of(folder, "pieces") == pieces.out, "they differ")
+
+
+def make_room(program, top):
+    """A folder with the program, the tools, and requests to a volume."""
+    dice = random.Random(3)
+    rows = ["%s vg0-lv0 %d %d\n" % (dice.choice("RW"), dice.randrange(200000), dice.randrange(1, 4000)) for _ in range(COUNT)]
+    folder = os.path.dirname(program.file("parts/requests", "".join(rows)))
+    for name, path in (("dmremap", program.path), (TOOL, os.path.join(top, TOOL))):
+        os.symlink(path, os.path.join(folder, name))
+    shutil.copy(os.path.join(top, "examples", "vg0.backup"), folder)
+    return folder
+
+
+def smaller(text):
+    """A text with parts that a short trace has several of."""
+    for large, small in SMALLER:
+        text = text.replace(large, small)
+    return text
+
+
+def bytes_of(folder, name):
+    with open(os.path.join(folder, name), "rb") as it:
+        return it.read()
+
+
+class TraceParts(Case, checks=[check_commands]):
+    """The commands of the recipe."""

@@ -1,0 +1,87 @@
+"""What help says of the words of messages is what the manual says, whatever part of a message is given; and help lists them."""
+
+import os
+import re
+
+import diagnostics
+from harness import Case
+
+# What a message may have in place of what its form names.
+NAMED = {"PART": "source", "NUMBER": "20", "WORD": "field", "NAME": "vg0-snap", "LINE": "3", "N": "7"}
+# The bare word that is a command, too, of which help says something else.
+COMMAND = "name"
+NO_PLACE = "there is no number"
+
+
+def check_words(tally, program, top):
+    with open(os.path.join(top, "docs", "dmremap.1"), encoding="utf-8") as it:
+        sections = diagnostics.section_of(it.read(), "DIAGNOSTICS")
+    listed = help_of(program, "map").partition("\nMessages, ")[2].partition("\n\n")[0]
+    found = 0
+    for form, piece in forms_of(sections):
+        entries = diagnostics.entries_of(piece)
+        words = [it for it in entries if not it.startswith("dmremap: ")]
+        if form and words and form != "name: WORD":
+            first = form.replace("PART", "source")
+            there = re.search(r"dmremap: %s.*\n((?: {6}.*\n?)*)" % re.escape(first), listed)
+            told = re.split(r",?\s+", there[1].strip(), flags=re.M) if there else []
+            wanted = " ".join(it for it in words if it != "not top")
+            tally.holds("the words of %s in help" % form, " ".join(told) == wanted, "they are %s, and in the manual %s" % (told, wanted))
+        for word, text in entries.items():
+            for message in word.split(", ") if word.startswith("dmremap: ") else messages_of(form, word):
+                found += 1
+                check_said(tally, program, message, text)
+    tally.holds("entries of the manual", found > 60, "there are %d" % found)
+
+
+def forms_of(sections):
+    """Each form of messages with the entries below it."""
+    for section in re.split(r"^\.SS .*\n", sections, flags=re.M)[1:]:
+        pieces = re.split(r"^\.EX\ndmremap: (.*)\n\.EE\n", section, flags=re.M)
+        yield from zip([None] + pieces[1::2], pieces[::2])
+
+
+def messages_of(form, word):
+    """Messages with a word, as they are told."""
+    forms = [form, form.replace("PART", "disks")] + (["before: WORD at N"] if form == "request N: WORD" else [])
+    for it in sorted(set(forms)):
+        yield "dmremap: " + re.sub("[A-Z]+", lambda part: word if part[0] == "WORD" else NAMED[part[0]], it)
+
+
+def check_said(tally, program, message, text):
+    """The whole message, without its beginning, without its part and without its place: help says the same of all of them."""
+    short = message.partition(": ")[2]
+    bare = short.rpartition(": ")[2].partition(" at ")[0]
+    forms = {message, short, short.partition(" at ")[0], bare} - {COMMAND}
+    said = {it: program.run(["help", it]) for it in forms}
+    for form, got in said.items():
+        is_said = (got.status, got.err) == (0, b"") and plain(text) in plain(got.out.decode())
+        tally.holds("help on %r" % form, is_said, "status %s, %r, %r" % (got.status, got.out, got.err))
+    tally.holds("help on %r in all its forms" % message, len({it.out for it in said.values()}) == 1, "it isn't the same")
+
+
+def plain(text):
+    return " ".join(text.split())
+
+
+def help_of(program, word):
+    return program.run(["help", word]).out.decode()
+
+
+def check_command(tally, program):
+    """A command is meant where it has the name of a word."""
+    tally.same("help on a command", program.run(["help", COMMAND]), 0, program.run([COMMAND, "--help"]).out)
+    got = program.run(["help", "no: such: word"])
+    is_refused = got.status == 2 and got.out == b"" and b"\n  again, " in got.err
+    tally.holds("help on no word", is_refused, "status %s, %r" % (got.status, got.err))
+
+
+def check_streams(tally, program):
+    with open("/dev/full", "wb") as full:
+        tally.same("help on a word and a full output", program.run(["help", "field"], stdout=full), 5, "", "dmremap: output: write\n")
+    got = program.run(["help", "field"], before=lambda: os.close(1))
+    tally.same("help on a word and a closed output", got, 5, "", "dmremap: output: write\n")
+
+
+class HelpMessages(Case, checks=[check_words, check_command, check_streams]):
+    """What help says of messages, and how it ends."""

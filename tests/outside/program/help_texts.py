@@ -1,0 +1,236 @@
+"""What the help states is what the program does, and what the manual says: the exit statuses, each of which
+is made to come; limits; the words of lines; the examples."""
+
+import os
+import re
+import shutil
+import string
+
+import help_words
+import transcripts
+from harness import Case
+from limits import limit_stack
+from manual import entries_of, parts_of, text_of
+
+TABLE, DISKS, REQUEST = "a: 0 8 linear sda 4\n", "sda 12\n", "R a 0 1\n"
+CLASH, CLASH_DISKS = "a: 0 8 linear sda 0\nb: 0 8 linear sda 4\n", "sda 16\n"
+# What a text on a status has to say, wherever it stands.
+MEANT = [
+    ("0", r"help (?:or the version )?was asked for"),
+    ("1", r"FILE.*DISKS.*PATHS.* a store, a name or the requests of --before (?:are|were) refused"),
+    ("2", r"[Tt]he words (?:of the command line )?(?:are|were) refused"),
+    ("3", r"[Aa] request (?:is|was) bad"),
+    ("4", r"[Tt]he requests (?:can't|could not) be read"),
+    ("5", r"[Tt]he output (?:can't|could not) be written"),
+    ("6", r"[Oo]ut of memory"),
+]
+# The ways to an exit, by what the help of a command says of it.
+WAYS = {
+    "done, or help or the version was asked for": ("good", "help", "version"),
+    "all requests were answered": ("good",),
+    "the tables were printed": ("good",),
+    "the check was printed, also one with a clash": ("good", "clash"),
+    "the name was printed": ("good",),
+    "the parts were printed": ("good",),
+    "FILE, DISKS, PATHS, a store, a name or the requests of --before were refused": (
+        "no file", "bad disks", "bad paths", "bad store", "bad name", "bad earlier"),
+    "FILE, DISKS, PATHS, a store or the requests of --before were refused": (
+        "no file", "bad disks", "bad paths", "bad store", "bad earlier"),
+    "FILE or DISKS was refused": ("no file", "bad disks"),
+    "FILE or DISKS was refused, or two lines claim one sector": ("no file", "bad disks", "clash"),
+    "a part was refused, or the name is too long": ("bad name", "long name"),
+    "NAME is not the name of a volume": ("bad name",),
+    "the words were refused": ("bad words",),
+    "a request was bad": ("bad request",),
+    "a request was bad, or of no such device": ("bad request", "lower device"),
+    "the requests could not be read": ("closed input",),
+    "the output could not be written": ("full output",),
+    "out of memory": ("small stack",),
+}
+# A stack of which requests get every kind of piece, and one of which they get every kind of what was read.
+PIECES = ("o: 0 8 linear base 0\no: 8 8 zero\ns: 0 16 snapshot /dev/mapper/o cow P 8\ne: 0 8 error\nz: 0 8 zero\n", "base 8\ncow 64\n",
+          "R s 0 1\nR s 8 1\nW s 0 1\nW s 8 1\nR e 0 1\nW z 0 1\n")
+VALUES = ("a: 0 8 linear sda 0\na: 8 8 zero\na: 16 8 error\n", "sda 8\n", "W a 0 1\nR a 0 2\nR a 8 1\nR a 16 1\n")
+# What stands for the parts of a line of FILE.
+PARTS = {"NAME:": "a:", "START": "0", "LEN": "8", "DEV": "sda", "OFFSET": "0", "COLUMNS": "2", "CHUNK": "4", "ORIGIN": "base",
+         "STORE": "cow", "KIND": "P"}
+# A device of the example's stack that no other one lies on.
+TOP_DEVICE = "fast"
+COMMANDS_WITH_REQUESTS = {"map", "replay"}
+
+
+def check_commands(tally, commands):
+    tally.holds("the commands of help", len(commands) > 6, "they are %s" % commands)
+
+
+def help_of(program, command):
+    return program.run(["help", command] if command else ["--help"]).out.decode()
+
+
+def outcomes(program, command):
+    """The status that each way of a command ends with."""
+    table, disks = program.file("help/table", TABLE), program.file("help/disks", DISKS)
+    clash = [command, "table", program.file("help/clash", CLASH), program.file("help/clash disks", CLASH_DISKS)]
+    bad = program.file("help/bad disks", "sda\n")
+    lower = [command, "table", program.file("help/lower", TABLE + "b: 0 4 linear /dev/mapper/a 0\n"), disks]
+    good = {"name": ["name", "vg0", "lv-1"], "splitname": ["splitname", "vg0-lv--1"]}.get(command, [command, "table", table, disks])
+    status = lambda words, **how: program.run(words, **{"given": REQUEST, **how}).status
+    found = {
+        "good": status(good),
+        "bad words": status([command, "--nonsense"]),
+        "small stack": status(good, before=lambda: limit_stack(256 << 10)),
+    }
+    with open("/dev/full", "wb") as full:
+        found["full output"] = status(good, stdout=full)
+    if command in ("name", "splitname"):
+        found["bad name"] = status([command, "a?", *good[2:]])
+        if command == "name":
+            found["long name"] = status(["name", "a" * 100, "b" * 100])
+        return found
+    found.update({"no file": status([command, "table", "missing", disks]), "bad disks": status([command, "table", table, bad])})
+    if command in ("check", "replay"):
+        found["clash"] = status(clash, given="")
+    if command in COMMANDS_WITH_REQUESTS:
+        found.update({"bad request": status(good, given="R b 0 1\n"), "closed input": status(good, stdin=-1, before=lambda: os.close(0))})
+    if command == "map":
+        found["bad earlier"] = status([*good, "--before", bad])
+        found["bad paths"] = status([*good, "--paths", bad])
+        snapshot = program.file("help/snapshot", "s: 0 8 snapshot sda sdb P 8\n")
+        found["bad store"] = status([command, "table", snapshot, program.file("help/two disks", "sda 8\nsdb 64\n"), "--paths", os.devnull])
+    if command == "replay":
+        found["lower device"] = status(lower)
+    return found
+
+
+def check_statuses(tally, program, commands):
+    """Each status comes as the help says, and the help of a command lists each that came."""
+    everything = {}
+    for command in commands:
+        found = outcomes(program, command)
+        everything.update(found)
+        listed = statuses_of(help_of(program, command))
+        check_listed(tally, "the help of " + command, listed, found)
+        tally.holds("the statuses in the help of " + command, {int(it) for it, _ in listed} == {*found.values()},
+                    "they are %s, and there came %s" % (listed, found))
+    everything.update({"help": program.run(["--help"]).status, "version": program.run(["--version"]).status})
+    check_listed(tally, "the help", statuses_of(help_of(program, None)), everything)
+
+
+def statuses_of(text):
+    return re.findall(r"^  (\d)  (.*)$", text.partition("\nExit status\n")[2].partition("\n\n")[0], re.M)
+
+
+def check_listed(tally, name, listed, found):
+    for number, text in listed:
+        for way in WAYS.get(text, ["no way"]):
+            tally.holds("%s on status %s, %s: %s" % (name, number, text, way), found.get(way) == int(number),
+                        "the status is %s" % found.get(way))
+
+
+def check_meanings(tally, program, manual):
+    """Help and manual say the same of each status."""
+    entries = re.findall(r"^\.TP\n\.B (\d)\n((?:(?!\.TP|\.PP).*\n)*)", manual, re.M)
+    entries = [(number, re.sub(r"\.\w+ |\n| ,", " ", text).replace("  ", " ")) for number, text in entries]
+    for name, told in ("the help", statuses_of(help_of(program, None))), ("the manual", entries):
+        tally.holds("the statuses of " + name, [it for it, _ in told] == [it for it, _ in MEANT], "they are %s" % told)
+        for (number, text), (_, meant) in zip(told, MEANT):
+            tally.holds("%s on status %s" % (name, number), re.search(meant, text), "it says %r" % text)
+
+
+def check_limits(tally, program, parts):
+    """A number that the help gives is the manual's too, and the program takes it and nothing above."""
+    most = number_in(help_of(program, "map"), r"A request has 1 to (\d+) sectors\.")
+    table, disks = "a: 0 %d zero\n" % (2 * most + 2), "sda 1\n"
+    for length, status in (1, 0), (most, 0), (most + 1, 3), (0, 3):
+        got = program.map(table, disks, "R a 0 %d\n" % length)
+        err = "dmremap: request 1: length\n" if status else ""
+        tally.same("a request of %d sectors" % length, got, status, "" if status else "1 zero %d\n" % length, err)
+    name = number_in(help_of(program, "name"), r"The name has at most (\d+) bytes")
+    for length, status in (name, 0), (name + 1, 1):
+        words = ["a" * (length // 2), "b" * (length - length // 2 - 1)]
+        got = program.run(["name", *words])
+        tally.same("a name of %d bytes" % length, got, status, "" if status else "-".join(words) + "\n", "dmremap: name: long\n" if status else "")
+    for row, number in ("request", most), ("names of devices, disks", name):
+        found = re.search(r"^%s\t(.*)$" % row, parts["LIMITS"], re.M)
+        tally.holds("the manual's limit of %s" % row, found and re.search(r"(?:^|\D)%s\D" % format(number, ","), found[1]), "it says %s" % (found and found[1]))
+    size = number_in(help_of(program, "map"), r"whole sectors of (\d+) bytes")
+    tally.holds("the sectors of the manual", "whole sectors of %d bytes" % size in parts["DESCRIPTION"], "it doesn't say so")
+
+
+def number_in(text, pattern):
+    found = re.search(pattern, text)
+    return int(found[1]) if found else 0
+
+
+def check_lines(tally, program, parts):
+    """The words of lines: the manual has the same forms, and the program takes and writes them."""
+    text = help_of(program, "map")
+    forms = re.findall(r"NAME: .*", lines_of(text, "FILE"))
+    in_manual = re.search(r"^\.SS table\n\.EX\n(.*?)^\.EE", parts["FORMATS"], re.M | re.S)[1].splitlines()
+    tally.holds("the lines of FILE", forms and forms == in_manual, "help has %s, and the manual %s" % (forms, in_manual))
+    for form in forms:
+        line = " ".join(PARTS.get(it, it) for it in form.replace(" ..", "").split())
+        got = program.map(line + "\n", "sda 8\nbase 8\ncow 64\n", "R a 0 1\n")
+        tally.holds("the line %s" % form, got.status == 0 and got.err == b"", "%s: %r" % (line, got.err))
+    kinds = {*re.search(r"KIND is (\w), (\w) or (\w)\.", text).groups()}
+    taken = {it for it in string.ascii_letters if program.map("a: 0 8 snapshot base cow %s 8\n" % it, "base 8\ncow 64\n").status == 0}
+    shown = {it for it in re.findall(r"^\.BR? (\w)\b", parts["FORMATS"], re.M)}
+    tally.holds("the kinds of stores", kinds == taken == shown, "help has %s, the manual %s, and taken are %s" % (kinds, shown, taken))
+    outputs = dict(parts_of(r"^\.SS (.*)\n", parts["OUTPUT"]))
+    for command, label, stack in ("map", "pieces", PIECES), ("replay", "N old", VALUES):
+        forms = re.findall(r"\b(N \w+(?: [A-Z][A-Z\d]*)+)", lines_of(help_of(program, command), label))
+        entries = [re.sub(r"\\f.|\.\w+ ", "", it) for it in entries_of(outputs[command])]
+        entries = [it for it in entries if it.startswith("N ")]
+        tally.holds("the lines of %s" % command, forms and forms == entries, "help has %s, and the manual %s" % (forms, entries))
+        got = program.run([command, "table", program.file("help/stack", stack[0]), program.file("help/below", stack[1])], given=stack[2])
+        came = {it.split()[1] for it in got.out.decode().splitlines()}
+        tally.holds("the words of %s" % command, came == {it.split()[1] for it in forms}, "help has %s, and there came %s" % (forms, came))
+
+
+def lines_of(text, label):
+    """The lines of a help from a label on, up to the next label."""
+    return re.search(r"^  %s .*\n(?:  (?:N | {7}).*\n)*" % label, text, re.M)[0]
+
+
+def check_forms(tally, program, synopsis, commands):
+    """The manual's synopsis has the arguments and options of the help."""
+    shown = {}
+    for form in re.findall(r"^\.SY dmremap\n(.*?)^\.YS", synopsis, re.M | re.S):
+        words = re.sub(r"^\.\w+ ", "", form, flags=re.M).replace("[ ", "[").replace(" ]", "]").split()
+        options = {it.strip("[]") for it in words if it.strip("[]").startswith("--")}
+        shown[words[0]] = re.sub(r" \[--[^]]*\]", "", " ".join(words)), options
+    for command in commands:
+        usage = re.search(r"^Usage: dmremap (.*)$", help_of(program, command), re.M)[1]
+        form = re.sub(r"[<>]", "", usage.replace(" [OPTIONS]", ""))
+        wanted = form, help_words.options(program, ["help", command]) - {"--help"}
+        tally.holds("the manual's form of %s" % command, shown.get(command) == wanted, "it is %s, and help has %s" % (shown.get(command), wanted))
+
+
+def check_examples(tally, program, top, commands):
+    """Each help has an example, which can be followed."""
+    folder = os.path.join(program.room, "help", "examples")
+    os.makedirs(folder)
+    files = {"stack.table": "stack.table", "disks.txt": "stack-disks.txt", "vg0.backup": "vg0.backup"}
+    for name, example in files.items():
+        shutil.copy(os.path.join(top, "examples", example), os.path.join(folder, name))
+    program.file(os.path.join(folder, "requests.txt"), "R %s 0 1\n" % TOP_DEVICE)
+    os.symlink(program.path, os.path.join(folder, "dmremap"))
+    env = dict(os.environ, PATH=folder + os.pathsep + os.environ["PATH"])
+    for command in commands:
+        example = re.search(r"^Example\n  (dmremap %s .*)$" % command, help_of(program, command), re.M)
+        if tally.holds("the example of %s" % command, example, "there is none"):
+            got = transcripts.run(["bash", "-c", example[1]], folder=folder, env=env)
+            tally.holds("the example %s" % example[1], got.status == 0 and got.out and not got.err, "%s, %r" % (got.status, got.err))
+
+
+class HelpTexts(Case, checks=[
+    check_commands, check_statuses, check_meanings, check_limits, check_lines, check_forms, check_examples
+]):
+    """The help of each command, beside the parts of the manual."""
+
+    @classmethod
+    def setUpClass(cls):
+        text = transcripts.without_escapes(text_of(os.path.join(cls.top, "docs", "dmremap.1")))
+        cls.parts = dict(parts_of(r"^\.SH (.*)\n", text))
+        cls.manual, cls.synopsis = cls.parts["EXIT STATUS"], cls.parts["SYNOPSIS"]
+        cls.commands = sorted(help_words.commands(cls.program) - {"help"})

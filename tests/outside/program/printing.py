@@ -1,0 +1,316 @@
+"""The commands that print: tables in both forms, and names of volumes. No request is read."""
+
+import os
+
+from backups import BACKUP
+from harness import Case, failing_input
+
+TABLE = "a: 0 8 linear sda 0 \nb: 0 8 zero\nb: 8 16 striped 2 4 /dev/mapper/a 0 sda 8\n"
+DISKS = "sda 16\n"
+UNWRITTEN = "dmremap: output: write\n"
+
+# What is printed in each form, of these tables and of the backup.
+TABLES = [
+    ("table", "a: 0 8 linear sda 0\nb: 0 8 zero\nb: 8 16 striped 2 4 /dev/mapper/a 0 sda 8\n"),
+    ("concise", "a,,,rw,0 8 linear sda 0;b,,,rw,0 8 zero,8 16 striped 2 4 /dev/mapper/a 0 sda 8\n"),
+]
+GROUP = [
+    ("table", "vg0-home: 0 81920 linear /dev/sda1 2048\n"
+              "vg0-home: 81920 163840 striped 2 128 /dev/sda1 83968 /dev/sdb1 2048\n"
+              "vg0-archive--2025: 0 8192 linear /dev/sdb1 83968\n"),
+    ("concise", "vg0-home,,,rw,0 81920 linear /dev/sda1 2048,"
+                "81920 163840 striped 2 128 /dev/sda1 83968 /dev/sdb1 2048;"
+                "vg0-archive--2025,,,ro,0 8192 linear /dev/sdb1 83968\n"),
+]
+
+# Table text with its disks, and what both commands print of it.
+TEXTS = [
+    ("", "", ("", "\n")),
+    ("a: 0 8 error \n", "", ("a: 0 8 error\n", "a,,,rw,0 8 error\n")),
+    ("b: 0 9 zero\nb: 9 8 linear sda 1\na: 0 16 striped 2 4 /dev/mapper/b 9 sda 0\n", "sda 9\n",
+     ("b: 0 9 zero\nb: 9 8 linear sda 1\na: 0 16 striped 2 4 /dev/mapper/b 9 sda 0\n",
+      "b,,,rw,0 9 zero,9 8 linear sda 1;a,,,rw,0 16 striped 2 4 /dev/mapper/b 9 sda 0\n")),
+    ("a: 0 8 error\n", "", ("a: 0 8 error\n", "a,,,rw,0 8 error\n")),
+    ("a:1: 0 8 zero\na:1: 8 9 linear sda 7\nb: 0 17 linear /dev/mapper/a:1 0\n", "sda 16\n",
+     ("a:1: 0 8 zero\na:1: 8 9 linear sda 7\nb: 0 17 linear /dev/mapper/a:1 0\n",
+      "a:1,,,rw,0 8 zero,8 9 linear sda 7;b,,,rw,0 17 linear /dev/mapper/a:1 0\n")),
+]
+
+# Table text with its disks, and why both commands refuse it.
+REFUSED = [
+    ("a", "b", "source: syntax at 1"),
+    ("a: 0 8 zero\n", "b", "disks: syntax at 1"),
+    ("a: 0 8 zero\nb: 0 8 linear sda 1\n", "sda 8\n", "source: range at 2"),
+]
+
+# Concise text with its disks, and what both commands print of it or tell.
+CONCISE = [
+    ("a,,,ro,0 8 linear sda 0;b,,,,0 8 linear /dev/mapper/a 0\n", "sda 8\n",
+     ("a: 0 8 linear sda 0\nb: 0 8 linear /dev/mapper/a 0\n",
+      "a,,,ro,0 8 linear sda 0;b,,,rw,0 8 linear /dev/mapper/a 0\n"), ""),
+    ("a,,,,0 8 zero;b,,,,0 8 zero, 8 8 error\n", "",
+     ("a: 0 8 zero\nb: 0 8 zero\nb: 8 8 error\n", "a,,,rw,0 8 zero;b,,,rw,0 8 zero,8 8 error\n"), ""),
+    ("a,LVM-abc,3,rw, 0 8 zero ", "", ("a: 0 8 zero\n", "a,,,rw,0 8 zero\n"), ""),
+    ("a,,,,0 8 zero ;b,,,,0 8 error ", "", ("a: 0 8 zero\nb: 0 8 error\n", "a,,,rw,0 8 zero;b,,,rw,0 8 error\n"),
+     ""),
+    ("a,LVM-x,3,ro,0 8 linear sda 0;b,,,,0 8 linear /dev/mapper/a 0\n", "sda 8\n",
+     ("a: 0 8 linear sda 0\nb: 0 8 linear /dev/mapper/a 0\n",
+      "a,,,ro,0 8 linear sda 0;b,,,rw,0 8 linear /dev/mapper/a 0\n"), ""),
+    ("a,,,,0 8 zero ;b,,,, 0 8 error ", "", ("a: 0 8 zero\nb: 0 8 error\n", "a,,,rw,0 8 zero;b,,,rw,0 8 error\n"),
+     ""),
+    ("a,%s,,,0 8 zero" % ("u" * 128), "", ("a: 0 8 zero\n", "a,,,rw,0 8 zero\n"), ""),
+    ("", "", ("", "\n"), ""),
+    ("\n", "", ("", "\n"), ""),
+    ("a,,,xx,0 8 zero\n", "", ("", ""), "field at 1"),
+    ("a,,,,0 8 zero;", "", ("", ""), "syntax at 2"),
+    ("a,,,,0 8 zero;\n", "", ("", ""), "syntax at 2"),
+    ("a,,, ,0 8 zero", "", ("", ""), "syntax at 1"),
+    ("a,,,,0 8 zero\n;b,,,,0 8 zero", "", ("", ""), "syntax at 1"),
+    ("a,%s,,,0 8 zero\n" % ("u" * 129), "", ("", ""), "name at 1"),
+    ("a,,,,0 8 zero;\xe9,,,,0 8 zero", "", ("", ""), "text at 2"),
+    ("a,,,,0 8 zero;a,,,,0 8 zero", "", ("", ""), "twice at 2"),
+    # Each check alone, and each before the next.
+    ("a,,,,0 8 \tzero", "", ("", ""), "text at 1"),
+    (";", "", ("", ""), "syntax at 1"),
+    (" \n", "", ("", ""), "syntax at 1"),
+    ("\n\n", "", ("", ""), "syntax at 1"),
+    ("a,,,,0 8 zero\n\n", "", ("", ""), "syntax at 1"),
+    ("a,,,,0 8 zero;b,,,,\n0 8 zero", "", ("", ""), "syntax at 2"),
+    ("a,,,", "", ("", ""), "syntax at 1"),
+    ("a,,,,", "", ("", ""), "syntax at 1"),
+    ("a,,,,0 8 zero,", "", ("", ""), "syntax at 1"),
+    ("a,,,,0 8", "", ("", ""), "syntax at 1"),
+    ("a ,,,,0 8 zero", "", ("", ""), "syntax at 1"),
+    ("a, ,,,0 8 zero", "", ("", ""), "syntax at 1"),
+    ("a,, ,,0 8 zero", "", ("", ""), "syntax at 1"),
+    ("a,,,ro ,0 8 zero", "", ("", ""), "syntax at 1"),
+    ("a,,,,  0 8 zero", "", ("", ""), "syntax at 1"),
+    ("a,,,,0 8 zero  ", "", ("", ""), "syntax at 1"),
+    ("a,,,,0  8 zero", "", ("", ""), "syntax at 1"),
+    ("a,,,xx,0 8 zero", "", ("", ""), "field at 1"),
+    ("a,,,RO,0 8 zero", "", ("", ""), "field at 1"),
+    ("a,,01,,0 8 zero", "", ("", ""), "field at 1"),
+    ("a,,-1,,0 8 zero", "", ("", ""), "field at 1"),
+    ("a,,,,0 8 mirror", "", ("", ""), "field at 1"),
+    ("a,,,,0 8 zero 0", "", ("", ""), "field at 1"),
+    ("a,,,,0 8 snapshot b c PO 8", "", ("", ""), "field at 1"),
+    ("a,,,,0 8 snapshot b c P", "", ("", ""), "field at 1"),
+    (",,,,0 8 zero", "", ("", ""), "name at 1"),
+    ("a!,,,,0 8 zero", "", ("", ""), "name at 1"),
+    ("a,u!,,,0 8 zero", "", ("", ""), "name at 1"),
+    ("a,,,,0 8 linear sd\\a 0", "", ("", ""), "name at 1"),
+    ("a,,,,0 8 zero, 8 8 linear /dev/mapper/ 0", "", ("", ""), "name at 1"),
+    (",,,,0 8 zero;b,,x,,0 8 zero", "", ("", ""), "field at 2"),
+    (",,,,0 8 zero;b,,x,,0 8 zero;c,,,,08", "", ("", ""), "syntax at 3"),
+    (",,,,0 8 zero;b,,x,,0 8 zero;c,,,,08;d\r", "", ("", ""), "text at 4"),
+    # The source is told of before the disks.
+    ("a,,,xx,0 8 zero\n", "b", ("", ""), "field at 1"),
+    ("a,,,,0 8 zero;", "b", ("", ""), "syntax at 2"),
+    ("a,%s,,,0 8 zero" % ("u" * 129), "b", ("", ""), "name at 1"),
+    (";" * 1048576, "", ("", ""), "syntax at 1"),
+    (";" * 1048577, "", ("", ""), "long"),
+]
+
+# A group of one volume, line by line, and a second volume in place of its line 24.
+ONE = '''\
+contents = "Text Format Volume Group"
+version = 1
+vg0 {
+  extent_size = 8192
+  physical_volumes {
+    pv0 {
+      device = "/dev/sda1"
+      dev_size = 1050624
+      pe_start = 2048
+      pe_count = 128
+    }
+  }
+  logical_volumes {
+    lv0 {
+      status = ["READ", "WRITE", "VISIBLE"]
+      segment_count = 1
+      segment1 {
+        start_extent = 0
+        extent_count = 25
+        type = "striped"
+        stripe_count = 1
+        stripes = ["pv0", 0]
+      }
+    }
+  }
+}
+'''.splitlines(keepends=True)
+SECOND = '''\
+    lv-1 {
+      status = ["READ"]
+      segment_count = 1
+      segment1 {
+        start_extent = 0
+        extent_count = 4
+        type = "striped"
+        stripe_count = 2
+        stripe_size = 128
+        stripes = ["pv0", 25, "pv0", 27]
+      }
+    }
+'''.splitlines(keepends=True)
+TWO = ONE[:24] + SECOND + ONE[24:]
+
+# Groups, and what `table` prints of them or tells.
+GROUPS = [
+    ("one volume", ONE, "vg0-lv0: 0 204800 linear /dev/sda1 2048\n", ""),
+    ("two volumes", TWO, "vg0-lv0: 0 204800 linear /dev/sda1 2048\n"
+                         "vg0-lv--1: 0 32768 striped 2 128 /dev/sda1 206848 /dev/sda1 223232\n", ""),
+    ("an extent that two volumes use", TWO[:33] + ['stripes = ["pv0", 24, "pv0", 27]\n'] + TWO[34:], "",
+     "extents at 28"),
+    ("extents past the end of their disk", ONE[:7] + ["dev_size = 1050623\n"] + ONE[8:], "", "extents at 6"),
+    ("a decimal", ONE[:1] + ["version = 1.0\n"] + ONE[2:], "", "syntax at 2"),
+    ("a missing bracket", ONE[:25], "", "syntax at 26"),
+]
+
+# A group with a read-only volume of one extent, and what is printed of it in each form.
+READ_ONLY = '''\
+contents = "Text Format Volume Group"
+version = 1
+vg0 {
+  extent_size = 8
+  physical_volumes {
+    pv0 { device = "/dev/sda1" dev_size = 24 pe_start = 8 pe_count = 2 }
+  }
+  logical_volumes {
+    lv-0 {
+      status = ["READ"]
+      segment_count = 1
+      segment1 {
+        start_extent = 0 extent_count = 1
+        type = "striped" stripe_count = 1 stripes = ["pv0", 1]
+      }
+    }
+  }
+}
+'''
+READ_ONLY_TEXTS = [("table", "vg0-lv--0: 0 8 linear /dev/sda1 16\n"),
+                   ("concise", "vg0-lv--0,,,ro,0 8 linear /dev/sda1 16\n")]
+
+PART_OF_63 = "abcdefghijklmnopqrstuvwxyzabcdefghijklmnopqrstuvwxyz01234567890"
+PART_OF_64 = "abcdefghijklmnopqrstuvwxyzabcdefghijklmnopqrstuvwxyz012345678901"
+
+# Words, and what is printed of them or told.
+NAMES = [
+    (["name", "a-", "b"], "a---b\n", ""),
+    (["name", "vg0", "lv-1", "real"], "vg0-lv--1-real\n", ""),
+    (["name", "a" * 63, "b" * 63], "a" * 63 + "-" + "b" * 63 + "\n", ""),
+    (["name", "a" * 64, "b" * 63], "", "long"),
+    (["name", "--", "a", "-b"], "", "hyphen"),
+    (["name", "a", "b", "_c"], "", "letter"),
+    (["name", "a", ""], "", "empty"),
+    (["name", "", "b"], "", "empty"),
+    (["name", "vg0", "lv-1"], "vg0-lv--1\n", ""),
+    (["name", "vg", "lv", "real"], "vg-lv-real\n", ""),
+    (["name", "A.b+c_d", "9--", "x-"], "A.b+c_d-9-----x--\n", ""),
+    (["name", "--", "a/b", "-b"], "", "letter"),
+    (["name", "", "b/"], "", "empty"),
+    (["name", "a", "b", "_tdata"], "", "letter"),
+    (["name", "a", "_b"], "a-_b\n", ""),
+    (["name", "a", "\u00e9"], "", "letter"),
+    (["name", PART_OF_64, PART_OF_63], "", "long"),
+    (["name", "--", PART_OF_64, "-"], "", "hyphen"),
+    (["splitname", "a---b"], "a- b\n", ""),
+    (["splitname", "a-b--c-d"], "a b-c d\n", ""),
+    (["splitname", "a-----b"], "a-- b\n", ""),
+    (["splitname", "a--b"], "", "split"),
+    (["splitname", "a-b-c-d"], "", "split"),
+    (["splitname", "a-b-_c"], "", "split"),
+    (["splitname", "--", "-a-b"], "", "split"),
+    (["splitname", "vg0-lv0"], "vg0 lv0\n", ""),
+    (["splitname", "a-"], "", "split"),
+    (["splitname", "a-b/c"], "", "split"),
+    (["splitname", ""], "", "split"),
+]
+
+
+def files_of(program):
+    """The words for a table and its disks."""
+    return ["table", program.file("printed.table", TABLE), program.file("printed.disks", DISKS)]
+
+
+def check_forms(tally, program):
+    backup = ["lvm", program.file("printed.backup", BACKUP)]
+    for given, printed in ((files_of(program), TABLES), (backup, GROUP)):
+        for form, text in printed:
+            tally.same("%s of %s" % (form, given[0]), program.run([form] + given, given="bad\n"), 0, text)
+    printed = program.run(["table"] + backup).out
+    disks = "/dev/sda1 1050624\n/dev/sdb1 1050624\n"
+    again = ["table", program.file("again", printed), program.file("disks", disks)]
+    tally.same("a printed table, read again", program.run(["table"] + again), 0, printed)
+
+
+def check_names(tally, program):
+    for words, text, word in NAMES:
+        message = "dmremap: name: %s\n" % word if word else ""
+        tally.same(" ".join(words), program.run(words), 1 if word else 0, text, message)
+
+
+def check_texts(tally, program):
+    for text, disks, printed in TEXTS:
+        files = ["table", program.file("table", text), program.file("disks", disks)]
+        for form, wanted in zip(("table", "concise"), printed):
+            tally.same("%s of the table %r" % (form, text[:40]), program.run([form] + files), 0, wanted)
+    for text, disks, refused in REFUSED:
+        files = ["table", program.file("table", text), program.file("disks", disks)]
+        for form in ("table", "concise"):
+            got = program.run([form] + files)
+            tally.same("%s of the table %r" % (form, text[:40]), got, 1, "", "dmremap: %s\n" % refused)
+
+
+def check_groups(tally, program):
+    for form, text in READ_ONLY_TEXTS:
+        got = program.run([form, "lvm", program.file("backup", READ_ONLY)])
+        tally.same("%s of a read-only volume" % form, got, 0, text)
+    for name, lines, text, refused in GROUPS:
+        path = program.file("backup", "".join(lines))
+        message = "dmremap: source: %s\n" % refused if refused else ""
+        tally.same("table of " + name, program.run(["table", "lvm", path]), 1 if refused else 0, text, message)
+
+
+def check_concise(tally, program):
+    for text, disks, printed, refused in CONCISE:
+        files = ["concise", program.file("concise", text), program.file("disks", disks)]
+        message = "dmremap: source: %s\n" % refused if refused else ""
+        status = 1 if refused else 0
+        for form, wanted in zip(("table", "concise"), printed):
+            name = "%s of the concise text %s" % (form, text[:40])
+            tally.same(name, program.run([form] + files), status, wanted, message)
+        if refused:
+            tally.same("map of the concise text " + text[:40], program.run(["map"] + files), 1, "", message)
+    text, disks = CONCISE[0][:2]
+    for end in (text, text[:-1]):
+        files = ["concise", program.file("concise", end), program.file("disks", disks)]
+        got = program.run(["map"] + files, given="W b 0 8\nR b 0 8\n")
+        tally.same("requests over concise text", got, 0, "1 error 8\n2 R sda 0 8\n")
+        tally.same("no DISKS for concise text", program.run(["map"] + files[:2]), 2, "", "dmremap: words: disks\n")
+
+
+def check_streams(tally, program):
+    """Files that can't be read, and streams that fail or are closed."""
+    words = ["table", *files_of(program)]
+    text = TABLES[0][1]
+    missing = words[:2] + [os.path.join(program.room, "missing")] + words[3:]
+    tally.same("table of a missing file", program.run(missing), 1, "", "dmremap: source: read\n")
+    missing = words[:3] + [program.room]
+    tally.same("table with a folder as its disks", program.run(missing), 1, "", "dmremap: disks: read\n")
+    requests = failing_input("R a")
+    tally.same("table, with requests that would fail", program.run(words, stdin=requests), 0, text)
+    os.close(requests)
+    tally.same("table, with a closed input", program.run(words, before=lambda: os.close(0)), 0, text)
+    for name, asked in (("table", words), ("name", ["name", "a", "b"]), ("splitname", ["splitname", "a-b"])):
+        with open("/dev/full", "wb") as full:
+            tally.same("a full output, " + name, program.run(asked, stdout=full), 5, "", UNWRITTEN)
+        tally.same("a closed output, " + name, program.run(asked, before=lambda: os.close(1)), 5, "", UNWRITTEN)
+    with open("/dev/full", "wb") as full:
+        empty = ["table", "table", program.file("empty"), program.file("empty")]
+        tally.same("a full output, no tables", program.run(empty, stdout=full))
+
+
+class Printing(Case, checks=[check_forms, check_texts, check_groups, check_concise, check_names, check_streams]):
+    """Each command that prints."""

@@ -1,0 +1,442 @@
+"""Runs from what the stores of snapshots hold, `map --paths PATHS`: the list of paths, each refusal of it and of a
+store at its edges, and that the state is the one from which requests are mapped, and earlier ones played."""
+
+import os
+import signal
+import struct
+import subprocess
+import threading
+
+from harness import Case, Outcome, become_nobody
+
+SECTOR = 512
+MAGIC = 0x70416E53
+# A snapshot of a length, whose chunks and whose store have these lengths.
+TABLE = "s: 0 %d snapshot base cow P %d\n"
+DISKS = "base %d\ncow %d\n"
+# The same with a store that lies on two disks, in stripes, below a snapshot's device.
+STRIPED = "s: 0 64 snapshot base /dev/mapper/cow P 8\ncow: 0 96 striped 2 8 sda 16 sdb 8\n"
+STRIPED_DISKS = "base 64\nsda 64\nsdb 56\n"
+
+# Texts of paths that are refused, and what is told of them. The stack has the disks base and cow.
+REFUSED = [
+    ("\n", "syntax at 1"),
+    ("cow c.img", "syntax at 1"),
+    ("cow c.img\nbase", "syntax at 2"),
+    ("cow c.img\n\n", "syntax at 2"),
+    ("cow\n", "syntax at 1"),
+    ("cow \n", "syntax at 1"),
+    (" cow c.img\n", "syntax at 1"),
+    ("cow c.img?offset=1\n", "field at 1"),
+    ("cow c.img?offset=511\n", "field at 1"),
+    ("cow c.img?offset=513\n", "field at 1"),
+    ("cow c.img?offset=000000000000000511\n", "field at 1"),
+    ("cow c.img?offset=999999999999999999\n", "field at 1"),
+    ("cow a=b?offset=0?offset=7\n", "field at 1"),
+    ("a,b c.img\n", "name at 1"),
+    ("/dev/mapper/cow c.img\n", "name at 1"),
+    ("a" * 256 + " c.img\n", "name at 1"),
+    ("caf\u00e9 c.img\n", "name at 1"),
+    ("cow c.img\ncow d.img\n", "twice at 2"),
+    ("base c.img\ncow c.img\nbase d.img\n", "twice at 3"),
+    ("none c.img\nnone c.img\n", "twice at 2"),
+    ("none c.img\n", "unknown at 1"),
+    ("cow c.img\ns c.img\n", "unknown at 2"),
+    ("a" * 255 + " c.img\n", "unknown at 1"),
+    (b"cow c\xff.img\n", "text at 1"),
+    (b"cow c\0.img\n", "text at 1"),
+    (b"cow c.img\n\xc3\n\xa9\n", "text at 2"),
+    (b"cow c.img\nbase \xed\xa0\x80\n", "text at 2"),
+    (b"\n\xff", "text at 2"),
+    # Each check is over the whole text, and comes before the next one.
+    (b"none\ncow c\xff\n", "text at 2"),
+    ("a,b c.img?offset=1\ncow\n", "syntax at 2"),
+    ("a,b c.img\ncow c.img?offset=1\n", "field at 2"),
+    ("none c.img\na,b c.img\n", "name at 2"),
+    ("none c.img\ncow c.img\ncow c.img\n", "twice at 3"),
+]
+
+# What the pairs of a list may not be, where a chunk has 8 sectors, a snapshot 100 of them and its store a list of 256:
+# a name, the pairs, and the word. The last pair of each is the one that is wrong.
+LISTS = [
+    ("no pair", [], ""),
+    ("a first pair at the second place", [(0, 3)], "order"),
+    ("a first pair at the header", [(0, 1)], "order"),
+    ("a second pair at the first place", [(0, 2), (1, 2)], "order"),
+    ("a pair of more than 32 bits", [(0, 2 + 2 ** 32)], "order"),
+    ("a pair of 63 bits", [(0, 2 ** 63)], "order"),
+    ("the last old chunk", [(99, 2)], ""),
+    ("an old chunk past the end", [(100, 2)], "range"),
+    ("the greatest old chunk", [(2 ** 64 - 1, 2)], "range"),
+    ("the first old chunk again", [(7, 2), (8, 3), (7, 4)], "again"),
+    ("an old chunk in a row again", [(7, 2), (7, 3)], "again"),
+    ("an old chunk again after a free pair", [(7, 2), (0, 0), (7, 2)], ""),
+    ("a wrong pair after a free one", [(7, 2), (100, 0), (100, 9)], ""),
+    ("again, and then order", [(7, 2), (7, 3), (8, 9)], "order"),
+    ("order, and then again", [(7, 9), (7, 3)], "order"),
+    ("range, and then order", [(100, 2), (7, 9)], "order"),
+    ("again, and then range", [(7, 2), (7, 3), (100, 4)], "range"),
+    ("range, and then again", [(100, 2), (7, 3), (7, 4)], "range"),
+]
+
+# Headers: magic, valid, version and chunk size, by a chunk of 8 sectors, and the word.
+HEADERS = [
+    ((0, 0, 0, 0), ""), ((0, 9, 9, 9), ""), ((MAGIC, 1, 1, 8), ""), ((MAGIC, 2 ** 32 - 1, 1, 8), ""),
+    ((1, 1, 1, 8), "magic"), ((MAGIC - 1, 1, 1, 8), "magic"), ((MAGIC + 1, 0, 2, 9), "magic"),
+    ((0x536E4170, 1, 1, 8), "magic"), ((MAGIC, 1, 0, 8), "version"), ((MAGIC, 1, 2, 8), "version"),
+    ((MAGIC, 0, 2, 9), "version"), ((MAGIC, 1, 1, 7), "chunk"), ((MAGIC, 1, 1, 16), "chunk"), ((MAGIC, 0, 1, 0), "chunk"),
+]
+
+WRONG = [
+    ("map table a b --paths", "a value is required for '--paths <PATHS>'"),
+    ("map table a b --paths c --paths d", "cannot be used multiple times"),
+    ("--paths c map table a b", "unexpected argument '--paths' found"),
+    ("--paths c replay table a b", "unexpected argument '--paths' found"),
+    ("replay table a b --paths c", "unexpected argument '--paths'"),
+    ("map table a b --paths -", "unexpected argument '-' found"),
+    ("map table a b -- --paths c", "unexpected argument"),
+]
+
+
+def place(chunk, number):
+    """Where the chunk of a number is kept: a header and areas of one chunk come before."""
+    return 2 + number + number // (32 * chunk)
+
+
+def end_of(chunk, count):
+    """The sectors up to the end of the area that has the pair of this number."""
+    return (1 + (32 * chunk + 1) * (count // (32 * chunk)) + 1) * chunk
+
+
+def put(program, name, chunk, pairs, header=None, size=None, start=0):
+    """Makes an image with a store from a byte on, and returns its path. It has these pairs of an old and a new chunk, and ends
+    after some bytes, or with the area that has the pair after them."""
+    path, area = program.file(name), 32 * chunk
+    with open(path, "wb") as it:
+        it.seek(start)
+        it.write(struct.pack("<4I", *(header or (MAGIC, 1, 1, chunk))))
+        for first in range(0, len(pairs), area):
+            it.seek(start + (1 + (area + 1) * (first // area)) * chunk * SECTOR)
+            it.write(b"".join(struct.pack("<2Q", *pair) for pair in pairs[first:first + area]))
+        it.truncate(start + (end_of(chunk, len(pairs)) * SECTOR if size is None else size))
+    return path
+
+
+def taken(chunk, count):
+    """The pairs of a snapshot that took its first chunks, the last of them first."""
+    return [(count - 1 - number, place(chunk, number)) for number in range(count)]
+
+
+def stored(program, table, disks, paths, requests="", *more, **how):
+    """Maps requests from the stores that this text of paths names."""
+    words = ["map", "table", program.file("table", table), program.file("disks", disks)]
+    return program.run(words + ["--paths", program.file("paths", paths), *more], given=requests, folder=program.room, **how)
+
+
+def of_store(program, chunk, pairs, requests="", *more, length=800, store_len=4000, header=None, size=None):
+    """Maps requests through a snapshot whose store has these pairs."""
+    put(program, "c.img", chunk, pairs, header, size)
+    return stored(program, TABLE % (length, chunk), DISKS % (length, store_len), "cow c.img\n", requests, *more)
+
+
+def told(word):
+    return "dmremap: store s: %s\n" % word
+
+
+def check_words(tally, program):
+    for line, part in WRONG:
+        got = program.run(line.split())
+        is_told = got.status == 2 and got.out == b"" and part.encode() in got.err
+        tally.holds("the words %r" % line, is_told, "status %s, on standard error %r" % (got.status, got.err))
+    put(program, "c.img", 8, [(1, 2)])
+    table, disks, paths, earlier = (program.file(name, text) for name, text in (
+        ("table", TABLE % (800, 8)), ("disks", DISKS % (800, 4000)), ("paths", "cow c.img\n"), ("earlier", "W s 16 1\n")))
+    rest = ["table", table, disks]
+    for words in (["map", *rest, "--paths", paths], ["map", "--paths=" + paths, *rest]):
+        tally.same("the words %s" % words, program.run(words, given="R s 8 1\n", folder=program.room), 0, "1 R cow 16 1\n")
+    for words in (["map", *rest, "--paths", paths, "--before", earlier], ["map", "--before", earlier, *rest, "--paths", paths]):
+        got = program.run(words, given="R s 8 1\nR s 16 1\nR s 24 1\n", folder=program.room)
+        tally.same("the words %s" % words, got, 0, "1 R cow 16 1\n2 R cow 24 1\n3 R base 24 1\n")
+
+
+def check_texts(tally, program):
+    for text, word in REFUSED:
+        got = stored(program, TABLE % (800, 8), DISKS % (800, 4000), text, "R s 8 1\n")
+        tally.same("the paths %r" % text[:60], got, 1, "", "dmremap: paths: %s\n" % word)
+
+
+def check_files(tally, program):
+    """What of PATHS can't be read, and what goes before it."""
+    table, disks = program.file("table", TABLE % (800, 8)), program.file("disks", DISKS % (800, 4000))
+    start = ["map", "table", table, disks, "--paths"]
+    refused = (1, "", "dmremap: paths: read\n")
+    for name, path in (("no such file", "missing"), ("no name", ""), ("a folder", program.room)):
+        tally.same("%s as PATHS" % name, program.run(start + [path], given="R s 8 1\n"), *refused)
+    secret = program.file("secret", "cow c.img\n")
+    os.chmod(secret, 0)
+    tally.same("PATHS that may not be read", program.run(start + [secret], before=become_nobody), *refused)
+    line = "cow " + "c" * 1000 + "\n"
+    long = program.file("long", line.ljust(1048576, "x"))
+    tally.same("paths of the greatest length", program.run(start + [long]), 1, "", "dmremap: paths: syntax at 2\n")
+    long = program.file("long", line.ljust(1048577, "x"))
+    tally.same("paths that are longer", program.run(start + [long]), 1, "", "dmremap: paths: long\n")
+    for name, words, err in (("FILE", ["missing", disks], "source: read"), ("DISKS", [table, "missing"], "disks: read"),
+                             ("what FILE describes", [program.file("empty", "s: 0 0 zero\n"), disks], "source: empty at 1")):
+        got = program.run(["map", "table", *words, "--paths", "missing"])
+        tally.same("%s is refused before PATHS" % name, got, 1, "", "dmremap: %s\n" % err)
+    got = program.run(start + ["missing", "--before", "missing"])
+    tally.same("PATHS is refused before earlier requests", got, *refused)
+    path = os.path.join(program.room, "paths.pipe")
+    if not os.path.exists(path):
+        os.mkfifo(path)
+    writer = threading.Thread(target=endless, args=(path, line.encode()))
+    writer.start()
+    tally.same("paths that never end", program.run(start + [path]), 1, "", "dmremap: paths: long\n")
+    writer.join()
+
+
+def endless(path, line):
+    """Writes lines into a pipe for as long as somebody reads them."""
+    try:
+        with open(path, "wb", buffering=0) as pipe:
+            while True:
+                pipe.write(line * 64)
+    except OSError:
+        return
+
+
+def check_places(tally, program):
+    """Where a disk lies: a file by any path, and a byte of it."""
+    for name, text, file, start in [
+            ("a path with spaces", "cow two  words .img\n", "two  words .img", 0),
+            ("a path in UTF-8", "cow caf\u00e9.img\n", "caf\u00e9.img", 0),
+            ("a path with a question mark", "cow a?b=c.img\n", "a?b=c.img", 0),
+            ("an offset of 0", "cow c.img?offset=0\n", "c.img", 0),
+            ("an offset with zeros before it", "cow c.img?offset=000000000000000512\n", "c.img", 512),
+            ("an offset", "cow c.img?offset=1048576\n", "c.img", 1048576),
+            ("19 digits", "cow c.img?offset=0000000000000000512\n", "c.img?offset=0000000000000000512", 0),
+            ("no digits", "cow c.img?offset=\n", "c.img?offset=", 0),
+            ("a sign", "cow c.img?offset=+512\n", "c.img?offset=+512", 0),
+            ("other letters", "cow c.img?Offset=512\n", "c.img?Offset=512", 0),
+            ("two offsets", "cow c.img?offset=0?offset=512\n", "c.img?offset=0", 512),
+            ("a long path", "cow %s/c.img\n" % ("." + "/." * 1000), "c.img", 0)]:
+        put(program, file, 8, [(1, 2)], start=start)
+        got = stored(program, TABLE % (800, 8), DISKS % (800, 4000), text, "R s 8 1\nR s 16 1\n")
+        tally.same("%s in PATHS" % name, got, 0, "1 R cow 16 1\n2 R base 16 1\n")
+        os.unlink(os.path.join(program.room, file))
+    put(program, "c.img", 8, [(1, 2)])
+    got = stored(program, TABLE % (800, 8), DISKS % (800, 4000), "cow c.img?offset=999999999999999488\n")
+    tally.same("the greatest offset", got, 1, "", told("read"))
+    got = stored(program, TABLE % (800, 8), DISKS % (800, 4000), "", "R s 8 1\n")
+    tally.same("no path at all", got, 1, "", told("missing"))
+    got = stored(program, "a: 0 8 linear base 4\n", "base 64\n", "base missing\n", "R a 0 1\n")
+    tally.same("an image of which nothing is asked", got, 0, "1 R base 4 1\n")
+
+
+def check_headers(tally, program):
+    for header, word in HEADERS:
+        got = of_store(program, 8, [(1, 2)], "R s 8 1\n", header=header)
+        if word:
+            tally.same("the header %s" % (header,), got, 1, "", told(word))
+        else:
+            wanted = "1 R cow 16 1\n" if header[0] else "1 R base 8 1\n"
+            tally.same("the header %s" % (header,), got, 0, wanted)
+    got = of_store(program, 8, [(1, 2)], "R s 8 1\nW s 8 1\nR base 8 1\n", "--status", header=(MAGIC, 0, 1, 8))
+    tally.same("a snapshot that is invalid", got, 3, "1 error 1\n2 error 1\n", "dmremap: request 3: unknown\n")
+    got = of_store(program, 8, [(1, 2)], "", "--status", header=(MAGIC, 0, 1, 8))
+    tally.same("the status of one", got, 0, "s: 0 800 snapshot Invalid\n")
+
+
+def check_lists(tally, program):
+    for name, pairs, word in LISTS:
+        got = of_store(program, 8, pairs)
+        tally.same("a list with %s" % name, got, 1 if word else 0, "", told(word) if word else "")
+    for chunk in (1, 8, 1024):
+        area = 32 * chunk
+        counts = sorted({0, 1, 31, 32, 33, area - 1, area, area + 1, 2 * area} if chunk < 1024 else {1, 4097, area - 1, area, area + 1})
+        for count in counts:
+            pairs = taken(chunk, count)
+            length, store_len = (count + 1) * chunk, place(chunk, count + area) * chunk
+            requests = "".join("R s %d 1\n" % (old * chunk) for old in (0, count // 2, count))
+            got = of_store(program, chunk, pairs, requests, "--status", length=length, store_len=store_len)
+            wanted = "".join("%d R %s 1\n" % (at + 1, where_of(chunk, count, old)) for at, old in enumerate((0, count // 2, count)))
+            areas = count // area + 1
+            used = "s: 0 %d snapshot %d/%d %d\n" % (length, (1 + areas + count) * chunk, store_len, (1 + areas) * chunk)
+            tally.same("%d chunks of %d sectors" % (count, chunk), got, 0, wanted + used)
+
+
+def where_of(chunk, count, old):
+    """Where a chunk is read after the first ones were taken, the last of them first."""
+    return "cow %d" % (place(chunk, count - 1 - old) * chunk) if old < count else "base %d" % (old * chunk)
+
+
+def check_ends(tally, program):
+    """A store that ends near the end of an area."""
+    chunk = 1
+    for name, store_len, count, word in [
+            ("a store that ends before the second area, full", 34, 32, ""),
+            ("a store that ends with the second area", 35, 32, ""),
+            ("a store with a place after the second area", 36, 33, ""),
+            ("a store with one place", 3, 1, ""),
+            ("a store with one place and two pairs", 3, 2, "order"),
+            ("a store that ends in the data of an area", 20, 18, ""),
+            ("a list that is longer than that", 20, 19, "order")]:
+        pairs = taken(chunk, count)
+        got = of_store(program, chunk, pairs, "R s 0 1\n", length=64, store_len=store_len, size=store_len * SECTOR)
+        if word:
+            tally.same(name, got, 1, "", told(word))
+        else:
+            tally.same(name, got, 0, "1 R cow %d 1\n" % place(chunk, count - 1))
+
+
+def check_images(tally, program):
+    """Images that end, and what can't be opened or read as one."""
+    pairs = taken(8, 300)
+    # The header, 8 rows of the first area, and two of the second, of which the last has the free pair.
+    areas = [8 + row for row in range(8)] + [(1 + 257) * 8 + row for row in range(2)]
+    for sectors in (0, 1, 8, 9, 15, 16, 2064, 2065, 2066, 2067, end_of(8, 300)):
+        is_read = sectors >= 1 and all(it < sectors for it in areas)
+        for more in (0, 1):
+            got = of_store(program, 8, pairs, "R s 0 1\n", length=8000, store_len=8000, size=sectors * SECTOR + more)
+            if is_read:
+                tally.same("an image of %d sectors and %d bytes" % (sectors, more), got, 0, "1 R cow %d 1\n" % (place(8, 299) * 8))
+            else:
+                tally.same("an image of %d sectors and %d bytes" % (sectors, more), got, 1, "", told("read"))
+    folder = os.path.join(program.room, "folder")
+    os.makedirs(folder, exist_ok=True)
+    pipe = os.path.join(program.room, "image.pipe")
+    if not os.path.exists(pipe):
+        os.mkfifo(pipe)
+    secret = put(program, "secret.img", 8, [(1, 2)])
+    os.chmod(secret, 0)
+    for name, path, how in (("a folder", folder, {}), ("a pipe", pipe, {}), ("no file", "missing", {}), ("an empty path", "?offset=0", {}),
+                            ("a device of characters", "/dev/zero", {}), ("a file as a folder", "c.img/c", {}),
+                            ("a file that may not be read", secret, {"before": become_nobody})):
+        got = stored(program, TABLE % (800, 8), DISKS % (800, 4000), "cow %s\n" % path, "R s 8 1\n", **how)
+        tally.same("%s as an image" % name, got, 1, "", told("read"))
+
+
+def check_blocks(tally, program):
+    """An image that ends inside a block of 128 rows: it is read row by row, as far as the list and the free pair after it go."""
+    chunk = 1024
+    for count in (1, 32, 4095, 4096, 5000, 32 * chunk):
+        last = end_of(chunk, count) - chunk + count % (32 * chunk) // 32
+        for less in (0, 1):
+            got = of_store(program, chunk, taken(chunk, count), "R s 0 1\n", length=count * chunk,
+                           store_len=(place(chunk, count) + 1) * chunk, size=(last + 1) * SECTOR - less)
+            if less:
+                tally.same("an image of %d pairs that ends inside the last row" % count, got, 1, "", told("read"))
+            else:
+                tally.same("an image of %d pairs that ends with the last row" % count, got, 0, "1 R %s 1\n" % where_of(chunk, count, 0))
+
+
+def check_shrinks(tally, program):
+    """An image that becomes shorter while its list is read: the program is stopped for that after the first blocks."""
+    pairs = taken(8, 400000)
+    path = put(program, "c.img", 8, pairs)
+    words = ["map", "table", program.file("table", TABLE % (4000000, 8)), program.file("disks", DISKS % (4000000, 4000000)),
+             "--paths", program.file("paths", "cow c.img\n")]
+    ran = subprocess.Popen(
+        [program.path, *words], stdin=subprocess.DEVNULL, stdout=subprocess.PIPE, stderr=subprocess.PIPE, cwd=program.room)
+    while ran.poll() is None and bytes_read(ran.pid) < 65536:
+        pass
+    ran.send_signal(signal.SIGSTOP)
+    is_early = ran.poll() is None and bytes_read(ran.pid) < 16 * len(pairs)
+    os.truncate(path, 16 * SECTOR)
+    ran.send_signal(signal.SIGCONT)
+    out, err = ran.communicate()
+    if is_early or ran.returncode:
+        tally.same("an image that shrinks", Outcome(ran.returncode, out, err), 1, "", told("read"))
+    else:
+        tally.skip("an image that shrinks", "its list was read before it did")
+
+
+def bytes_read(process):
+    """How many bytes a process has read so far."""
+    with open("/proc/%d/io" % process, "rb") as it:
+        return int(it.readline().split()[1])
+
+
+def check_missing(tally, program):
+    """Sectors of a store on disks that PATHS doesn't name, or whose image ends: the first in the order of the list."""
+    # The header and half of the first area lie on sda, the other half of each on sdb.
+    put(program, "whole.img", 8, taken(8, 1), size=96 * SECTOR)
+    with open(os.path.join(program.room, "whole.img"), "rb") as it:
+        whole = it.read()
+    program.file("a.img", spread(whole, 16, 0))
+    program.file("b.img", spread(whole, 8, 1))
+    both = stored(program, STRIPED, STRIPED_DISKS, "sda a.img\nsdb b.img\n", "R s 0 1\n")
+    tally.same("a store on two disks", both, 0, "1 R sda 24 1\n")
+    for name, text, word in [
+            ("the disk of the header isn't named", "sdb b.img\n", "missing"),
+            ("the disk of the first area isn't named", "sda a.img\n", "missing"),
+            ("the disk of the header can't be read", "sda none\nsdb b.img\n", "read"),
+            ("the disk of the first area can't be read", "sda a.img\nsdb none\n", "read"),
+            ("one isn't named, and the other can't be read", "sdb none\n", "missing"),
+            ("one can't be read, and the other isn't named", "sda none\n", "read")]:
+        got = stored(program, STRIPED, STRIPED_DISKS, text, "R s 0 1\n")
+        tally.same("a store of which %s" % name, got, 1, "", told(word))
+    # A fault of the list, and then an area that isn't there: the list is read to its end first.
+    pairs = [(0, 9)] + taken(8, 256)[1:]
+    got = of_store(program, 8, pairs, length=8000, store_len=8000, size=16 * SECTOR)
+    tally.same("a list out of order, and then an image that ends", got, 1, "", told("read"))
+    table = "t: 0 64 snapshot base d P 8\ns: 0 64 snapshot base c P 8\n"
+    put(program, "c.img", 8, [(100, 2)])
+    put(program, "d.img", 8, [(0, 3)])
+    for text, err in (("c c.img\nd d.img\n", "t: order"), ("d c.img\nc d.img\n", "t: range"), ("c c.img\n", "t: missing")):
+        got = stored(program, table, "base 64\nc 800\nd 800\n", text)
+        tally.same("the first of two stores in the source", got, 1, "", "dmremap: store %s\n" % err)
+
+
+def spread(image, start, column):
+    """The chunks of a store that one of two disks has, from a sector of it on."""
+    found = bytearray(start * SECTOR)
+    for at in range(column * 8 * SECTOR, len(image), 16 * SECTOR):
+        found += image[at:at + 8 * SECTOR]
+    return bytes(found).ljust(64 * SECTOR, b"\0")
+
+
+def check_kinds(tally, program):
+    put(program, "c.img", 8, [(1, 2)])
+    for kind, paths, answer in (("P", "cow c.img\n", "cow 16"), ("K", "cow c.img\n", "cow 16"), ("N", "cow c.img\n", "base 8"), ("N", "", "base 8")):
+        table = (TABLE % (800, 8)).replace(" P ", " %s " % kind)
+        got = stored(program, table, DISKS % (800, 4000), paths, "R s 8 1\n")
+        tally.same("a snapshot of the kind %s" % kind, got, 0, "1 R %s 1\n" % answer)
+    # Below another snapshot's origin, and two on one disk.
+    table = "s: 0 64 snapshot base /dev/mapper/c P 8\nt: 0 64 snapshot /dev/mapper/s /dev/mapper/d P 8\nc: 0 400 linear sda 0\nd: 0 400 linear sda 400\n"
+    images = [put(program, name, 8, pairs, size=400 * SECTOR) for name, pairs in (("c.img", [(1, 2)]), ("d.img", [(2, 2), (1, 3)]))]
+    both = b""
+    for image in images:
+        with open(image, "rb") as it:
+            both += it.read()
+    program.file("a.img", both)
+    got = stored(program, table, "base 64\nsda 800\n", "sda a.img\n", "R s 8 1\nR t 8 1\nR t 16 1\nR t 24 1\n")
+    tally.same("two stores on one disk, one over the other", got, 0, "1 R sda 16 1\n2 R sda 424 1\n3 R sda 416 1\n4 R base 24 1\n")
+
+
+def check_runs(tally, program):
+    """A run goes on from the state: the next chunk has the next place, and a full store is full."""
+    got = of_store(program, 8, [(3, 2), (1, 3)], "W s 0 8\nR s 0 8\nR s 24 8\n", "--status")
+    tally.same("a write after two chunks", got, 0,
+               "1 copy base 0 8 cow 32\n1 W cow 32 8\n2 R cow 32 8\n3 R cow 16 8\ns: 0 800 snapshot 40/4000 16\n")
+    got = of_store(program, 8, taken(8, 2), "W s 16 1\nR s 0 1\n", "--status", store_len=32, size=32 * SECTOR)
+    tally.same("a write to a full store", got, 0, "1 error 1\n2 error 1\ns: 0 800 snapshot Invalid\n")
+    got = of_store(program, 8, [(3, 2)], "R s 24 1\nR s nine 1\n")
+    tally.same("a bad request", got, 3, "1 R cow 16 1\n", "dmremap: request 2: number\n")
+    program.file("earlier", "W s 8 nine\n")
+    got = of_store(program, 8, [(3, 2)], "R s 24 1\n", "--before", os.path.join(program.room, "earlier"))
+    tally.same("a bad earlier request", got, 1, "", "dmremap: before: number at 1\n")
+    path = program.file("requests", "R s 8 1\n")
+    with open(path, "rb") as requests:
+        put(program, "c.img", 8, [(100, 2)])
+        words = ["map", "table", program.file("table", TABLE % (800, 8)), program.file("disks", DISKS % (800, 4000))]
+        got = program.run(words + ["--paths", program.file("paths", "cow c.img\n")], stdin=requests, folder=program.room)
+        tally.same("requests after a refused store", got, 1, "", told("range"))
+        tally.holds("no request is read after a refused store", os.lseek(requests.fileno(), 0, os.SEEK_CUR) == 0, "some were")
+
+
+class Stored(Case, checks=[
+    check_words, check_texts, check_files, check_places, check_headers, check_lists, check_ends, check_images,
+    check_blocks, check_shrinks, check_missing, check_kinds, check_runs
+]):
+    """Lists of paths, stores, and runs from them."""

@@ -1,0 +1,241 @@
+"""Members of md arrays that are given as disks: of which one the bytes are the array's, by superblocks of all versions."""
+
+import contextlib
+import importlib
+import os
+
+import physical_volumes
+import tool_calls
+from harness import Case
+from physical_volumes import SECTOR, md_end_member, md_member, md_old_member
+from tool_calls import TOOL
+
+# The physical volumes of the group here, of which the first has the only volume.
+NAME, OTHER, IDENTITY = "/dev/sda1", "/dev/sdb1", b"theonly".ljust(32, b"x")
+BEGIN, COUNT = 128, 8
+PHYSICAL = 'pv%d {\nid = "%s"\ndevice = "%s"\ndev_size = 256\npe_start = 128\npe_count = 16\n}\n'
+TEXT = """g {
+id = "theone-xxxx-xxxx-xxxx-xxxx-xxxx-xxxxxx"
+seqno = 1
+status = ["RESIZEABLE", "READ", "WRITE"]
+extent_size = 8
+physical_volumes {
+%s%s}
+logical_volumes {
+v {
+id = "thevol-xxxx-xxxx-xxxx-xxxx-xxxx-xxxxxx"
+status = ["READ", "WRITE", "VISIBLE"]
+segment_count = 1
+segment1 {
+start_extent = 0
+extent_count = 1
+type = "striped"
+stripe_count = 1
+stripes = ["pv0", 0]
+}
+}
+}
+}
+contents = "Text Format Volume Group"
+version = 1
+""" % (PHYSICAL % (0, "theonl-yxxx-xxxx-xxxx-xxxx-xxxx-xxxxxx", NAME), PHYSICAL % (1, "theoth-erxx-xxxx-xxxx-xxxx-xxxx-xxxxxx", OTHER))
+CONTENT = b"".join((b"sector %d\n" % number * 512)[:512] for number in range(COUNT))
+VOLUME = bytearray(physical_volumes.volume((4096, physical_volumes.area(b"x {\n}\n\0")), length=1 << 17, identity=IDENTITY))
+VOLUME[BEGIN * SECTOR:(BEGIN + COUNT) * SECTOR] = CONTENT
+VOLUME = bytes(VOLUME)
+PARTS = "a member of an md array that isn't raid1, so that no member has all of a physical volume: give the images of all members to " \
+        "`save GROUP/VOLUME OUT IMAGE..`, which puts it together"
+CHANGING = "a member of an md array that is a spare, or is being filled or reshaped, so that it doesn't have the array's bytes: take another member"
+BAD = "a member of an md array that has bad blocks, which a kernel reads from another one: take that"
+DAMAGED = "the superblock of an md array at byte %d is damaged, so that nothing says whose bytes lie here: take another member, or, if it is no member " \
+          "any more, a copy of the volume that dd cuts out"
+OLDER = "a member of an md array that was away when others changed: it has the count of events %d, and %s has %d: take that"
+READ = "%s: a member of an md array, whose data begins at sector %d: that is read as the physical volume\n"
+# What makes a member of each version, and where its data begins.
+VERSIONS = [("0.90", md_old_member, 0), ("1.0", md_end_member, 0), ("1.1", lambda data, **how: md_member(data, 16, **how), 16),
+            ("1.2", lambda data, **how: md_member(data, 2048, 4096, **how), 2048)]
+
+
+class ArrayMembers(Case):
+    """Each version and level, what isn't whole, halves of which one is older, and each command that takes places, in a folder
+    with the metadata of a group."""
+
+    def setUp(self):
+        self.folder = os.path.dirname(self.program.file("members/text", TEXT))
+
+    def call(self, *words):
+        return tool_calls.call(self.top, list(words), folder=self.folder)
+
+    def refuses(self, name, got, message, status=1, out="refused\n"):
+        """It is refused with this message, perhaps after others."""
+        lines = got.err.decode().splitlines()
+        is_so = got.status == status and got.out.decode() == out and bool(lines) and lines[-1] == message
+        self.holds(name, is_so, "%s, %r, %r" % (got.status, got.out, lines))
+
+    def found(self, title, wanted, *images):
+        """Whether the volume is saved out of images, each with its content, or with which message they are refused. What was found
+        in a member of an array behind its superblock is told."""
+        self.read(title, wanted, *(name for name, _ in images), made=images)
+
+    def read(self, title, wanted, *places, made=()):
+        """The same of places."""
+        for name, content in made:
+            self.program.file("members/" + name, content)
+        self.program.file("members/paths", "".join("%s %s\n" % it for it in zip((NAME, OTHER), places)))
+        with contextlib.suppress(FileNotFoundError):
+            os.remove(os.path.join(self.folder, "out"))
+        got = self.call("save", "--program", self.program.path, "--paths", "paths", "g-v", "out", "lvm", "text")
+        if isinstance(wanted, str):
+            self.refuses(title, got, "%s save: %s" % (TOOL, wanted), out="")
+            return
+        place, start = wanted
+        with contextlib.suppress(FileNotFoundError), open(os.path.join(self.folder, "out"), "rb") as out:
+            is_so = got.status == 0 and out.read() == CONTENT and ((READ % (place, start)).encode() in got.err) == bool(start)
+            self.holds(title, is_so, "%s, %r" % (got.status, got.err))
+            return
+        self.holds(title, False, "%s, %r" % (got.status, got.err))
+
+    def test_unreadable(self):
+        """A disk that fails where a superblock may be is looked into all the same, which is told once."""
+        disk_image, md_superblock, streams = (importlib.import_module("dmremap_tools." + it) for it in ("base.disk_image", "model.md_superblock", "base.streams"))
+        image = disk_image.open_image(self.program.file("members/a", md_end_member(VOLUME, 5, count=3)))
+        read, told = image.read, []
+
+        def fails_once(at, count):
+            if at == 4096:
+                raise disk_image.Unreadable("a", "it can't be read")
+            return read(at, count)
+
+        image.read, tell, streams.tell = fails_once, streams.tell, told.append
+        try:
+            found = [it.version for _ in range(2) for it in md_superblock.superblocks(image)]
+        finally:
+            streams.tell = tell
+        is_so = found == ["1.0", "1.0"] and told == ["%s: byte 4096 can't be read, where the superblock of an md array may be" % image.path]
+        self.holds("a superblock that can't be read", is_so, "%s, %s" % (found, told))
+
+    def test_levels(self):
+        """Of which levels a member is taken, and in which states."""
+        for version, made, start in VERSIONS:
+            for level, count, wanted in ((1, 2, ("a", start)), (1, 1, ("a", start)), (0, 1, ("a", start)), (-1, 1, ("a", start)), (0, 2, "a: " + PARTS),
+                                         (-1, 2, "a: " + PARTS), (4, 3, "a: " + PARTS), (5, 3, "a: " + PARTS), (6, 4, "a: " + PARTS), (10, 2, "a: " + PARTS)):
+                self.found("a member of level %d of %d, version %s" % (level, count, version), wanted, ("a", made(VOLUME, level=level, count=count)))
+        for version, made, start in VERSIONS[1:]:
+            for features, wanted in ((0x1, ("a", start)), (0x2, "a: " + CHANGING), (0x4, "a: " + CHANGING), (0x8, "a: " + BAD), (0x200, "a: " + CHANGING)):
+                self.found("a member with the features %x, version %s" % (features, version), wanted, ("a", made(VOLUME, level=1, features=features)))
+            for role in (0xFFFF, 0xFFFE, 0xFFFD):
+                spare = made(VOLUME, level=1, roles=(role, 0))
+                self.found("a member with the role %x, version %s" % (role, version), "a: " + CHANGING, ("a", spare))
+        for state, minor, wanted in ((0, 90, "a: " + CHANGING), (1, 90, "a: " + CHANGING), (7, 90, "a: " + CHANGING), (6, 91, "a: " + CHANGING)):
+            self.found("a member in the state %d, version 0.%d" % (state, minor), wanted, ("a", md_old_member(VOLUME, state=state, minor=minor)))
+        self.found("a member of another machine's order", "a: " + PARTS, ("a", md_old_member(VOLUME, level=5, count=3, order=">")))
+        self.check_damaged()
+
+    def check_damaged(self):
+        """A superblock that isn't sound says nothing; one that is before a volume at the beginning is of a time before that."""
+        for version, made, start in VERSIONS:
+            member = made(VOLUME, level=1)
+            at = {"0.90": 1 << 17, "1.0": (1 << 17) + 4096, "1.1": 0, "1.2": 4096}[version]
+            changed = bytearray(member)
+            changed[at + (28 if version == "0.90" else 72)] ^= 4
+            self.found("a member whose superblock is damaged, version " + version, "a: " + DAMAGED % at, ("a", bytes(changed)))
+        for version, made, start, at, other in (("1.0", *VERSIONS[1][1:], (1 << 17) + 4096, (8, 16)), ("1.2", *VERSIONS[3][1:], 4096, (0, 2048))):
+            moved = bytearray(made(VOLUME, level=1))
+            moved[at:at + 264] = physical_volumes.md_superblock(other[0], 1, other[1], 16)
+            self.found("a member whose superblock says another place, version " + version, "a: " + DAMAGED % at, ("a", bytes(moved)))
+        stale = bytearray(VOLUME.ljust(1 << 18, b"\0"))
+        stale[4096:4096 + 264] = physical_volumes.md_superblock(8, 5, 300, 100)
+        self.found("a volume on what was a member", ("a", 0), ("a", bytes(stale)))
+
+    def test_halves(self):
+        """Of two halves of an array that differ in their counts, the older is refused by name; halves of other arrays don't matter."""
+        for version, made, start in VERSIONS:
+            older, newer = made(VOLUME, level=1, events=17), made(VOLUME, level=1, events=26, role=1)
+            wanted = "a: " + OLDER % (17, "b", 26)
+            self.found("an older half, version " + version, wanted, ("a", older), ("b", newer))
+            self.found("an older half after the newer, version " + version, wanted, ("b", newer), ("a", older))
+        for names in (["old", "new"], ["new", "old"]):
+            text = physical_volumes.volume((4096, physical_volumes.area(b'g {\nid = "a"\nseqno = 7\n}\ncontents = "x"\n\0')))
+            self.program.file("members/old", md_member(text, 16, level=5, count=3, events=17))
+            self.program.file("members/new", md_member(bytes(1 << 16), 16, level=5, count=3, events=18, role=1))
+            got = self.call("metadata", *names)
+            self.refuses("the metadata of an older member", got, "%s metadata: old: %s" % (TOOL, OLDER % (17, "new", 18)), out="")
+        other = md_member(bytes(1 << 16), 16, level=1, events=99, array=b"another array...")
+        self.program.file("members/c", other)
+        self.program.file("members/paths", "%s a?offset=8192\n/dev/sdb1 c?offset=8192\n" % NAME)
+        self.program.file("members/a", md_member(VOLUME, 16, level=1))
+        self.program.file("members/disks", "%s 256\n/dev/sdb1 64\n" % NAME)
+        got = self.call("spans", "--paths", "paths", "disks", self.program.file("members/table", "v: 0 8 linear %s 8\n" % NAME))
+        self.holds("halves of two arrays", got.status == 0, got.err)
+        self.program.file("members/b", md_member(VOLUME, 16, level=1, events=8))
+        self.program.file("members/paths", "%s a?offset=8192\n/dev/sdb1 b\n" % NAME)
+        got = self.call("spans", "--paths", "paths", "disks", "table")
+        self.refuses("an older half among disks", got, "%s spans: a: %s" % (TOOL, OLDER % (7, "b", 8)))
+
+    def test_partitions(self):
+        """Members on partitions, of which a disk may end with the superblock of its last one."""
+        for version, made, start in VERSIONS:
+            for level, wanted in ((1, ("a", start)), (5, "a: " + PARTS)):
+                part = made(VOLUME, level=level, count=2)
+                disk = physical_volumes.mbr((0x83, 32, 8), (0xFD, 64, len(part) // SECTOR)).ljust(64 * SECTOR, b"\0") + part
+                self.found("a member of level %d on a partition, version %s" % (level, version), wanted, ("a", disk))
+        # The superblock of the last partition is where that of the disk would be, and the volume lies on the first one.
+        last = md_old_member(bytes(1 << 16), level=5, count=3)
+        disk = physical_volumes.mbr((0x8E, 128, 256), (0xFD, 384, len(last) // SECTOR)).ljust(128 * SECTOR, b"\0") + VOLUME + last
+        self.read("a volume before a partition of an array", ("a", 0), "a?offset=65536", made=[("a", disk)])
+
+    def test_places(self):
+        """Each command that takes places, of a member of raid5 whose first chunk has the label, and of one of raid1."""
+        self.program.file("members/table", "v: 0 8 linear %s 8\n" % NAME)
+        self.program.file("members/disks", NAME + " 256\n")
+        self.program.file("members/requests", "R v 0 8\n")
+        asked, source = ["--program", self.program.path, "--paths", "paths"], ["table", "table", "disks"]
+        commands = {
+            "save": ["save", *asked, "v", "out", *source],
+            "dd": ["dd", *asked, "--requests", "requests", *source],
+            "spans": ["spans", "--paths", "paths", "disks", "table"],
+            "elsewhere": ["elsewhere", "--losetup", "--paths", "paths", "table"],
+        }
+        for level, start in ((5, 16), (5, 17), (5, 4), (1, 16)):
+            self.program.file("members/a", md_member(VOLUME, 16, level=level, count=3))
+            self.program.file("members/paths", "%s %s?offset=%d\n" % (NAME, os.path.join(self.folder, "a"), start * SECTOR))
+            for name, words in commands.items():
+                with contextlib.suppress(FileNotFoundError):
+                    os.remove(os.path.join(self.folder, "out"))
+                got = self.call(*words)
+                title = "%s at sector %d of a member of level %d" % (name, start, level)
+                if level == 1:
+                    self.holds(title, got.status == 0, "%s, %r" % (got.status, got.err))
+                    continue
+                is_so = got.status == 1 and PARTS in got.err.decode() and not os.path.exists(os.path.join(self.folder, "out"))
+                self.holds(title, is_so, "%s, %r" % (got.status, got.err))
+
+    def test_tables(self):
+        """Tables that name members by their own paths, as those of `md`, read them; those that name an array read the data alone."""
+        contents = [bytes([65 + it]) * (16 * SECTOR) for it in range(2)]
+        for place, content in enumerate(contents):
+            self.program.file("members/m%d" % place, bytes(2048 * SECTOR) + md_member(content, 16, level=0, role=place))
+        self.program.file("members/table", "v: 0 32 striped 2 16 /dev/sda1 16 /dev/sdb1 16\n")
+        self.program.file("members/disks", "/dev/sda1 32\n/dev/sdb1 32\n")
+        self.program.file("members/paths", "/dev/sda1 m0?offset=1048576\n/dev/sdb1 m1?offset=1048576\n")
+        got = self.call("save", "--program", self.program.path, "--paths", "paths", "v", "out", "table", "table", "disks")
+        with open(os.path.join(self.folder, "out"), "rb") as out:
+            self.holds("an array by its members", got.status == 0 and out.read() == b"".join(contents), got.err)
+        os.remove(os.path.join(self.folder, "out"))
+        for version, made, start in VERSIONS:
+            for level, place, message in ((1, start, ""), (5, 0, PARTS), (5, start, PARTS)) + ((1, 0, "/dev/md0 is an array, and this place is in a member "
+                                          "of one whose data begins at byte %d: give that, as IMAGE?offset=BYTES" % (start * SECTOR)),) * bool(start) + ((1, start + 8, "/dev/md0 is an "
+                                          "array, and this place is in a member of one whose data begins at byte %d: give that, as IMAGE?offset=BYTES"
+                                          % (start * SECTOR)),):
+                self.program.file("members/a", made(VOLUME, level=level, count=3))
+                self.program.file("members/table", "v: 0 8 linear /dev/md0 8\n")
+                self.program.file("members/disks", "/dev/md0 256\n")
+                self.program.file("members/paths", "/dev/md0 a%s\n" % ("?offset=%d" % (place * SECTOR) if place else ""))
+                got = self.call("save", "--program", self.program.path, "--paths", "paths", "v", "out", "table", "table", "disks")
+                title = "the disk of an array at sector %d of a member of level %d, version %s" % (place, level, version)
+                if message:
+                    self.refuses(title, got, "%s save: a: %s" % (TOOL, message), out="")
+                else:
+                    with open(os.path.join(self.folder, "out"), "rb") as out:
+                        self.holds(title, got.status == 0 and out.read() == VOLUME[4096:8192], got.err)
+                    os.remove(os.path.join(self.folder, "out"))

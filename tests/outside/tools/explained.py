@@ -1,0 +1,239 @@
+"""dmremap-tools explain: of a refusal the place, the cause and the remedy; of an answer its way, level by level, which makes
+dmremap's answer together. The table of mistakes in docs/RECIPES.md says what comes of each of them."""
+
+import gzip
+import json
+import os
+import random
+import re
+import shutil
+
+import explained_rows
+from explained_rows import FILES
+from harness import Case
+
+from tool_calls import TOOL, call, samples
+
+STACKS = 120
+# A program that answers about a level other than about the whole.
+WRONG = """#!/bin/sh
+case "$*" in
+*/level/*) %s "$@" | sed s/10048/10056/ ;;
+*) exec %s "$@" ;;
+esac
+"""
+ROW = re.compile(r"^\| `(\w+.*? .*?)` \| (.*?) \| (.*) \|$", re.M)
+CODE = re.compile(r"`([^`]*(?:`[^`]*)?)`$|\[`(.*)`\]")
+
+
+class Explain:
+    """The command over the program under test, in a folder with files."""
+
+    def __init__(self, program, top, folder):
+        self._program, self.top, self.folder = program, top, folder
+
+    def run(self, words, given=b"", asked=None, **how):
+        """Runs it with some words, perhaps over another program."""
+        return call(self.top, ["explain", "--program", asked or self._program.path, *words], given=given, folder=self.folder, **how)
+
+    def said(self, words, given=b""):
+        """What dmremap itself says of the same words, and requests."""
+        typed = [it for it in words if not re.match("[RWr] ", it)]
+        requests = "".join(it + "\n" for it in words if re.match("[RWr] ", it)) or given
+        return self._program.run(typed, given=requests, folder=self.folder)
+
+
+def make_room(program, top):
+    """A folder with the files of the rows."""
+    folder = os.path.dirname(program.file("explained/room"))
+    for name, content in FILES.items():
+        program.file("explained/" + name, content)
+    for name in ("vg0.backup", "vg0-snapshot.backup"):
+        shutil.copy(os.path.join(top, "examples", name), folder)
+    for name in ("vgm.backup", "lsblk.txt"):
+        shutil.copy(os.path.join(samples(top), name), folder)
+    with open(os.path.join(folder, "vg0.backup"), "rb") as it:
+        content = it.read()
+    program.file("explained/vg0.backup.gz", gzip.compress(content))
+    program.file("explained/wide.table", "a: 0 8 linear /dev/sda1 0\n".encode("utf-16"))
+    program.file("explained/raid.backup", content.replace(b'"striped"', b'"raid1"', 1))
+    for name, (was, now) in explained_rows.CHANGED.items():
+        program.file("explained/" + name, content.replace(was, now, 1))
+    program.file("explained/cut.backup", content[:content.index(b"lv0")])
+    return folder
+
+
+def check_mistakes(tally, explain, top):
+    """Each of the likely mistakes leads to its remedy, and to the row of the document."""
+    with open(os.path.join(top, "docs", "RECIPES.md"), encoding="utf-8") as it:
+        rows = {cause: (symptom, command) for symptom, cause, command in ROW.findall(it.read())}
+    tally.holds("the mistakes in the document", len(rows) > 10, "there are %d" % len(rows))
+    lost = set(rows) - {it[0] for it in explained_rows.MISTAKES}
+    tally.holds("rows of the document that are run", not lost, "not these: %s" % lost)
+    before = ""
+    for cause, words, given, remedy in explained_rows.MISTAKES:
+        got, said = explain.run(words, given), explain.said(words, given)
+        out = got.out.decode()
+        tally.holds("the remedy of %s" % cause, got.status == 0 and "  %s\n" % remedy in out, "status %s, %r, %r" % (got.status, got.err, out))
+        message = said.err.decode().split("\n")[0]
+        is_own = message.startswith("dmremap: ")
+        tally.holds("the message of %s" % cause, not is_own or out.startswith(message + "\n"), "%r isn't first in %r" % (message, out))
+        if cause in rows:
+            symptom, command = rows[cause]
+            shown = CODE.search(command)
+            command = before if command == "the same" else shown[1] or shown[2]
+            tally.holds("the row of %s" % cause, message == "dmremap: " + symptom and command in out, "%r, %r, %r" % (message, command, out))
+            before = command
+
+
+def check_words(tally, explain):
+    """Causes of each word of a message: what is said of them, and where."""
+    found = {}
+    for message, words, given, wanted in explained_rows.CAUSES:
+        got, said = explain.run(words, given), explain.said(words, given)
+        out, first = got.out.decode(), said.err.decode().rstrip("\n")
+        lost = [it for it in wanted if it not in out]
+        is_so = got.status == 0 and first == "dmremap: " + message and out.startswith(first + "\n") and not lost
+        tally.holds("%s by %s" % (message, words), is_so, "dmremap says %r; without %r, status %s: %s%s" % (first, lost, got.status, out, got.err.decode()))
+        word = re.sub(r"^request \d+: |^before: | at \d+$|^(source|disks|name): ", "", message)
+        found.setdefault(("request" if "request" in message else "name" if message.startswith("name") else "text", word), set()).add(tuple(words))
+    single = sorted(str(it) for it, causes in found.items() if len(causes) < 2 and it not in explained_rows.ONE_CAUSE)
+    tally.holds("words with two causes", not single, "with one: %s" % ", ".join(single))
+    lost = explained_rows.WORDS - set(found)
+    tally.holds("words with causes", not lost, "without: %s" % sorted(lost))
+
+
+def check_ways(tally, explain):
+    """Ways as they are shown."""
+    for words, shown in explained_rows.WAYS:
+        tally.same("the way of %s" % words, explain.run(words), 0, shown)
+
+
+def check_causes(tally, explain):
+    """An error has its cause, and its text begins so."""
+    for name, words, cause in explained_rows.ERRORS:
+        out = explain.run(words).out.decode()
+        tally.holds("an error because of " + name, re.search(r"^[| ]*\+- error \d+: %s" % re.escape(cause), out, re.M), out)
+
+
+def check_json(tally, explain):
+    """The same as objects."""
+    got = explain.run(["--json", "map", "lvm", "vg0-snapshot.backup", "R vg0-snap 8000 16"])
+    made = json.loads(got.out.decode())
+    below = made["way"]["lines"][0]["pieces"][0]
+    tally.holds("a way as JSON", made["answer"] == ["R /dev/sda1 10048 16"] and below["below"][0]["device"] == "vg0-lv0-real", str(made))
+    made = json.loads(explain.run(["--json", "map", "table", "raid.table", "disks"]).out.decode())
+    wanted = {"file": "raid.table", "line": 1, "text": "a: 0 8 raid raid1 1 8 1 - -", "from": 7, "to": 11}
+    tally.holds("a refusal as JSON", made["place"] == wanted and made["message"] == "dmremap: source: field at 1", str(made))
+
+
+def check_stacks(tally, explain, program):
+    """Random stacks with snapshots: the levels make dmremap's answer of the whole together, or the command would refuse."""
+    dice = random.Random(79)
+    shown = 0
+    for number in range(STACKS):
+        devices, lengths = stack(dice)
+        program.file("explained/random", ";".join("%s,,,%s,%s" % (name, flags, ",".join(lines)) for name, flags, lines in devices) + "\n")
+        requests = [request(dice, dice.choice(devices)[0], lengths) for _ in range(dice.randrange(6))]
+        program.file("explained/earlier", "".join(it + "\n" for it in requests))
+        last = request(dice, devices[-1][0], lengths)
+        words = ["map", "concise", "random", "random.disks", "--before", "earlier"]
+        answer = program.run(words, given=last + "\n", folder=explain.folder)
+        got = explain.run([*words, last])
+        if answer.status == 1:
+            continue
+        shown += 1
+        wanted = b"answer:\n" + re.sub(rb"(?m)^1 ", b"  ", answer.out)
+        tally.holds("random stack %d" % number, got.status == 0 and got.out.endswith(wanted), "status %s, %r, %r" % (got.status, got.err, got.out))
+    tally.holds("random stacks", shown > STACKS // 2, "only %d load" % shown)
+
+
+def stack(dice):
+    """Devices on each other, some of them snapshots and origins, and the lengths of all and of the disks."""
+    lengths, plain, devices = dict(explained_rows.DISKS), list(explained_rows.DISKS), []
+
+    def lower(least, among):
+        name = dice.choice([it for it in among if lengths[it] >= least])
+        return (name if name in explained_rows.DISKS else "/dev/mapper/" + name), dice.randrange(lengths[name] - least + 1)
+
+    for number in range(dice.randrange(2, 8)):
+        name, lines, at = "d%d" % number, [], 0
+        if dice.random() < 0.5:
+            is_plain = True
+            for _ in range(dice.randrange(1, 4)):
+                kind, count = dice.choice(("linear", "linear", "linear", "striped", "zero", "error")), dice.choice((8, 16, 24))
+                among = plain if is_plain and dice.random() < 0.5 else list(lengths)
+                if kind == "linear":
+                    lines.append("%d %d linear %s %d" % (at, count, *lower(count, among)))
+                elif kind == "striped":
+                    lines.append("%d %d striped 2 4 %s %d %s %d" % (at, count, *lower(count // 2, among), *lower(count // 2, among)))
+                else:
+                    lines.append("%d %d %s" % (at, count, kind))
+                is_plain = is_plain and kind in ("linear", "striped") and among is plain
+                at += count
+            flags = "ro" if dice.random() < 0.1 else ""
+            plain += [name] * (is_plain and not flags)
+        else:
+            origin, flags = dice.choice(list(lengths)), ""
+            at, path = lengths[origin], origin if origin in explained_rows.DISKS else "/dev/mapper/" + origin
+            store = lower(1, plain)[0]
+            lines.append("0 %d snapshot-origin %s" % (at, path) if dice.random() < 0.3 else
+                         "0 %d snapshot %s %s %s %d" % (at, path, store, dice.choice("PNK"), dice.choice((2, 4, 8))))
+        lengths[name] = at
+        devices.append((name, flags, lines))
+    return devices, lengths
+
+
+def request(dice, name, lengths):
+    """A request for a device, which may go past its end."""
+    start = dice.randrange(lengths[name])
+    return "%s %s %d %d" % (dice.choice("RWW"), name, start, dice.randrange(1, min(24, lengths[name] - start + 1) + 1))
+
+
+def check_stores(tally, explain, program):
+    """Snapshots that begin as their stores are, if that is asked for."""
+    words = ["map", "lvm", "vg0-snapshot.backup", "R vg0-snap 8000 16", "W vg0-snap 8000 1", "R vg0-lv0 0 1"]
+    with open(os.path.join(samples(explain.top), "snap.store"), "rb") as it, open(os.path.join(explain.folder, "sda1.img"), "wb") as image:
+        image.seek(206848 * 512)
+        image.write(it.read())
+        image.truncate(1050624 * 512)
+    program.file("explained/paths", "/dev/sda1 sda1.img\n")
+    got = explain.run(["--paths", "paths", *words])
+    wanted = b"chunk 1001, taken\n", b"chunk 1000, not taken yet\n"
+    tally.holds("ways from a store", got.status == 0 and not got.err and all(it in got.out for it in wanted), "status %s, %r, %r" % (got.status, got.err, got.out))
+    for listed, why in (("", "A part of its header or of its list lies on a disk that PATHS doesn't name.\n     Add the disk."),
+                        ("/dev/sda1 none\n", "can't be opened or read"), ("/dev/sdb sda1.img\n", "The stack has no disk of that name")):
+        program.file("explained/paths", listed)
+        got = explain.run(["--paths", "paths", *words])
+        tally.holds("a store by the paths %r" % listed, got.status == 0 and why in got.out.decode(), "status %s, %r, %r" % (got.status, got.err, got.out))
+    got = explain.run(["--paths", "nowhere", *words])
+    tally.holds("a store without paths", got.status == 0 and b"nowhere" in got.out, "status %s, %r, %r" % (got.status, got.err, got.out))
+
+
+def check_ends(tally, explain, program):
+    """What isn't explained is refused, and outputs may fail."""
+    words = ["map", "table", "long.table", "disks"]
+    got = explain.run(words, given="R a 0 1\n" * 17)
+    tally.same("many requests", got, 1, "", TOOL + " explain: the requests: there are 17: give at most 16, and those before them by --before\n")
+    got = explain.run(["map", "table", "chunks.table", "chunks.disks", "W s 0 20000"])
+    tally.same("a long way", got, 1, "", TOOL + " explain: W s 0 20000: its way has more than 4096 pieces: ask for fewer sectors\n")
+    wrong = program.file("explained/wrong", WRONG % (program.path, program.path))
+    os.chmod(wrong, 0o755)
+    got = explain.run(["map", "lvm", "vg0.backup", "R vg0-lv0 8000 16"], asked=wrong)
+    why = b"explain: R vg0-lv0 8000 16: the levels don't make dmremap's answer together"
+    tally.holds("levels that don't make the answer", got.status == 1 and why in got.err and not got.out, "status %s, %r" % (got.status, got.err))
+    with open("/dev/full", "wb") as full:
+        got = explain.run(["map", "lvm", "vgm.backup"], stdout=full.fileno())
+        tally.same("an explanation to a full output", got, 5, "", TOOL + " explain: standard output: No space left on device\n")
+    got = explain.run(["map", "table", "esc.table", "disks"])
+    tally.holds("foreign text", got.status == 0 and b"\x1b" not in got.out and b"\\x1b" in got.out, repr(got.out))
+
+
+class Explained(Case, checks=[
+    check_mistakes, check_words, check_ways, check_causes, check_json, check_stacks, check_stores, check_ends,
+]):
+    """Refusals and answers that are explained."""
+
+    @classmethod
+    def setUpClass(cls):
+        cls.explain = Explain(cls.program, cls.top, make_room(cls.program, cls.top))

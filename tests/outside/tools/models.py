@@ -1,0 +1,948 @@
+"""The commands `scan`, `save`, `serve`, `lost` and `tables` over piles of images, which are made here from their formats: what is
+found in them, and the bytes of volumes, which are known as they were put there sector by sector."""
+
+import importlib
+import json
+import os
+import pickle
+import random
+import shutil
+import signal
+import struct
+import subprocess
+import sys
+import tempfile
+import types
+
+import physical_volumes
+import tool_calls
+import used
+from harness import Case
+
+SECTOR = 512
+MIB = 1 << 20
+# Sectors of an extent, and the sector at which the data of a physical volume begins.
+EXTENT, DATA = 8, 2048
+STRIPE = 8
+
+
+class Pile:
+    """Images in a folder, and the calls over them."""
+
+    def __init__(self, program, top, folder):
+        self.program, self.top, self.folder = program, top, folder
+
+    def put(self, name, content):
+        with open(os.path.join(self.folder, name), "wb") as image:
+            image.write(content)
+
+    def call(self, *words):
+        return tool_calls.call(self.top, [words[0], "--program", self.program.path, *words[1:]], folder=self.folder)
+
+    def scan(self, *images):
+        got = self.call("scan", "--json", *(images or self.images()))
+        return json.loads(got.out) if got.status == 0 else {"groups": [], "arrays": [], "luks": [], "failed": got.err.decode()}
+
+    def images(self):
+        return sorted(name for name in os.listdir(self.folder) if not name.startswith("out"))
+
+    def save(self, volume, *images, more=()):
+        """The outcome, and what was saved."""
+        path = os.path.join(self.folder, "out")
+        if os.path.exists(path):
+            os.unlink(path)
+        got = self.call("save", volume, "out", *(images or self.images()), *more)
+        if not os.path.exists(path):
+            return got, None
+        with open(path, "rb") as saved:
+            return got, saved.read()
+
+    def holds(self, tally, name, volume, content, *images):
+        """A volume that is saved whole."""
+        got, saved = self.save(volume, *images)
+        tally.holds(name, got.status == 0 and saved == content, "status %s, %r, %s bytes" % (got.status, got.err, saved and len(saved)))
+
+    def refuses(self, tally, name, volume, why, *images, more=()):
+        """A volume that is refused with these words, and leaves no file."""
+        got, saved = self.save(volume, *images, more=more)
+        left = [other for other in os.listdir(self.folder) if other.startswith("out")]
+        is_so = got.status == 1 and why in got.err.decode() and saved is None and not left
+        tally.holds(name, is_so, "status %s, %r, left %s" % (got.status, got.err, left))
+
+
+def empty_pile(case, name):
+    """A pile in a folder of that name, without an image."""
+    folder = os.path.join(case.room, name)
+    shutil.rmtree(folder, ignore_errors=True)
+    os.makedirs(folder)
+    return Pile(case.program, case.top, folder)
+
+
+def content_of(name, sectors):
+    """Sectors that say where they are."""
+    return b"".join((b"%s %d\n" % (name.encode(), number) * SECTOR)[:SECTOR] for number in range(sectors))
+
+
+def identity(letter):
+    """The id of a physical volume, as its label has it."""
+    return (letter * 32).encode()
+
+
+def dashed(letter):
+    """The same, as a text has it."""
+    groups = [letter * count for count in (6, 4, 4, 4, 4, 4, 6)]
+    return "-".join(groups)
+
+
+def section(name, *fields):
+    return "%s {\n%s}\n" % (name, "".join(field if field.endswith("\n") else field + "\n" for field in fields))
+
+
+def linear(first, count, *areas, kind="striped", more=()):
+    """A segment whose areas are pairs of a name and an extent."""
+    stripes = ", ".join('"%s", %d' % area for area in areas)
+    return ["start_extent = %d" % first, "extent_count = %d" % count, 'type = "%s"' % kind, "stripe_count = %d" % len(areas),
+            "stripe_size = %d" % STRIPE, "stripes = [%s]" % stripes, *more]
+
+
+def segment(first, count, kind, *fields):
+    return ["start_extent = %d" % first, "extent_count = %d" % count, 'type = "%s"' % kind, *fields]
+
+
+def volume(name, letter, *segments, status='"READ", "WRITE", "VISIBLE"'):
+    numbered = [section("segment%d" % number, *fields) for number, fields in enumerate(segments, 1)]
+    return section(name, 'id = "%s"' % dashed(letter), "status = [%s]" % status, "segment_count = %d" % len(segments), *numbered)
+
+
+HIDDEN = '"READ", "WRITE"'
+
+
+def text(group, letter, seqno, disks, *volumes, extents=64):
+    """The text of a group, as lvm2 writes it to a disk."""
+    physical = [section("pv%d" % number, 'id = "%s"' % dashed(disk), 'device = "/dev/%s"' % disk, "dev_size = %d" % (DATA + extents * EXTENT),
+                        "pe_start = %d" % DATA, "pe_count = %d" % extents) for number, disk in enumerate(disks)]
+    body = section(group, 'id = "%s"' % dashed(letter), "seqno = %d" % seqno, 'status = ["RESIZEABLE", "READ", "WRITE"]', "extent_size = %d" % EXTENT,
+                   section("physical_volumes", *physical), section("logical_volumes", *volumes))
+    return (body + '# Generated by a test\ncontents = "Text Format Volume Group"\nversion = 1\ncreation_host = "here"\ncreation_time = %d\n' % (1700000000 + seqno)).encode() + b"\0"
+
+
+def disk(letter, content, *texts, is_current=True):
+    """A physical volume with these texts in its ring, of which the last is the current one."""
+    places, at = [], SECTOR
+    for each in texts:
+        places.append((at, each))
+        at += -(-len(each) // SECTOR) * SECTOR
+    offset, current = places[-1] if is_current else (0, b"")
+    ring = physical_volumes.area(current, offset, size=64 * 1024, others=places)
+    head = physical_volumes.volume((physical_volumes.FIRST, ring), length=DATA * SECTOR, identity=identity(letter), size=DATA * SECTOR + len(content))
+    return head + content
+
+
+def extents_of(content, first, count):
+    return content[first * EXTENT * SECTOR:(first + count) * EXTENT * SECTOR]
+
+
+def striped(contents, chunk):
+    """Chunks of some contents in turn, in sectors."""
+    size = chunk * SECTOR
+    return b"".join(each[at:at + size] for at in range(0, len(contents[0]), size) for each in contents)
+
+
+A, B = content_of("a", 64 * EXTENT), content_of("b", 64 * EXTENT)
+PLAIN = [volume("home", "h", linear(0, 5, ("pv0", 3)), linear(5, 2, ("pv1", 0))),
+         volume("wide-one", "w", linear(0, 8, ("pv0", 10), ("pv1", 20)))]
+HOME = extents_of(A, 3, 5) + extents_of(B, 0, 2)
+WIDE = striped([extents_of(A, 10, 4), extents_of(B, 20, 4)], STRIPE)
+
+
+def named(rows, key, value):
+    return next((row for row in rows if row[key] == value), {})
+
+
+def check_groups(tally, pile):
+    """A group over two disks beside what is foreign; with one missing, and with one that is cut short; in two orders."""
+    known = text("vg0", "g", 4, "ab", *PLAIN)
+    pile.put("one", disk("a", A, known))
+    pile.put("two", disk("b", B, known))
+    pile.put("notes.txt", b"a text that speaks of LABELONE and LVM2 001\n" * 500)
+    pile.put("holes", bytes(MIB))
+    found = pile.scan()
+    group = named(found["groups"], "name", "vg0")
+    tally.holds("a group that is found", (group.get("state"), group.get("seqno"), group.get("id"), group.get("images")) == ("complete", 4, dashed("g"), ["one", "two"]), found)
+    rows = [(row["name"], row["sectors"], row["kind"], row["state"], row["why"]) for row in group.get("volumes", [])]
+    tally.holds("its volumes", rows == [("home", 56, "linear", "whole", None), ("wide-one", 64, "striped", "whole", None)], rows)
+    pile.holds(tally, "a linear volume", "vg0/home", HOME)
+    pile.holds(tally, "a striped volume, by the group's id", dashed("g") + "/wide-one", WIDE, "two", "notes.txt", "one", "holes")
+    pile.holds(tally, "a volume without its group", "home", HOME)
+    found = pile.scan("one", "holes")
+    group = named(found["groups"], "name", "vg0")
+    tally.holds("a group without a disk", group.get("state") == "missing" and all(row["why"] for row in group["volumes"]), found)
+    pile.refuses(tally, "a volume on a missing disk", "vg0/home", "the physical volume %s isn't in these images" % dashed("b"), "one")
+    got, saved = pile.save("vg0/home", "one", more=["--map", "out.map"])
+    os.unlink(os.path.join(pile.folder, "out.map"))
+    tally.holds("the rest of one, with a map", got.status == 4 and saved == extents_of(A, 3, 5) + bytes(2 * EXTENT * SECTOR), "status %s, %r" % (got.status, got.err))
+    pile.put("two", disk("b", B, known)[:(DATA + EXTENT) * SECTOR + 100])
+    found = pile.scan()
+    group = named(found["groups"], "name", "vg0")
+    tally.holds("a group with a disk cut short", group.get("state") == "truncated", found)
+    pile.refuses(tally, "a volume that is cut short", "vg0/home", "give an image of the whole disk")
+    pile.put("two", disk("b", B, known))
+    pile.put("copy", disk("b", B, known))
+    pile.refuses(tally, "a disk and a copy of it", "vg0/home", "copy and two both are the physical volume")
+
+
+def check_partitions(tally, pile):
+    """A physical volume in a partition: of a GPT, of its backup, of an MBR, of one inside an extended one, of sectors of 4096
+    bytes, and of none that is left."""
+    lone = text("vg0", "g", 4, "a", volume("home", "h", linear(0, 5, ("pv0", 3))))
+    inside = disk("a", A, lone)
+    count = len(inside) // SECTOR
+    first = physical_volumes.gpt((2048, 2048 + count - 1), last=2048 + count + 32).ljust(2048 * SECTOR, b"\0") + inside
+    whole = physical_volumes.with_backup(first, (2048, 2048 + count - 1))
+    logical = bytearray(physical_volumes.mbr((0x83, 8, 8), (0x05, 64, 4096 + count)).ljust(2112 * SECTOR, b"\0") + inside)
+    logical[64 * SECTOR:65 * SECTOR] = physical_volumes.mbr((0x8E, 2048, count))
+    big = -(-count // 8)
+    for name, image, place, kind, copy in (
+            ("a GPT", whole, 1, "GPT", "first"), ("the backup of a GPT", b"x" * 1024 + whole[1024:], 1, "GPT", "backup"),
+            ("the backup alone", bytes(40 * SECTOR) + whole[40 * SECTOR:], 1, "GPT", "backup"),
+            ("an MBR", physical_volumes.mbr((0x83, 8, 8), (0x8E, 64, count)).ljust(64 * SECTOR, b"\0") + inside, 2, "MBR", ""),
+            ("an extended partition", bytes(logical), 5, "MBR", ""),
+            ("an MBR of 4096-byte sectors", physical_volumes.mbr((0x8E, 64, big)).ljust(64 * 4096, b"\0") + inside.ljust(big * 4096, b"\0"), 1, "MBR", ""),
+            ("sectors of 4096 bytes", physical_volumes.gpt((64, 64 + big - 1), sector=4096, last=64 + big + 8).ljust(64 * 4096, b"\0") + inside.ljust(big * 4096, b"\0"),
+             1, "GPT", "first")):
+        pile.put("disk", image)
+        found = pile.scan()
+        row = found["images"][0] if found.get("images") else {}
+        table = row.get("table") or {}
+        tally.holds("what is told of " + name, (table.get("kind"), table.get("copy")) == (kind, copy) and
+                    named(found["groups"], "name", "vg0").get("images") == ["disk:%d" % place], found)
+        pile.holds(tally, "a volume below " + name, "vg0/home", extents_of(A, 3, 5))
+        pile.holds(tally, "a partition of " + name, "disk:%d" % place, inside.ljust(big * 4096, b"\0") if "4096" in name else inside)
+    pile.put("disk", b"no table\n" * 1000 + bytes(MIB - 9000) + inside)
+    pile.holds(tally, "a volume that no table leads to", "vg0/home", extents_of(A, 3, 5))
+    found = pile.scan()
+    tally.holds("what is told of it", "looking through" in json.dumps(found["images"]), found)
+
+
+CHUNK = 2
+
+
+def store(origin_sectors, pairs, is_valid=1):
+    """The store of a snapshot, with chunks of 2 sectors, and what it has of each chunk."""
+    area = b"".join(struct.pack("<QQ", old, 2 + number) for number, (old, _) in enumerate(pairs)).ljust(CHUNK * SECTOR, b"\0")
+    head = struct.pack("<4L", 0x70416E53, is_valid, 1, CHUNK).ljust(CHUNK * SECTOR, b"\0")
+    return head + area + b"".join(new for _, new in pairs)
+
+
+def check_layers(tally, pile):
+    """Snapshots, one that is invalid, one that is being merged; pvmove in progress; mirrors; what isn't followed."""
+    new = [(number, content_of("new %d" % number, CHUNK)) for number in (7, 0, 19)]
+    data = bytearray(A)
+    for place, content in ((20, store(40, new)), (30, store(40, new, 0)), (40, store(40, new[:2]))):
+        data[place * EXTENT * SECTOR:place * EXTENT * SECTOR + len(content)] = content
+    def record(number, origin, of, key="cow_store"):
+        return volume("snapshot%d" % number, str(number), segment(0, 5, "snapshot", "chunk_size = %d" % CHUNK, 'origin = "%s"' % origin, '%s = "%s"' % (key, of)),
+                      status='"READ", "WRITE", "VISIBLE"' if key == "cow_store" else HIDDEN)
+    moved = volume("pvmove0", "p", segment(0, 3, "mirror", "mirror_count = 2", "extents_moved = 3", 'mirrors = ["pv0", 50, "pv0", 55]'),
+                   segment(3, 2, "mirror", "mirror_count = 2", "extents_moved = 0", 'mirrors = ["pv0", 53, "pv0", 58]'), status='"READ", "WRITE", "PVMOVE", "LOCKED"')
+    known = text("vg0", "g", 9, "a", volume("home", "h", linear(0, 5, ("pv0", 0))), volume("old", "o", linear(0, 5, ("pv0", 20)), status=HIDDEN), record(0, "home", "old"),
+                 volume("full", "f", linear(0, 5, ("pv0", 30)), status=HIDDEN), record(1, "home", "full"),
+                 volume("back", "b", linear(0, 5, ("pv0", 10))), volume("into", "i", linear(0, 5, ("pv0", 40)), status=HIDDEN), record(2, "back", "into", "merging_store"),
+                 moved, volume("moving", "m", linear(0, 5, ("pvmove0", 0))), volume("odd", "d", segment(0, 2, "vdo", 'vdo_pool = "pool"')))
+    pile.put("disk", disk("a", bytes(data), known))
+    group = named(pile.scan()["groups"], "name", "vg0")
+    rows = {row["name"]: row for row in group.get("volumes", [])}
+    tally.holds("the volumes with layers", sorted(rows) == ["back", "full", "home", "moving", "odd", "old"], sorted(rows))
+    told = {name: (row["kind"], row["state"], row["origin"], row["chunks_used"]) for name, row in rows.items()}
+    tally.holds("what is told of snapshots", (told.get("old"), told.get("full")) == (("snapshot", "whole", "home", 3), ("snapshot", "invalid", "home", None)), told)
+
+    def over(base, pairs):
+        made = bytearray(base)
+        for old, content in pairs:
+            made[old * CHUNK * SECTOR:(old + 1) * CHUNK * SECTOR] = content
+        return bytes(made)
+    pile.holds(tally, "an origin", "vg0/home", extents_of(data, 0, 5))
+    pile.holds(tally, "a snapshot", "vg0/old", over(extents_of(data, 0, 5), new))
+    pile.holds(tally, "an origin that is being merged into", "vg0/back", over(extents_of(data, 10, 5), new[:2]))
+    pile.holds(tally, "a volume that is being moved", "vg0/moving", extents_of(data, 55, 3) + extents_of(data, 53, 2))
+    pile.refuses(tally, "a snapshot that is invalid", "vg0/full", "save the origin instead")
+    pile.refuses(tally, "a layer that isn't followed", "vg0/odd", "is of type vdo, which isn't followed")
+    got = pile.call("tables", "vg0", "disk", "--to", "out")
+    words = ["map", "table", "out/FILE", "out/DISKS", "--paths", "out/PATHS"]
+    tally.holds("tables with snapshots", got.status == 0 and got.out.decode() == f"dmremap {' '.join(words)}\n", f"{got.out!r}, {got.err!r}")
+    answers = pile.program.run(words, given="R vg0-old 0 40\n", folder=pile.folder)
+    with open(os.path.join(pile.folder, "disk"), "rb") as image:
+        read = b""
+        for row in answers.out.decode().splitlines():
+            image.seek(int(row.split()[3]) * SECTOR)
+            read += image.read(int(row.split()[4]) * SECTOR)
+    tally.holds("a snapshot by them", read == over(extents_of(data, 0, 5), new), f"{answers.out!r}, {answers.err!r}")
+
+
+def check_stores(tally, pile):
+    """Stores on two disks, of which one is missing or ends too soon: what the list and the chunks lie on has to be there, and no more. And
+    lists that no kernel writes."""
+    def made(count, chunk=1, wiped=(0, 0), key="cow_store", **head):
+        """A snapshot with so many chunks in its store, of which six extents lie at the end of one disk and six on another, and its bytes.
+        Some bytes of the store are wiped."""
+        each, data = 32 * chunk, bytearray(A)
+        pairs = [(number * 7 % (80 // chunk), 2 + number + number // each) for number in range(count)]
+        content = bytearray(used.store(head.pop("pairs", pairs), chunk, 96 // chunk, **head))
+        wanted, size = bytearray(extents_of(A, 0, 10)), chunk * SECTOR
+        for old, new in pairs:
+            content[new * size:(new + 1) * size] = wanted[old * size:(old + 1) * size] = content_of("%d in %d" % (old, new), chunk)
+        content[wiped[0]:wiped[1]] = bytes(wiped[1] - wiped[0])
+        data[58 * EXTENT * SECTOR:] = content[:48 * SECTOR]
+        record = volume("snapshot0", "0", segment(0, 10, "snapshot", "chunk_size = %d" % chunk, 'origin = "home"', '%s = "old"' % key))
+        known = text("vg0", "g", 9, "ab", volume("home", "h", linear(0, 10, ("pv0", 0))),
+                     volume("old", "o", linear(0, 6, ("pv0", 58)), linear(6, 6, ("pv1", 0)), status=HIDDEN), record)
+        one = disk("a", bytes(data), known)
+        pile.put("one", one)
+        pile.put("two", disk("b", bytes(content[48 * SECTOR:]) + bytes(B[48 * SECTOR:]), known))
+        return one, bytes(wanted)
+
+    start = (DATA + 58 * EXTENT) * SECTOR
+    for count in 0, 1, 31, 32, 33, 40, 50, 63, 64, 65, 70:
+        one, wanted = made(count)
+        pile.holds(tally, "a store of %d chunks" % count, "vg0/old", wanted)
+        rows = {row["name"]: row["chunks_used"] for row in named(pile.scan()["groups"], "name", "vg0").get("volumes", [])}
+        tally.holds("how many chunks it has", rows.get("old") == count, rows)
+        if count <= 40:
+            pile.holds(tally, "a store of %d chunks, without its second disk" % count, "vg0/old", wanted, "one")
+        else:
+            pile.refuses(tally, "a store of %d chunks, without its second disk" % count, "vg0/old", dashed("b"), "one")
+        pile.put("cut", one[:start + 34 * SECTOR])
+        if count < 32:
+            pile.holds(tally, "a store of %d chunks on a disk that is cut" % count, "vg0/old", wanted, "cut", "two")
+        else:
+            pile.refuses(tally, "a store of %d chunks on a disk that is cut" % count, "vg0/old", "cut ends at byte", "cut", "two")
+        os.unlink(os.path.join(pile.folder, "cut"))
+    one, wanted = made(20, 2)
+    pile.put("cut", one[:start + 3 * SECTOR])
+    pile.refuses(tally, "a store whose chunks are cut", "vg0/old", "cut ends at byte", "cut", "two")
+    os.unlink(os.path.join(pile.folder, "cut"))
+    for name, why, head in (("no header", "neither as a store nor with zeros", {"magic": 7}), ("another version", "it isn't of version 1", {"version": 2}),
+                            ("other chunks", "its chunks have another length", {"said": 2}), ("another order", "in another order", {"pairs": [(1, 3)]}),
+                            ("a chunk past the end", "past the end", {"pairs": [(80, 2)]}), ("a chunk twice", "a chunk twice", {"pairs": [(1, 2), (1, 3)]}),
+                            ("a header that says invalid", "the snapshot is invalid", {"valid": 0})):
+        made(0, **head)
+        pile.refuses(tally, "a store with " + name, "vg0/old", why)
+        told = named(named(pile.scan()["groups"], "name", "vg0").get("volumes", []), "name", "old")
+        tally.holds("what is told of it", told.get("state") == ("invalid" if "valid" in head else "not followed") and why in str(told.get("why")), told)
+    _, wanted = made(0, wiped=(0, SECTOR))
+    pile.holds(tally, "a store that is new", "vg0/old", wanted)
+    for name, why, count, wiped in (("a lost header", "so that it isn't new", 3, (0, 4)), ("a lost sector", "so that it isn't new", 3, (0, SECTOR)),
+                                    ("a lost entry", "goes on behind a free place", 5, (SECTOR + 16, SECTOR + 32)),
+                                    ("half an entry", "goes on behind a free place", 5, (SECTOR + 72, SECTOR + 80)),
+                                    ("a lost entry of its second area", "goes on behind a free place", 40, (34 * SECTOR + 16, 34 * SECTOR + 32))):
+        made(count, wiped=wiped)
+        pile.refuses(tally, "a store with " + name, "vg0/old", why)
+        got = pile.call("tables", "vg0", "one", "two", "--to", "made")
+        tally.holds("tables without it", got.status == 0 and b"left out: old: " in got.err and why.encode() in got.err, f"{got.status}, {got.err!r}")
+        shutil.rmtree(os.path.join(pile.folder, "made"))
+    many = [volume("s%d" % number, "s", linear(0, 1, ("pv0", 58)), status=HIDDEN) for number in range(101)]
+    records = [volume("snapshot%d" % number, "n", segment(0, 1, "snapshot", "chunk_size = 3", 'origin = "home"', 'cow_store = "s%d"' % number)) for number in range(101)]
+    pile.put("one", disk("a", A, text("vg0", "g", 9, "a", volume("home", "h", linear(0, 1, ("pv0", 0))), *many, *records)))
+    whys = [row["why"] for row in named(pile.scan("one")["groups"], "name", "vg0").get("volumes", []) if row["kind"] == "snapshot"]
+    tally.holds("more snapshots than are looked at", len(whys) == 101 and ["looked at together" in why for why in whys] == [False] * 100 + [True], whys)
+    made(0, valid=0x4000001)
+    pile.refuses(tally, "a store with a damaged header", "vg0/old", "says neither that it is valid")
+    made(0, wiped=(0, SECTOR), key="merging_store")
+    pile.refuses(tally, "a merge whose store has no header", "vg0/home", "nothing tells whether the merge ended")
+
+
+def check_levels(tally, pile):
+    """Volumes on each other in many levels, as lines of tables and as mirrors, beside one that lies on a disk."""
+    data = bytearray(A)
+    for number in range(2):
+        data[number * EXTENT * SECTOR:number * EXTENT * SECTOR + 4096] = leg_superblock(number)
+    for kind, count, is_given in (("linear", 20, True), ("linear", 150, False), ("raid1", 20, True), ("raid1", 200, False)):
+        lower = ["level%d" % number for number in range(1, count)] + ["lowest"]
+        levels = [linear(0, 1, (name, 0)) if kind == "linear" else segment(0, 1, kind, "device_count = 2", 'raids = ["meta0", "%s", "meta1", "%s"]' % (name, name))
+                  for name in lower]
+        known = text("vg0", "g", 9, "a", volume("level0", "v", levels[0]), *(volume(name, "v", level, status=HIDDEN) for name, level in zip(lower, levels[1:])),
+                     *(volume("meta%d" % number, "mn"[number], linear(0, 1, ("pv0", number)), status=HIDDEN) for number in range(2)),
+                     volume("lowest", "l", linear(0, 1, ("pv0", 10))))
+        pile.put("disk", disk("a", bytes(data), known))
+        pile.holds(tally, f"what lies below {count} levels", "vg0/lowest", extents_of(A, 10, 1))
+        if is_given:
+            pile.holds(tally, f"{count} levels", "vg0/level0", extents_of(A, 10, 1))
+        else:
+            pile.refuses(tally, f"{count} levels", "vg0/level0", "in more than 40 levels")
+            rows = {row["name"]: row["state"] for row in named(pile.scan()["groups"], "name", "vg0").get("volumes", [])}
+            tally.holds("what is told of them", rows == {"level0": "not followed", "lowest": "whole"}, rows)
+
+
+def leg_superblock(number, events=4):
+    """A superblock of dm-raid, of a mirror of two."""
+    clean = (1 << 64) - 1
+    return struct.pack("<4L4Q4LQ", 0x64526D44, 0, 2, number, events, 0, clean, clean, 1, 0, 0, 0, clean).ljust(4096, b"\0")
+
+
+# The bytes of a sum in the test's journal, so that a section has few blocks, and the sectors of a section.
+TAG, SECTION = 200, 24
+
+
+def journal(blocks):
+    """The metadata of dm-integrity, with a journal of two sections, of which the second one is older and has these blocks."""
+    sectors = [bytearray(SECTOR) for _ in range(2 * SECTION)]
+    for at in range(16):
+        for section_number in range(2):
+            sectors[section_number * SECTION + at % 8][at // 8 * 216:at // 8 * 216 + 8] = b"\xff" * 8
+    for at, (number, content) in enumerate(blocks):
+        entry = struct.pack("<Q", number) + content[-8:] + struct.pack("<L", summed(struct.pack("<Q", number) + content) ^ 0xFFFFFFFF)
+        sectors[SECTION + at % 8][at // 8 * 216:at // 8 * 216 + len(entry)] = entry
+        sectors[SECTION + 8 + at][:504] = content[:504]
+    for at, sector in enumerate(sectors):
+        commit = (1 - at // SECTION + 1) * 0x1111111111111111
+        sector[504:] = struct.pack("<Q", commit ^ at // SECTION << 32 ^ at % SECTION)
+    head = struct.pack("<8sBBHLQLBB2xQ8x16s", b"integrt\0", 5, 0, TAG, 2, 40, 8, 0, 0, 0, b"").ljust(4096, b"\0")
+    return head + b"".join(map(bytes, sectors))
+
+
+def check_legs(tally, pile):
+    """A mirror of LVM over dm-integrity, whose journal has newer blocks; damaged journals and superblocks."""
+    held = [(3, content_of("held", 1)), (17, content_of("kept", 1))]
+    data = extents_of(A, 0, 5)
+    wanted = bytearray(data)
+    for number, content in held:
+        wanted[number * SECTOR:(number + 1) * SECTOR] = content
+    def leg(number):
+        return [volume("image%d" % number, "ij"[number], segment(0, 5, "integrity", 'origin = "data%d"' % number, 'meta_dev = "tags%d"' % number, 'mode = "J"',
+                                                                 "tag_size = %d" % TAG, "block_size = 512", 'internal_hash = "crc32c"'), status=HIDDEN),
+                volume("data%d" % number, "de"[number], linear(0, 5, ("pv%d" % number, 0)), status=HIDDEN),
+                volume("tags%d" % number, "tu"[number], linear(0, 7, ("pv%d" % number, 10)), status=HIDDEN),
+                volume("meta%d" % number, "mn"[number], linear(0, 1, ("pv%d" % number, 20)), status=HIDDEN)]
+    mirror = volume("home", "h", segment(0, 5, "raid1", "device_count = 2", "region_size = 8", 'raids = ["meta0", "image0", "meta1", "image1"]'))
+    known = text("vg0", "g", 9, "ab", mirror, *leg(0), *leg(1))
+    size = EXTENT * SECTOR
+    def legged(number, change=None, superblock=None, base=A):
+        content = bytearray(base)
+        for place, part in ((0, data), (10, journal(held)), (20, leg_superblock(number) if superblock is None else superblock)):
+            content[place * size:place * size + len(part)] = part
+        if change is not None:
+            content[10 * size + change] ^= 1
+        pile.put("leg%d" % number, disk("ab"[number], bytes(content), known))
+    block = 4096 + (SECTION + 9) * SECTOR
+    legged(0)
+    legged(1)
+    pile.holds(tally, "a mirror over a journal", "vg0/home", bytes(wanted))
+    for name, change, why in (("a block of a journal", block + 5, "of sector 17 is damaged"), ("a commit of a journal", block + 510, "section 1 of its journal is damaged"),
+                              ("the counts of a journal", 10, "other sizes than the text")):
+        legged(0, change)
+        legged(1)
+        pile.holds(tally, name + " damaged on a leg", "vg0/home", bytes(wanted))
+        legged(1, change)
+        pile.refuses(tally, name + " damaged on both", "vg0/home", why)
+    legged(0)
+    legged(1, superblock=bytes(4096))
+    pile.refuses(tally, "a leg whose superblock is gone", "vg0/home", "leave its disk out to take the other one")
+    pile.holds(tally, "the other leg", "vg0/home", bytes(wanted), "leg0")
+
+
+def member(data, level, number, roles, events, layout=0, chunk=8, size=64, disks=None, version=2, resync=(1 << 64) - 1, name=b"array"):
+    """A member of an md array, whose data begins at sector 64 (1.2) or 0 (1.0)."""
+    start = 64 if version == 2 else 0
+    place = 8 if version == 2 else (len(data) // SECTOR + 64 - 16) & ~7
+    head = struct.pack("<4L16s32sQlLQLLlLQlLLl", 0xA92B4EFC, 1, 0, 0, name.rjust(16, b"n"), b"here:" + name, 0, level, layout, size, chunk, disks or len(roles), 0, 0, 0, 0, 0, 0, 0)
+    head += struct.pack("<QQQQLL16sBBHl", start, len(data) // SECTOR, place, 0, number, 0, b"amember", 0, 0, 0, 0)
+    tail = struct.pack("<QQQ", 0, events, resync)
+    table = struct.pack("<%dH" % len(roles), *roles)
+    def with_sum(value):
+        return head + tail + struct.pack("<LL32x", value, len(roles)) + table
+    words = with_sum(0)
+    total = sum(struct.unpack("<%dL" % (len(words) // 4), words[:len(words) // 4 * 4])) + (struct.unpack("<H", words[-2:])[0] if len(words) % 4 else 0)
+    superblock = with_sum((total & 0xFFFFFFFF) + (total >> 32) & 0xFFFFFFFF)
+    image = bytearray(start * SECTOR) + data + bytes((64 - start) * SECTOR)
+    image[place * SECTOR:place * SECTOR + len(superblock)] = superblock
+    return bytes(image)
+
+
+def xor(*parts):
+    made = bytes(len(parts[0]))
+    for part in parts:
+        made = bytes(one ^ other for one, other in zip(made, part))
+    return made
+
+
+def check_arrays(tally, pile):
+    """Arrays whole and with members missing or stale, one of unequal members, and a group on one."""
+    data = content_of("array", 128)
+    size = 8 * SECTOR
+    chunks = [data[at:at + size] for at in range(0, len(data), size)]
+    rows = [[] for _ in range(3)]
+    for row in range(8):
+        parity = 2 - row % 3
+        rows[parity].append(xor(chunks[2 * row], chunks[2 * row + 1]))
+        for column in range(2):
+            rows[(parity + 1 + column) % 3].append(chunks[2 * row + column])
+    legs = [b"".join(each) for each in rows]
+    for number, leg in enumerate(legs):
+        pile.put("m%d" % number, member(leg, 5, number, (0, 1, 2), 7, layout=2))
+    pile.holds(tally, "raid5", "md:array", data)
+    for number in range(3):
+        others = [name for name in ("m0", "m1", "m2") if name != "m%d" % number]
+        pile.holds(tally, "raid5 without member %d" % number, "md:array", data, *others)
+    pile.refuses(tally, "raid5 of one member", "md:array", "is missing", "m1")
+    # Two members lack sectors of one row, which aren't the same.
+    for number, sector in ((0, 64 + 3), (1, 64 + 5)):
+        at = sector * SECTOR
+        pile.put("map%d" % number, b"0x0 ?\n0x0 0x%x +\n0x%x 0x200 -\n0x%x 0x10000 +\n" % (at, at, at + SECTOR))
+    got = pile.call("lost", "md:array", "m0", "m1", "m2", "--map", "m0=map0", "--map", "m1=map1")
+    tally.same("sectors that two members lack in one row", got, 0, "0 sectors lost of 128\n")
+    for name in ("map0", "map1"):
+        os.unlink(os.path.join(pile.folder, name))
+    pile.put("m1", member(b"\xff" * len(legs[1]), 5, 1, (0, 1, 2), 3, layout=2))
+    found = pile.scan()
+    row = found["arrays"][0] if found["arrays"] else {}
+    tally.holds("a stale member", (row.get("level"), row.get("members"), row.get("missing"), row.get("stale")) == ("raid5", ["m0", "m2"], 1, ["m1"]), found)
+    pile.holds(tally, "raid5 with a stale member", "md:array", data)
+    pile.put("m0", member(legs[0], 5, 0, (0, 1, 2), 7, layout=2, resync=0))
+    pile.put("m2", member(legs[2], 5, 2, (0, 1, 2), 7, layout=2, resync=0))
+    pile.refuses(tally, "raid5 with a member missing that wasn't shut down", "md:array", "wasn't shut down cleanly", "m0", "m2")
+    for name in ("m0", "m1", "m2"):
+        os.unlink(os.path.join(pile.folder, name))
+    lone = text("vg0", "g", 4, "a", volume("home", "h", linear(0, 5, ("pv0", 3))))
+    inside = disk("a", A, lone)
+    count = len(inside) // SECTOR
+    for number in range(2):
+        pile.put("end%d" % number, member(inside, 1, number, (0, 1), 4, size=count, version=0))
+    found = pile.scan()
+    tally.holds("a group on a mirror whose superblocks are at the end", len(found["groups"]) == 1 and found["groups"][0]["images"] == ["md:array"], found)
+    pile.holds(tally, "a volume on a mirror", "vg0/home", extents_of(A, 3, 5), "end1")
+    for number in range(2):
+        os.unlink(os.path.join(pile.folder, "end%d" % number))
+    halves = [content_of("zone %d" % number, 24 + 16 * number) for number in range(2)]
+    copies = [content_of("copy %d" % number, 64) for number in range(2)]
+    for number in (0, 3):
+        pile.put("c%d" % number, member(copies[number // 2], 10, number, (0, 1, 2, 3), 7, layout=258))
+    pile.holds(tally, "raid10 without two members", "md:array", striped(copies, 8))
+    pile.refuses(tally, "raid10 without three", "md:array", "is missing", "c0")
+    for number in (0, 3):
+        os.unlink(os.path.join(pile.folder, "c%d" % number))
+    for number, half in enumerate(halves):
+        pile.put("z%d" % number, member(half, 0, number, (0, 1), 0, layout=2, size=0))
+    pile.holds(tally, "raid0 of unequal members", "md:array", striped([half[:24 * SECTOR] for half in halves], 8) + halves[1][24 * SECTOR:])
+    pile.refuses(tally, "raid0 without a member", "md:array", "is missing", "z0")
+
+
+def check_nested(tally, pile):
+    """Arrays of one member that lie in each other, in as many levels as are followed, and in one more."""
+    wanted = content_of("inner", 64)
+    for count in (8, 9):
+        inner = wanted
+        for number in range(count):
+            inner = member(inner, -1, 0, (0,), 5, size=len(inner) // SECTOR, name=b"array%d" % number)
+        pile.put("disk", inner)
+        pile.holds(tally, "an array in others", "md:array1", member(wanted, -1, 0, (0,), 5, name=b"array0"))
+        if count == 8:
+            pile.holds(tally, "the innermost of 8", "md:array0", wanted)
+        else:
+            pile.refuses(tally, "the innermost of 9", "md:array0", "in 8 levels")
+    os.unlink(os.path.join(pile.folder, "disk"))
+
+
+def check_lost_superblocks(tally, pile):
+    """Members whose superblock is damaged or gone: a mirror's other half may be older, and one member of raid0 isn't the disk."""
+    base = text("vg0", "g", 4, "a", volume("home", "h", linear(0, 5, ("pv0", 3)))).replace(b"/dev/a", b"/dev/md0")
+    inside, older = disk("a", A, base), disk("a", B, base)
+    count = len(inside) // SECTOR
+    def damaged(image, *places):
+        made = bytearray(image)
+        for place in places:
+            made[place] ^= 1
+        return bytes(made)
+    new, old = member(inside, 1, 0, (0, 1), 9, size=count), member(older, 1, 1, (0, 1), 4, size=count)
+    pile.put("new", new)
+    pile.put("old", old)
+    pile.holds(tally, "a mirror with a stale half", "vg0/home", extents_of(A, 3, 5))
+    for place in (8 * SECTOR + 20, 8 * SECTOR + 200):
+        pile.put("new", damaged(new, place))
+        pile.refuses(tally, "a mirror whose newer half has a damaged superblock", "vg0/home", "leave that out to take what is here")
+    pile.holds(tally, "the other half", "vg0/home", extents_of(B, 3, 5), "old")
+    pile.holds(tally, "the half with the damaged superblock alone", "vg0/home", extents_of(A, 3, 5), "new")
+    pile.put("new", bytes(64 * SECTOR) + new[64 * SECTOR:])
+    pile.refuses(tally, "a mirror whose newer half has no superblock", "vg0/home", "both are the physical volume")
+    os.unlink(os.path.join(pile.folder, "old"))
+    pile.holds(tally, "that half", "vg0/home", extents_of(A, 3, 5))
+    os.unlink(os.path.join(pile.folder, "new"))
+    half = b"".join(inside[at:at + 256 * SECTOR] for at in range(0, len(inside), 512 * SECTOR))
+    found = member(half, 0, 0, (0, 1), 0, layout=2, size=0, chunk=256)
+    pile.put("half", bytes(64 * SECTOR) + found[64 * SECTOR:])
+    pile.refuses(tally, "a member of raid0 without its superblock", "vg0/home", "one member of an array whose md superblock is lost")
+    pile.put("half", damaged(found, 8 * SECTOR + 20))
+    pile.refuses(tally, "a member of raid0 with a damaged one", "vg0/home", "one member of an array whose md superblock is lost")
+    pile.put("half", half)
+    pile.refuses(tally, "a member of raid0 whose end is cut off", "vg0/home", "one member of an array whose md superblock is lost")
+    os.unlink(os.path.join(pile.folder, "half"))
+
+
+def summed(content):
+    """The CRC-32C of some bytes, as persistent-data begins it."""
+    value = 0xFFFFFFFF
+    for byte in content:
+        value ^= byte
+        for _ in range(8):
+            value = value >> 1 ^ (0x82F63B78 if value & 1 else 0)
+    return value
+
+
+def block(number, mark, rest, number_at=8):
+    """A block of persistent-data: its sum, and its number."""
+    content = bytearray(bytes(4) + rest)
+    content[number_at:number_at + 8] = struct.pack("<Q", number)
+    content = content.ljust(4096, b"\0")
+    return struct.pack("<L", summed(bytes(content[4:])) ^ mark) + bytes(content[4:])
+
+
+def node(number, pairs):
+    """A leaf of a tree."""
+    most = 252
+    keys = struct.pack("<%dQ" % len(pairs), *(key for key, _ in pairs)).ljust(8 * most, b"\0")
+    return block(number, 121107, struct.pack("<LQLLLL", 2, 0, len(pairs), most, 8, 0) + keys + struct.pack("<%dQ" % len(pairs), *(value for _, value in pairs)))
+
+
+def put_pools(pile):
+    """Puts a disk with a pool and a cache, and returns its data, its text, and what its volumes have."""
+    chunk = 16
+    def superblock(rest):
+        return block(0, 160774, struct.pack("<LQ16sQLLQQ128s128sQQLLQLLL", 0, 0, b"", 27022010, 2, 0, 1, 0, b"", b"", *rest)[:4092])
+    meta = superblock((1, 2, chunk, 8, 8, 0, 0, 0)) + node(1, [(1, 3), (2, 4)]) + node(2, [])
+    meta += node(3, [(0, 5 << 24), (2, 1 << 24 | 7), (3, 2 << 24)]) + node(4, [(1, 1 << 24)])
+    maps = struct.pack("<3Q", 1 << 16 | 1, 2 << 16 | 6, 3 << 16 | 3)
+    held = struct.pack("<LQ16sQL16sL128sQQQQQLLLLLL", 0, 0, b"", 0o6142003, 2, b"smq", 0, b"", 1, 0, 0, 0, 0, chunk, 8, 3, 0, 0, 0)
+    cache = block(0, 9031977, held) + node(1, [(0, 2)]) + block(2, 595846735, struct.pack("<LLLQ", 509, 3, 8, 0) + maps, 16)
+    data = bytearray(A)
+    data[:len(meta)] = meta
+    data[20 * EXTENT * SECTOR:20 * EXTENT * SECTOR + len(cache)] = cache
+    pool = segment(0, 12, "thin-pool", 'metadata = "meta"', 'pool = "data"', "transaction_id = 1", "chunk_size = %d" % chunk)
+    def thin(number):
+        return segment(0, 8, "thin", 'thin_pool = "pool"', "transaction_id = 0", "device_id = %d" % number)
+    known = text("vg0", "g", 9, "a", volume("pool", "p", pool), volume("meta", "m", linear(0, 5, ("pv0", 0)), status=HIDDEN),
+                 volume("data", "d", linear(0, 12, ("pv0", 5)), status=HIDDEN), volume("one", "o", thin(1)), volume("two", "t", thin(2)), volume("none", "n", thin(3)),
+                 volume("quick", "q", segment(0, 8, "cache+CACHE_USES_CACHEVOL", 'cache_pool = "fast"', 'origin = "slow"', 'cache_mode = "writeback"', "chunk_size = %d" % chunk,
+                                              "metadata_start = 0", "metadata_len = 24", "data_start = 32", "data_len = 48")),
+                 volume("fast", "f", linear(0, 10, ("pv0", 20)), status=HIDDEN), volume("slow", "s", linear(0, 8, ("pv0", 40)), status=HIDDEN))
+    pile.put("disk", disk("a", bytes(data), known))
+    size = chunk * SECTOR
+    pooled, hole = extents_of(data, 5, 12), bytes(size)
+    def of_pool(number):
+        return pooled[number * size:(number + 1) * size]
+    slow, fast = extents_of(data, 40, 8), extents_of(data, 20, 10)[32 * SECTOR:]
+    return bytes(data), known, {"vg0/one": of_pool(5) + hole + of_pool(1) + of_pool(2), "vg0/two": hole + of_pool(1) + hole + hole,
+                                "vg0/quick": slow[:size] + fast[:size] + slow[2 * size:3 * size] + fast[2 * size:3 * size]}
+
+
+def check_thin(tally, pile):
+    """Thin volumes and a cached one, and metadata that is damaged."""
+    data, known, contents = put_pools(pile)
+    for name, content in contents.items():
+        pile.holds(tally, "the volume " + name, name, content)
+    pile.refuses(tally, "one that was deleted", "vg0/none", "has no device 3")
+    for place, volume_name, why in ((3 * 4096 + 40, "one", "is damaged"), (20, "one", "is damaged"), (20 * EXTENT * SECTOR + 2 * 4096 + 50, "quick", "is damaged")):
+        changed = bytearray(data)
+        changed[place] ^= 1
+        pile.put("disk", disk("a", bytes(changed), known))
+        pile.refuses(tally, "metadata with a byte changed at %d" % place, "vg0/" + volume_name, why)
+        if place == 3 * 4096 + 40:
+            pile.holds(tally, "the other volume", "vg0/two", contents["vg0/two"])
+
+
+def check_names(tally, pile):
+    """Two groups of one name, sides of a fork, a group that was renamed, volumes and groups that were removed."""
+    def lone(name, letter, seqno, disk_letter, *volumes):
+        return text(name, letter, seqno, disk_letter, *volumes)
+    home, other = volume("home", "h", linear(0, 5, ("pv0", 3))), volume("other", "o", linear(0, 2, ("pv0", 30)))
+    pile.put("one", disk("a", A, lone("vg0", "g", 4, "a", home)))
+    pile.put("two", disk("b", B, lone("vg0", "k", 4, "b", home, other)))
+    pile.refuses(tally, "a name that two groups have", "vg0/home", dashed("g") + "/home")
+    pile.holds(tally, "one of them by its id", dashed("k") + "/home", extents_of(B, 3, 5))
+    pile.holds(tally, "a volume that one of them has", "vg0/other", extents_of(B, 30, 2))
+    base = text("vg0", "g", 4, "ab", *PLAIN)
+    pile.put("one", disk("a", A, base, lone("vg0", "g", 6, "a", home)))
+    pile.put("two", disk("b", B, base, lone("vg0", "g", 5, "b", home), lone("vg0", "g", 6, "b", home, other)))
+    found = pile.scan()
+    tally.holds("a group that was forked", [row["state"] for row in found["groups"]] == ["forked", "forked"], found)
+    pile.refuses(tally, "a name on both sides", "vg0/home", "give the images of one side alone (one or two)")
+    pile.holds(tally, "a volume of one side", "vg0/other", extents_of(B, 30, 2))
+    pile.holds(tally, "a side alone", "vg0/home", extents_of(A, 3, 5), "one")
+    pile.put("two", disk("b", B, base))
+    behind = text("vg0", "g", 5, "ab", *PLAIN, volume("later", "l", linear(0, 1, ("pv1", 40))))
+    pile.put("one", disk("a", A, base, behind))
+    found = pile.scan()
+    tally.holds("a disk that is only behind", [(row["state"], row["seqno"]) for row in found["groups"]] == [("complete", 5)], found)
+    newer = bytearray(disk("a", A, base, behind))
+    newer[bytes(newer).rindex(b"extent_count")] ^= 1
+    pile.put("one", bytes(newer))
+    pile.refuses(tally, "a disk that is behind, where the newer text is damaged", "vg0/home", "has a later text, with the seqno 5, that isn't confirmed")
+    os.unlink(os.path.join(pile.folder, "two"))
+    first, second = lone("old", "g", 1, "a", home, other), lone("vg0", "g", 2, "a", home, other)
+    third, fourth = lone("vg0", "g", 3, "a", other), lone("vg0", "g", 4, "a", other, volume("new", "n", linear(0, 1, ("pv0", 5))))
+    pile.put("one", disk("a", A, first, second, third))
+    found = pile.scan()
+    row = found["groups"][0] if found["groups"] else {}
+    tally.holds("a group that was renamed", row.get("name") == "vg0" and row.get("former_names") == ["old"], found)
+    tally.holds("a volume that was removed", named(row.get("volumes", []), "name", "home").get("state") == "removed", found)
+    pile.holds(tally, "what a removed volume has", "vg0/home", extents_of(A, 3, 5))
+    damaged = bytearray(disk("a", A, first, second, third))
+    damaged[bytes(damaged).rindex(b"seqno = 3")] ^= 1
+    pile.put("one", bytes(damaged))
+    for name in ("home", "other"):
+        pile.refuses(tally, "a volume whose current text is damaged", "vg0/" + name, "a later one can't be read (one: the metadata area at byte 4096: ")
+    pile.put("one", disk("a", A, first, second, third, fourth))
+    pile.refuses(tally, "a removed volume that another one lies on", "vg0/home", "belong to vg0/new since")
+    pile.put("one", disk("a", A, first, second, fourth))
+    pile.refuses(tally, "a removed volume whose time is not known", "vg0/home", "the seqno 3")
+    pile.put("one", disk("a", A, first, second, lone("vg0", "g", 3, "a"), is_current=False))
+    found = pile.scan()
+    tally.holds("a group that was removed", [(row["state"], row["seqno"]) for row in found["groups"]] == [("removed", 2)], found)
+    pile.holds(tally, "a volume of it", "vg0/other", extents_of(A, 30, 2))
+    os.rename(os.path.join(pile.folder, "one"), os.path.join(pile.folder, "other"))
+    pile.refuses(tally, "a volume that is called as an image", "other", "say ./other, or vg0/other")
+    pile.holds(tally, "the volume", "vg0/other", extents_of(A, 30, 2))
+    with open(os.path.join(pile.folder, "other"), "rb") as image:
+        pile.holds(tally, "the image", "./other", image.read())
+    pile.refuses(tally, "no such volume", "vg0/nothing", "`scan` lists what is there")
+    pile.refuses(tally, "no such group", "nowhere/home", "no group is called nowhere")
+
+
+def check_areas(tally, pile):
+    """A disk with two metadata areas, of which one is damaged, or behind."""
+    home, other = volume("home", "h", linear(0, 5, ("pv0", 3))), volume("other", "o", linear(0, 2, ("pv0", 30)))
+    older, old, new = text("vg0", "g", 3, "a", home, other), text("vg0", "g", 4, "a", home), text("vg0", "g", 5, "a", home, volume("new", "n", linear(0, 2, ("pv0", 30))))
+    size, second = 64 * 1024, 512 * 1024
+    def two(first_texts, second_texts, damaged=None):
+        made = []
+        for start, texts in ((physical_volumes.FIRST, first_texts), (second, second_texts)):
+            at = [SECTOR * (1 + 4 * place) for place in range(len(texts))]
+            made.append((start, bytearray(physical_volumes.area(texts[-1], at[-1], start=start, size=size, others=list(zip(at, texts))))))
+        if damaged is not None:
+            place, pattern = damaged
+            content = made[place][1]
+            content[bytes(content).rindex(pattern)] ^= 1
+        pile.put("disk", physical_volumes.volume(*made, length=DATA * SECTOR, identity=identity("a"), size=DATA * SECTOR + len(A)) + A)
+    for name, damaged in (("sound", None), ("damaged at the first", (0, b"seqno = 5")), ("damaged at the second", (1, b"extent_count")), ("without a header", (0, b"LVM2 x"))):
+        two([older, old, new], [older, old, new], damaged)
+        pile.holds(tally, "two areas, " + name, "vg0/home", extents_of(A, 3, 5))
+        pile.refuses(tally, "a removed volume by two areas, " + name, "vg0/other", "belong to vg0/new since")
+    two([older, old], [older, old, new])
+    pile.holds(tally, "two areas, of which one is behind", "vg0/new", extents_of(A, 30, 2))
+    for name, pattern in (("a later text", b"extent_count"), ("another text", b"seqno = 5")):
+        two([older, old], [older, old, new], (1, pattern))
+        for volume_name in ("home", "other"):
+            pile.refuses(tally, "two areas, of which the newer one is damaged", "vg0/" + volume_name, "disk has " + name)
+        got = pile.call("tables", "vg0", "disk", "--to", "made")
+        tally.holds("tables by them", got.status == 1 and b"disk has " + name.encode() in got.err, f"{got.status}, {got.err!r}")
+        got = tool_calls.call(pile.top, ["owner", "--program", pile.program.path, "disk"], given="disk %d\n" % (DATA + 60 * EXTENT), folder=pile.folder)
+        tally.holds("what no volume has by them", got.status == 0 and b"unknown: no volume of vg0 has it, but disk has " + name.encode() in got.out, f"{got.out!r}, {got.err!r}")
+    os.unlink(os.path.join(pile.folder, "disk"))
+
+
+def check_saving(tally, pile):
+    """A file that is there, that is an image, or in no folder; a map by which a run goes on; an image that is called as a format."""
+    pile.put("one", disk("a", A, text("vg0", "g", 4, "a", volume("home", "h", linear(0, 5, ("pv0", 3))))))
+    wanted = extents_of(A, 3, 5)
+    pile.put("out", b"mine")
+    got = pile.call("save", "vg0/home", "out", "one")
+    with open(os.path.join(pile.folder, "out"), "rb") as there:
+        tally.holds("a file that is there", got.status == 1 and there.read() == b"mine" and b"it is there already: give another name, or remove it first" in got.err, got.err)
+    os.unlink(os.path.join(pile.folder, "out"))
+    size = len(wanted)
+    with open(os.path.join(pile.folder, "one"), "rb") as image:
+        before = image.read()
+    for name, words in (("as OUT", ["one"]), ("as MAP", ["out", "--map", "one"])):
+        got = pile.call("save", "vg0/home", *words[:1], "one", *words[1:])
+        with open(os.path.join(pile.folder, "one"), "rb") as image:
+            tally.holds("an image " + name, got.status in (1, 2) and image.read() == before, "status %s, %r" % (got.status, got.err))
+    pile.put("out", bytes(4096) + wanted[4096:8192] + bytes(size - 8192))
+    pile.put("map", b"0x0 ?\n0x0 0x1000 ?\n0x1000 0x1000 +\n0x2000 0x%x ?\n" % (size - 0x2000))
+    got = pile.call("save", "vg0/home", "out", "one", "--map", "map")
+    with open(os.path.join(pile.folder, "out"), "rb") as saved:
+        tally.holds("a run that goes on", got.status == 0 and saved.read() == wanted, got.err)
+    os.unlink(os.path.join(pile.folder, "out"))
+    got = pile.call("save", "vg0/home", "out", "one", "--map", "map")
+    tally.holds("a map without its file", got.status == 1 and b"the map says that it was begun, and it isn't there" in got.err, got.err)
+    os.unlink(os.path.join(pile.folder, "map"))
+    got = pile.call("save", "vg0/home", "out", "one", "--map", "one=map")
+    is_kept = not any(os.path.exists(os.path.join(pile.folder, name)) for name in ("out", "map", "one=map"))
+    tally.holds("the map of an image", got.status == 2 and b"--map MAP is a file that save writes" in got.err and is_kept, got.err)
+    got = pile.call("save", "vg0/home", "no/where", "one")
+    tally.holds("a file in no folder", got.status == 5, got.err)
+    os.rename(os.path.join(pile.folder, "one"), os.path.join(pile.folder, "table"))
+    pile.holds(tally, "an image that is called as a format", "vg0/home", wanted, "./table")
+    got = pile.call("save", "vg0/home", "out", "./table", "--extents", "table")
+    tally.holds("a word of the other form", got.status == 2 and b"--extents is for FORMAT FILE" in got.err, got.err)
+    got = pile.call("scan", "nowhere")
+    tally.holds("an image that isn't there", got.status == 1 and b"nowhere: No such file or directory" in got.err, got.err)
+
+
+def check_files(tally, pile):
+    """`tables` and `lost`: the program answers by the tables as the bytes lie; sectors that a map has as bad are lost, unless
+    another disk has them."""
+    known = text("vg-0", "g", 4, "ab", *PLAIN)
+    pile.put("one", disk("a", A, known))
+    pile.put("two", disk("b", B, known))
+    got = pile.call("tables", "vg-0", "one", "two", "--to", "made")
+    made = os.path.join(pile.folder, "made")
+    tally.holds("tables", got.status == 0 and got.out.decode() == "dmremap map table made/FILE made/DISKS\n", "status %s, %r %r" % (got.status, got.out, got.err))
+    with open(os.path.join(made, "PATHS"), encoding="utf-8") as listed:
+        paths = dict(line.rstrip("\n").split(" ", 1) for line in listed)
+    answers = pile.program.run(["map", "table", os.path.join(made, "FILE"), os.path.join(made, "DISKS")], given="R vg--0-home 0 56\nR vg--0-wide--one 0 64\n")
+    read = {1: b"", 2: b""}
+    for line in answers.out.decode().splitlines():
+        number, _, name, start, count = line.split()
+        with open(paths[name], "rb") as image:
+            image.seek(int(start) * SECTOR)
+            read[int(number)] += image.read(int(count) * SECTOR)
+    tally.holds("what is read by them", read == {1: HOME, 2: WIDE}, answers.err)
+    got = pile.call("tables", "vg-0", "one", "two", "--to", "made")
+    tally.holds("tables that are there", got.status == 1 and b"it is there already: give another folder, or remove it first" in got.err, got.err)
+    shutil.rmtree(made)
+    whole = len(disk("a", A, known))
+    bad = (DATA + 5 * EXTENT) * SECTOR
+    pile.put("map", b"0x0 ?\n0x0 0x%x +\n0x%x 0x1000 -\n0x%x 0x%x +\n" % (bad, bad, bad + 0x1000, whole - bad - 0x1000))
+    got = pile.call("lost", "vg-0/wide-one", "one", "two", "--map", "one=map")
+    tally.same("a volume that lost nothing", got, 0, "0 sectors lost of 64\n")
+    got = pile.call("lost", "vg-0/home", "one", "two", "--map", "one=map")
+    tally.holds("a volume without a file system", got.status == 1 and b"debugfs" in got.err, "status %s, %r %r" % (got.status, got.out, got.err))
+    got = pile.call("lost", "vg-0/home", "one", "two", "--map", "three=map")
+    tally.holds("a map of no image", got.status == 2, got.err)
+
+
+def check_served(tally, pile):
+    """`serve` refuses what can't be served, and needs nbdkit."""
+    pile.put("one", disk("a", A, text("vg0", "g", 4, "a", volume("home", "h", linear(0, 5, ("pv0", 3))))))
+    if not shutil.which("nbdkit"):
+        tally.skip("serving a volume", "there is no nbdkit")
+        return
+    got = pile.call("serve", "vg0/nothing", "one")
+    tally.holds("serving nothing", got.status == 1 and b"no such volume" in got.err, got.err)
+    if not shutil.which("nbdcopy") or subprocess.run(["nbdkit", "python", "--version"], capture_output=True).returncode:
+        tally.skip("reading from a server", "there is no nbdcopy, or no plugin of nbdkit for Python")
+        return
+    words = [os.path.join(pile.top, "dmremap-tools"), "serve", "--program", pile.program.path, "--socket", "out.sock", "vg0/home", "one"]
+    server = subprocess.Popen(words, stdout=subprocess.PIPE, cwd=pile.folder)
+    uri = server.stdout.readline().decode().strip().strip("'")
+    subprocess.run(["nbdcopy", uri, "out"], cwd=pile.folder, check=False)
+    server.terminate()
+    status = server.wait(30)
+    server.stdout.close()
+    with open(os.path.join(pile.folder, "out"), "rb") as copy:
+        tally.holds("a copy from a server", copy.read() == extents_of(A, 3, 5), uri)
+    tally.holds("how a server ends", status in (130, 143), status)
+
+
+def served(pile, volume_name, image, do):
+    """What a function gets of the plugin's module, in a process of its own, with something in the place of nbdkit."""
+    with tempfile.TemporaryFile() as kept, tempfile.TemporaryFile() as said:
+        sys.stdout.flush()
+        child = os.fork()
+        if child == 0:
+            try:
+                os.dup2(said.fileno(), 2)
+                os.chdir(pile.folder)
+                sys.modules["nbdkit"] = types.SimpleNamespace(THREAD_MODEL_SERIALIZE_ALL_REQUESTS=1, EXTENT_HOLE=1, EXTENT_ZERO=2, set_error=lambda _: None)
+                plugin = importlib.import_module("dmremap_tools.images.plugin")
+                signal.alarm(60)
+                for key, value in (("program", pile.program.path), ("volume", volume_name), ("image", image)):
+                    plugin.config(key, value)
+                plugin.get_ready()
+                pickle.dump(do(plugin), kept)
+                kept.flush()
+                os._exit(0)
+            except BaseException as fault:
+                os.write(2, repr(fault).encode())
+            finally:
+                os._exit(1)
+        status = os.waitpid(child, 0)[1]
+        kept.seek(0)
+        said.seek(0)
+        return (pickle.load(kept) if status == 0 else None), said.read().decode()
+
+
+def taken(plugin, at, count):
+    """Bytes that the plugin reads, or None."""
+    buffer = bytearray(count)
+    try:
+        plugin.pread(1, buffer, at, 0)
+    except RuntimeError:
+        return None
+    return bytes(buffer)
+
+
+def kill_children():
+    """Kills the mappers of this process; how many there were."""
+    killed = 0
+    for number in filter(str.isdigit, os.listdir("/proc")):
+        try:
+            with open(f"/proc/{number}/stat", encoding="ascii", errors="replace") as file:
+                name, _, rest = file.read().partition("(")[2].rpartition(")")
+        except OSError:
+            continue
+        if name == "dmremap" and int(rest.split()[1]) == os.getpid():
+            os.kill(int(number), signal.SIGKILL)
+            killed += 1
+    return killed
+
+
+def check_plugin(tally, pile):
+    """The plugin's own functions: odd reads and extents over several parts, of which one is missing; a child that is killed; stripes of a
+    sector of which every other one is zeros, in bounded memory."""
+    known = text("vg0", "g", 4, "a", volume("v", "v", linear(0, 1, ("pv0", 3)), linear(1, 1, ("pv0", 0)), segment(2, 1, "zero"), linear(3, 1, ("pv0", 63))),
+                 volume("zeros", "z", segment(0, 4096, "zero")),
+                 volume("w", "w", segment(0, 2, "striped", "stripe_count = 2", "stripe_size = 1", 'stripes = ["pv0", 8, "zeros", 0]')))
+    content = disk("a", A, known)
+    pile.put("one", content[:-4 * SECTOR])
+    size = EXTENT * SECTOR
+    whole = extents_of(A, 3, 1) + extents_of(A, 0, 1) + bytes(size) + extents_of(A, 63, 1)
+    end = len(whole) - 4 * SECTOR
+    spots = [(at, count) for at in (0, 1, size - 511, size - 1, size, size + 1, 2 * size - 3, end - 600) for count in (1, 511, 512, 1023, 4100)]
+    found, said = served(pile, "vg0/v", "one", lambda plugin: [taken(plugin, *spot) for spot in spots])
+    wanted = [whole[at:at + count] if -(-(at + count) // SECTOR) * SECTOR <= end else None for at, count in spots]
+    tally.holds("odd reads over several parts", found == wanted, f"{[a == b for a, b in zip(found or [], wanted)]}, {said}")
+    starts = (0, 1, size - 1, size + 1, 2 * size - 1, 2 * size + 1)
+    found, said = served(pile, "vg0/v", "one", lambda plugin: [plugin.extents(1, 3 * size - at, at, 0) for at in starts])
+    parts = [(0, size, 0), (size, 2 * size, 0), (2 * size, 3 * size, 3)]
+    wanted = [[(max(at, begin), stop - max(at, begin), kind) for begin, stop, kind in parts if at < stop] for at in starts]
+    tally.holds("extents from odd places", found == wanted, f"{found}, {said}")
+    found, said = served(pile, "vg0/zeros", "one", lambda plugin: [taken(plugin, 0, 1), kill_children(), taken(plugin, 20000 * SECTOR, 3)])
+    tally.holds("a server whose child was killed", found and found[0] == bytes(1) and found[1] and found[2] == bytes(3), f"{found}, {said}")
+    found, said = served(pile, "vg0/w", "one", lambda plugin: plugin.extents(1, 2 * size, 0, 0))
+    tally.holds("extents of stripes of a sector", found == [(at * SECTOR, SECTOR, 3 * (at % 2)) for at in range(2 * EXTENT)], f"{found and found[:3]}, {said}")
+
+
+TRIES = 80
+
+
+def check_hostile(tally, pile):
+    """Images with random changes, also of texts whose sums are right: an answer, or a refusal in words."""
+    known = text("vg0", "g", 4, "ab", *PLAIN, volume("thin", "t", segment(0, 8, "thin", 'thin_pool = "wide-one"', "device_id = 1")))
+    dice = random.Random(4)
+    words = [b"0", b"-1", b"18446744073709551615", b'"pv0"', b'"home"', b'"striped"', b'"thin"', b'"raid5"', b'"cache"', b"{", b"}", b"[", b"]", b"=", b'"', b""]
+    for number in range(TRIES):
+        changed = known[:-1].split(b" ")
+        for _ in range(dice.randrange(1, 4)):
+            changed[dice.randrange(len(changed))] = dice.choice(words)
+        image = bytearray(disk("a", A, b" ".join(changed) + b"\0" if number % 2 else known))
+        if not number % 2:
+            for _ in range(4):
+                image[dice.randrange(16 * SECTOR)] = dice.randrange(256)
+        pile.put("one", bytes(image))
+        got = pile.call("scan", "--json", "one")
+        tally.holds("scanning changed images", got.status == 0 and not got.err, "number %d: status %s, %r" % (number, got.status, got.err[-300:]))
+        got = pile.call("save", "vg0/home", "out", "one")
+        is_there = os.path.exists(os.path.join(pile.folder, "out"))
+        tally.holds("saving from changed images", got.status in (0, 1) and is_there == (got.status == 0), "number %d: status %s, %r" % (number, got.status, got.err[-300:]))
+        if is_there:
+            os.unlink(os.path.join(pile.folder, "out"))
+
+
+class Models(Case, checks=[
+    check_groups, check_partitions, check_layers, check_stores, check_levels, check_legs, check_arrays, check_nested,
+    check_lost_superblocks, check_thin, check_names, check_areas, check_saving, check_files, check_served, check_plugin,
+    check_hostile
+]):
+    """Piles of images, each in an empty folder."""
+
+    def setUp(self):
+        self.pile = empty_pile(self, "models")

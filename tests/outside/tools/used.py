@@ -1,0 +1,329 @@
+"""Snapshots that were written to, as the tools read them: `extents` by stores that are made here. What a kernel finds in such stores
+is compared by tests/kernel, and what dmremap does with them by `stored`."""
+
+import importlib
+import os
+import random
+import struct
+
+import tool_streams
+import walks
+from harness import Case, run
+from physical_volumes import gpt, volume
+from tool_calls import TOOL, call
+
+MAGIC, CHUNK, SECTOR = 0x70416E53, 8, 512
+TABLE = "o: 0 64 snapshot-origin base\ns: 0 64 snapshot base cow P 8\n"
+DISKS = "base 64\ncow 160\nlost 64\n"
+PAIRS = [(3, 2), (0, 3)]
+USED = "0 8 cow 24\n8 16 base 8\n24 8 cow 16\n32 32 base 32\n"
+FRESH = "0 64 base 0\n"
+TOLD = "s: its store has 2 chunks\n"
+PATHS = ["--paths", "paths"]
+NEXT = "; --paths says where disks are, and --fresh takes every snapshot as new"
+CHANGES = 80
+
+
+def store(pairs, chunk=CHUNK, chunks=20, magic=MAGIC, valid=1, version=1, said=None):
+    """The content of a store with these pairs of an old and a new chunk."""
+    content = bytearray(chunks * chunk * SECTOR)
+    struct.pack_into("<4I", content, 0, magic, valid, version, said or chunk)
+    for number, pair in enumerate(pairs):
+        area, at = divmod(number, 32 * chunk)
+        struct.pack_into("<2Q", content, (1 + (32 * chunk + 1) * area) * chunk * SECTOR + 16 * at, *pair)
+    return bytes(content)
+
+
+class Stores:
+    """Calls of the command in a folder of its own, over a stack and the image of a store."""
+
+    def __init__(self, tally, program, top):
+        self.tally, self.program, self.top = tally, program, top
+        self.folder = os.path.dirname(program.file("used/image", store(PAIRS)))
+        self.put("table", TABLE)
+        self.put("disks", DISKS)
+        self.put("paths", "cow image\n")
+
+    def put(self, name, content):
+        self.program.file("used/" + name, content)
+
+    def call(self, words, source, device="s"):
+        return call(self.top, ["extents", "--program", self.program.path, *words, device, *source], folder=self.folder)
+
+    def same(self, name, out, err=TOLD, words=PATHS, source=("table", "table", "disks"), device="s"):
+        self.tally.same("used: " + name, self.call(words, source, device), 0, out, err)
+
+    def refused(self, name, why, words=PATHS, source=("table", "table", "disks"), device="s"):
+        self.tally.same("used: " + name, self.call(words, source, device), 1, "", "%s extents: %s\n" % (TOOL, why))
+
+
+def check_states(case):
+    case.same("a store with two chunks", USED)
+    case.same("the origin", FRESH, "", device="o")
+    for name, content, out, count in (
+            ("a store of zeros", bytes(80 * SECTOR), FRESH, "0 chunks"), ("a store without pairs", store([]), FRESH, "0 chunks"),
+            ("a store with one", store(PAIRS[:1]), "0 24 base 0\n24 8 cow 16\n32 32 base 32\n", "1 chunk"),
+            ("a free pair before others", store([(0, 0), (3, 2)]), FRESH, "0 chunks"),
+            ("a store that is valid by another number", store(PAIRS, valid=2), USED, "2 chunks")):
+        case.put("image", content)
+        case.same(name, out, "s: its store has %s\n" % count)
+    case.put("image", store(PAIRS))
+    case.same("a fresh one", FRESH, "", ["--fresh"])
+    case.same("a fresh one whose disks are somewhere", FRESH, "", ["--fresh", *PATHS])
+    case.put("k.table", TABLE.replace(" P ", " K "))
+    case.same("kind K, which is laid out as P", USED, source=("table", "k.table", "disks"))
+    case.put("n.table", TABLE.replace(" P ", " N "))
+    case.same("kind N as fresh", FRESH, "", ["--fresh"], ("table", "n.table", "disks"))
+    case.refused("kind N", "the store of s: it isn't persistent, so no disk says what is in it; --fresh takes it as new", source=("table", "n.table", "disks"))
+    # Past the first area: the image has three.
+    case.put("many.table", "s: 0 80 snapshot base cow P 1\n")
+    case.put("many.disks", "base 80\ncow 80\n")
+    case.put("image", store([(it ^ 1, 2 + it + it // 32) for it in range(70)], chunk=1, chunks=80))
+    got = case.call(PATHS, ("table", "many.table", "many.disks"))
+    rows = got.out.decode().splitlines()
+    is_so = got.status == 0 and [rows[0], rows[33], rows[68:]] == ["0 1 cow 3", "33 1 cow 35", ["68 1 cow 73", "69 1 cow 72", "70 10 base 70"]]
+    case.tally.holds("used: three areas", is_so and got.err == b"s: its store has 70 chunks\n", "%r, %r" % (rows, got.err))
+    case.put("image", store(PAIRS))
+
+
+def check_refused(case):
+    """Stores that dmremap refuses, each in words, and images that none is read from."""
+    where, damaged = "the store of s: ", "which no kernel writes: it is damaged, was changed while it was read, or is another snapshot's" + NEXT
+    belong = "look whether the disks, their places and the tables belong together" + NEXT
+    unread = "its header or its list can't be read to its end: give whole images of the disks that it lies on" + NEXT
+    for name, content, why in (
+            ("no header", store(PAIRS, magic=7), "it begins neither as a store nor with zeros, and a kernel refuses it: " + belong),
+            ("another version", store(PAIRS, version=2), "it isn't of version 1, and a kernel refuses it: " + belong),
+            ("another chunk", store(PAIRS, said=16), "its chunks have another length than the tables say, and a kernel goes by the store: `od -An -tu4 -j12 -N4` "
+             "of its first sector prints how many sectors they have, so write that there" + NEXT),
+            ("a place left out", store([(3, 2), (0, 5)]), "its list has chunks in another order than that of their places, or more than there is room for, " + damaged),
+            ("a chunk past the end", store([(3, 2), (9, 3)]), "its list has a chunk past the end of the snapshot, " + damaged),
+            ("a chunk twice", store([(3, 2), (3, 3)]), "its list has a chunk twice, " + damaged),
+            ("a store that isn't valid", store(PAIRS, valid=0), "it is invalid, as it was full once: what the origin overwrote since is lost, and nothing of the "
+             "snapshot is read; --fresh takes what the origin has"),
+            ("a short image", store(PAIRS)[:20], unread), ("an image without an area", store(PAIRS)[:8 * SECTOR + 100], unread)):
+        case.put("image", content)
+        case.refused(name, where + why)
+    case.put("image", b"BZh" + store(PAIRS))
+    case.refused("a compressed image", "image: it is compressed (bzip2): unpack it")
+    case.put("image", store(PAIRS))
+    missing = "a disk that its header or its list lies on isn't here (%s)" + NEXT
+    case.put("away", "cow nothing\n")
+    case.refused("no image", where + missing % "cow", ["--paths", "away"])
+    case.refused("a store on a disk that isn't here", where + missing % "cow", [])
+    os.mkfifo(os.path.join(case.folder, "pipe"))
+    for path in "pipe", "/dev/zero":
+        case.put("away", "cow %s\n" % path)
+        case.refused("a store in " + path, path + ": neither a file nor a disk: give the path of one", ["--paths", "away"])
+    case.put("away", "cow image?offset=100\n")
+    case.refused("a place within a sector", "--paths: cow begins at byte 100, within a sector: give a multiple of 512", ["--paths", "away"])
+    case.put("away", "cows image\n")
+    case.refused("a path of no disk", "away: no disk is called cows: give a name that the tables have", ["--paths", "away"])
+    case.put("away", b"cow b\xff\n")
+    os.symlink("image", os.path.join(os.fsencode(case.folder), b"b\xff"))
+    case.refused("a path that isn't UTF-8", "%s: dmremap: paths: text at 1" % case.program.path, ["--paths", "away"])
+
+
+# Tables that dmremap refuses: the last line but those of what lies below, the place and what a kernel does.
+LOST = "put a disk in the place of what is lost: in FILE write `linear lost 0` for `error`, and in DISKS `lost` with that line's length"
+ON = "a kernel keeps a store on %s, and dmremap doesn't: put a disk of its length in its place, and name an image of what it holds by --paths: %s"
+UNREADABLE = "a kernel refuses a store whose list fails to be read, and takes one of which other chunks are lost: %s: %s"
+SHORTER = "a kernel takes it, though it is shorter than its origin, and dmremap doesn't"
+UNLOADED = [
+    ("kind PO", "s: 0 64 snapshot base cow PO 8", 1, "a kernel lets reads of kind PO go on when the store is full, and dmremap has no such kind; write P, "
+     "whose stores are the same: 0 64 snapshot base cow PO 8"),
+    ("kind p", "s: 0 64 snapshot base cow p 8", 1, "a kernel takes this kind for P, and dmremap doesn't: write P: 0 64 snapshot base cow p 8"),
+    ("kind n", "s: 0 64 snapshot base cow n 8", 1, "a kernel takes this kind for N, and dmremap doesn't: write N: 0 64 snapshot base cow n 8"),
+    ("kind NO", "s: 0 64 snapshot base cow NO 8", 1, "a kernel takes this kind for N, and dmremap doesn't: write N: 0 64 snapshot base cow NO 8"),
+    ("another kind", "s: 0 64 snapshot base cow Persistent 8", 1, "a kernel refuses this kind of store: write that which `dmsetup table` has: 0 64 snapshot base cow Persistent 8"),
+    ("features", "s: 0 64 snapshot base cow P 8 1 discard_zeroes_cow", 1, "a kernel takes features of a snapshot, which change discards alone, and dmremap "
+     "takes none: let the line end after the chunk: 0 64 snapshot base cow P 8 1 discard_zeroes_cow"),
+    ("a merge", "s: 0 64 snapshot-merge base cow P 8", 1, "a kernel writes this snapshot back to its origin as it goes, which dmremap can't follow: take the tables when it is done: "
+     "0 64 snapshot-merge base cow P 8"),
+    ("a chunk of 0", "s: 0 64 snapshot base cow P 0", 1, "a kernel takes a chunk of 0 for 32 sectors: write 32: 0 64 snapshot base cow P 0"),
+    ("a chunk of 3", "s: 0 64 snapshot base cow P 3", 1, "a kernel refuses this chunk: write that which `dmsetup table` has: 0 64 snapshot base cow P 3"),
+    ("a chunk of 2048", "s: 0 64 snapshot base cow P 2048", 1, "a kernel takes this chunk, and dmremap none of more than 1024 sectors: read it through a kernel: 0 64 snapshot base cow P 2048"),
+    ("a chunk of 4096", "s: 0 64 snapshot base cow P 4096", 1, "a kernel takes this chunk, and dmremap none of more than 1024 sectors: read it through a kernel: 0 64 snapshot base cow P 4096"),
+    ("a chunk of 2 GiB", "s: 0 64 snapshot base cow P 4194304", 1, "a kernel refuses this chunk: write that which `dmsetup table` has: 0 64 snapshot base cow P 4194304"),
+    ("a short one", "s: 0 32 snapshot base cow P 8", 1, SHORTER + ": put a linear device of its length on the origin, and name that as the origin: 0 32 snapshot base cow P 8"),
+    ("a short one of a device", "b: 0 60 linear base 0\ns: 0 32 snapshot /dev/mapper/b cow P 8", 2,
+     SHORTER + ": put a linear device of its length on the origin, and name that as the origin: 0 32 snapshot /dev/mapper/b cow P 8"),
+    ("a long one", "s: 0 65 snapshot base cow P 8", 1, "a kernel refuses it, as it is longer than its origin: see what `dmsetup table` has: 0 65 snapshot base cow P 8"),
+    ("a short origin", "o: 0 32 snapshot-origin base", 1,
+     SHORTER + ": put a linear device of its length on the origin, and name that as the origin: 0 32 snapshot-origin base"),
+    ("a long origin", "o: 0 65 snapshot-origin base", 1, "a kernel refuses it, as it is longer than its origin: see what `dmsetup table` has: 0 65 snapshot-origin base"),
+    ("other lines", "s: 0 64 snapshot base cow P 8\ns: 64 8 zero", 1, "a kernel takes it beside other lines, and dmremap doesn't: give it a device of its own, "
+     "and write a linear line to that here: 0 64 snapshot base cow P 8"),
+    ("a store of zeros", "z: 0 64 zero\ns: 0 64 snapshot base /dev/mapper/z P 8", 2, "a kernel takes a store of zeros, which keeps nothing, so that it is fresh each "
+     "time: put a disk in its place, and give --fresh: 0 64 snapshot base /dev/mapper/z P 8"),
+    ("a store that fails", "z: 0 64 error\ns: 0 64 snapshot base /dev/mapper/z P 8", 2, UNREADABLE % (LOST, "0 64 snapshot base /dev/mapper/z P 8")),
+    ("a store that fails further down", "y: 0 8 linear cow 0\ny: 8 8 error\nz: 0 16 striped 1 8 /dev/mapper/y 0\ns: 0 64 snapshot base /dev/mapper/z P 8", 4,
+     UNREADABLE % (LOST, "0 64 snapshot base /dev/mapper/z P 8")),
+    ("a store on a snapshot", "t: 0 64 snapshot base cow P 8\ns: 0 64 snapshot base /dev/mapper/t P 8", 2, ON % ("a snapshot", "0 64 snapshot base /dev/mapper/t P 8")),
+    ("a store on an origin", "t: 0 160 snapshot-origin cow\ns: 0 64 snapshot base /dev/mapper/t P 8", 2, "a kernel keeps a store on an origin, and first copies what "
+     "it writes there to the snapshots of that: name what the origin is of, which reads the same: 0 64 snapshot base /dev/mapper/t P 8"),
+    ("a store on another target", "c: 0 160 crypt aes - 0 cow 0\ns: 0 64 snapshot base /dev/mapper/c P 8", 1, ON % ("a device of crypt", "0 160 crypt aes - 0 cow 0")),
+    ("a store above another target", "c: 0 160 raid raid1 1 8\nl: 0 160 linear /dev/mapper/c 0\ns: 0 64 snapshot base /dev/mapper/l P 8", 1,
+     ON % ("a device of raid", "0 160 raid raid1 1 8")),
+    ("too many places", "s: 0 64 snapshot base large P 1", 1, "a kernel takes stores of any length, and dmremap counts 4194304 places for chunks in all: put a linear "
+     "device on the store, as long as what `dmsetup status` says is in use of it, and name that as the store: 0 64 snapshot base large P 1"),
+]
+# Edits of a group, line by line, and the same.
+COPY = "; dmremap-tools lvm2-text makes a copy without it"
+RECORDS = [
+    ("a merge", [(45, "cow_store", "merging_store")], 39, "a kernel writes this snapshot back to its origin as it goes, which dmremap can't follow: take the tables when it is done" + COPY),
+    ("a chunk of 4096", [(43, "8", "4096")], 39, "a kernel takes this chunk, and dmremap none of more than 1024 sectors: read it through a kernel"),
+    ("a short one", [(41, "25", "24")], 39, SHORTER + COPY),
+    ("a long one", [(41, "25", "26")], 39, "a kernel refuses it, as it is longer than its origin: see what `dmsetup table` has"),
+    ("a store of zeros", [(31, "striped", "zero")], 39, "a kernel takes a store of zeros, which keeps nothing, and refuses one whose list fails to be read" + COPY),
+    ("a store that fails", [(31, "striped", "error")], 39, "a kernel takes a store of zeros, which keeps nothing, and refuses one whose list fails to be read" + COPY),
+    ("too many places", [(8, "1050624", "999999999"), (10, "128", "9000"), (30, "2", "8000")], 39,
+     "a kernel takes stores of any length, and dmremap counts 4194304 places for chunks in all" + COPY),
+    ("a store on another type", [(31, "striped", "raid1")], 31, "dmremap can't follow what stands there" + COPY),
+    ("a negative number", [(4, "8192", "8192 read_ahead = -1")], 4, "dmremap can't follow what stands there" + COPY),
+    ("a store that is the origin", [(45, "snap", "lv0")], 39, "lvm2 writes no such record of a snapshot: take an older text, from /etc/lvm/archive"),
+    ("no chunk", [(43, "chunk_size = 8", "")], 39, "lvm2 writes no such record of a snapshot: take an older text, from /etc/lvm/archive"),
+]
+
+
+def check_unloaded(case):
+    """Snapshots and stores that dmremap loads no stack with."""
+    case.put("large.disks", DISKS + "large 4325379\n")
+    for name, table, line, why in UNLOADED:
+        case.put("unloaded", table + "\n")
+        case.refused(name, "unloaded:%d: %s" % (line, why), source=("table", "unloaded", "large.disks"))
+    case.put("unloaded", "c,,,ro,0 160 linear cow 0;s,,,rw,0 64 snapshot base /dev/mapper/c P 8\n")
+    case.refused("a store that is read-only", "unloaded:2: a kernel takes a store that is read-only, and writes to it all the same, with a warning in its log: write rw: "
+                 "0 64 snapshot base /dev/mapper/c P 8", source=("concise", "unloaded", "disks"))
+    with open(os.path.join(case.top, "examples", "vg0-snapshot.backup"), encoding="ascii") as it:
+        lines = it.read().split("\n")
+    for name, edits, line, why in RECORDS:
+        changed = list(lines)
+        for number, old, new in edits:
+            changed[number - 1] = changed[number - 1].replace(old, new)
+        case.put("unloaded", "\n".join(changed))
+        case.refused("a group with " + name, "unloaded:%d: %s" % (line, why), ["--fresh"], ("lvm", "unloaded"), "vg0-snap")
+    # The ways out that these name.
+    case.put("loaded.disks", DISKS + "longer 80\nlarge 4325379\n")
+    for name, table, origin, kept in (("a short one", "b: 0 64 linear longer 0\ns: 0 64 snapshot /dev/mapper/b cow P 8\n", "longer", "cow"),
+                                      ("other lines", "s: 0 64 snapshot base cow P 8\nu: 0 64 linear /dev/mapper/s 0\nu: 64 8 zero\n", "base", "cow"),
+                                      ("what is lost of a store", "z: 0 32 linear cow 0\nz: 32 64 linear lost 0\ns: 0 64 snapshot base /dev/mapper/z P 8\n", "base", "cow"),
+                                      ("too many places", "z: 0 160 linear large 0\ns: 0 64 snapshot base /dev/mapper/z P 8\n", "base", "large")):
+        case.put("loaded", table)
+        case.put("kept", kept + " image\n")
+        case.same("the way out of " + name, USED.replace("base", origin).replace("cow", kept), words=["--paths", "kept"], source=("table", "loaded", "loaded.disks"))
+
+
+def check_places(case):
+    """Stores that lie on devices: striped, and a group."""
+    content = store(PAIRS)
+    columns = [b"".join(content[at + 4 * column * SECTOR:at + 4 * (column + 1) * SECTOR] for at in range(0, len(content), 8 * SECTOR)) for column in (0, 1)]
+    case.put("x.img", bytes(10 * SECTOR) + columns[0])
+    case.put("y.img", b"x" * 1024 + columns[1])
+    case.put("striped", "c: 0 160 striped 2 4 x 10 y 0\ns: 0 64 snapshot base /dev/mapper/c P 8\n")
+    case.put("striped.disks", "base 64\nx 90\ny 80\n")
+    case.put("striped.paths", "x x.img\ny y.img?offset=1024\n")
+    case.same("a store on two disks", "0 4 x 22\n4 4 y 12\n8 16 base 8\n24 4 x 18\n28 4 y 8\n32 32 base 32\n",
+              words=["--paths", "striped.paths"], source=("table", "striped", "striped.disks"))
+    # Neither the header nor the list lies on y.
+    case.put("striped.paths", "x x.img\ny away/y.img\n")
+    case.same("a store of whose disks another is away", "0 4 x 22\n4 4 y 12\n8 16 base 8\n24 4 x 18\n28 4 y 8\n32 32 base 32\n",
+              words=["--paths", "striped.paths"], source=("table", "striped", "striped.disks"))
+    case.put("striped.paths", "x away/x.img\ny y.img\n")
+    case.refused("a store of whose disks one is away", "the store of s: a disk that its header or its list lies on isn't here (x)" + NEXT,
+                 ["--paths", "striped.paths"], ("table", "striped", "striped.disks"))
+    with open(os.path.join(case.top, "examples", "vg0-snapshot.backup"), encoding="ascii") as it:
+        case.put("group", it.read())
+    case.put("sda1.img", b"")
+    with open(os.path.join(case.folder, "sda1.img"), "r+b") as it:
+        it.seek(206848 * SECTOR)
+        it.write(store([(1001, 2), (7, 3)], chunks=2048))
+    case.put("group.paths", "/dev/sda1 sda1.img\n")
+    extents, told = "0 56 /dev/sda1 2048\n56 8 /dev/sda1 206872\n64 7944 /dev/sda1 2112\n8008 8 /dev/sda1 206864\n", "vg0-snap: its store has 2 chunks\n"
+    got = case.call(["--paths", "group.paths"], ("lvm", "group"), "vg0-snap")
+    case.tally.holds("used: a group", got.status == 0 and got.out.decode().startswith(extents) and got.err.decode() == told, "%r, %r" % (got.out[:200], got.err))
+    # The same on a partition of a whole disk, whose label has the id of the physical volume.
+    with open(os.path.join(case.folder, "group"), encoding="ascii") as it:
+        case.put("group.ids", it.read().replace("    pv0 {\n", '    pv0 {\n      id = "%s"\n' % walks.dashed(walks.IDS[0])))
+    case.put("whole.img", gpt((64, 1050687)).ljust(64 * SECTOR, b"\0") + volume(identity=walks.IDS[0].encode()))
+    with open(os.path.join(case.folder, "whole.img"), "r+b") as it:
+        it.seek((64 + 206848) * SECTOR)
+        it.write(store([(1001, 2), (7, 3)], chunks=2048))
+    case.put("group.paths", "/dev/sda1 whole.img\n")
+    got = case.call(["--paths", "group.paths"], ("lvm", "group.ids"), "vg0-snap")
+    told = "whole.img: the image of a whole disk (GPT), whose partition 1 is a physical volume: that is read\n" + told
+    case.tally.holds("used: a group on a partition", got.status == 0 and got.out.decode().startswith(extents) and got.err.decode() == told, "%r, %r" % (got.out[:200], got.err))
+    case.refused("a group without ids on a partition", "whole.img: the image of a whole disk (GPT), and /dev/sda1 has 1050624 sectors: give the "
+                 "partition that it is, as IMAGE?offset=BYTES", ["--paths", "group.paths"], ("lvm", "group"), "vg0-snap")
+    case.put("cow.img", gpt((64, 223)).ljust(64 * SECTOR, b"\0") + content)
+    case.put("whole.paths", "cow cow.img\n")
+    case.refused("a whole disk for a partition", "cow.img: the image of a whole disk (GPT), and cow has 160 sectors: give the partition "
+                 "that it is, as IMAGE?offset=BYTES", ["--paths", "whole.paths"])
+    case.put("hole.img", store(PAIRS)[:8 * SECTOR])
+    case.put("hole", "c: 0 8 linear z 0\nc: 8 152 linear z 8\ns: 0 64 snapshot base /dev/mapper/c P 8\n")
+    case.put("hole.disks", "base 64\nz 160\n")
+    case.put("hole.paths", "z hole.img\n")
+    case.refused("an area past an image's end", "the store of s: its header or its list can't be read to its end: give whole images of the disks that it lies on" + NEXT,
+                 ["--paths", "hole.paths"], ("table", "hole", "hole.disks"))
+
+
+def check_stacks(case):
+    """Read-only snapshots, origins that fail, snapshots of snapshots, and stores that nothing is read through."""
+    case.put("ro", "s,,,ro,0 64 snapshot base cow P 8\n")
+    case.same("a read-only one", USED, source=("concise", "ro", "disks"))
+    case.put("error", "z: 0 40 linear base 0\nz: 40 24 error\ns: 0 64 snapshot /dev/mapper/z cow P 8\n")
+    case.put("image", store(PAIRS + [(6, 4)]))
+    case.same("an origin that fails", "0 8 cow 24\n8 16 base 8\n24 8 cow 16\n32 8 base 32\n40 8 error\n48 8 cow 32\n56 8 error\n", "s: its store has 3 chunks\n",
+              source=("table", "error", "disks"))
+    case.put("image", store(PAIRS))
+    case.put("upper", store([(1, 2)]))
+    case.put("two", "t: 0 64 snapshot /dev/mapper/s cow2 P 8\ns: 0 64 snapshot base cow P 8\nu: 0 64 snapshot base none P 8\n")
+    case.put("two.disks", DISKS + "cow2 160\nnone 160\n")
+    case.put("two.paths", "cow image\ncow2 upper\n")
+    two = {"words": ["--paths", "two.paths"], "source": ("table", "two", "two.disks")}
+    case.same("a snapshot of one", "0 8 cow 24\n8 8 cow2 16\n16 8 base 16\n24 8 cow 16\n32 32 base 32\n", "t: its store has 1 chunk\n" + TOLD, device="t", **two)
+    case.same("the lower one", USED, **two)
+    case.put("image", store(PAIRS, valid=0))
+    case.refused("one of which the lower is invalid", "the store of s: it is invalid, as it was full once: what the origin overwrote since is lost, and nothing of the "
+                 "snapshot is read; --fresh takes what the origin has", device="s", **two)
+    case.put("image", store(PAIRS))
+
+
+def check_words(case):
+    for words, why in ((["--fresh", "s", "s", "table", "table", "disks"], "argument FORMAT: invalid choice: 's'"), (["--store", "s=image", "s", "table", "table", "disks"],
+                        "argument FORMAT: invalid choice: 's'")):
+        got = call(case.top, ["extents", *words], folder=case.folder)
+        is_so = got.status == 2 and got.out == b"" and "%s extents: %s" % (TOOL, why) in got.err.decode()
+        case.tally.holds("used: the words " + " ".join(words), is_so, "%s, %r" % (got.status, got.err))
+    piped = ["bash", "-c", '"$@" s table <(cat table) <(cat disks)', "bash", os.path.join(case.top, TOOL), "extents", "--program", case.program.path, *PATHS]
+    case.tally.same("used: over pipes", run(piped, folder=case.folder), 0, USED, TOLD)
+    dies = case.program.file("used/dies", '#!/bin/sh\ncase "$*" in *--status) kill -9 $$;; esac\nexec %s "$@"\n' % case.program.path)
+    os.chmod(dies, 0o755)
+    got = call(case.top, ["extents", "--program", dies, *PATHS, "s", "table", "table", "disks"], folder=case.folder)
+    case.tally.same("used: by a dmremap that dies", got, 5, "", "%s extents: %s: it was ended by signal 9\n" % (TOOL, dies))
+
+
+def check_changed(case):
+    """Random changes of the image of a store: an answer, or a refusal in words."""
+    command = importlib.import_module("dmremap_tools.commands").find("extents")
+    dice, content = random.Random(7), store(PAIRS)
+    # The header and the list, where nearly all else is zeros.
+    spots = [it for at in (0, CHUNK * SECTOR) for it in range(at, at + 40)]
+    for number in range(CHANGES):
+        changed = bytearray(content)
+        for _ in range(dice.choice((1, 1, 2, 5))):
+            changed[dice.choice(spots)] = dice.choice((0, 1, 2, 3, 8, 16, 255))
+        case.put("image", bytes(changed[:dice.choice((len(content), len(content), dice.randrange(len(content))))]))
+        got = case.call(PATHS, ("table", "table", "disks"))
+        why = tool_streams.fault_of(command, got)
+        case.tally.holds("used: change %d of an image" % number, not why, why)
+    case.put("image", content)
+
+
+class Used(Case, checks=[
+    check_states, check_refused, check_unloaded, check_places, check_stacks, check_words, check_changed
+]):
+    """Stores of each state, and changed ones."""
+
+    def setUp(self):
+        self.case = Stores(self, self.program, self.top)
