@@ -9,7 +9,7 @@ How to add a command:
        run(words), which does it: `words` has what was typed, by the names of these arguments. It may return the
            status INCOMPLETE of `refusal`, where the answer is there but has gaps that were told.
 2. Add a line to the list in `commands.py`: name, group, summary, and whether dmremap reads what it prints.
-3. Add rows to a module in `tests/outside`, a call to those in `tests/outside/tool_streams.py`, and a task to
+3. Add rows to a module in `tests/outside`, a call to those in `tests/outside/tools/tool_streams.py`, and a task to
    `docs/RECIPES.md`. Run `tools/derive`, which writes the manual and the completions.
 
 What a command uses of `base`, so that all behave alike:

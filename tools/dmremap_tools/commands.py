@@ -19,7 +19,6 @@ class Command(NamedTuple):
 
     @property
     def module(self) -> str:
-        """The module that does it, below this package."""
         return "%s.%s" % (FOLDERS[self.group], self.name.replace("-", "_"))
 
 
@@ -52,7 +51,6 @@ COMMANDS: List[Command] = [
 
 
 def find(name: str) -> Optional[Command]:
-    """The command of this name."""
     return next((it for it in COMMANDS if it.name == name), None)
 
 

@@ -32,11 +32,9 @@ class Parser(argparse.ArgumentParser):
     words: List[str] = []
 
     def print_help(self, file: object = None) -> None:
-        """Prints the help."""
         streams.out.write(self.format_help())
 
     def exit(self, status: int = 0, message: "str | None" = None) -> NoReturn:
-        """Ends after the help."""
         raise SystemExit(status)
 
     def error(self, message: str) -> NoReturn:
@@ -126,7 +124,6 @@ def _parsed(parser: Parser, words: List[str]) -> argparse.Namespace:
 
 
 def parser_of(command: "commands.Command", module: ModuleType, name: str) -> Parser:
-    """The parser of a command's words, with its help."""
     text = "%s\n\nexample:\n  %s" % ((module.__doc__ or "").strip(), module.EXAMPLE)
     parser = Parser(prog=name, description=text, allow_abbrev=False, formatter_class=argparse.RawDescriptionHelpFormatter)
     module.add_words(parser)

@@ -22,7 +22,6 @@ class Compared:
         self._ahead = self._places = 0
 
     def answer(self, uses: Sequence[str], starts: List[int], ends: List[int]) -> None:
-        """Takes answers, and as much of LOWER."""
         for use, start, end in zip(uses, starts, ends):
             self._add(use, start, end, 1)
             self._ahead += end - start
@@ -70,7 +69,6 @@ class AsTheyAre(names.Names):
     """Takes names of disks for what they are."""
 
     def device(self, path: str, place: names.Place) -> str:
-        """The name itself."""
         return path
 
 

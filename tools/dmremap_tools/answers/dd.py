@@ -9,13 +9,15 @@ there is nothing to read or write, writes without --image, and an IMAGE that is 
 The lines count in sectors, so any `dd` will do. They write to disks only where the answers do: look at them first.
 """
 
+import functools
 import os
 import stat
+import tempfile
 from argparse import ArgumentParser, Namespace
-from typing import Dict, Optional, Set, Tuple
+from typing import Iterator, Optional, Set, Tuple
 
-from dmremap_tools.answers.mapping import mapping
-from dmremap_tools.base import disk_image, given, numbers, paths, pieces, quoting, streams, written
+from dmremap_tools.answers.mapped import Mapped
+from dmremap_tools.base import disk_image, given, names, numbers, paths, pieces, quoting, requests, streams, written
 from dmremap_tools.base.refusal import Refusal, WrongWords
 from dmremap_tools.layers import started
 
@@ -23,7 +25,6 @@ EXAMPLE = "echo 'R vg0-lv0 8000 16' | dmremap-tools dd lvm vg0.backup | sh | cmp
 
 
 def add_words(parser: ArgumentParser) -> None:
-    """Adds the arguments."""
     given.add_words(parser)
     parser.add_argument("--requests", metavar="REQUESTS", default="-", help="a file of requests; else standard input")
     parser.add_argument("--image", metavar="IMAGE", help="the file with the sectors of the requests, one after the other")
@@ -31,13 +32,27 @@ def add_words(parser: ArgumentParser) -> None:
 
 
 def run(words: Namespace) -> None:
-    """Prints a line for each piece."""
     image = written.file_of(words.image) if words.image is not None else None
-    with mapping(words, words.requests, given.given_in(words, "FORMAT FILE [DISKS] < REQUESTS")) as (answers, places):
-        writer = Writer(answers, image, places)
-        streams.out.write("set -e\n")
-        for piece in answers:
-            writer.take(piece)
+    source = given.given_in(words, "FORMAT FILE [DISKS] < REQUESTS")
+    devices: Set[str] = set()
+    operations: Set[str] = set()
+
+    def asked() -> Iterator[str]:
+        for operation, name, first, count in requests.read(streams.Lines(words.requests), names.Names(), requests.NO_REQUEST):
+            devices.add(name)
+            operations.add(operation)
+            yield f"{operation} {name} {first} {count}\n"
+
+    with tempfile.TemporaryDirectory(prefix="dmremap-tools-") as room:
+        kept = os.path.join(room, "REQUESTS")
+        given.put(kept, asked())
+        # What is written to an origin goes to the stores of its snapshots, too.
+        begun = started.start(words, source, None if "W" in operations else sorted(devices), room)
+        with open(kept, encoding="utf-8", errors="surrogateescape") as lines, Mapped(begun.words, lines) as mapped:
+            writer = Writer(mapped.answers, image, begun.places)
+            streams.out.write("set -e\n")
+            for piece in mapped.answers:
+                writer.take(piece)
 
 
 class Writer:
@@ -48,36 +63,29 @@ class Writer:
         self.at = 0
         self._known = written.identity_at(image) if image is not None else None
         self._checked: Set[str] = set()
-        self._ends: Dict[str, Optional[int]] = {}
 
     def take(self, piece: pieces.Piece) -> None:
-        """Writes the line for a piece."""
         if piece.what == "error" or (piece.what in ("W", "drop") and self.image is None):
             self.source.refuse_line("no sectors of a disk, leave them out" if piece.what == "error" else "a write, give --image")
-        if piece.what == "copy":
-            self._line(piece.count, *self._read(piece.disk, piece.start, piece.count), *self._place(piece.to, piece.to_start))
-        elif piece.what == "fill":
-            self._line(piece.count, "/dev/zero", 0, *self._place(piece.to, piece.to_start))
+        in_image = self.image, self.at
+        if piece.what in ("copy", "R"):
+            origin: Tuple[Optional[str], int] = self._read(piece.disk, piece.start, piece.count)
         else:
-            if piece.what == "W":
-                self._line(piece.count, self.image, self.at, *self._place(piece.disk, piece.start))
-            elif piece.what != "drop":
-                source = self._read(piece.disk, piece.start, piece.count) if piece.disk else ("/dev/zero", 0)
-                self._line(piece.count, *source, self.image, self.at)
-            self.at += piece.count
-
-    def _line(self, count: int, source: str, skip: int, to: "str | None", seek: int) -> None:
-        line = "dd if=%s bs=512 skip=%d count=%d status=none" % (quoting.for_shell(source), skip, count)
-        if to is not None:
-            line += " of=%s seek=%d conv=notrunc" % (quoting.for_shell(to), seek)
-        streams.out.write(line + "\n")
+            origin = in_image if piece.what == "W" else ("/dev/zero", 0)
+        if piece.what == "W":
+            target: Tuple[Optional[str], int] = self._place(piece.disk, piece.start)
+        else:
+            target = self._place(piece.to, piece.to_start) if piece.to else in_image
+        self.at += 0 if piece.to else piece.count
+        if piece.what != "drop":
+            line = f"dd if={quoting.for_shell(origin[0] or '')} bs=512 skip={origin[1]} count={piece.count} status=none"
+            seek = f" of={quoting.for_shell(target[0])} seek={target[1]} conv=notrunc" if target[0] is not None else ""
+            streams.out.write(f"{line}{seek}\n")
 
     def _read(self, name: str, start: int, count: int) -> Tuple[str, int]:
         """Where sectors are read. `dd` says nothing of a file that ends before them, and what follows would move up."""
         path, place = self._place(name, start)
-        if path not in self._ends:
-            self._ends[path] = _end_of(path) if name in self.here else None
-        end = self._ends[path]
+        end = _end_of(path) if name in self.here else None
         if end is not None and end < (place + count) * numbers.SECTOR:
             raise Refusal(path, f"it ends at byte {end}, before sector {place + count}: give an image of the whole disk")
         return path, place
@@ -87,11 +95,12 @@ class Writer:
         if name not in self._checked:
             self._checked.add(name)
             if self._known and written.identity_at(place.path) == self._known:
-                raise WrongWords("--image: %s is the disk %s, too: give another file" % (quoting.shown(self.image or ""), quoting.shown(name)))
+                raise WrongWords(f"--image: {quoting.shown(self.image or '')} is the disk {quoting.shown(name)}, too: give another file")
         place.check_sectors(name)
         return place.path, place.start // numbers.SECTOR + start
 
 
+@functools.lru_cache(maxsize=None)
 def _end_of(path: str) -> Optional[int]:
     """The length in bytes; None where there is no such file or disk here, which `dd` tells itself."""
     try:

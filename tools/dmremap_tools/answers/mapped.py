@@ -1,5 +1,6 @@
 """dmremap map, with the requests of a generator."""
 
+import contextlib
 import os
 import select
 import subprocess
@@ -24,17 +25,19 @@ class Mapped:
         self._faults: List[BaseException] = []
         self._feeder = threading.Thread(target=self._feed, args=(requests,))
         self._feeder.start()
-        self.answers = pieces.Answers("/dev/fd/%d" % self._child.stdout.fileno())
+        self.answers = pieces.Answers(f"/dev/fd/{self._child.stdout.fileno()}")
         self.answers.name = self._name
 
     def __enter__(self) -> "Mapped":
         return self
 
     def __exit__(self, kind: "Optional[Type[BaseException]]", fault: Optional[BaseException], trace: Optional[TracebackType]) -> None:
-        is_ended = kind is None or self._is_at_end()
+        answers = self._child.stdout
+        # Nothing comes any more if dmremap ended.
+        is_ended = kind is None or bool(select.select([answers], [], [], 0)[0]) and not os.read(answers.fileno(), 1)
         if not is_ended:
             self._child.kill()
-        self._child.stdout.close()
+        answers.close()
         self._feeder.join()
         status = self._child.wait()
         if kind is None or kind is Refusal:
@@ -43,24 +46,16 @@ class Mapped:
             if status > 0 or status and is_ended:
                 program.fail(self._name, status)
 
-    def _is_at_end(self) -> bool:
-        """Whether nothing comes any more, as dmremap ended."""
-        answers = self._child.stdout
-        return bool(select.select([answers], [], [], 0)[0]) and not os.read(answers.fileno(), 1)
-
     def _feed(self, requests: Iterable[str]) -> None:
         """Writes the requests. If dmremap ends early, its status says why."""
         pipe = self._child.stdin
         try:
-            for request in requests:
-                pipe.write(request.encode("utf-8", "surrogateescape"))
-            pipe.close()
-        except BrokenPipeError:
-            pass
+            with contextlib.suppress(BrokenPipeError):
+                for request in requests:
+                    pipe.write(request.encode("utf-8", "surrogateescape"))
+                pipe.flush()
         except Exception as fault:
             self._faults.append(fault)
         finally:
-            try:
+            with contextlib.suppress(OSError):
                 pipe.close()
-            except OSError:
-                pass

@@ -2,12 +2,12 @@
 
 import bisect
 import functools
+import re
 from array import array
-from collections import Counter
-from operator import add
-from typing import Dict, Iterator, List, Sequence, Tuple
+from collections import Counter, defaultdict
+from operator import add, gt
+from typing import Dict, Iterator, List, Optional, Sequence, Tuple
 
-from dmremap_tools.answers.moments import Moments
 from dmremap_tools.base import pieces, streams
 from dmremap_tools.base.refusal import Refusal
 from dmremap_tools.layouts import svg
@@ -21,6 +21,37 @@ COLOURS = ((31, 95, 191), (192, 48, 32))
 STEP = 1e-6
 # More take more memory than a picture is worth.
 MOST_FIELDS = 1 << 10
+TIME = re.compile(r"\d{1,15}(?:\.\d{1,12})?")
+
+
+class Moments:
+    """The moments of the requests of a block: their numbers, or of TIMES how many seconds after the first they came. A time before
+    that of an earlier request counts as that. `first` is the least moment, `last` that of the last request."""
+
+    def __init__(self, times: Optional[str]) -> None:
+        self.are_times = times is not None
+        self.first, self.last = int(not self.are_times), 0.0
+        self._times = streams.Lines(times) if times is not None else None
+        self._rows: Iterator[str] = iter(self._times or ())
+        self._begun: Optional[float] = None
+        self._of: Dict[int, float] = {}
+
+    def take(self, source: pieces.Answers, requests: List[int]) -> None:
+        if self._times is None:
+            self.last = requests[-1] if requests else self.last
+            return
+        self._of = {number: moment for number, moment in self._of.items() if number in requests[:1]}
+        for number in dict.fromkeys(requests):
+            while self._times.number < number:
+                row = next(self._rows, "")
+                if not TIME.fullmatch(row):
+                    source.refuse_where("no time of the request, give what `trace --times` wrote", lambda it: it.request == number)
+                self._begun = float(row) if self._begun is None else self._begun
+                self.last = max(self.last, float(row) - self._begun)
+            self._of[number] = self.last
+
+    def of(self, requests: List[int]) -> Sequence[float]:
+        return [self._of[it] for it in requests] if self.are_times else requests
 
 
 class Field:
@@ -28,6 +59,8 @@ class Field:
 
     def __init__(self, size: int) -> None:
         self.size = size
+        # Where the cell above each begins.
+        self.edges = [-(-(row + 1) * size // ROWS) for row in range(ROWS)]
         # For each column how many were there when it began, counted from 1, or 0; and the counts of what is read in them, and of
         # what is written.
         self._index, self._counts = array("H", bytes(2 * COLUMNS)), bytearray()
@@ -40,7 +73,6 @@ class Field:
         return self._counts, (self._index[column] - 1) * BOTH
 
     def halve(self) -> None:
-        """Lets two columns be one."""
         index, counts = array("H", bytes(2 * COLUMNS)), bytearray()
         for column in range(0, COLUMNS, 2):
             both = [self._column(it) for it in (column, column + 1) if self._index[it]]
@@ -80,11 +112,15 @@ class Fields:
         self._sizes, self._moments = sizes, moments
         self._step, self._used = STEP if moments.are_times else 1, 0
         self._fields: Dict[str, Field] = {}
+        # The column that pieces stand in, and how often what is done with a disk touches which cells of it.
+        self._column = 0
+        self._touched: Dict[Tuple[str, str], Dict[int, int]] = defaultdict(Counter)
 
     def columns(self, requests: List[int]) -> Iterator[Tuple[int, int, int]]:
         """Which of some requests, from one up to another, stand in which column."""
         places, first = self._moments.of(requests), self._moments.first
         while places[-1] - first >= self._step * COLUMNS:
+            self._settle(0)
             self._step *= 2
             self._used = (self._used + 1) // 2
             for field in self._fields.values():
@@ -97,27 +133,37 @@ class Fields:
             yield begin, end, column
             begin = end
 
-    def mark(self, source: pieces.Answers, column: int, uses: Sequence[str], starts: List[int], ends: List[int]) -> None:
-        """Marks what is done with sectors of disks."""
-        cells: Dict[str, Tuple[bytearray, int]] = {}
-        for use in set(uses):
-            disk = use[2:]
-            if disk not in self._fields:
-                if len(self._fields) == MOST_FIELDS:
-                    raise Refusal(source.name, f"pieces on more than {MOST_FIELDS} disks, too many for a picture: give those of fewer")
-                self._fields[disk] = Field(self._sizes[disk])
-            counts, begin = self._fields[disk].cells(column)
-            cells[use] = counts, begin + (ROWS if use[0] == "W" else 0)
-        sizes = list(map({use: self._sizes[use[2:]] for use in cells}.__getitem__, uses))
-        firsts = [start * ROWS // size for start, size in zip(starts, sizes)]
-        lasts = [(end - 1) * ROWS // size for end, size in zip(ends, sizes)]
-        for (use, first, last), times in Counter(zip(uses, firsts, lasts)).items():
-            counts, begin = cells[use]
-            for cell in range(begin + first, begin + last + 1):
-                counts[cell] = min(DARKEST, counts[cell] + times)
+    def mark(self, source: pieces.Answers, column: int, disk: str, what: str, starts: List[int], ends: List[int]
+             ) -> None:
+        """Marks what is done with sectors of a disk."""
+        if disk not in self._fields:
+            if len(self._fields) == MOST_FIELDS:
+                raise Refusal(source.name, f"pieces on more than {MOST_FIELDS} disks, too many for a picture: "
+                              "give those of fewer")
+            self._fields[disk] = Field(self._sizes[disk])
+        if column != self._column:
+            self._settle(column)
+        field, touched = self._fields[disk], self._touched[disk, what]
+        size, edges = field.size, field.edges
+        cells = [start * ROWS // size for start in starts]
+        touched.update(cells)
+        if any(map(gt, ends, map(edges.__getitem__, cells))):
+            for cell, end in zip(cells, ends):
+                if end > edges[cell]:
+                    touched.update(range(cell + 1, (end - 1) * ROWS // size + 1))
+
+    def _settle(self, column: int) -> None:
+        """Marks what was touched in the column so far, and goes on with another one."""
+        for (disk, what), touched in self._touched.items():
+            counts, begin = self._fields[disk].cells(self._column)
+            for cell, times in touched.items():
+                place = begin + cell + (ROWS if what == "W" else 0)
+                counts[place] = min(DARKEST, counts[place] + times)
+        self._touched.clear()
+        self._column = column
 
     def draw(self, out: streams.Output) -> None:
-        """Writes the picture, with the disks in the order of DISKS."""
+        self._settle(0)
         width, high = COLUMNS * CELL, ROWS * CELL
         reach = f"{self._moments.last:g} seconds" if self._moments.are_times else f"requests 1 to {self._moments.last}"
         shown = [it for it in self._sizes if it in self._fields]

@@ -27,12 +27,11 @@ order.
 
 from argparse import ArgumentParser, Namespace
 from collections import Counter, defaultdict
-from operator import add, gt
+from operator import add, sub
 from typing import Dict, List, Optional, Sequence, Tuple
 
 from dmremap_tools.answers.compared import Compared
-from dmremap_tools.answers.moments import Moments
-from dmremap_tools.answers.plot import Fields
+from dmremap_tools.answers.plot import Fields, Moments
 from dmremap_tools.base import disks, numbers, pieces, quoting, streams
 from dmremap_tools.base.refusal import Refusal, WrongWords
 
@@ -40,10 +39,11 @@ EXAMPLE = "dmremap map lvm vg0.backup < requests | dmremap-tools report"
 LONGEST_BAR = 40
 # Reads and writes of more disks than DISKS has in a text that dmremap takes, unless their names are very short.
 MOST_TOTALS = 1 << 17
+# A disk, what is done there, and the first sectors of pieces and those behind them.
+Use = Tuple[str, str, List[int], List[int]]
 
 
 def add_words(parser: ArgumentParser) -> None:
-    """Adds the arguments."""
     pieces.add_words(parser)
     parser.add_argument("--disks", metavar="DISKS", help="the disks with their lengths, for the order")
     parser.add_argument("--plot", metavar="OUT.svg", help="a picture to write; it needs --disks")
@@ -52,7 +52,6 @@ def add_words(parser: ArgumentParser) -> None:
 
 
 def run(words: Namespace) -> None:
-    """Counts until the answers end."""
     if words.plot is not None and words.disks is None:
         raise WrongWords("--plot needs --disks")
     picture = streams.beside(words.plot) if words.plot is not None else None
@@ -75,46 +74,41 @@ def run(words: Namespace) -> None:
 
 
 class Report:
-    """The figures, by disk, or by what is done there: R or W, and the disk."""
+    """The figures of answers."""
 
     def __init__(self, sizes: Optional[Dict[str, int]], fields: Optional[Fields], compared: Optional[Compared]) -> None:
         self._sizes, self._fields, self._compared = sizes, fields, compared
-        # By what is done, the pieces and the sectors; and with how many binary digits a length has, the pieces.
-        self._totals: Dict[str, List[int]] = defaultdict(lambda: [0, 0])
-        self._lengths: Dict[Tuple[str, int], int] = Counter()
-        # By disk: the end of the last piece, how many moves there were, and how far they were together.
+        # By disk and what is done, the pieces and the sectors; and of lengths with so many binary digits, the pieces.
+        self._totals: Dict[Tuple[str, str], List[int]] = defaultdict(lambda: [0, 0])
+        self._lengths: Dict[Tuple[str, str], Dict[int, int]] = defaultdict(Counter)
+        # By disk: the end of the last piece, how far all moves were together, and how many there were.
         self._heads: Dict[str, List[int]] = {}
         self._splits: Dict[int, int] = Counter()
         # The last request, and its pieces so far.
         self._request = self._pieces = 0
 
     def take(self, source: pieces.Answers, block: pieces.Block) -> None:
-        """Counts the pieces of a block."""
-        if block.moves:
-            requests = block.requests if len(block.moves) == len(block.requests) else list(map(int, next(zip(*block.moves))))
-            self._count_splits(requests)
-            self._take_moves(source, block.moves, requests, True)
-        if block.copied:
-            copied = sorted(block.copied, key=lambda it: int(it[0]))
-            self._take_moves(source, copied, [int(it[0]) for it in copied], False)
+        if block.moves.requests:
+            self._count_splits(block.moves.requests)
+            self._take_moves(source, block.moves, True)
+        if block.copied.requests:
+            self._take_moves(source, block.copied, False)
         for (what, length), times in Counter(block.others).items():
-            self._add(what + " -", int(length), times)
+            self._add("-", what, times, times * int(length))
 
     def write(self) -> None:
-        """Prints the figures."""
         rank = {disk: place for place, disk in enumerate(self._sizes or ())}
-        uses = sorted(self._totals, key=lambda it: (rank.get(it.partition(" ")[2], -1), it.split(" ")[::-1]))
-        for use in uses:
-            what, _, disk = use.partition(" ")
-            count, sectors = self._totals[use]
+        uses = sorted(self._totals, key=lambda use: (rank.get(use[0], -1), use))
+        for disk, what in uses:
+            count, sectors = self._totals[disk, what]
             streams.out.write(f"total {disk} {what} {count} {sectors} {sectors * numbers.SECTOR}\n")
-        greatest = max(self._lengths.values(), default=0)
-        order = {use: place for place, use in enumerate(uses)}
-        for use, digits in sorted(self._lengths, key=lambda it: (order[it[0]], it[1])):
-            count = self._lengths[use, digits]
-            streams.out.write(f"length {use[2:]} {use[0]} {1 << (digits - 1)} {count} {'#' * -(-LONGEST_BAR * count // greatest)}\n")
-        for disk in dict.fromkeys(use.partition(" ")[2] for use in uses):
-            _, count, far = self._heads.get(disk, (0, 0, 0))
+        greatest = max((count for lengths in self._lengths.values() for count in lengths.values()), default=0)
+        for disk, what in uses:
+            for digits, count in sorted(self._lengths[disk, what].items()):
+                bar = "#" * -(-LONGEST_BAR * count // greatest)
+                streams.out.write(f"length {disk} {what} {1 << (digits - 1)} {count} {bar}\n")
+        for disk in dict.fromkeys(disk for disk, _ in uses):
+            _, far, count = self._heads.get(disk, (0, 0, 0))
             if count:
                 streams.out.write(f"seek {disk} {far // count}\n")
         self._splits[self._pieces] += 1
@@ -128,50 +122,59 @@ class Report:
         self._pieces = counts.pop(self._request)
         self._splits.update(counts.values())
 
-    def _take_moves(self, source: pieces.Answers, moves: List[pieces.Move], requests: List[int], are_heads: bool) -> None:
+    def _take_moves(self, source: pieces.Answers, moves: pieces.Moves, are_heads: bool) -> None:
         """Counts reads and writes, for which heads may have to move."""
-        for begin, end, column in self._fields.columns(requests) if self._fields else [(0, len(moves), 0)]:
-            _, uses, firsts, counts = zip(*moves[begin:end])
-            starts = list(map(int, firsts))
-            ends = list(map(add, starts, map(int, counts)))
+        places = self._fields.columns(moves.requests) if self._fields else [(0, len(moves.requests), 0)]
+        for begin, end, place in places:
+            whats, disks, starts = moves.whats[begin:end], moves.disks[begin:end], moves.starts[begin:end]
+            ends = list(map(add, starts, moves.counts[begin:end]))
+            uses = grouped(self._heads if are_heads else {}, whats, disks, starts, ends)
             if self._sizes is not None:
-                check_disks(source, self._sizes, uses, ends)
-            for (use, length), times in Counter(zip(uses, counts)).items():
-                sectors = int(length)
-                self._add(use, sectors, times)
-                self._lengths[use, sectors.bit_length()] += times
-            if are_heads:
-                self._move_heads(uses, starts, ends)
-            if self._fields:
-                self._fields.mark(source, column, uses, starts, ends)
+                check_disks(source, self._sizes, uses)
+            for disk, what, firsts, lasts in uses:
+                counts = list(map(sub, lasts, firsts))
+                self._add(disk, what, len(counts), sum(counts))
+                self._lengths[disk, what].update(map(int.bit_length, counts))
+                if self._fields:
+                    self._fields.mark(source, place, disk, what, firsts, lasts)
             if self._compared:
-                self._compared.answer(uses, starts, ends)
+                self._compared.answer(list(map(" ".join, zip(whats, disks))), starts, ends)
         if len(self._totals) > MOST_TOTALS:
             raise Refusal(source.name, f"pieces on more than {MOST_TOTALS // 2} disks: give those of fewer")
 
-    def _add(self, use: str, sectors: int, times: int) -> None:
-        total = self._totals[use]
-        total[0] += times
-        total[1] += times * sectors
-
-    def _move_heads(self, uses: Sequence[str], starts: List[int], ends: List[int]) -> None:
-        heads = {use: self._heads.setdefault(use[2:], [-1, -1, 0]) for use in set(uses)}
-        for use, start, end in zip(uses, starts, ends):
-            head = heads[use]
-            if head[1] >= 0:
-                head[2] += abs(start - head[0])
-            head[1] += 1
-            head[0] = end
+    def _add(self, disk: str, what: str, count: int, sectors: int) -> None:
+        total = self._totals[disk, what]
+        total[0] += count
+        total[1] += sectors
 
 
-def check_disks(source: pieces.Answers, sizes: Dict[str, int], uses: Sequence[str], ends: List[int]) -> None:
+def grouped(heads: Dict[str, List[int]], whats: Sequence[str], disks: Sequence[str], starts: List[int],
+            ends: List[int]) -> List[Use]:
+    """What is done, by disks, and moves heads."""
+    for disk in set(disks):
+        if disk not in heads:
+            heads[disk] = [starts[disks.index(disk)], 0, -1]
+    groups: Dict[str, Dict[str, Tuple[List[int], List[int]]]] = {what: defaultdict(lambda: ([], [])) for what in "RW"}
+    for what, disk, start, end in zip(whats, disks, starts, ends):
+        head = heads[disk]
+        head[1] += abs(start - head[0])
+        head[0] = end
+        firsts, lasts = groups[what][disk]
+        firsts.append(start)
+        lasts.append(end)
+    uses = [(disk, what, *both) for what, group in groups.items() for disk, both in group.items()]
+    for disk, _, firsts, _ in uses:
+        heads[disk][2] += len(firsts)
+    return uses
+
+
+def check_disks(source: pieces.Answers, sizes: Dict[str, int], uses: List[Use]) -> None:
     """Refuses disks that DISKS lacks, and pieces past their ends."""
-    lengths = {}
-    for use in set(uses):
-        if use[2:] not in sizes:
-            source.refuse_where(f"DISKS has no {quoting.shown(use[2:])}, give those of the answers", lambda it: use[2:] in (it.disk, it.to))
-        lengths[use] = sizes[use[2:]]
-    if any(map(gt, ends, map(lengths.__getitem__, uses))):
+    unknown = next((disk for disk, *_ in uses if disk not in sizes), None)
+    if unknown:
+        source.refuse_where(f"DISKS has no {quoting.shown(unknown)}, give those of the answers",
+                            lambda it: unknown in (it.disk, it.to))
+    if any(max(ends) > sizes[disk] for disk, _, _, ends in uses):
         source.refuse_where("past the end of the disk, give the DISKS of the answers",
                             lambda it: bool(it.disk) and it.start + it.count > sizes[it.disk]
                             or bool(it.to) and it.to_start + it.count > sizes[it.to])

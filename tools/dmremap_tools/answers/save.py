@@ -17,25 +17,21 @@ If a disk has errors, read it into an image with ddrescue first. A file system i
 """
 
 import tempfile
-import time
 from argparse import Namespace
-from typing import Dict, Iterator, List, NamedTuple, Optional, Set, Tuple
+from typing import Dict, Generator, Iterator, List, NamedTuple, Optional, Set, Tuple
 
-from dmremap_tools.answers.gaps import Gaps
 from dmremap_tools.answers.mapped import Mapped
-from dmremap_tools.answers.saved_map import SavedMap
+from dmremap_tools.answers.saved import PARTLY, Part, SavedMap, put_together
 from dmremap_tools.answers.sources import Sources
-from dmremap_tools.answers.target import Target
 from dmremap_tools.base import given, names, numbers, pieces, quoting, requests, streams
+from dmremap_tools.base.numbers import SECTOR
 from dmremap_tools.base.refusal import INCOMPLETE, Refusal
 from dmremap_tools.layouts.rescue_map import BAD, FINISHED, UNTRIED
 from dmremap_tools.layers import started
 from dmremap_tools.layers.stack import Stack
 from dmremap_tools.requests import filefrag
 
-SECONDS = 30
 READ = ("R", "zero", "error")
-PARTLY = "give --map MAP to save the rest: the map says then what is missing"
 
 
 class Extent(NamedTuple):
@@ -47,52 +43,19 @@ class Extent(NamedTuple):
 
 
 def run(words: Namespace) -> Optional[int]:
-    """Makes the file, or goes on with it."""
     source = given.given_in(words, "VOLUME TARGET FORMAT FILE [DISKS]")
     with tempfile.TemporaryDirectory(prefix="dmremap-tools-") as room:
-        gaps = save(words, source, room)
-    return INCOMPLETE if gaps.were_any and not words.allow_missing else None
-
-
-def save(words: Namespace, source: given.Given, room: str) -> Gaps:
-    """The same, from this source, with a folder for what dmremap reads; returns what is missing."""
-    volume = names.Names(words.ls).device(words.volume, names.Word("VOLUME"))
-    begun = started.start(words, source, [volume], room)
-    size, extents = extents_of(words.extents) if words.extents is not None else whole(begun.loaded, volume, words.file)
-    sources = Sources(begun.places)
-    sources.note(begun.loaded.sizes)
-    areas = [(it.at * numbers.SECTOR, (it.at + it.count) * numbers.SECTOR) for it in extents]
-    saved = SavedMap(words.map, size, areas)
-    todo = list(left(extents, saved))
-    if words.map is None and not words.allow_missing:
-        check(begun.words, volume, todo, sources)
-    target = Target(words.target, size, saved.is_begun)
-    if words.map is not None:
-        begin_kept(target, saved)
-    try:
-        gaps = fill(begun.words, volume, todo, Saver(sources, target, saved, size))
-    finally:
-        # Where the file's disk doesn't take what was written, the map doesn't say that it did.
-        if words.map is not None:
-            target.sync()
-            saved.write()
-    target.close()
-    if words.map is None:
-        target.put()
-    return gaps
-
-
-def begin_kept(target: Target, saved: SavedMap) -> None:
-    """Puts the file in its place, once its map is there: without that it would look whole."""
-    if saved.is_begun:
-        saved.write()
-        return
-    try:
-        saved.write()
-        target.put()
-    except BaseException:
-        saved.remove()
-        raise
+        volume = names.Names(words.ls).device(words.volume, names.Word("VOLUME"))
+        begun = started.start(words, source, [volume], room)
+        size, extents = extents_of(words.extents) if words.extents is not None else whole(begun.loaded, volume, words.file)
+        sources = Sources(begun.places)
+        sources.note(begun.loaded.sizes)
+        saved = SavedMap(words.map, size, [(it.at * SECTOR, (it.at + it.count) * SECTOR) for it in extents])
+        todo = list(left(extents, saved))
+        if words.map is None and not words.allow_missing:
+            check(begun.words, volume, todo, sources)
+        is_partly = put_together(words.target, saved, parts(begun.words, volume, todo, sources))
+    return INCOMPLETE if is_partly and not words.allow_missing else None
 
 
 def check(command: List[str], volume: str, todo: List[Extent], sources: Sources) -> None:
@@ -109,18 +72,26 @@ def check(command: List[str], volume: str, todo: List[Extent], sources: Sources)
             raise Refusal(volume, f"{lack}; {PARTLY}")
 
 
-def fill(command: List[str], volume: str, todo: List[Extent], saver: "Saver") -> Gaps:
-    """Saves what is left to do, and returns what is missing of it."""
+def parts(command: List[str], volume: str, todo: List[Extent], sources: Sources) -> "Generator[Part, None, None]":
+    """What is left to do, as it is read."""
+    missing: Set[str] = set()
     with Mapped(command, requests_of(volume, todo)) as mapped:
         for at, piece in placed(todo, mapped.answers):
-            saver.save(at, piece)
-    saver.gaps.tell()
-    return saver.gaps
+            begin = at * SECTOR
+            if piece.what != "R":
+                yield Part(begin, piece.count * SECTOR, b"", FINISHED if piece.what == "zero" else BAD, begin)
+                continue
+            why = sources.missing(piece.disk)
+            if why is not None and piece.disk not in missing:
+                missing.add(piece.disk)
+                streams.tell(f"missing: {quoting.shown(piece.disk)}: {why}")
+            for size, content in sources.parts(piece.disk, piece.start, piece.count):
+                yield Part(begin, size, content, FINISHED if content else BAD if why is None else UNTRIED, begin)
+                begin += size
 
 
 def requests_of(volume: str, todo: List[Extent]) -> Iterator[str]:
-    """The requests for some extents of a volume."""
-    return ("R %s %d %d\n" % (volume, it.first, it.count) for it in todo)
+    return (f"R {volume} {it.first} {it.count}\n" for it in todo)
 
 
 def placed(todo: List[Extent], answers: pieces.Answers) -> Iterator[Tuple[int, pieces.Piece]]:
@@ -131,7 +102,7 @@ def placed(todo: List[Extent], answers: pieces.Answers) -> Iterator[Tuple[int, p
         while at < end:
             piece = next(rest, None)
             if piece is None or piece.request != number or piece.what not in READ or piece.count > end - at:
-                answers.refuse("request %d is not answered as it was asked: give this version's dmremap as --program" % number)
+                answers.refuse(f"request {number} is not answered as it was asked: give this version's dmremap as --program")
             yield at, piece
             at += piece.count
 
@@ -141,7 +112,7 @@ def whole(loaded: Stack, volume: str, name: str) -> Tuple[int, List[Extent]]:
     device = loaded.by_path().get(names.MAPPER + volume)
     if device is None:
         raise Refusal(streams.name_of(name), f"no device {volume}: `dmremap table` prints their names")
-    return device.end() * numbers.SECTOR, [Extent(0, 0, device.end())]
+    return device.end() * SECTOR, [Extent(0, 0, device.end())]
 
 
 def extents_of(path: str) -> Tuple[int, List[Extent]]:
@@ -156,44 +127,8 @@ def extents_of(path: str) -> Tuple[int, List[Extent]]:
 def left(extents: List[Extent], saved: SavedMap) -> Iterator[Extent]:
     """What is left to do of some extents, in requests."""
     for extent in extents:
-        begin, end = extent.at * numbers.SECTOR, (extent.at + extent.count) * numbers.SECTOR
+        begin, end = extent.at * SECTOR, (extent.at + extent.count) * SECTOR
         for some, stop in saved.left(begin, end):
             first, count = numbers.sectors_touched(some, stop - some)
             for at, part in requests.parts(first, count):
                 yield Extent(at, extent.first + at - extent.at, part)
-
-
-class Saver:
-    """Copies pieces into the file, and marks what it has."""
-
-    def __init__(self, sources: Sources, target: Target, saved: SavedMap, size: int) -> None:
-        self.gaps = Gaps()
-        self._sources, self._target, self._saved, self._size = sources, target, saved, size
-        self._missing: Set[str] = set()
-        self._written = time.monotonic()
-
-    def save(self, at: int, piece: pieces.Piece) -> None:
-        """Copies a piece to a sector of the file."""
-        if piece.what != "R":
-            self._mark(at * numbers.SECTOR, piece.count * numbers.SECTOR, FINISHED if piece.what == "zero" else BAD)
-            return
-        why = self._sources.missing(piece.disk)
-        if why is not None and piece.disk not in self._missing:
-            self._missing.add(piece.disk)
-            streams.tell("missing: %s: %s" % (quoting.shown(piece.disk), why))
-        begin = at * numbers.SECTOR
-        for size, content in self._sources.parts(piece.disk, piece.start, piece.count):
-            if content:
-                self._target.write(begin, content)
-            self._mark(begin, size, FINISHED if content else BAD if why is None else UNTRIED)
-            begin += size
-
-    def _mark(self, begin: int, size: int, status: str) -> None:
-        if status != FINISHED:
-            self.gaps.add(begin // numbers.SECTOR, size // numbers.SECTOR)
-        self._saved.mark(begin, begin + size, status)
-        streams.show_progress("%d of %d MiB" % ((begin + size) >> 20, self._size >> 20))
-        if time.monotonic() - self._written > SECONDS:
-            self._target.sync()
-            self._saved.write()
-            self._written = time.monotonic()

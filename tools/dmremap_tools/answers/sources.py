@@ -61,7 +61,6 @@ class Sources:
 
 
 def opened(path: str) -> int:
-    """A file or a disk, open for reading."""
     try:
         descriptor = os.open(path, os.O_RDONLY | os.O_NONBLOCK)
     except OSError as fault:

@@ -24,9 +24,8 @@ class Image:
 
     def __init__(self, file: BinaryIO, path: str, base: int = 0, size: Optional[int] = None) -> None:
         self.file, self.path, self.base = file, path, base
-        self.size = max(0, length_of(file, path) - base)
-        if size is not None:
-            self.size = min(self.size, size)
+        there = max(0, length_of(file, path) - base)
+        self.size = there if size is None else min(there, size)
 
     def read(self, at: int, count: int) -> bytes:
         """The bytes from `at` on, fewer where the image ends. Whoever asks sees to it that they aren't too many."""
@@ -40,8 +39,8 @@ class Image:
                 parts.append(part)
                 left -= len(part)
         except OSError as fault:
-            raise Unreadable(self.path, "byte %d and those after it can't be read (%s): take an image of it by ddrescue"
-                             % (self.base + at, streams.why(fault)))
+            raise Unreadable(self.path, f"byte {self.base + at} and those after it can't be read "
+                             f"({streams.why(fault)}): take an image of it by ddrescue")
         return b"".join(parts)
 
     def next_data(self, at: int) -> int:
@@ -52,12 +51,10 @@ class Image:
             return self.size if fault.errno == errno.ENXIO else at
 
     def part(self, start: int, size: int) -> "Image":
-        """The image of a part of this one."""
         return Image(self.file, self.path, self.base + start, size)
 
 
 def length_of(file: BinaryIO, path: str) -> int:
-    """The bytes that a file or a disk has."""
     try:
         return file.seek(0, 2)
     except OSError:
@@ -68,7 +65,9 @@ def open_image(path: str) -> Image:
     """The image of this path, which isn't empty; of standard input for `-`."""
     name = streams.name_of(path)
     try:
-        file = open(streams.take_input() if path == "-" else path, "rb", buffering=0, closefd=path != "-", opener=_open)
+        # One who writes to a pipe of this name isn't waited for.
+        file = open(streams.take_input() if path == "-" else path, "rb", buffering=0, closefd=path != "-",
+                    opener=lambda named, flags: os.open(named, flags | os.O_NONBLOCK))
     except OSError as fault:
         raise Unreadable(name, streams.why(fault))
     written.note_input(file.fileno())
@@ -86,13 +85,11 @@ def raw_image(path: str) -> Image:
 
 
 def image_at(place: Place) -> Image:
-    """The image from a place on."""
     image = raw_image(place.path)
     return image.part(place.start, image.size) if place.start else image
 
 
 def check_form(descriptor: int, path: str) -> None:
-    """Refuses a file that begins as an image does that is compressed or of another form."""
     why = ""
     # What can't be read there is met later.
     with contextlib.suppress(OSError):
@@ -106,11 +103,6 @@ def other_form(beginning: bytes) -> str:
     """What is said of an image with this beginning, if it is compressed or of another form, or nothing."""
     compression = plain_text.compression(beginning)
     if compression:
-        return "it is compressed (%s): unpack it" % compression
+        return f"it is compressed ({compression}): unpack it"
     form = next((form for magic, form in FORMS.items() if beginning.startswith(magic)), "")
-    return form and "it is an image of %s: convert it with qemu-img convert -O raw" % form
-
-
-def _open(path: str, flags: int) -> int:
-    """Opens without waiting, as for one who writes to a pipe of this name."""
-    return os.open(path, flags | os.O_NONBLOCK)
+    return form and f"it is an image of {form}: convert it with qemu-img convert -O raw"

@@ -1,21 +1,18 @@
 """DISKS: the disks that a stack may name, each with its length."""
 
-from typing import Dict, Iterator, Tuple
+from typing import Dict
 
 from dmremap_tools.base import names, numbers, quoting, streams
 
 
 def read(path: str) -> Dict[str, int]:
     """The length of each disk, in sectors, in the order of the lines `NAME SECTORS`."""
-    return dict(each(path))
-
-
-def each(path: str) -> Iterator[Tuple[str, int]]:
-    """The disk and the length of each line."""
+    disks = {}
     source = streams.Lines(path)
     for row in source:
         name, _, length = row.partition(" ")
         sectors = numbers.read(length)
         if sectors is None or not names.DISK.fullmatch(name):
             source.refuse("not a line of DISKS, give NAME SECTORS: " + quoting.shown(row))
-        yield name, sectors
+        disks[name] = sectors
+    return disks

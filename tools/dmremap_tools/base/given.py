@@ -1,17 +1,14 @@
 """What dmremap loads, as words of a command line say it."""
 
-import contextlib
 import os
-import tempfile
 from argparse import ArgumentParser, Namespace
-from typing import Iterable, Iterator, List, NamedTuple, Optional
+from typing import Iterable, List, NamedTuple, Optional
 
 from dmremap_tools.base import streams
 from dmremap_tools.base.refusal import WrongWords
 
 # How many bytes FILE and DISKS have at most.
 MOST_TEXT = 1 << 20
-
 FORMATS = ("table", "concise", "lvm")
 
 
@@ -23,49 +20,37 @@ class Given(NamedTuple):
     disks: Optional[str]
 
     def fault(self) -> Optional[str]:
-        """What is wrong with these words, or None."""
         if self.form not in FORMATS:
             return "give table, concise or lvm as the format"
         return "give DISKS, or leave it out with lvm" if (self.form == "lvm") == (self.disks is not None) else None
 
     def words(self) -> List[str]:
-        """The words with which dmremap reads it."""
         return [self.form, self.file] + ([] if self.disks is None else [self.disks])
 
     def copied(self, room: str) -> "Given":
-        """Copies in a folder, without what dmremap doesn't take, as carriage returns. They are read once, so they may be pipes."""
-        copy = Given(self.form, os.path.join(room, "given"), None if self.disks is None else os.path.join(room, "given.disks"))
+        """Copies in a folder, without what dmremap doesn't take. They are read once, so they may be pipes."""
+        file = os.path.join(room, "given")
+        copy = Given(self.form, file, None if self.disks is None else file + ".disks")
         for path, to in zip(self.words()[1:], copy.words()[1:]):
             put(to, [streams.read(path, MOST_TEXT)])
         return copy
 
 
 def add_words(parser: ArgumentParser) -> None:
-    """Adds FORMAT, FILE and DISKS."""
     parser.add_argument("form", metavar="FORMAT", choices=FORMATS, help="table, concise or lvm")
     parser.add_argument("file", metavar="FILE")
     parser.add_argument("disks", metavar="DISKS", nargs="?", help="with table and concise")
 
 
 def put(path: str, parts: Iterable[str]) -> None:
-    """Writes the parts of a text to a file."""
     try:
-        with open(path, "w", encoding="utf-8", errors="surrogateescape") as it:
-            it.writelines(parts)
+        with open(path, "w", encoding="utf-8", errors="surrogateescape") as file:
+            file.writelines(parts)
     except OSError as fault:
-        raise streams.OutputFailed("%s: %s" % (path, streams.why(fault)))
-
-
-@contextlib.contextmanager
-def plain(words: Namespace, usage: str) -> Iterator[Given]:
-    """Copies of what the words say, for as long as they are needed."""
-    given = given_in(words, usage)
-    with tempfile.TemporaryDirectory(prefix="dmremap-tools-") as room:
-        yield given.copied(room)
+        raise streams.OutputFailed(f"{path}: {streams.why(fault)}")
 
 
 def given_in(words: Namespace, usage: str) -> Given:
-    """What the words say."""
     given = Given(words.form, words.file, words.disks)
     fault = given.fault()
     if fault:

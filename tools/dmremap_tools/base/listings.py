@@ -14,7 +14,7 @@ LSBLK_COMMAND = "lsblk -brno MAJ:MIN,SIZE,KNAME,PKNAME"
 
 def read_ls(path: str) -> List[Tuple[str, str]]:
     """The name and the number, as 253:0, of each device that `dmsetup ls` has."""
-    return [(name, "%s:%s" % (major, minor)) for name, major, minor in rows_of(path, streams.rows(path), LS, "dmsetup ls")]
+    return [(name, f"{major}:{minor}") for name, major, minor in rows_of(path, streams.rows(path), LS, "dmsetup ls")]
 
 
 def read_lsblk(path: str) -> Tuple[Dict[str, Optional[int]], Dict[str, str]]:
@@ -24,7 +24,7 @@ def read_lsblk(path: str) -> Tuple[Dict[str, Optional[int]], Dict[str, str]]:
     for number, size, name in rows_of(path, streams.rows(path), LSBLK, LSBLK_COMMAND):
         sectors, rest = divmod(int(size), numbers.SECTOR)
         if rest or sizes.setdefault(number, sectors) != sectors:
-            streams.tell("left out: the length of %s, which has two, or no whole number of sectors" % number)
+            streams.tell(f"left out: the length of {number}, which has two, or no whole number of sectors")
             sizes[number] = None
         if name and names.DISK.fullmatch("/dev/" + name):
             paths[number] = "/dev/" + name
@@ -33,10 +33,10 @@ def read_lsblk(path: str) -> Tuple[Dict[str, Optional[int]], Dict[str, str]]:
 
 def rows_of(path: str, rows: List[str], form: Pattern[str], command: str) -> List[Tuple[str, ...]]:
     """Those lines of a file that have a form, in its groups. Others are told; without any, the file is refused."""
-    found = [(number, row, form.fullmatch(row)) for number, row in enumerate(rows, 1)]
-    if not any(match for _, _, match in found):
-        raise Refusal(streams.name_of(path), "not what `%s` prints of devices" % command)
-    for number, row, match in found:
+    matches = list(map(form.fullmatch, rows))
+    if not any(matches):
+        raise Refusal(streams.name_of(path), f"not what `{command}` prints of devices")
+    for number, (row, match) in enumerate(zip(rows, matches), 1):
         if not match:
-            streams.tell("left out: line %d of %s: %s" % (number, streams.name_of(path), quoting.shown(row)))
-    return [match.groups() for _, _, match in found if match]
+            streams.tell(f"left out: line {number} of {streams.name_of(path)}: {quoting.shown(row)}")
+    return [match.groups() for match in matches if match]

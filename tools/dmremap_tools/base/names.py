@@ -1,5 +1,6 @@
 """Names of devices, as tables and requests have them."""
 
+import functools
 import re
 from argparse import ArgumentParser
 from typing import Dict, NoReturn, Optional, Protocol
@@ -28,7 +29,6 @@ class Word:
         self._name = name
 
     def refuse(self, reason: str) -> NoReturn:
-        """Refuses the word."""
         raise Refusal(self._name, reason)
 
 
@@ -37,9 +37,7 @@ def of_path(path: str) -> str:
     parts = path.split("/")
     if len(parts) != 4 or not path.startswith("/dev/"):
         return path
-    if parts[2] == "mapper":
-        return parts[3]
-    return "-".join(it.replace("-", "--") for it in parts[2:])
+    return parts[3] if parts[2] == "mapper" else "-".join(it.replace("-", "--") for it in parts[2:])
 
 
 class Names:
@@ -47,28 +45,26 @@ class Names:
 
     def __init__(self, ls: Optional[str] = None) -> None:
         self._ls = ls
-        self._of_minor: Optional[Dict[str, str]] = None
         self._found: Dict[str, str] = {}
+
+    @functools.cached_property
+    def _of_minor(self) -> Dict[str, str]:
+        from dmremap_tools.base import listings
+        return {number.partition(":")[2]: name for name, number in listings.read_ls(self._ls or "")}
 
     def known(self, path: str, place: Place) -> str:
         """The name that a path stands for, or the path; empty for a /dev/dm-N that `dmsetup ls` has not."""
         minor = MINOR.fullmatch(path) if path.startswith("/dev/dm-") else None
-        if not minor:
-            return of_path(path)
-        if self._ls is None:
-            place.refuse("which device is %s? Give --ls LS" % path)
-        if self._of_minor is None:
-            from dmremap_tools.base import listings
-            self._of_minor = {number.partition(":")[2]: name for name, number in listings.read_ls(self._ls)}
-        return self._of_minor.get(minor[1], "")
+        if minor and self._ls is None:
+            place.refuse(f"which device is {path}? Give --ls LS")
+        return self._of_minor.get(minor[1], "") if minor else of_path(path)
 
     def device(self, path: str, place: Place) -> str:
-        """The name of a device that is given by its name or a path."""
         name = self._found.get(path)
         if name is None:
             name = self.known(path, place)
             if not FORM.fullmatch(name):
-                place.refuse("no name of a device, give it as dmsetup ls prints it: '%s'" % quoting.shown(path))
+                place.refuse(f"no name of a device, give it as dmsetup ls prints it: '{quoting.shown(path)}'")
             if len(self._found) == MOST_KEPT:
                 self._found.clear()
             self._found[path] = name
@@ -76,5 +72,4 @@ class Names:
 
 
 def add_words(parser: ArgumentParser) -> None:
-    """Adds --ls."""
     parser.add_argument("--ls", metavar="LS", help="what `dmsetup ls` prints, for devices that are given as /dev/dm-N")

@@ -2,7 +2,7 @@
 
 import argparse
 import re
-from typing import Optional
+from typing import Optional, Tuple
 
 from dmremap_tools.base import quoting
 from dmremap_tools.base.refusal import WrongWords
@@ -12,17 +12,15 @@ SECTOR, LARGEST_SECTOR = 512, 1 << 30
 LONGEST_DEVICE = 1 << 50
 LIMIT = 1 << 64
 # As dmremap reads numbers: without a sign and without zeros in front. Longer ones are none, whatever they say.
-LONGEST = 20
+FORM = re.compile("0|[1-9][0-9]{0,19}")
 # The same where it is short enough to be below 2^64 in any case, for forms of lines that are read many at once.
 SHORT = "(0|[1-9][0-9]{0,17})"
-FORM = re.compile(r"0|[1-9][0-9]{0,%d}" % (LONGEST - 1))
+NO_NUMBER = "give a whole number below 2^64, and not '%s'"
 
 
 def read(text: str) -> Optional[int]:
     """The number that a text says, or None if it isn't a whole number below 2^64."""
-    if not text.isdigit() or not text.isascii() or len(text) > LONGEST or (text[0] == "0" and text != "0"):
-        return None
-    value = int(text)
+    value = int(text) if FORM.fullmatch(text) else LIMIT
     return value if value < LIMIT else None
 
 
@@ -30,29 +28,25 @@ def word(text: str) -> int:
     """The same for a word of a command line."""
     value = read(text)
     if value is None:
-        raise argparse.ArgumentTypeError("give a whole number below 2^64, and not '%s'" % quoting.shown(text))
+        raise argparse.ArgumentTypeError(NO_NUMBER % quoting.shown(text))
     return value
 
 
 def add_sector_size(parser: "argparse._ActionsContainer", said: str) -> None:
-    """Adds --sector-size."""
     parser.add_argument("--sector-size", type=word, metavar="BYTES", help=said)
 
 
 def check_sector_size(size: Optional[int]) -> None:
-    """Refuses a size that no sector or block has."""
     if size is not None and (size % SECTOR or not 0 < size <= LARGEST_SECTOR):
-        raise WrongWords("--sector-size is a multiple of 512, up to 2^30: %d" % size)
+        raise WrongWords(f"--sector-size is a multiple of 512, up to 2^30: {size}")
 
 
 def check_length(option: str, sectors: int) -> int:
-    """Refuses the length of a device that an option says, if none is as long."""
     if not 0 < sectors <= LONGEST_DEVICE:
-        raise WrongWords("%s: give from 1 to 2^50 sectors, and not %d" % (option, sectors))
+        raise WrongWords(f"{option}: give from 1 to 2^50 sectors, and not {sectors}")
     return sectors
 
 
-def sectors_touched(begin: int, count: int) -> "tuple[int, int]":
-    """The first sector that some bytes touch, and how many they touch."""
+def sectors_touched(begin: int, count: int) -> Tuple[int, int]:
     first = begin // SECTOR
-    return first, (begin + count + SECTOR - 1) // SECTOR - first
+    return first, -(-(begin + count) // SECTOR) - first

@@ -8,51 +8,48 @@ from dmremap_tools.base import quoting, streams
 from dmremap_tools.base.numbers import SECTOR
 from dmremap_tools.base.refusal import Refusal
 
-
 # With more figures, a system couldn't say where a sector after it is.
 PLACED = re.compile(r"(.*)\?offset=([0-9]{1,18})", re.S)
 
 
 class Place(NamedTuple):
-    """Where the bytes of a disk are: a file or a disk here, the byte at which they begin in it, and whether that was said."""
+    """Where the bytes of a disk are: a file or a disk here, the byte at which they begin, and whether that was said."""
 
     path: str
     start: int = 0
     is_said: bool = False
 
     def check_sectors(self, disk: str) -> None:
-        """Refuses a place within a sector of its file, for this disk."""
         if self.start % SECTOR:
-            raise Refusal("--paths", f"{quoting.shown(disk)} begins at byte {self.start}, within a sector: give a multiple of 512")
+            raise Refusal("--paths", f"{quoting.shown(disk)} begins at byte {self.start}, within a sector: "
+                          "give a multiple of 512")
 
 
 def place_of(path: str) -> Place:
-    """The place that a path is, or PATH?offset=BYTES."""
     match = PLACED.fullmatch(path)
     return Place(match[1], int(match[2]), True) if match else Place(path)
 
 
 def add_words(parser: ArgumentParser, is_needed: bool = False) -> None:
-    """Adds --paths."""
     parser.add_argument("--paths", metavar="PATHS", required=is_needed,
-                        help="lines NAME PATH: a disk of the tables, and its path on this machine; PATH?offset=BYTES is a partition "
-                             "of a whole disk, which begins there")
+                        help="lines NAME PATH: a disk of the tables, and its path on this machine; PATH?offset=BYTES "
+                        "is a partition of a whole disk, which begins there")
 
 
-def read(path: str, form: "Pattern[str] | None" = None) -> Dict[str, str]:
+def read(path: str, form: Optional[Pattern[str]] = None) -> Dict[str, str]:
     """The path of each name. A path may have spaces in it; where `form` is given, it has to be of that form."""
-    found: Dict[str, str] = {}
+    paths: Dict[str, str] = {}
     taken = set()
     source = streams.Lines(path)
     for line in source:
         name, _, place = line.partition(" ")
         if not name or not place or "\0" in line or (form and not form.fullmatch(place)):
             source.refuse("not a line of PATHS, give NAME PATH: " + quoting.shown(line))
-        if name in found or place in taken:
+        if name in paths or place in taken:
             source.refuse("named before, give each name and path once: " + quoting.shown(line))
-        found[name] = place
+        paths[name] = place
         taken.add(place)
-    return found
+    return paths
 
 
 def places(path: Optional[str]) -> Dict[str, Place]:
@@ -61,8 +58,8 @@ def places(path: Optional[str]) -> Dict[str, Place]:
 
 
 def check_known(where: Optional[str], named: Iterable[str], disks: Container[str]) -> None:
-    """Refuses a name of what was given there, as a file, that no disk has: the disk that was meant would be read at its own
-    name on this machine."""
+    """Refuses a name in the file `where` that no disk has: the disk that was meant would be read at its own name."""
     for name in named:
         if name not in disks:
-            raise Refusal(streams.name_of(where or "--paths"), f"no disk is called {quoting.shown(name)}: give a name that the tables have")
+            why = f"no disk is called {quoting.shown(name)}: give a name that the tables have"
+            raise Refusal(streams.name_of(where or "--paths"), why)

@@ -2,23 +2,26 @@
 
 import re
 from argparse import ArgumentParser
-from typing import Callable, Iterator, List, NamedTuple, Optional, Tuple
+from typing import Any, Callable, Dict, Iterable, Iterator, List, NamedTuple, Optional, Sequence, Tuple
 
 from dmremap_tools.base import numbers, streams
 
 # Most pieces are of one form, and their numbers are short enough to be below 2^64 in any case.
 _COUNT = "([1-9][0-9]{0,17})"
-_MOVE = re.compile(fr"^{_COUNT} ([RW] \S+) {numbers.SHORT} {_COUNT}$", re.M)
+_MOVE = re.compile(fr"^{_COUNT} ([RW]) (\S+) {numbers.SHORT} {_COUNT}$", re.M)
+_MOVES = re.compile(r"(?:[1-9][0-9]{0,17} [RW] \S+ (?:0|[1-9][0-9]{0,17}) [1-9][0-9]{0,17}\n)*")
 _SHORT_COPY = re.compile(fr"^{_COUNT} copy (\S+) {numbers.SHORT} {_COUNT} (\S+) {numbers.SHORT}$", re.M)
 _SHORT_FILL = re.compile(fr"^{_COUNT} fill {_COUNT} (\S+) {numbers.SHORT}$", re.M)
 _SHORT_OTHER = re.compile(fr"^{_COUNT} (zero|drop|error) {_COUNT}$", re.M)
 _REQUEST = re.compile("^[0-9]+", re.M)
-_N = "(0|[1-9][0-9]{0,19})"
-_MOVED = re.compile(fr"{_N} ([RW]) (\S+) {_N} {_N}")
-_COPY = re.compile(fr"{_N} copy (\S+) {_N} {_N} (\S+) {_N}")
-_FILL = re.compile(fr"{_N} fill {_N} (\S+) {_N}")
-_OTHER = re.compile(fr"{_N} (zero|drop|error) {_N}")
 _STATUS = re.compile(r"\S+: \S+ \S+ snapshot .*")
+_WORDS = ("what", "disk", "to")
+_REQUEST_N, _COUNT_N, _START_N, _TO_START_N = (
+    f"(?P<{name}>0|[1-9][0-9]{{0,19}})" for name in ("request", "count", "start", "to_start"))
+_FORMS = [re.compile(f"{_REQUEST_N} {form}") for form in (
+    fr"(?P<what>R|W) (?P<disk>\S+) {_START_N} {_COUNT_N}",
+    fr"(?P<what>copy) (?P<disk>\S+) {_START_N} {_COUNT_N} (?P<to>\S+) {_TO_START_N}",
+    fr"(?P<what>fill) {_COUNT_N} (?P<to>\S+) {_TO_START_N}", f"(?P<what>zero|drop|error) {_COUNT_N}")]
 
 
 def add_words(parser: ArgumentParser) -> None:
@@ -39,17 +42,23 @@ class Piece(NamedTuple):
     to_start: int = 0
 
 
-# The words of what is read or written: the request, R or W with the disk, the start and how many sectors.
-Move = Tuple[str, str, str, str]
+class Moves(NamedTuple):
+    """What is read or written, in columns: the requests, R or W, the disks, the first sectors, and how many."""
+
+    requests: List[int]
+    whats: Sequence[str]
+    disks: Sequence[str]
+    starts: List[int]
+    counts: List[int]
 
 
 class Block(NamedTuple):
-    """Many pieces at once: the requests of all, those that are R or W, what copies and fills do as such, and what else is done, with
-    how many sectors."""
+    """Many pieces at once: the requests of all, those that are R or W, what copies and fills do as such, and what else
+    is done, with how many sectors."""
 
     requests: List[int]
-    moves: List[Move]
-    copied: List[Move]
+    moves: Moves
+    copied: Moves
     others: List[Tuple[str, str]]
 
 
@@ -65,9 +74,13 @@ class Answers(streams.Lines):
         """The pieces, many at once. Refuses those that are out of order."""
         last = 0
         for text in self.blocks():
-            count = text.count("\n")
-            moves: List[Move] = _MOVE.findall(text)
-            block = Block(list(map(int, next(zip(*moves)))), moves, [], []) if len(moves) == count else self._mixed(text, count, moves)
+            alike = _MOVES.match(text)
+            if alike and alike.end() == len(text):
+                words = text.split()
+                moves = _columns(words[column::5] for column in range(5))
+                block = Block(moves.requests, moves, _rows([]), [])
+            else:
+                block = self._mixed(text)
             if block.requests != sorted(block.requests) or block.requests and block.requests[0] < last:
                 self._refuse_order(last)
             last = block.requests[-1] if block.requests else last
@@ -84,15 +97,22 @@ class Answers(streams.Lines):
         if self.number == self.statuses:
             streams.tell("no piece came")
 
-    def _mixed(self, text: str, count: int, moves: List[Move]) -> Block:
+    def _mixed(self, text: str) -> Block:
         """A block with other pieces than R and W, or with lines that are none."""
-        copies, fills, others = _SHORT_COPY.findall(text), _SHORT_FILL.findall(text), _SHORT_OTHER.findall(text)
-        if len(moves) + len(copies) + len(fills) + len(others) < count:
-            return _block_of(list(filter(None, map(self._piece, self.each(_MOVE)))))
-        copied = [(request, "R " + disk, start, length) for request, disk, start, length, _, _ in copies]
-        copied += [(request, "W " + to, start, length) for request, _, _, length, to, start in copies]
-        copied += [(request, "W " + to, start, length) for request, length, to, start in fills]
-        return Block(list(map(int, _REQUEST.findall(text))), moves, copied, [(what, length) for _, what, length in others])
+        moves, copies, fills, others = (form.findall(text) for form in (_MOVE, _SHORT_COPY, _SHORT_FILL, _SHORT_OTHER))
+        requests = _REQUEST.findall(text)
+        if len(moves) + len(copies) + len(fills) + len(others) < text.count("\n"):
+            pieces = list(filter(None, map(self._piece, self.each(_MOVE))))
+            requests = [it.request for it in pieces]
+            moves = [(it.request, it.what, it.disk, it.start, it.count) for it in pieces if it.disk and not it.to]
+            copies = [(it.request, it.disk, it.start, it.count, it.to, it.to_start) for it in pieces if it.disk and it.to]
+            fills = [(it.request, it.count, it.to, it.to_start) for it in pieces if it.to and not it.disk]
+            others = [(it.request, it.what, it.count) for it in pieces if not it.disk and not it.to]
+        copied = [(request, "R", disk, start, count) for request, disk, start, count, _, _ in copies]
+        copied += [(request, "W", to, start, count) for request, _, _, count, to, start in copies]
+        copied += [(request, "W", to, start, count) for request, count, to, start in fills]
+        copied.sort(key=lambda it: int(it[0]))
+        return Block(list(map(int, requests)), _rows(moves), _rows(copied), [(what, count) for _, what, count in others])
 
     def _refuse_order(self, last: int) -> None:
         """Refuses the first piece of the block whose request comes before that of the piece above."""
@@ -106,43 +126,28 @@ class Answers(streams.Lines):
         """The piece that a line is, or None for a status."""
         if isinstance(fields, str):
             return self._read(fields)
-        request, use, start, count = fields
-        return Piece(int(request), use[0], int(count), use[2:], int(start))
+        request, what, disk, start, count = fields
+        return Piece(int(request), what, int(count), disk, int(start))
 
     def _read(self, line: str) -> Optional[Piece]:
         """The same of a line of any form."""
         if _STATUS.fullmatch(line):
             self.statuses += 1
             return None
-        piece = _piece_of(line)
-        if not piece or not piece.request or not piece.count or max(piece.start, piece.to_start) + piece.count > numbers.LIMIT:
-            self.refuse_line("not a piece of an answer, give what `dmremap map` prints")
-        return piece
+        match = next(filter(None, (form.fullmatch(line) for form in _FORMS)), None)
+        if match:
+            fields: Dict[str, Any] = match.groupdict()
+            piece = Piece(**{name: text if name in _WORDS else int(text) for name, text in fields.items()})
+            if piece.request and piece.count and max(piece.start, piece.to_start) + piece.count <= numbers.LIMIT:
+                return piece
+        self.refuse_line("not a piece of an answer, give what `dmremap map` prints")
 
 
-def _block_of(pieces: List[Piece]) -> Block:
-    """Pieces of any form as a block."""
-    block = Block([it.request for it in pieces], [], [], [])
-    for it in pieces:
-        if it.disk:
-            use = f"{'R' if it.to else it.what} {it.disk}"
-            (block.copied if it.to else block.moves).append((str(it.request), use, str(it.start), str(it.count)))
-        if it.to:
-            block.copied.append((str(it.request), "W " + it.to, str(it.to_start), str(it.count)))
-        if not it.disk and not it.to:
-            block.others.append((it.what, str(it.count)))
-    return block
+def _rows(moves: Sequence[Sequence[str]]) -> Moves:
+    """Moves that are given in rows."""
+    return _columns(zip(*moves) if moves else [()] * 5)
 
 
-def _piece_of(line: str) -> Optional[Piece]:
-    match = _MOVED.fullmatch(line)
-    if match:
-        return Piece(int(match[1]), match[2], int(match[5]), match[3], int(match[4]))
-    match = _COPY.fullmatch(line)
-    if match:
-        return Piece(int(match[1]), "copy", int(match[4]), match[2], int(match[3]), match[5], int(match[6]))
-    match = _FILL.fullmatch(line)
-    if match:
-        return Piece(int(match[1]), "fill", int(match[2]), "", 0, match[3], int(match[4]))
-    match = _OTHER.fullmatch(line)
-    return Piece(int(match[1]), match[2], int(match[3])) if match else None
+def _columns(columns: Iterable[Sequence[str]]) -> Moves:
+    requests, whats, disks, starts, counts = columns
+    return Moves(list(map(int, requests)), whats, disks, list(map(int, starts)), list(map(int, counts)))

@@ -1,31 +1,28 @@
-"""What a text may come in: a byte order mark and carriage returns at the ends of lines are taken off, and what is compressed
-or no text at all is refused."""
+"""What a text may come in: byte order mark and carriage returns are taken off, and what is no text is refused."""
 
 from dmremap_tools.base.refusal import Refusal
 
 MARK = b"\xef\xbb\xbf"
-COMPRESSED = {b"\x1f\x8b": "gzip", b"BZh": "bzip2", b"\xfd7zXZ\0": "xz", b"\x28\xb5\x2f\xfd": "zstd", b"\x04\x22\x4d\x18": "lz4", b"PK\x03\x04": "zip"}
+COMPRESSED = {b"\x1f\x8b": "gzip", b"BZh": "bzip2", b"\xfd7zXZ\0": "xz", b"\x28\xb5\x2f\xfd": "zstd",
+              b"\x04\x22\x4d\x18": "lz4", b"PK\x03\x04": "zip"}
 WIDE = (b"\xff\xfe", b"\xfe\xff")
 # How much of the beginning has no NUL, if it is a text.
 LOOKED_AT = 512
 
 
 def check_kind(name: str, beginning: bytes) -> None:
-    """Refuses an input that is compressed, or of another encoding."""
     kind = compression(beginning)
     if kind:
-        raise Refusal(name, "it is compressed (%s): unpack it" % kind)
+        raise Refusal(name, f"it is compressed ({kind}): unpack it")
     if beginning.startswith(WIDE):
         raise Refusal(name, "it is UTF-16: make it UTF-8 by `iconv -f UTF-16 -t UTF-8`")
 
 
 def compression(beginning: bytes) -> str:
-    """By what an input is compressed, or nothing."""
     return next((kind for magic, kind in COMPRESSED.items() if beginning.startswith(magic)), "")
 
 
 def is_binary(beginning: bytes) -> bool:
-    """Whether what begins so is no text in any encoding."""
     return b"\0" in beginning[:LOOKED_AT] and not beginning.startswith(WIDE)
 
 
@@ -39,4 +36,4 @@ def begun(name: str, beginning: bytes) -> bytes:
 
 def with_plain_ends(text: bytes) -> bytes:
     """Lines without the carriage returns at their ends."""
-    return text.replace(b"\r\n", b"\n") if b"\r" in text else text
+    return text.replace(b"\r\n", b"\n")

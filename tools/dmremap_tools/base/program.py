@@ -16,24 +16,22 @@ REFUSALS = (1, 2, 3, 4, 6)
 
 
 def add_words(parser: ArgumentParser) -> None:
-    """Adds --program."""
-    parser.add_argument("--program", metavar="PROGRAM", help="the dmremap that is asked; else the one beside this tool, or on the path")
+    parser.add_argument("--program", metavar="PROGRAM",
+                        help="the dmremap that is asked; else the one beside this tool, or on the path")
 
 
 def dmremap(given: Optional[str]) -> str:
     """The path of dmremap: the one that was given, or that beside this tool, or that on the path."""
     if given is not None:
         return given
-    for tool in (sys.argv[0], os.path.realpath(sys.argv[0])):
-        beside = os.path.join(os.path.dirname(os.path.abspath(tool)), "dmremap")
-        if os.access(beside, os.X_OK):
-            return beside
-    return shutil.which("dmremap") or "dmremap"
+    tools = os.path.abspath(sys.argv[0]), os.path.realpath(sys.argv[0])
+    beside = [os.path.join(os.path.dirname(it), "dmremap") for it in tools]
+    return next((it for it in beside if os.access(it, os.X_OK)), None) or shutil.which("dmremap") or "dmremap"
 
 
-def ask(words: Sequence[str], most: int = streams.MOST_TEXT, given: Optional[int] = None, said: Optional[IO[bytes]] = None) -> str:
-    """What a program prints, at most so many bytes; `given` is a descriptor for its standard input. Its messages are
-    passed on, or go into the file `said`. Where it fails, so does this."""
+def ask(words: Sequence[str], most: int = streams.MOST_TEXT, given: Optional[int] = None,
+        said: Optional[IO[bytes]] = None) -> str:
+    """What a program prints, at most so many bytes; its messages are passed on, or go into the file `said`."""
     printed, status = _asked(words, most, given, said)
     if status:
         fail(words[0], status)
@@ -47,7 +45,7 @@ def found(name: str) -> str:
     return shutil.which(name) or shutil.which(name, path=os.pathsep.join(beside)) or name
 
 
-def ask_quietly(words: Sequence[str], most: int = streams.MOST_TEXT, given: Optional[int] = None) -> "tuple[str, str]":
+def ask_quietly(words: Sequence[str], most: int = streams.MOST_TEXT, given: Optional[int] = None) -> Tuple[str, str]:
     """What a program prints on its two outputs, whatever its status is, in English, unless it is killed."""
     import tempfile
     with tempfile.TemporaryFile() as said:
@@ -59,7 +57,7 @@ def ask_quietly(words: Sequence[str], most: int = streams.MOST_TEXT, given: Opti
 
 
 def start(words: Sequence[str], **how: Any) -> "subprocess.Popen[bytes]":
-    """Starts a program. Its path may have any bytes; what it is told to be called is text, as dmremap refuses words that are none."""
+    """Starts a program, whose path may have any bytes, under a name that is text, as dmremap wants all its words."""
     path, *others = (it.encode("utf-8", "surrogateescape") for it in words)
     return subprocess.Popen([words[0].encode("utf-8", "replace"), *others], executable=path, **how)
 
@@ -74,18 +72,17 @@ def _asked(words: Sequence[str], most: int, given: Optional[int], said: Optional
     try:
         printed = child.stdout.read(most + 1)
         if len(printed) > most:
-            raise Refusal(quoting.shown(words[0]), "it printed more than %d bytes: ask for less at once" % most)
-        status = child.wait()
+            raise Refusal(quoting.shown(words[0]), f"it printed more than {most} bytes: ask for less at once")
+        return printed.decode("utf-8", "surrogateescape"), child.wait()
     finally:
-        if child.poll() is None:
-            child.kill()
-            child.wait()
-    return printed.decode("utf-8", "surrogateescape"), status
+        # One that wasn't awaited.
+        child.kill()
+        child.wait()
 
 
 def fail(name: str, status: int) -> NoReturn:
     """Refuses what a program refused, as it ended with this status. Other ways to end are a failure of its output."""
-    why = "its output failed" if status == OUTPUT_FAILED else "it ends with status %d: see what it said" % status
+    why = "its output failed" if status == OUTPUT_FAILED else f"it ends with status {status}: see what it said"
     if status in REFUSALS:
         raise Refusal(quoting.shown(name), why)
-    raise streams.OutputFailed("%s: %s" % (quoting.shown(name), why if status >= 0 else "it was ended by signal %d" % -status))
+    raise streams.OutputFailed(f"{quoting.shown(name)}: {why if status >= 0 else f'it was ended by signal {-status}'}")

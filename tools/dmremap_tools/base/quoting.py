@@ -16,11 +16,7 @@ def _escape(letter: str) -> str:
     """An escape for a character, or itself. What was no UTF-8 is shown as the byte that it was."""
     if letter.isprintable():
         return letter
-    code = ord(letter)
-    if 0xDC80 <= code <= 0xDCFF:
-        code -= 0xDC00
-    known = {9: "\\t", 10: "\\n", 13: "\\r"}
-    return known.get(code) or ("\\x%02x" if code < 256 else "\\u%04x" if code < 65536 else "\\U%08x") % code
+    return (chr(ord(letter) - 0xDC00) if "\udc80" <= letter <= "\udcff" else letter).encode("unicode_escape").decode()
 
 
 def shown(text: str) -> str:
@@ -29,7 +25,6 @@ def shown(text: str) -> str:
 
 
 def some(words: List[str], between: str = ", ") -> str:
-    """The first 16 of some words, and two dots where there are more."""
     return between.join(words[:MOST_NAMED] + [".."] * (len(words) > MOST_NAMED))
 
 
@@ -48,5 +43,4 @@ def printable(text: str) -> str:
 
 
 def for_shell(text: str) -> str:
-    """The text as one word of a shell's command."""
     return "'" + text.replace("'", "'\\''") + "'"

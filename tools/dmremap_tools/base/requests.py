@@ -10,18 +10,17 @@ MOST = 1 << 20
 LONGEST = 1 << 42
 TOO_LONG = "longer than 2 PiB"
 NO_REQUEST = "not a request, give R or W, a device, a sector and how many"
-_LIMIT, _write = numbers.LIMIT, streams.out.write
+_write = streams.out.write
 # What to do, a device, and two numbers, as they mostly are.
-_MOST_LINES = re.compile(r"^([RW]) (\S+) %s %s$" % (numbers.SHORT, numbers.SHORT), re.M)
+_MOST_LINES = re.compile(fr"^([RW]) (\S+) {numbers.SHORT} {numbers.SHORT}$", re.M)
 
 
 def read(source: streams.Lines, known: names.Names, form: str) -> Iterator[Tuple[str, str, int, int]]:
-    """The lines that say R or W, a device, and two numbers. Others are refused as not of this form, which is in words."""
-    device = known.device
+    """The lines that say R or W, a device, and two numbers. Others are refused as not of this form, in words."""
     for fields in source.rows(_MOST_LINES):
         if isinstance(fields, tuple):
             operation, name, first, count = fields
-            yield operation, device(name, source), int(first), int(count)
+            yield operation, known.device(name, source), int(first), int(count)
         else:
             words = fields.split()
             if len(words) != 4 or words[0] not in ("R", "W"):
@@ -37,17 +36,17 @@ def parts(first: int, count: int) -> Iterator[Tuple[int, int]]:
 
 def write(source: streams.Lines, operation: str, name: str, first: int, count: int) -> int:
     """Prints a request of a line for these sectors, or several where one would be too long; returns how many."""
-    if 0 < count <= MOST and first + count <= _LIMIT:
+    if 0 < count <= MOST and first + count <= numbers.LIMIT:
         _write(f"{operation} {name} {first} {count}\n")
         return 1
     if count == 0:
         source.refuse_line("no sectors, give at least one")
-    if first + count > _LIMIT:
+    if first + count > numbers.LIMIT:
         source.refuse_line("it goes past sector 2^64, give fewer")
     if count > LONGEST:
         source.refuse_line(f"{TOO_LONG}, give it in parts")
     for at, part in parts(first, count):
-        _write("%s %s %d %d\n" % (operation, name, at, part))
+        _write(f"{operation} {name} {at} {part}\n")
     return -(-count // MOST)
 
 

@@ -9,7 +9,6 @@ MOST_IN_CHUNK, KERNELS_MOST = 1 << 10, 1 << 21
 
 
 def is_chunk(chunk: int) -> bool:
-    """Whether a kernel takes chunks of so many sectors."""
     return 0 < chunk <= KERNELS_MOST and chunk & (chunk - 1) == 0
 
 

@@ -4,10 +4,11 @@ Outputs are gathered, and flushed before an input is waited for, so that a pipe 
 grows. Whatever an output doesn't take ends the command: see `main.py`.
 """
 
+import contextlib
 import os
 import select
 import stat
-from typing import Iterator, List, NoReturn, Optional, Pattern, Tuple
+from typing import Iterator, List, NoReturn, Optional, Pattern, Tuple, Union
 
 from dmremap_tools.base import numbers, plain_text, quoting, written
 from dmremap_tools.base.refusal import OutputFailed, Refusal, WrongWords
@@ -19,9 +20,10 @@ LONGEST_LINE = 1 << 16
 MOST_TEXT = 64 << 20
 SPOILED = "refused\n"
 UNENDED = "the text ends within a line, give all of it: "
-NO_NUMBER = "give a whole number below 2^64, and not '%s'"
 # What takes the line of progress away on a terminal.
 CLEARED = "\r\033[K"
+# What the groups of a form have of a line, or the line itself.
+Fields = Union[Tuple[str, ...], str]
 
 
 class ReaderGone(Exception):
@@ -29,7 +31,7 @@ class ReaderGone(Exception):
 
 
 class Output:
-    """A file or pipe that text is written to. Nothing foreign reaches a terminal unescaped. `place` is that of a file."""
+    """A file or pipe that text is written to. Nothing foreign reaches a terminal unescaped."""
 
     def __init__(self, descriptor: int, name: str, place: Optional[written.Place] = None) -> None:
         self._descriptor, self._name, self.place = descriptor, name, place
@@ -37,14 +39,12 @@ class Output:
         self._is_open = True
 
     def write(self, text: str) -> None:
-        """Writes text, now or later."""
         parts = self._parts
         parts.append(text)
         if len(parts) >= MOST_PARTS or len(text) > LONG_PART:
             self.flush()
 
     def flush(self) -> None:
-        """Writes what was gathered."""
         if not self._parts:
             return
         text, self._parts = "".join(self._parts), []
@@ -69,8 +69,7 @@ class Output:
             self._fail(fault)
 
     def spoil(self) -> None:
-        """Ends it with the line `refused`, which dmremap takes for nothing, wherever it reads it. A file that isn't in its place
-        is removed."""
+        """Ends it with the line `refused`, which dmremap takes for nothing, unless it is a file, which is removed."""
         if self._is_open and not (self.place and not self.place.is_special):
             self.write(SPOILED)
             self.flush()
@@ -83,9 +82,9 @@ class Output:
 
 
 class Lines:
-    """The lines of a file, or of standard input for `-`, as they come, without a byte order mark and carriage returns. A text
-    that ends within a line is refused, as nobody can tell what the rest of it was. `number` is that of the line that was read last, from 1.
-    `is_written` says that the file is written, too, once it is read."""
+    """The lines of a file, or of standard input for `-`, as they come, without a byte order mark and carriage returns.
+    A text that ends within a line is refused. `number` is that of the line that was read last, from 1. `is_written`
+    says that the file is written, too, once it is read."""
 
     def __init__(self, path: str, is_written: bool = False) -> None:
         self.name = name_of(path)
@@ -106,37 +105,35 @@ class Lines:
             if not is_begun:
                 chunk, is_begun = plain_text.begun(self.name, chunk), True
             before, end, after = chunk.rpartition(b"\n")
+            rest += before + end
             if end:
-                lines = plain_text.with_plain_ends(rest + before + end)
-                self._block, self._before, self._lines = lines.decode("utf-8", "surrogateescape"), self.number, []
-                rest = after
+                self._block, self._before, self._lines = _decoded(plain_text.with_plain_ends(rest)), self.number, []
                 yield self._block
                 self.number = self._before + self._block.count("\n")
-            else:
-                rest += chunk
+                rest = b""
+            rest += after
             if len(rest) > LONGEST_LINE:
                 self.number += 1
                 self.refuse(f"a line of more than {LONGEST_LINE} bytes: give a text with shorter ones")
         if rest:
             self.number += 1
-            self.refuse(UNENDED + quoting.shown(rest.decode("utf-8", "surrogateescape")))
+            self.refuse(UNENDED + quoting.shown(_decoded(rest)))
 
-    def each(self, form: Pattern[str]) -> "Iterator[Tuple[str, ...] | str]":
+    def each(self, form: Pattern[str]) -> Iterator[Fields]:
         """For each line of the block what the groups of a form have, or the line itself where it is of another form."""
         for self.number, line in enumerate(self._block[:-1].split("\n"), self._before + 1):
             match = form.match(line)
             yield match.groups("") if match else line
 
-    def rows(self, *forms: Pattern[str]) -> "Iterator[Tuple[str, ...] | str]":
-        """For each line, as they come, what the groups of one of some forms have, or the line itself. A form has several groups, is
-        compiled with re.M, and begins with ^ and ends with $. Others than the first are seen where many lines are of them."""
+    def rows(self, *forms: Pattern[str]) -> Iterator[Fields]:
+        """For each line the groups of one of some forms (re.M, ^ and $), the first mostly, or else the line."""
         form = forms[0]
         for block in self.blocks():
             # That of the lines before is tried first.
             for form in dict.fromkeys((form, *forms)):
-                found = form.findall(block)
-                if len(found) == block.count("\n"):
-                    for self.number, fields in enumerate(found, self._before + 1):
+                rows = form.findall(block)
+                if len(rows) == block.count("\n"):
+                    for self.number, fields in enumerate(rows, self._before + 1):
                         yield fields
                     break
             else:
@@ -144,12 +141,10 @@ class Lines:
 
     @property
     def line(self) -> str:
-        """The line that was read last."""
         self._lines = self._lines or self._block.split("\n")
         return self._lines[self.number - self._before - 1]
 
     def tell_if_none(self) -> None:
-        """Tells at the end if there was no line."""
         if not self.number:
             tell("no line came")
 
@@ -162,15 +157,13 @@ class Lines:
         self.refuse(f"{reason}: {quoting.shown(self.line)}")
 
     def whole(self, text: str) -> int:
-        """The whole number below 2^64 that a word of the line is."""
         value = numbers.read(text)
         if value is None:
-            self.refuse(NO_NUMBER % quoting.shown(text))
+            self.refuse(numbers.NO_NUMBER % quoting.shown(text))
         return value
 
 
 def name_of(path: str) -> str:
-    """What an input is called in messages."""
     return "standard input" if path == "-" else quoting.shown(path)
 
 
@@ -178,26 +171,24 @@ def whole(option: str, text: str) -> int:
     """The whole number below 2^64 that a word of an option is."""
     value = numbers.read(text)
     if value is None:
-        raise WrongWords(f"{option}: {NO_NUMBER % quoting.shown(text)}")
+        raise WrongWords(f"{option}: {numbers.NO_NUMBER % quoting.shown(text)}")
     return value
 
 
 def chunks(path: str) -> Iterator[bytes]:
-    """The bytes of a file, or of standard input for `-`, as they come."""
     return _chunks_of(_open(path), name_of(path))
 
 
 def read_bytes(path: str, most: int = MOST_TEXT) -> bytes:
-    """The same at once, if there are at most so many."""
-    found, size = [], 0
+    """The same at once."""
+    content = bytearray()
     for chunk in chunks(path):
-        if not found:
+        if not content:
             plain_text.check_kind(name_of(path), chunk)
-        found.append(chunk)
-        size += len(chunk)
-        if size > most:
+        content += chunk
+        if len(content) > most:
             raise Refusal(name_of(path), f"it has more than {most} bytes: give a smaller one")
-    return b"".join(found)
+    return bytes(content)
 
 
 def plain_bytes(path: str, most: int = MOST_TEXT) -> bytes:
@@ -207,15 +198,15 @@ def plain_bytes(path: str, most: int = MOST_TEXT) -> bytes:
 
 def read(path: str, most: int = MOST_TEXT) -> str:
     """The same as text. Bytes that are no UTF-8 stay what they are, and are written as they were."""
-    return plain_bytes(path, most).decode("utf-8", "surrogateescape")
+    return _decoded(plain_bytes(path, most))
 
 
 def rows(path: str, most: int = MOST_TEXT) -> List[str]:
     """The lines of the whole text of a file. As in `Lines`, a text that ends within one is refused."""
-    *found, last = read(path, most).split("\n")
+    *lines, last = read(path, most).split("\n")
     if last:
-        raise Refusal(f"{name_of(path)}:{len(found) + 1}", UNENDED + quoting.shown(last))
-    return found
+        raise Refusal(f"{name_of(path)}:{len(lines) + 1}", UNENDED + quoting.shown(last))
+    return lines
 
 
 def beside(path: str) -> Output:
@@ -229,56 +220,41 @@ def tell(*texts: str) -> None:
     """Says on standard error, in a line each, what stands beside the answer."""
     for text in texts:
         _messages.write(quoting.escaped(text) + "\n")
-    _clear_progress()
+    show_progress("")
     _messages.flush()
 
 
 def show_progress(text: str) -> None:
-    """Shows on a terminal how far long work is, in a line that the next message takes away. Elsewhere nothing."""
+    """Shows on a terminal how far long work is, in a line that the next message, or an empty text, takes away."""
     global _is_progress_shown
-    if os.isatty(2):
-        _is_progress_shown = True
-        _show(CLEARED + quoting.escaped(text)[:79])
-
-
-def _clear_progress() -> None:
-    global _is_progress_shown
-    if _is_progress_shown:
-        _is_progress_shown = False
-        _show(CLEARED)
-
-
-def _show(text: str) -> None:
-    try:
-        os.write(2, text.encode("utf-8", "surrogateescape"))
-    except OSError:
-        pass
+    if os.isatty(2) if text else _is_progress_shown:
+        _is_progress_shown = bool(text)
+        with contextlib.suppress(OSError):
+            os.write(2, (CLEARED + quoting.escaped(text)[:79]).encode("utf-8", "surrogateescape"))
 
 
 def finish() -> None:
-    """Writes what is left to all outputs, and closes them. Standard output comes last: who reads it to its end finds the files
-    beside it in their places."""
-    _clear_progress()
+    """Writes what is left to all outputs, and closes them; standard output last, when the files are in their places."""
+    show_progress("")
     flush()
-    for each in _besides:
-        each.close()
+    for output in _besides:
+        output.close()
     written.put_all([it.place for it in _besides])
     out.close()
 
 
 def flush() -> None:
     """Writes what was gathered for all outputs."""
-    for each in [*_besides, out]:
-        each.flush()
+    for output in [*_besides, out]:
+        output.flush()
 
 
 def spoil(is_fed: bool) -> None:
-    """Spoils what stands beside standard output, and that itself if dmremap reads it; else what was written there stays.
-    Files that were begun are removed. Each is tried, whatever becomes of the others."""
+    """Spoils what stands beside standard output, and that itself if dmremap reads it; each, whatever the others do."""
     failed = None
-    for each in [*_besides, out]:
+    for output in [*_besides, out]:
         try:
-            each.spoil() if is_fed or each is not out else each.flush()
+            output.spoil() if is_fed or output is not out else output.flush()
         except ReaderGone:
             pass
         except OutputFailed as fault:
@@ -288,7 +264,6 @@ def spoil(is_fed: bool) -> None:
 
 
 def why(fault: OSError) -> str:
-    """What the system says of a file."""
     return fault.strerror or str(fault)
 
 
@@ -302,7 +277,6 @@ def hold_descriptors() -> None:
 
 
 def take_input() -> int:
-    """The descriptor of standard input, which only one can read."""
     global _is_input_taken
     if _is_input_taken:
         raise WrongWords("standard input can't be two files: give the path of one")
@@ -311,11 +285,13 @@ def take_input() -> int:
     return 0
 
 
+def _decoded(content: bytes) -> str:
+    return content.decode("utf-8", "surrogateescape")
+
+
 def _open(path: str, is_written: bool = False) -> int:
     try:
-        if path == "-":
-            return take_input()
-        descriptor = os.open(path, os.O_RDONLY)
+        descriptor = take_input() if path == "-" else os.open(path, os.O_RDONLY)
     except OSError as fault:
         raise Refusal(name_of(path), why(fault))
     if not is_written:

@@ -8,6 +8,8 @@ from dmremap_tools.base.refusal import Refusal
 
 # How many words follow a target that dmremap reads. Those of `striped` depend on its columns.
 TARGETS = {"linear": 2, "striped": None, "zero": 0, "error": 0, "snapshot": 4, "snapshot-origin": 1}
+# Of these the first words name what is below.
+LOWERS = {"linear": 1, "snapshot-origin": 1, "snapshot": 2}
 # The kinds of snapshots' stores.
 KINDS = ("P", "N", "K")
 MOST_COLUMNS, LONGEST_CHUNK = 128, (1 << 32) - 1
@@ -20,16 +22,13 @@ class Line:
         self.start, self.length, self.target, self.words = start, length, target, list(words)
 
     def __str__(self) -> str:
-        return " ".join([str(self.start), str(self.length), self.target] + self.words)
+        return " ".join([str(self.start), str(self.length), self.target, *self.words])
 
     def places(self) -> range:
         """Where its words name a disk or a device below."""
-        if self.target == "striped":
-            return range(2, len(self.words), 2)
-        return range({"linear": 1, "snapshot-origin": 1, "snapshot": 2}.get(self.target, 0))
+        return range(2, len(self.words), 2) if self.target == "striped" else range(LOWERS.get(self.target, 0))
 
     def lowers(self) -> List[str]:
-        """The disks and devices that it names."""
         return [self.words[it] for it in self.places()]
 
     def spans(self) -> Iterator[Tuple[str, int, Optional[int]]]:
@@ -42,9 +41,7 @@ class Line:
 
     def with_lowers(self, named: Callable[[str], str]) -> "Line":
         """The line with other names for these, which a function gives."""
-        words = list(self.words)
-        for place in self.places():
-            words[place] = named(words[place])
+        words = [named(it) if at in self.places() else it for at, it in enumerate(self.words)]
         return Line(self.start, self.length, self.target, words)
 
     def fault(self) -> Optional[str]:
@@ -62,9 +59,7 @@ class Line:
             columns, chunk = int(words[0]), int(words[1])
             if columns > MOST_COLUMNS or not 0 < chunk <= LONGEST_CHUNK or self.length % (columns * chunk):
                 return "stripes that don't divide it"
-        if self.target == "snapshot" and words[2] not in KINDS:
-            return "a snapshot of another kind"
-        return None
+        return "a snapshot of another kind" if self.target == "snapshot" and words[2] not in KINDS else None
 
 
 class Device:
@@ -75,11 +70,9 @@ class Device:
         self.lines: List[Line] = []
 
     def end(self) -> int:
-        """The sector after its last."""
         return self.lines[-1].start + self.lines[-1].length
 
     def lowers(self) -> List[str]:
-        """The disks and devices that its lines name."""
         return [lower for line in self.lines for lower in line.lowers()]
 
 
@@ -87,34 +80,25 @@ def read(path: str) -> Tuple[List[Device], bool]:
     """The devices of table text or concise text, as dmremap prints it, and whether it is the latter."""
     text = "\n".join(streams.rows(path)).rstrip("\n")
     is_concise = "," in text.split(" ", 1)[0]
-    rows = text.split(";" if is_concise else "\n") if text else []
-    return (_concise if is_concise else _table)(streams.name_of(path), rows), is_concise
-
-
-def _concise(name_of_text: str, rows: List[str]) -> List[Device]:
-    devices = []
-    for number, row in enumerate(rows, 1):
-        place = "%s:%d" % (name_of_text, number)
-        name, *fields = row.split(",")
-        if len(fields) < 4 or fields[2] not in ("", "ro", "rw"):
-            raise Refusal(place, "not a device of concise text, take what `dmremap concise` prints: " + quoting.shown(row))
-        device = Device(name, fields[2])
-        device.lines += [line_of(place, it) for it in fields[3:]]
-        devices.append(device)
-    return devices
-
-
-def _table(name_of_text: str, rows: List[str]) -> List[Device]:
     devices: List[Device] = []
-    for number, row in enumerate(rows, 1):
-        place = "%s:%d" % (name_of_text, number)
-        name, is_named, line = row.partition(": ")
-        if not name or not is_named:
-            raise Refusal(place, "not table text, give NAME: START LENGTH TARGET ..: " + quoting.shown(row))
-        if not devices or devices[-1].name != name:
-            devices.append(Device(name))
-        devices[-1].lines.append(line_of(place, line))
-    return devices
+    for number, row in enumerate(text.split(";" if is_concise else "\n") if text else (), 1):
+        place = f"{streams.name_of(path)}:{number}"
+        if is_concise:
+            name, *fields = row.split(",")
+            if len(fields) < 4 or fields[2] not in ("", "ro", "rw"):
+                why = "not a device of concise text, take what `dmremap concise` prints: "
+                raise Refusal(place, why + quoting.shown(row))
+            devices.append(Device(name, fields[2]))
+            lines = fields[3:]
+        else:
+            name, is_named, line = row.partition(": ")
+            if not name or not is_named:
+                raise Refusal(place, "not table text, give NAME: START LENGTH TARGET ..: " + quoting.shown(row))
+            if not devices or devices[-1].name != name:
+                devices.append(Device(name))
+            lines = [line]
+        devices[-1].lines += [line_of(place, it) for it in lines]
+    return devices, is_concise
 
 
 def line_of(place: str, text: str) -> Line:
@@ -126,7 +110,7 @@ def line_of(place: str, text: str) -> Line:
     line = Line(start, length, words[2], words[3:])
     fault = line.fault()
     if fault:
-        raise Refusal(place, "%s, see `dmremap-tools explain`: %s" % (fault, quoting.shown(text)))
+        raise Refusal(place, f"{fault}, see `dmremap-tools explain`: {quoting.shown(text)}")
     return line
 
 
@@ -140,5 +124,5 @@ def names_in(path: str) -> List[str]:
 def text_of(devices: List[Device], is_concise: bool) -> str:
     """Devices as table text or in the concise form, as dmremap reads it."""
     if is_concise:
-        return ";".join(",".join([it.name, "", "", it.flags] + [str(line) for line in it.lines]) for it in devices) + "\n"
-    return "".join("%s: %s\n" % (it.name, line) for it in devices for line in it.lines)
+        return ";".join(",".join([it.name, "", "", it.flags, *map(str, it.lines)]) for it in devices) + "\n"
+    return "".join(f"{it.name}: {line}\n" for it in devices for line in it.lines)

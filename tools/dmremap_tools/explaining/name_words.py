@@ -4,7 +4,7 @@ import re
 from typing import List, Optional, Tuple
 
 from dmremap_tools.base import names, program, quoting
-from dmremap_tools.explaining import messages
+from dmremap_tools.explaining import refusals
 from dmremap_tools.explaining.finding import Finding, command, shell
 
 COMMANDS = ("name", "splitname")
@@ -20,7 +20,7 @@ def why(asked: str, words: List[str]) -> Tuple[str, Finding]:
     if not said:
         return "", Finding("nothing is refused: dmremap prints %s" % printed.strip(), [])
     found = _why(about[1], words) if about else _why_words(words)
-    return message, found or Finding(messages.NAMES.get(about[1] if about else "", "dmremap doesn't take these words"), [])
+    return message, found or Finding(refusals.meaning(asked, message) or "dmremap doesn't take these words", [])
 
 
 def _why(word: str, words: List[str]) -> Optional[Finding]:

@@ -7,7 +7,7 @@ from typing import Dict, List, Optional
 from dmremap_tools.base import names, program
 from dmremap_tools.base.given import Given, put
 from dmremap_tools.base.refusal import Refusal
-from dmremap_tools.explaining import group_texts, kinds, messages, request_lines, table_texts, texts
+from dmremap_tools.explaining import group_texts, kinds, request_lines, table_texts, texts
 from dmremap_tools.explaining.asked import Typed
 from dmremap_tools.explaining.finding import Finding, shell
 from dmremap_tools.layers import refused, stack
@@ -15,7 +15,6 @@ from dmremap_tools.layers import refused, stack
 ABOUT_TEXT = re.compile(r"dmremap: (source|disks): (\w+)(?: at ([0-9]+))?")
 ABOUT_REQUEST = re.compile(r"dmremap: request ([0-9]+): (.+)")
 ABOUT_EARLIER = re.compile(r"dmremap: before: (.+) at ([0-9]+)")
-ABOUT_STORES = re.compile(r"dmremap: (?:paths: (\w+) at [0-9]+|store \S+: (\w+))")
 SWAPPED = "FILE and DISKS stand the wrong way round: %s is %s"
 # What refused.told knows of a kernel, which says more than the words of a line.
 OF_SNAPSHOTS = ("field", "snapshot", "store", "limit")
@@ -75,7 +74,7 @@ class Told:
         before, listed = self.texts.get("before"), self.texts.get("paths")
         if earlier and isinstance(before, texts.Text):
             return self._why_request(asked, earlier[1], int(earlier[2]), before)
-        return next((it for it in (listed, before) if isinstance(it, Finding)), general(message))
+        return next((it for it in (listed, before) if isinstance(it, Finding)), None) or general(asked, message)
 
     def _text(self, part: str) -> Optional[texts.Text]:
         text = self.texts.get(part)
@@ -93,7 +92,8 @@ class Told:
         is_device = self.typed.form == "concise" and part == "source" and word != "text"
         if not found:
             rows = text.content.decode("utf-8", "surrogateescape").split(";") if is_device else text.lines()
-            found = general(message).at(text.name, number, rows[number - 1]) if 0 < number <= len(rows) else general(message)
+            found = general(asked, message)
+            found = found.at(text.name, number, rows[number - 1]) if 0 < number <= len(rows) else found
         return found._replace(place=found.place._replace(is_device=True)) if is_device and found.place else found
 
     def _why_kind(self, part: str, text: texts.Text) -> Optional[Finding]:
@@ -186,7 +186,7 @@ class Told:
         try:
             loaded = stack.load(asked, self.copies(), self._room)
         except Refusal:
-            return general("dmremap: request %d: %s" % (number, word))
+            return general(asked, "dmremap: request %d: %s" % (number, word))
         lower = {it for device in loaded.devices for it in device.lowers()}
         lengths: Dict[str, int] = {it.name: it.end() for it in loaded.devices}
         tops = [it.name for it in loaded.devices if names.MAPPER + it.name not in lower]
@@ -198,20 +198,25 @@ def form_kind(form: str) -> str:
     return next(kind for kind, it in kinds.FORM_OF.items() if it == form)
 
 
-def general(message: str) -> Finding:
-    """What the manual says of a message."""
-    return Finding(meaning(message) or "dmremap fails with this message", [])
+def general(asked: str, message: str) -> Finding:
+    """What dmremap's own help says of a message."""
+    return Finding(meaning(asked, message) or "dmremap fails with this message", [])
 
 
-def meaning(message: str) -> str:
-    """What the manual says of it, or nothing."""
-    every = {**messages.REQUESTS, **messages.EARLIER, **messages.STORES, **messages.OTHERS}
-    text, request, earlier = ABOUT_TEXT.fullmatch(message), ABOUT_REQUEST.fullmatch(message), ABOUT_EARLIER.fullmatch(message)
-    stored = ABOUT_STORES.fullmatch(message)
-    if stored:
-        return messages.STORES.get(stored[1] or stored[2], "")
-    if text:
-        return messages.TEXTS.get(text[2], "")
-    if request or earlier:
-        return messages.REQUESTS.get((request[2] if request else earlier[1]) if request or earlier else "", "")
-    return next((text for key, text in every.items() if message in key.split(", ")), "")
+def meaning(asked: str, message: str) -> str:
+    """What the help of its word says below this message, in lines, or nothing."""
+    lines: List[str] = []
+    is_above = is_meant = False
+    for line in program.ask_quietly([asked, "help", message])[0].splitlines():
+        if line.startswith(" "):
+            lines += [line.strip()] * is_meant
+            is_above = False
+        elif line:
+            is_meant = is_above and is_meant or _form_of(line).fullmatch(message) is not None
+            is_above = True
+    return "\n".join(lines)
+
+
+def _form_of(head: str) -> "re.Pattern[str]":
+    """The messages that a line of the help is about."""
+    return re.compile(re.sub(r"\b(NUMBER|LINE|N)\b", "[0-9]+", re.escape(head)).replace("NAME", ".+"))

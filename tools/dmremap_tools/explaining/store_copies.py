@@ -8,7 +8,7 @@ from dmremap_tools.base.given import put
 from dmremap_tools.base.numbers import SECTOR
 from dmremap_tools.base.refusal import Refusal
 from dmremap_tools.layers.stack import Stack
-from dmremap_tools.model import store_copy
+from dmremap_tools.model import snapshot
 from dmremap_tools.model.device import Device, Missing, Part
 from dmremap_tools.model.image import Image
 from dmremap_tools.model.mapping import Mapped, Tables
@@ -30,7 +30,7 @@ class StoreCopies:
         for disk, (path, chunk) in stores.items():
             store = self._source.disks.get(path) or Mapped(path, self._source, names.of_path(path))
             copy = os.path.join(self._room, disk)
-            store_copy.copy(store, chunk, copy)
+            snapshot.copy(store, chunk, copy)
             rows.append(f"{disk} {copy}?offset=0")
         put(listed, (row + "\n" for row in [*self._rows, *rows]))
         return listed

@@ -1,12 +1,8 @@
 """Copies the bytes of a device into a file."""
 
-import time
-from typing import Iterator, List, Optional, Tuple
+from typing import Generator, Iterator, List, Optional, Tuple
 
-from dmremap_tools.answers.gaps import Gaps
-from dmremap_tools.answers.save import PARTLY, begin_kept
-from dmremap_tools.answers.saved_map import SavedMap
-from dmremap_tools.answers.target import Target as File
+from dmremap_tools.answers.saved import PARTLY, Part, SavedMap, put_together
 from dmremap_tools.base import quoting, streams
 from dmremap_tools.base.numbers import SECTOR
 from dmremap_tools.base.refusal import Refusal
@@ -15,69 +11,32 @@ from dmremap_tools.model.device import Extent, Gap, joined
 from dmremap_tools.model.image import Image
 from dmremap_tools.model.named import Target
 
-# Bytes whose places are asked for at once, bytes that are read at once, and how often the map is written.
-WINDOW, BLOCK, SECONDS = 256 << 20, 1 << 20, 30
+# Bytes whose places are asked for at once, and bytes that are read at once.
+WINDOW, BLOCK = 256 << 20, 1 << 20
 
 
-class Copy:
-    """A copy of a target at a path, perhaps with a map."""
+def copy(target: Target, path: str, map_path: Optional[str], may_lack: bool) -> bool:
+    """Copies a target to a path, perhaps with a map, and says whether something is missing. A device that lacks bytes is refused,
+    unless it was said that it may."""
+    why = target.device.lack(0, target.size)
+    if why and not (map_path or may_lack):
+        raise Refusal(quoting.shown(target.name), f"{why}; or {PARTLY}")
+    if why:
+        streams.tell(f"{quoting.shown(target.name)}: {why}")
+    saved = SavedMap(map_path, target.size, [(0, target.size)])
+    return put_together(path, saved, parts(target, saved))
 
-    def __init__(self, target: Target, path: str, map_path: Optional[str], may_lack: bool) -> None:
-        self._target, self._path, self._map_path, self._may_lack = target, path, map_path, may_lack
-        self._gaps = Gaps()
-        self._written = time.monotonic()
 
-    def made(self) -> bool:
-        """Makes the file, and says whether something is missing in it."""
-        self._check()
-        size = self._target.size
-        saved = SavedMap(self._map_path, size, [(0, size)])
-        file = File(self._path, size, saved.is_begun)
-        if self._map_path is not None:
-            begin_kept(file, saved)
-        try:
-            for begin, end in list(saved.left(0, size)):
-                self._copy(file, saved, begin, end)
-            self._gaps.tell()
-        finally:
-            # Where the file's disk doesn't take what was written, the map doesn't say that it did.
-            if self._map_path is not None:
-                file.sync()
-                saved.write()
-        file.close()
-        if self._map_path is None:
-            file.put()
-        return self._gaps.were_any
-
-    def _check(self) -> None:
-        """Refuses a device that lacks bytes, unless it was said that it may."""
-        why = self._target.device.lack(0, self._target.size)
-        if why and not (self._map_path or self._may_lack):
-            raise Refusal(quoting.shown(self._target.name), f"{why}; or {PARTLY}")
-        if why:
-            streams.tell(f"{quoting.shown(self._target.name)}: {why}")
-
-    def _copy(self, file: File, saved: SavedMap, begin: int, end: int) -> None:
+def parts(target: Target, saved: SavedMap) -> "Generator[Part, None, None]":
+    """What is left to do, as it is read."""
+    for begin, end in list(saved.left(0, target.size)):
         for start in range(begin, end, WINDOW):
-            at = start
             first = start // SECTOR * SECTOR
-            for extent in joined(self._target.device.extents(first, -(-(min(end, start + WINDOW) - first) // SECTOR) * SECTOR)):
+            stop = -(-min(end, start + WINDOW) // SECTOR) * SECTOR
+            for extent in joined(target.device.extents(first, stop - first)):
                 for size, content, is_there in parts_of(extent):
-                    if content:
-                        file.write(first, content)
-                    if not is_there:
-                        self._gaps.add(first // SECTOR, size // SECTOR)
-                    saved.mark(max(at, first), first + size, FINISHED if is_there else BAD)
+                    yield Part(first, size, content, FINISHED if is_there else BAD, max(start, first))
                     first += size
-                streams.show_progress(f"{first >> 20} of {self._target.size >> 20} MiB")
-                self._keep(file, saved)
-
-    def _keep(self, file: File, saved: SavedMap) -> None:
-        """Writes the map now and then."""
-        if time.monotonic() - self._written > SECONDS:
-            file.sync()
-            saved.write()
-            self._written = time.monotonic()
 
 
 def parts_of(extent: Extent) -> Iterator[Tuple[int, bytes, bool]]:

@@ -43,7 +43,6 @@ TABLE = "inode table: "
 
 
 def add_words(parser: ArgumentParser) -> None:
-    """Adds the arguments."""
     parser.add_argument("volume", metavar="GROUP/VOLUME", help="the volume, by its name")
     parser.add_argument("images", metavar="IMAGE", nargs="+", help="a file or a block device")
     rescue_map.add_words(parser)
@@ -52,7 +51,6 @@ def add_words(parser: ArgumentParser) -> None:
 
 
 def run(words: Namespace) -> None:
-    """Prints what is lost."""
     mapping.use(words.program)
     pile = Pile(words.images, rescue_map.unread_in(words.map, words.images))
     target = target_of(pile, words.volume)
@@ -66,7 +64,6 @@ def run(words: Namespace) -> None:
 
 
 def lost_runs(device: Device, size: int) -> "list[Run]":
-    """The runs of sectors that a device lacks."""
     runs: List[Run] = []
     at = 0
     for extent in joined(device.extents(0, size)):

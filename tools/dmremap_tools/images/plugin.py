@@ -32,7 +32,6 @@ def thread_model() -> int:
 
 
 def config(key: str, value: str) -> None:
-    """Takes a parameter."""
     if key == "image":
         _images.append(value)
     else:
@@ -40,7 +39,6 @@ def config(key: str, value: str) -> None:
 
 
 def get_ready() -> None:
-    """Finds the volume."""
     global _target
     try:
         mapping.use(_given.get("program"))
@@ -56,7 +54,6 @@ def open(readonly: bool) -> int:
 
 
 def get_size(handle: int) -> int:
-    """The bytes of the volume."""
     return _target.size
 
 
@@ -71,7 +68,6 @@ def can_extents(handle: int) -> bool:
 
 
 def pread(handle: int, buffer: bytearray, offset: int, flags: int) -> None:
-    """Reads bytes."""
     buffer[:] = answered(lambda: _target.device.read(offset, len(buffer)))
 
 

@@ -23,7 +23,7 @@ from typing import Optional
 from dmremap_tools.answers import save as by_tables
 from dmremap_tools.base import given, names
 from dmremap_tools.base.refusal import INCOMPLETE, WrongWords
-from dmremap_tools.images.copied import Copy
+from dmremap_tools.images.copied import copy
 from dmremap_tools.layers import started
 from dmremap_tools.model import mapping
 from dmremap_tools.model.named import target_of
@@ -34,7 +34,6 @@ USAGE = "usage: GROUP/VOLUME OUT IMAGE.., or VOLUME TARGET FORMAT FILE [DISKS]"
 
 
 def add_words(parser: ArgumentParser) -> None:
-    """Adds the arguments."""
     parser.add_argument("volume", metavar="GROUP/VOLUME", help="the volume, by its name")
     parser.add_argument("target", metavar="OUT")
     parser.add_argument("images", metavar="IMAGE", nargs="+", help="a file or a block device; or FORMAT FILE [DISKS]")
@@ -46,7 +45,6 @@ def add_words(parser: ArgumentParser) -> None:
 
 
 def run(words: Namespace) -> Optional[int]:
-    """Saves it by tables, or out of the images."""
     form, *others = words.images
     if words.map is not None and words.map.partition("=")[0] in words.images and "=" in words.map:
         raise WrongWords("--map MAP is a file that save writes: give the maps of images to lost or owner", USAGE)
@@ -57,6 +55,5 @@ def run(words: Namespace) -> Optional[int]:
         if getattr(words, option):
             raise WrongWords(f"--{option} is for FORMAT FILE [DISKS]: leave it out", USAGE)
     mapping.use(words.program)
-    pile = Pile(words.images)
-    copy = Copy(target_of(pile, words.volume), words.target, words.map, words.allow_missing)
-    return INCOMPLETE if copy.made() and not words.allow_missing else None
+    is_partly = copy(target_of(Pile(words.images), words.volume), words.target, words.map, words.allow_missing)
+    return INCOMPLETE if is_partly and not words.allow_missing else None

@@ -22,25 +22,23 @@ import json
 from argparse import ArgumentParser, Namespace
 
 from dmremap_tools.base import program, streams
-from dmremap_tools.model import mapping, report, tree
+from dmremap_tools.model import mapping, report
 from dmremap_tools.model.pile import Pile
 
 EXAMPLE = "dmremap-tools scan disk1.img disk2.img /dev/sdc"
 
 
 def add_words(parser: ArgumentParser) -> None:
-    """Adds the images."""
     parser.add_argument("--json", action="store_true", help="one object, for other programs")
     parser.add_argument("images", metavar="IMAGE", nargs="+", help="a file or a block device")
     program.add_words(parser)
 
 
 def run(words: Namespace) -> None:
-    """Prints what is there."""
     mapping.use(words.program)
     pile = Pile(words.images)
     pile.search()
     if words.json:
         streams.out.write(json.dumps(report.object_of(pile), indent=1) + "\n")
     else:
-        streams.out.write("".join(f"{line}\n" for line in tree.lines_of(pile)))
+        streams.out.write("".join(f"{line}\n" for line in report.lines_of(pile)))

@@ -40,7 +40,6 @@ mount it:   mount -o ro,loop,noload disk/volume.img /mnt    (as root; of XFS nor
 
 
 def add_words(parser: ArgumentParser) -> None:
-    """Adds the arguments."""
     parser.add_argument("volume", metavar="GROUP/VOLUME", help="the volume, by its name")
     parser.add_argument("images", metavar="IMAGE", nargs="+", help="a file or a block device")
     parser.add_argument("--socket", metavar="SOCKET", help="where the server listens; else in a folder for temporary files")
@@ -48,7 +47,6 @@ def add_words(parser: ArgumentParser) -> None:
 
 
 def run(words: Namespace) -> None:
-    """Serves it."""
     nbdkit = shutil.which("nbdkit")
     if not nbdkit:
         raise Refusal("nbdkit", "it isn't here: install nbdkit and its plugin for Python (nbdkit-plugin-python), or use `save`")

@@ -23,7 +23,6 @@ FILES = ("FILE", "DISKS", "PATHS")
 
 
 def add_words(parser: ArgumentParser) -> None:
-    """Adds the arguments."""
     parser.add_argument("group", metavar="GROUP", help="the group, by its name or its id")
     parser.add_argument("images", metavar="IMAGE", nargs="+", help="a file or a block device")
     parser.add_argument("--to", metavar="FOLDER", required=True, help="where the files are written")
@@ -31,7 +30,6 @@ def add_words(parser: ArgumentParser) -> None:
 
 
 def run(words: Namespace) -> None:
-    """Writes them."""
     mapping.use(words.program)
     groups = groups_named(Pile(words.images), words.group)
     if len(groups) > 1:
@@ -39,7 +37,7 @@ def run(words: Namespace) -> None:
     group = groups[0]
     if group.doubt:
         raise Refusal(quoting.shown(words.group), group.doubt)
-    made = GroupTables(group.side.layout())
+    made = GroupTables(group.side)
     for volume in group.volumes:
         if volume.side is group.side and not volume.is_removed:
             made.add(volume.key)

@@ -41,7 +41,6 @@ class Array:
         self.copies = self._copies() if self.level == "raid10" else Copies(1, 1, False)
 
     def refuse(self, why: str) -> NoReturn:
-        """Refuses the array."""
         self.there[0].refuse(why)
 
     def member(self, role: int) -> Member:
@@ -51,7 +50,6 @@ class Array:
         return self.by_role[role]
 
     def disk(self, role: int) -> str:
-        """The name of a member's disk."""
         path = self.member(role).path
         name = self._disks.get(path, path)
         if not names.DISK.fullmatch(name) and not name.startswith(names.MAPPER):
@@ -177,40 +175,33 @@ def _rows(array: Array, roles: Sequence[int], row: int) -> Iterator[tables.Line]
 def _rows_of_copies(array: Array, copy: Optional[int]) -> Iterator[tables.Line]:
     near, far, is_offset = array.copies
     if array.count % near or near > 1 and far > 1 or is_offset and far > 1:
-        array.refuse("raid10 of %d devices with the layout %s, which no table can say: follow the answers with --follow"
-                     % (array.count, array.layout))
+        array.refuse(f"raid10 of {array.count} devices with the layout {array.layout}, which no table can say: follow the answers with --follow")
     if copy is not None and copy >= near * far:
-        array.refuse("it has %d copies, counted from 0: give a lower --copy" % (near * far))
+        array.refuse(f"it has {near * far} copies, counted from 0: give a lower --copy")
     if far > 1:
         for each in range(far) if copy is None else [copy]:
             roles = [(it + each) % array.count for it in range(array.count)]
             if copy is not None or all(it in array.by_role for it in roles):
                 break
         return _rows(array, roles, each * (array.chunks // far) * array.chunk)
-    return _rows(array, [next((role for role in range(at, at + near) if role in array.by_role), at) if copy is None else at + copy
-                         for at in range(0, array.count, near)], 0)
+    firsts = range(0, array.count, near)
+    if copy is not None:
+        return _rows(array, [first + copy for first in firsts], 0)
+    return _rows(array, [next((it for it in range(first, first + near) if it in array.by_role), first) for first in firsts], 0)
 
 
 def place(array: Array, number: int, copy: int) -> Tuple[int, int]:
-    """The role and the row of a chunk of an array of raid4, 5, 6 or 10."""
-    if array.level == "raid10":
-        return _place_of_copy(array, number, copy)
-    row, column = divmod(number, array.count - (2 if array.level == "raid6" else 1))
-    if array.level == "raid4":
-        return column, row
-    # Layouts that end in -6 come again after one row less.
-    return array.role_in(row % (array.count * (array.count - 1)), column), row
-
-
-def _place_of_copy(array: Array, number: int, copy: int) -> Tuple[int, int]:
-    """The role and the row of a copy of a chunk: the far copies of each near one have numbers that follow each other."""
+    """The role and the row of a chunk of an array of raid4, 5, 6 or 10. In raid10 the far copies of each near one have numbers that
+    follow each other."""
+    if array.level != "raid10":
+        row, column = divmod(number, array.count - (2 if array.level == "raid6" else 1))
+        # Layouts that end in -6 come again after one row less.
+        return column if array.level == "raid4" else array.role_in(row % (array.count * (array.count - 1)), column), row
     near, far, is_offset = array.copies
     row, role = divmod(number * near, array.count)
     at, turn = divmod(copy, far)
-    if is_offset:
-        row *= far
-    row += (role + at) // array.count
     stride = 1 if is_offset else -(-(array.sectors // array.chunk * near * far) // array.count) // far
+    row = (row * far if is_offset else row) + (role + at) // array.count
     return (role + at + turn * near) % array.count, row + turn * stride
 
 

@@ -36,7 +36,6 @@ class Member:
         self.states: Dict[str, Tuple[int, str]] = {}
 
     def refuse(self, why: str) -> NoReturn:
-        """Refuses what is said of it."""
         raise Refusal(self.place, why)
 
     def get(self, *keys: str) -> str:
@@ -51,7 +50,6 @@ class Member:
         return bool(OLD_VERSION.fullmatch(self.get("Version")))
 
     def number(self, *keys: str) -> int:
-        """The number that a field begins with."""
         text = self.get(*keys)
         match = AMOUNT.fullmatch(text)
         if not match:
@@ -59,7 +57,6 @@ class Member:
         return int(match[1])
 
     def data_offset(self) -> int:
-        """Its first sector of data."""
         return self.number("Data Offset") if "Data Offset" in self.fields else 0
 
     def used(self) -> int:
@@ -106,7 +103,6 @@ class Member:
 
 
 def read(path: str) -> List[Member]:
-    """The members that a text has."""
     found: List[Member] = []
     for number, row in enumerate(streams.rows(path), 1):
         head, field, device = HEAD.fullmatch(row), FIELD.fullmatch(row), DEVICE.fullmatch(row)
@@ -133,35 +129,30 @@ def same(members: Sequence[Member], *keys: str) -> str:
 
 def by_role(members: Sequence[Member]) -> Tuple[Dict[int, Member], int]:
     """The members by their roles, all of the last state that any of them tells, and how many roles there are."""
+    first = members[0]
     same(members, "Array UUID", "UUID")
     same(members, "Raid Level")
     same(members, "Raid Devices")
-    count, version = members[0].number("Raid Devices"), same(members, "Version")
+    count, version = first.number("Raid Devices"), same(members, "Version")
     if version not in ("1.0", "1.1", "1.2") and not OLD_VERSION.fullmatch(version):
-        members[0].refuse("metadata of version %s, and only 0.90 and 1.0 to 1.2 are known: %s" % (quoting.shown(version), START))
+        first.refuse(f"metadata of version {quoting.shown(version)}, and only 0.90 and 1.0 to 1.2 are known: {START}")
     if not 0 < count <= MOST_DEVICES:
-        members[0].refuse("no array has %d devices: %s" % (count, ANEW))
-    newest, found = max(it.events() for it in members), {}
+        first.refuse(f"no array has {count} devices: {ANEW}")
+    newest = max(it.events() for it in members)
+    found: Dict[int, Member] = {}
     for it in members:
         it.check()
         role = it.role()
         if role is None or role >= count:
-            streams.tell("left out: %s, which is no active device" % quoting.shown(it.path))
+            streams.tell(f"left out: {quoting.shown(it.path)}, which is no active device")
         elif it.events() != newest:
-            streams.tell("left out: %s, which was away when others changed" % quoting.shown(it.path))
+            streams.tell(f"left out: {quoting.shown(it.path)}, which was away when others changed")
         elif role in found:
-            it.refuse("%s is device %d as well: leave one of them out" % (quoting.shown(found[role].path), role))
+            it.refuse(f"{quoting.shown(found[role].path)} is device {role} as well: leave one of them out")
         else:
             found[role] = it
-    return _without_dropped(found) or members[0].refuse("no member of it is active: give those that are, or " + START), count
-
-
-def _without_dropped(found: Dict[int, Member]) -> Dict[int, Member]:
-    """Without the members that others have dropped."""
-    kept = {}
-    for role, it in found.items():
-        if any(other.is_dropped(role) for other in found.values()):
-            streams.tell("left out: %s, which the array has dropped" % quoting.shown(it.path))
-        else:
-            kept[role] = it
-    return kept
+    dropped = [role for role in found if any(it.is_dropped(role) for it in found.values())]
+    for role in dropped:
+        streams.tell(f"left out: {quoting.shown(found[role].path)}, which the array has dropped")
+    kept = {role: it for role, it in found.items() if role not in dropped}
+    return kept or first.refuse("no member of it is active: give those that are, or " + START), count

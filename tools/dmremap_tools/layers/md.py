@@ -32,7 +32,6 @@ EXAMPLE = "dmremap-tools md --name md0 examine.txt > md0.table"
 
 
 def add_words(parser: argparse.ArgumentParser) -> None:
-    """Adds the arguments."""
     what = parser.add_mutually_exclusive_group(required=True)
     what.add_argument("--name", metavar="NAME", help="the device of the table")
     what.add_argument("--follow", metavar="DISK", help="the array, as the answers name it")
@@ -44,7 +43,6 @@ def add_words(parser: argparse.ArgumentParser) -> None:
 
 
 def run(words: argparse.Namespace) -> None:
-    """Prints a table, or answers."""
     sizes = {path: numbers.check_length("--size", streams.whole("--size", size)) for path, size in _pairs(words.size, "--size MEMBER=SECTORS").items()}
     array = arrays.Array(examine.read(words.examined), _pairs(words.path, "--path MEMBER=DISK"), sizes)
     if words.name is not None:
@@ -56,7 +54,6 @@ def run(words: argparse.Namespace) -> None:
 
 
 def _pairs(given: List[str], form: str) -> Dict[str, str]:
-    """What options of the form A=B give, each A once."""
     found: Dict[str, str] = {}
     for word in given:
         path, _, value = word.partition("=")
@@ -68,30 +65,28 @@ def _pairs(given: List[str], form: str) -> Dict[str, str]:
 
 def follow(array: arrays.Array, disk: str, copy: "int | None", source: pieces.Answers) -> None:
     """Prints answers with the pieces on a disk followed on."""
-    near, far, _ = array.copies
+    copies, shown = array.copies.near * array.copies.far, quoting.shown(disk)
     if array.level not in (*arrays.PARITY, "raid10"):
-        array.refuse("--follow isn't for %s: make its table with --name" % quoting.shown(array.level))
-    if copy is not None and copy >= near * far:
-        array.refuse("it has %d copies, counted from 0: give a lower --copy" % (near * far))
+        array.refuse(f"--follow isn't for {quoting.shown(array.level)}: make its table with --name")
+    if copy is not None and copy >= copies:
+        array.refuse(f"it has {copies} copies, counted from 0: give a lower --copy")
     for piece in source:
+        is_move = piece.what in ("R", "W")
         if disk not in (piece.disk, piece.to):
-            is_move = piece.what in ("R", "W")
-            streams.out.write(("%d %s %s %d %d" % (piece.request, piece.what, piece.disk, piece.start, piece.count) if is_move
-                               else source.line) + "\n")
+            said = f"{piece.request} {piece.what} {piece.disk} {piece.start} {piece.count}" if is_move else source.line
+            streams.out.write(said + "\n")
             continue
-        if piece.what not in ("R", "W") or piece.what == "W" and array.level in arrays.PARITY:
-            source.refuse_line("on %s only reads are followed, leave others out" % quoting.shown(disk))
+        if not is_move or piece.what == "W" and array.level in arrays.PARITY:
+            source.refuse_line(f"on {shown} only reads are followed, leave others out")
         if piece.count > requests.MOST:
             source.refuse_line("longer than a request is, give what `dmremap map` prints")
         if piece.start + piece.count > array.sectors:
-            source.refuse_line("%s has %d sectors, make the answers with that in DISKS" % (quoting.shown(disk), array.sectors))
-        runs = _joined(_read(array, piece, copy or 0) if piece.what == "R" else _written(array, piece))
-        words = "%d %s " % (piece.request, piece.what)
-        while True:
-            lines = [f"{words}{name} {start} {count}\n" for name, start, count in itertools.islice(runs, AT_ONCE)]
-            if not lines:
-                break
-            streams.out.write("".join(lines))
+            source.refuse_line(f"{shown} has {array.sectors} sectors, make the answers with that in DISKS")
+        runs = _joined(_read(array, piece, copies, copy or 0) if piece.what == "R" else _written(array, piece, copies))
+        head = f"{piece.request} {piece.what}"
+        lines = (f"{head} {name} {start} {count}\n" for name, start, count in runs)
+        for some in iter(lambda: "".join(itertools.islice(lines, AT_ONCE)), ""):
+            streams.out.write(some)
 
 
 def _chunks(array: arrays.Array, piece: pieces.Piece) -> Iterator[Tuple[int, int, int]]:
@@ -104,24 +99,23 @@ def _chunks(array: arrays.Array, piece: pieces.Piece) -> Iterator[Tuple[int, int
         start += count
 
 
-def _read(array: arrays.Array, piece: pieces.Piece, first: int) -> Iterator[Run]:
+def _read(array: arrays.Array, piece: pieces.Piece, copies: int, first: int) -> Iterator[Run]:
     """Where a piece is read: in one of the copies, or in the next one that is there."""
-    many = array.copies.near * array.copies.far
     for number, at, count in _chunks(array, piece):
-        role, row = arrays.place(array, number, first % many)
-        if role not in array.by_role and many > 1:
-            others = (arrays.place(array, number, (first + it) % many) for it in range(1, many))
+        role, row = arrays.place(array, number, first % copies)
+        if role not in array.by_role:
+            others = (arrays.place(array, number, (first + it) % copies) for it in range(1, copies))
             role, row = next((it for it in others if it[0] in array.by_role), (role, row))
         disk, start = array.beginning(role)
         yield disk, start + row * array.chunk + at, count
 
 
-def _written(array: arrays.Array, piece: pieces.Piece) -> Iterator[Run]:
+def _written(array: arrays.Array, piece: pieces.Piece, copies: int) -> Iterator[Run]:
     """Where a piece is written: in each copy that is there, one after the other."""
     for number, _, _ in _chunks(array, piece):
-        if not any(arrays.place(array, number, it)[0] in array.by_role for it in range(array.copies.near * array.copies.far)):
+        if not any(arrays.place(array, number, it)[0] in array.by_role for it in range(copies)):
             array.member(arrays.place(array, number, 0)[0])
-    for copy in range(array.copies.near * array.copies.far):
+    for copy in range(copies):
         for number, at, count in _chunks(array, piece):
             role, row = arrays.place(array, number, copy)
             if role in array.by_role:

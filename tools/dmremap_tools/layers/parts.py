@@ -2,7 +2,7 @@
 table, and 1 MiB of text."""
 
 from argparse import ArgumentParser, Namespace
-from typing import Iterable, Iterator, List, Optional, Tuple
+from typing import Iterable, Iterator, Optional, Tuple
 
 from dmremap_tools.base import names, numbers, quoting, tables
 from dmremap_tools.base.refusal import Refusal, WrongWords
@@ -11,7 +11,6 @@ MOST_LINES, MOST_TEXT = 1 << 16, 1 << 20
 
 
 def add_words(parser: ArgumentParser) -> None:
-    """Adds --part."""
     parser.add_argument("--part", metavar=("START", "SECTORS"), nargs=2, type=numbers.word,
                         help="only the lines with these sectors; all others become `error`")
 
@@ -34,25 +33,24 @@ def device_of(name: str, flags: str, lines: Iterable[tables.Line], part: Optiona
     for line in lines if part is None else _meeting(lines, *part):
         size += len(name) + len(str(line)) + 3
         if len(device.lines) == MOST_LINES or size > MOST_TEXT:
-            raise Refusal(device.name, "it has more than %d lines, or %d bytes of them, which is all that dmremap takes: "
-                          "ask for a part, with --part START SECTORS" % (MOST_LINES, MOST_TEXT))
+            raise Refusal(device.name, f"it has more than {MOST_LINES} lines, or {MOST_TEXT} bytes of them, which is all that dmremap takes: "
+                          "ask for a part, with --part START SECTORS")
         device.lines.append(line)
     if not device.lines:
         raise Refusal(device.name, "it has no sectors: give the whole text of it")
     if part is not None and part[0] >= device.end():
-        raise WrongWords("--part: %s has %d sectors, and the part begins at sector %d: begin lower" % (device.name, device.end(), part[0]))
+        raise WrongWords(f"--part: {device.name} has {device.end()} sectors, and the part begins at sector {part[0]}: begin lower")
     return device
 
 
 def _meeting(lines: Iterable[tables.Line], first: int, end: int) -> Iterator[tables.Line]:
-    left: List[int] = []
+    left: Optional[int] = None
     for line in lines:
-        if line.start < end and line.start + line.length > first:
-            if left:
-                yield tables.Line(left[0], line.start - left[0], "error", [])
-                left = []
+        is_asked = line.start < end and line.start + line.length > first
+        if is_asked and left is not None:
+            yield tables.Line(left, line.start - left, "error", [])
+        if is_asked:
             yield line
-        else:
-            left = [left[0] if left else line.start, line.start + line.length]
-    if left:
-        yield tables.Line(left[0], left[1] - left[0], "error", [])
+        left, last = None if is_asked else line.start if left is None else left, line.start + line.length
+    if left is not None:
+        yield tables.Line(left, last - left, "error", [])

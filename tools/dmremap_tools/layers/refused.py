@@ -5,7 +5,7 @@ from typing import Callable, Dict, Iterator, List, NamedTuple, Optional
 
 from dmremap_tools.base import names, quoting, store_places, tables
 from dmremap_tools.base.config_text import Document
-from dmremap_tools.metadata.volume_group import Group, Record, Volume
+from dmremap_tools.metadata.volume_group import Group
 
 SAID = re.compile(r"dmremap: source: (text|field|syntax|extents|snapshot|store|limit) at ([0-9]{1,20})\n")
 LOST = "put a disk in the place of what is lost: in FILE write `linear lost 0` for `error`, and in DISKS `lost` with that line's length"
@@ -48,7 +48,6 @@ class Row(NamedTuple):
 
     @property
     def target(self) -> str:
-        """The target, or nothing."""
         return "".join(self.words[2:3])
 
 
@@ -76,60 +75,48 @@ class Rows:
         self.by_number: Dict[int, List[Row]] = {}
         self._by_path: Dict[str, List[Row]] = {}
         self._sizes = sizes
-        for row in (_of_table if form == "table" else _of_concise)(text.rstrip("\n")):
-            self.by_number.setdefault(row.number, []).append(row)
-            self._by_path.setdefault(names.MAPPER + row.device, []).append(row)
+        for number, said in enumerate(text.rstrip("\n").split("\n" if form == "table" else ";"), 1):
+            device, *fields = said.split(",") if form != "table" else said.partition(": ")
+            for line in fields[3:] if form != "table" else fields[1:]:
+                row = Row(number, device, fields[2] if form != "table" else "", line.split())
+                self.by_number.setdefault(number, []).append(row)
+                self._by_path.setdefault(names.MAPPER + device, []).append(row)
 
     def why(self, word: str, row: Row) -> Optional[str]:
         """What a kernel does with a line that dmremap refuses with this word, or None."""
+        firsts = [rows[0] for rows in self._by_path.values()]
         if word == "field":
-            return self._why_unread(row)
+            if row.target == "snapshot-merge":
+                return MERGING
+            if row.target == "snapshot" and len(row.words) > 6:
+                return _why_kind(row.words[5]) or (FEATURES if len(row.words) > 7 else None)
+            stores = [store for it in firsts for store in it.words[4:5] if it.target == "snapshot"]
+            if row.target not in tables.TARGETS and any(it is row for it in self._below(stores)):
+                return ON_ANOTHER % f"a device of {quoting.shown(row.target)}"
         if row.target not in ("snapshot", "snapshot-origin"):
             return None
         if word == "snapshot":
-            return self._why_snapshot(row)
+            if len(self._by_path[names.MAPPER + row.device]) > 1:
+                return BESIDE
+            why = _why_chunk(int(row.words[6])) if row.target == "snapshot" else None
+            return why or (LONGER if int(row.words[1]) > self._length(row.words[3]) else ORIGIN_BETWEEN)
         if word == "store":
-            return self._why_store(row)
-        return STORE_BETWEEN if word == "limit" and self._places() > store_places.MOST else None
-
-    def _why_unread(self, row: Row) -> Optional[str]:
-        if row.target == "snapshot-merge":
-            return MERGING
-        if row.target == "snapshot" and len(row.words) > 6:
-            return _why_kind(row.words[5]) or (FEATURES if len(row.words) > 7 else None)
-        stores = [store for it in self._by_path.values() for store in it[0].words[4:5] if it[0].target == "snapshot"]
-        if row.target not in tables.TARGETS and any(it is row for it in self._below(stores)):
-            return ON_ANOTHER % ("a device of " + quoting.shown(row.target))
+            for lower in self._below([row.words[4]]):
+                if lower.flags == "ro":
+                    return READ_ONLY
+                if lower.target not in ("linear", "striped"):
+                    return STORES.get(lower.target, ON_ANOTHER % "a snapshot")
+        if word == "limit":
+            snapshots = [it.words for it in firsts if it.target == "snapshot"]
+            if sum(store_places.places(int(it[6]), self._length(it[4])) for it in snapshots) > store_places.MOST:
+                return STORE_BETWEEN
         return None
-
-    def _why_snapshot(self, row: Row) -> Optional[str]:
-        if len(self._by_path[names.MAPPER + row.device]) > 1:
-            return BESIDE
-        why = _why_chunk(int(row.words[6])) if row.target == "snapshot" else None
-        if why:
-            return why
-        if int(row.words[1]) > self._length(row.words[3]):
-            return LONGER
-        return ORIGIN_BETWEEN
-
-    def _why_store(self, row: Row) -> Optional[str]:
-        for lower in self._below([row.words[4]]):
-            if lower.flags == "ro":
-                return READ_ONLY
-            if lower.target not in ("linear", "striped"):
-                return STORES.get(lower.target, ON_ANOTHER % "a snapshot")
-        return None
-
-    def _places(self) -> int:
-        found = (it[0].words for it in self._by_path.values() if it[0].target == "snapshot")
-        return sum(store_places.places(int(it[6]), self._length(it[4])) for it in found)
 
     def _length(self, path: str) -> int:
         rows = self._by_path.get(path)
         return int(rows[-1].words[0]) + int(rows[-1].words[1]) if rows else self._sizes().get(path, 0)
 
     def _below(self, paths: List[str]) -> Iterator[Row]:
-        """The lines of devices, and of those below them."""
         seen = set(paths)
         while paths:
             for row in self._by_path.get(paths.pop(), ()):
@@ -139,19 +126,6 @@ class Rows:
                 paths += more
 
 
-def _of_table(text: str) -> Iterator[Row]:
-    for number, row in enumerate(text.split("\n"), 1):
-        device, _, line = row.partition(": ")
-        yield Row(number, device, "", line.split())
-
-
-def _of_concise(text: str) -> Iterator[Row]:
-    for number, row in enumerate(text.split(";"), 1):
-        device, *fields = row.split(",")
-        for line in fields[3:]:
-            yield Row(number, device, fields[2], line.split())
-
-
 def _why_kind(kind: str) -> Optional[str]:
     if kind in tables.KINDS:
         return None
@@ -159,7 +133,7 @@ def _why_kind(kind: str) -> Optional[str]:
         return OVERFLOWS
     first = kind[0].upper()
     is_taken = kind == "p" or first == "N"
-    return "a kernel takes this kind for %s, and dmremap doesn't: write %s" % (first, first) if is_taken else ANOTHER_KIND
+    return f"a kernel takes this kind for {first}, and dmremap doesn't: write {first}" if is_taken else ANOTHER_KIND
 
 
 def _why_chunk(chunk: int) -> Optional[str]:
@@ -174,17 +148,15 @@ def _why_of_group(word: str, number: int, document: Document) -> str:
     """The same of metadata. dmremap refuses a snapshot at the segment of its record."""
     for group in map(Group, document.top.sections()[:1]):
         for record in group.records:
-            if document.line_at(record.volume.segments[0].node.start) == number:
-                return _why_of_record(word, record, group.volumes.get(record.origin or b""))
+            segment = record.volume.segments[0]
+            if document.line_at(segment.node.start) != number:
+                continue
+            origin = group.volumes.get(record.origin or b"")
+            if record.is_merging:
+                return MERGING + COPY
+            if word in OF_STORE:
+                return OF_STORE[word] + COPY
+            if word == "snapshot" and origin and segment.count is not None and segment.count != origin.extents:
+                return LONGER if segment.count > origin.extents else SHORTER + COPY
+            return word == "snapshot" and record.chunk is not None and _why_chunk(record.chunk) or ODD_RECORD
     return OTHER_COPY
-
-
-def _why_of_record(word: str, record: Record, origin: Optional[Volume]) -> str:
-    count = record.volume.segments[0].count
-    if record.is_merging:
-        return MERGING + COPY
-    if word in OF_STORE:
-        return OF_STORE[word] + COPY
-    if word == "snapshot" and origin and count is not None and count != origin.extents:
-        return LONGER if count > origin.extents else SHORTER + COPY
-    return word == "snapshot" and record.chunk is not None and _why_chunk(record.chunk) or ODD_RECORD

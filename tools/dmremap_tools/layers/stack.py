@@ -20,7 +20,6 @@ class Stack(NamedTuple):
     group: Optional[str] = None
 
     def by_path(self) -> Dict[str, tables.Device]:
-        """The devices, each by its path."""
         return {names.MAPPER + it.name: it for it in self.devices}
 
     def below(self, paths: Iterable[str]) -> Tuple[Set[str], Set[str]]:
@@ -48,7 +47,6 @@ class Stack(NamedTuple):
 
 
 def load(asked: str, given: Given, room: str) -> Stack:
-    """Loads it by asking dmremap, which is `asked`."""
     copy = given.copied(room)
     text = os.path.join(room, "given.concise")
     put(text, [_concise(asked, copy, given.file)])

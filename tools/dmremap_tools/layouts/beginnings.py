@@ -7,8 +7,7 @@ from dmremap_tools.base.disk_image import Image
 from dmremap_tools.base.numbers import SECTOR
 from dmremap_tools.base.paths import Place
 from dmremap_tools.layouts.group_spans import PhysicalVolume
-from dmremap_tools.metadata.array_members import check_places
-from dmremap_tools.metadata.volumes_within import volume_label
+from dmremap_tools.metadata.chosen_part import check_places, volume_label
 
 
 class Beginnings:

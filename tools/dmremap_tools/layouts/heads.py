@@ -3,13 +3,13 @@ of LUKS, a label of LVM."""
 
 from typing import Iterator, NamedTuple
 
-from dmremap_tools.base import luks_header, md_superblock, partition_table
+from dmremap_tools.base import luks_header, partition_table
 from dmremap_tools.base.disk_image import Image
-from dmremap_tools.base.md_superblock import Superblock
 from dmremap_tools.base.numbers import SECTOR
 from dmremap_tools.base.refusal import Refusal
-from dmremap_tools.metadata import chosen_part, physical_volume
-from dmremap_tools.metadata.volumes_within import volume_label
+from dmremap_tools.metadata.chosen_part import found_table, volume_label
+from dmremap_tools.model import md_superblock, physical_volume
+from dmremap_tools.model.md_superblock import Superblock
 
 OF_LVM, OF_LUKS, OF_MD = "-of-LVM", "-of-LUKS", "-of-md"
 # What holds something else: a partition, the data of a member of an array, and that of a container.
@@ -60,8 +60,8 @@ def member_heads(image: Image, member: Superblock) -> Iterator[Head]:
         yield Head(0, member.start, "superblock" + OF_MD)
     if end < last:
         yield Head(end, last, "superblock" + OF_MD)
-    yield Head(member.start, end, MEMBER + member.level_name().replace(" ", "-"))
-    if member.has_all() and not member.start:
+    yield Head(member.start, end, MEMBER + md_superblock.level_name(member).replace(" ", "-"))
+    if md_superblock.has_all(member) and not member.start:
         data = image.part(0, member.length * SECTOR)
         label = physical_volume.label_of(data)[0]
         within = label_heads(label) if label else container_heads(data, member.length * SECTOR)
@@ -97,7 +97,7 @@ def container_heads(image: Image, size: int) -> Iterator[Head]:
 def table_heads(image: Image) -> Iterator[Head]:
     """A partition table, with the tables of extended partitions or the second copy of a GPT, and the partitions."""
     try:
-        table = chosen_part.found_table(image)
+        table = found_table(image)
     except partition_table.DamagedTable:
         yield Head(0, GPT_SECTORS, DAMAGED + "GPT")
         return

@@ -39,15 +39,12 @@ class Chunk:
         self.stripes: List["tuple[str, int]"] = []
 
     def refuse(self, why: str) -> NoReturn:
-        """Refuses it."""
         raise Refusal(self.where, why)
 
     def sectors(self, count: int) -> int:
-        """Bytes as sectors."""
         return count // numbers.SECTOR if count % numbers.SECTOR == 0 else self.refuse("no whole sectors (%d bytes): %s" % (count, ANEW))
 
     def take(self, row: str) -> None:
-        """Takes what a line says of it."""
         length, count, stripe = LENGTH.fullmatch(row), COUNT.fullmatch(row), STRIPE.fullmatch(row)
         if length:
             self.length, self.size, self.profile = int(length[1]), int(length[2]), length[3].split("|")[-1].upper()
@@ -57,35 +54,31 @@ class Chunk:
             self.stripes.append((stripe[1], int(stripe[2])))
 
     def line(self, disks: Dict[str, str], copy: int) -> tables.Line:
-        """Its line, of this copy."""
-        if not self.length or not self.stripes or len(self.stripes) != self.count:
-            self.refuse("a stripe of the chunk at %d is missing: %s" % (self.start, ANEW))
+        start, length = self.start, self.length
+        if not length or not self.stripes or len(self.stripes) != self.count:
+            self.refuse(f"a stripe of the chunk at {start} is missing: {ANEW}")
         if self.profile in PARITY:
-            streams.tell("left out: the chunk at %d, which is of %s" % (self.start, self.profile))
-            return tables.Line(self.sectors(self.start), self.sectors(self.length), "error", [])
+            streams.tell(f"left out: the chunk at {start}, which is of {self.profile}")
+            return tables.Line(self.sectors(start), self.sectors(length), "error", [])
         copies = self.copies()
         if copy >= copies > 1:
-            self.refuse("the chunk at %d has %d copies, counted from 0: give a lower --copy" % (self.start, copies))
-        columns = [self.stripes[copy % copies]]
-        if self.profile in ("RAID0", "RAID10"):
-            columns = self.stripes[copy % copies::copies]
-        words = [word for it in columns for word in self._spot(disks, *it)]
-        is_striped = len(columns) > 1
-        return tables.Line(self.sectors(self.start), self.sectors(self.length), "striped" if is_striped else "linear",
-                           [str(len(columns)), str(self.sectors(self.size))] * is_striped + words)
+            self.refuse(f"the chunk at {start} has {copies} copies, counted from 0: give a lower --copy")
+        columns = self.stripes[copy % copies::copies] if self.profile in ("RAID0", "RAID10") else [self.stripes[copy % copies]]
+        words: List[str] = []
+        for device, offset in columns:
+            if device not in disks:
+                self.refuse(f"device {device} of the file system isn't given: add --device {device} DISK")
+            words += [disks[device], str(self.sectors(offset))]
+        first, count = self.sectors(start), self.sectors(length)
+        if len(columns) == 1:
+            return tables.Line(first, count, "linear", words)
+        return tables.Line(first, count, "striped", [str(len(columns)), str(self.sectors(self.size)), *words])
 
     def copies(self) -> int:
-        """How many copies it has."""
         return 1 if self.profile in ("RAID0", *PARITY) else self.each if self.profile == "RAID10" else self.count
-
-    def _spot(self, disks: Dict[str, str], device: str, offset: int) -> List[str]:
-        if device not in disks:
-            self.refuse("device %s of the file system isn't given: add --device %s DISK" % (device, device))
-        return [disks[device], str(self.sectors(offset))]
 
 
 def add_words(parser: ArgumentParser) -> None:
-    """Adds the arguments."""
     parser.add_argument("--name", metavar="NAME", required=True, help="the device of the addresses")
     parser.add_argument("--device", metavar=("NUMBER", "DISK"), nargs=2, action="append", required=True,
                         help="a device of the file system")
@@ -95,7 +88,6 @@ def add_words(parser: ArgumentParser) -> None:
 
 
 def run(words: Namespace) -> None:
-    """Prints the device."""
     disks = {number: parts.disk_in(disk, "--device") for number, disk in words.device}
     chunks = sorted(read(words.chunks), key=lambda it: it.start)
     if not chunks:
@@ -106,52 +98,36 @@ def run(words: Namespace) -> None:
     streams.out.write(tables.text_of([device], False))
 
 
-class Blocks:
-    """The blocks of the tree of chunks that a text has. Each says how many items or pointers it has, and a pointer names a block, so
-    that a text without its end, or with a block that couldn't be read, is told from a whole one."""
-
-    def __init__(self) -> None:
-        # What the last block lacks, and whether one before it lacked something.
-        self._lacking, self._was_short = 0, False
-        self._awaited: Set[str] = set()
-        self._is_in = self._are_any = False
-
-    def take(self, row: str) -> bool:
-        """Takes a line, and says whether it begins a block or is a pointer."""
-        block, pointer = BLOCK.fullmatch(row), POINTER.fullmatch(row)
-        self._is_in = block[3] in CHUNK_TREE if block else self._is_in
-        if block and self._is_in:
-            self._was_short = self._was_short or self._lacking != 0
-            self._awaited.discard(block[1])
-            self._lacking, self._are_any = int(block[2]), True
-        elif self._is_in and (pointer or ITEM.fullmatch(row)):
-            self._lacking -= 1
-            self._awaited.update(pointer.groups() if pointer else ())
-        return bool(block or pointer)
-
-    def are_whole(self) -> bool:
-        """Whether all is there that blocks say."""
-        return self._are_any and not (self._lacking or self._was_short or self._awaited)
-
-
 def read(path: str) -> List[Chunk]:
-    """The chunks that a text has."""
-    found: List[Chunk] = []
-    is_chunk, blocks = False, Blocks()
+    """The chunks that a text has. Each block of their tree says how many items or pointers it has, and a pointer names a block, so that a
+    text without its end, or with a block that couldn't be read, is told from a whole one."""
+    chunks: List[Chunk] = []
+    awaited: Set[str] = set()
+    # What the last block lacks, and whether one before it lacked something.
+    lacking, was_short = 0, False
+    is_in = are_any = is_chunk = False
     source = streams.Lines(path)
     for row in source:
-        item = ITEM.fullmatch(row)
-        if blocks.take(row):
+        block, pointer, item = BLOCK.fullmatch(row), POINTER.fullmatch(row), ITEM.fullmatch(row)
+        is_in = block[3] in CHUNK_TREE if block else is_in
+        if block and is_in:
+            was_short = was_short or lacking != 0
+            awaited.discard(block[1])
+            lacking, are_any = int(block[2]), True
+        elif is_in and (pointer or item):
+            lacking -= 1
+            awaited.update(pointer.groups() if pointer else ())
+        if block or pointer:
             is_chunk = False
         elif item:
             is_chunk = item[2] == "CHUNK_ITEM"
             if is_chunk:
-                found.append(Chunk("%s:%d" % (source.name, source.number), int(item[3])))
+                chunks.append(Chunk(f"{source.name}:{source.number}", int(item[3])))
         elif is_chunk:
-            found[-1].take(row)
-    if found and not blocks.are_whole():
+            chunks[-1].take(row)
+    if chunks and (lacking or was_short or awaited or not are_any):
         source.refuse("the tree of chunks isn't all there: " + ANEW)
-    return found
+    return chunks
 
 
 def lines_of(chunks: List[Chunk], disks: Dict[str, str], copy: int) -> Iterator[tables.Line]:

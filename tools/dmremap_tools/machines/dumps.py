@@ -1,10 +1,10 @@
 """What thin_dump and cache_dump print: XML, of which nothing is kept but what is asked for."""
 
 import itertools
-from typing import Dict, Iterator, List, NamedTuple, NoReturn
+from typing import Dict, Iterable, Iterator, List, NamedTuple, NoReturn, Optional, Tuple
 from xml.etree import ElementTree
 
-from dmremap_tools.base import numbers, quoting, streams
+from dmremap_tools.base import numbers, quoting, streams, tables
 from dmremap_tools.base.refusal import Refusal
 
 # How many bytes the text has at most from the beginning of an element to the next one.
@@ -22,7 +22,6 @@ class Element(NamedTuple):
     said: Dict[str, str]
 
     def number(self, key: str) -> int:
-        """A whole number that it says."""
         if key not in self.said:
             self.refuse("it doesn't say " + key)
         value = numbers.read(self.said[key])
@@ -31,11 +30,9 @@ class Element(NamedTuple):
         return value
 
     def block_size(self, key: str) -> int:
-        """The sectors of a block."""
         return self.number(key) or self.refuse("blocks of no sectors")
 
     def refuse(self, reason: str) -> NoReturn:
-        """Refuses the element."""
         said = "".join(f' {key}="{value}"' for key, value in self.said.items())
         raise Refusal(self.name, f"{reason}, {ANEW}: " + quoting.shown(f"<{'/' * self.is_end}{self.tag}{said}>"))
 
@@ -56,21 +53,17 @@ class Gathered:
         self.elements.append(Element(self._name, False, tag, said))
 
     def end(self, tag: str) -> None:
-        """Takes the end of an element."""
         self.depth -= 1
         self.elements.append(Element(self._name, True, tag, {}))
 
     def data(self, text: str) -> None:
-        """Refuses text between elements."""
         if text.strip():
             self.refuse(text.strip())
 
     def doctype(self, *_: object) -> NoReturn:
-        """Refuses a document type."""
         self.refuse("<!DOCTYPE>")
 
     def refuse(self, found: str) -> NoReturn:
-        """Refuses what was found."""
         raise Refusal(self._name, f"not what {self._tool} prints, {ANEW}: {quoting.shown(found)}")
 
 
@@ -90,3 +83,18 @@ def elements(path: str, tool: str) -> Iterator[Element]:
             gathered.refuse(f"{between} bytes without an element")
         yield from gathered.elements
         gathered.elements.clear()
+
+
+def lines_of(name: str, runs: Iterable[Tuple[int, int, int]], block: int, sectors: int, data: str, beside: Optional[str]
+             ) -> Iterator[tables.Line]:
+    """The lines of a device, from its first sector to its last: of runs of blocks of the data, and of what lies `beside` or zeros."""
+    at = 0
+    for number, place, count in itertools.chain(runs, [(-(-sectors // block), 0, 0)]):
+        first, end = min(number * block, sectors), min((number + count) * block, sectors)
+        if first < at:
+            raise Refusal(quoting.shown(name), f"block {number} of a device is there twice: {ANEW}")
+        if at < first:
+            yield tables.Line(at, first - at, *(("linear", [beside, str(at)]) if beside else ("zero", [])))
+        if first < end:
+            yield tables.Line(first, end - first, "linear", [data, str(place * block)])
+        at = end

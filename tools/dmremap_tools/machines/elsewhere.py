@@ -14,36 +14,34 @@ Refuses a disk that has no path here, unless --missing is given, and a disk with
 """
 
 import argparse
+import itertools
 import re
 from typing import Dict, List, Optional
 
 from dmremap_tools.base import names, numbers, paths, quoting, streams, tables
 from dmremap_tools.base.refusal import Refusal, WrongWords
 from dmremap_tools.layers.stack import Stack
-from dmremap_tools.machines import missing
-from dmremap_tools.metadata.array_members import check_places
-from dmremap_tools.machines.missing import StandIns
+from dmremap_tools.metadata.chosen_part import check_places
 
 EXAMPLE = "dmremap concise lvm vg0.backup | dmremap-tools elsewhere --paths paths.txt > here.concise"
 PATH = re.compile(r"/[^,;\\\s]*")
 
 
 def add_words(parser: argparse.ArgumentParser) -> None:
-    """Adds PATHS, FILE and what is made of them."""
     paths.add_words(parser)
     parser.add_argument("--prefix", metavar="PREFIX", default="", help="what the names of devices begin with here")
     which = parser.add_mutually_exclusive_group()
-    missing.add_words(which)
+    which.add_argument("--missing", choices=("error", "zero"), help="what a disk that isn't there reads as")
     which.add_argument("--losetup", action="store_true", help="print commands for losetup, which need no device-mapper")
     parser.add_argument("file", metavar="FILE", nargs="?", default="-", help="concise text; else standard input")
 
 
 def run(words: argparse.Namespace) -> None:
-    """Prints the devices, or the commands."""
     if words.paths is None and not words.losetup:
         raise WrongWords("the following arguments are required: --paths")
     path_of = paths.read(words.paths, PATH) if words.paths is not None else None
-    check_places({name: paths.place_of(it) for name, it in (path_of or {}).items()})
+    places = {name: paths.place_of(path) for name, path in (path_of or {}).items()}
+    check_places(places)
     devices, is_concise = tables.read(words.file)
     name = streams.name_of(words.file)
     if not devices:
@@ -52,59 +50,60 @@ def run(words: argparse.Namespace) -> None:
         raise Refusal(name + ":1", "not what `dmremap concise` prints: give that")
     for device in devices:
         if not names.FORM.fullmatch(words.prefix + device.name):
-            raise Refusal(name, "no name of a device, give another --prefix: " + quoting.shown(words.prefix + device.name))
+            raise Refusal(name, f"no name of a device, give another --prefix: {quoting.shown(words.prefix + device.name)}")
     if words.losetup:
-        streams.out.write("".join(losetup(name, it, path_of) for it in devices))
-    else:
-        for it in map(paths.place_of, (path_of or {}).values()):
-            if it.start:
-                raise Refusal(streams.name_of(words.paths), "a device needs a path of its own: make one by losetup -r -o %d %s"
-                              % (it.start, quoting.shown(it.path)))
-        moved = Moved(name + ":1", path_of or {}, words.prefix, words.missing)
-        streams.out.write(tables.text_of(moved.devices_of(devices), True))
+        streams.out.write("".join(losetup(name, device, path_of) for device in devices))
+        return
+    for place in places.values():
+        if place.start:
+            raise Refusal(streams.name_of(words.paths), "a device needs a path of its own: make one by losetup -r -o "
+                          f"{place.start} {quoting.shown(place.path)}")
+    streams.out.write(tables.text_of(moved(name + ":1", devices, path_of or {}, words.prefix, words.missing), True))
 
 
-class Moved:
-    """Devices with other names and paths, and those that stand for disks that are missing."""
+def moved(source: str, devices: List[tables.Device], path_of: Dict[str, str], prefix: str, target: Optional[str]
+          ) -> List[tables.Device]:
+    """Devices with other names and paths, after those of one line that stand for disks that are missing, as long as they are used.
+    `source` is the text that names the disks."""
+    taken = {prefix + device.name for device in devices}
+    free = (name for name in (f"{prefix}missing{number}" for number in itertools.count()) if name not in taken)
+    for device in devices:
+        check_store(source, device, Stack(devices, {}), path_of, target)
+    stand_ins: Dict[str, tables.Device] = {}
 
-    def __init__(self, source: str, path_of: Dict[str, str], prefix: str, target: Optional[str]) -> None:
-        self._source, self._path_of, self._prefix, self._target = source, path_of, prefix, target
+    def lower(path: str) -> str:
+        if path.startswith(names.MAPPER):
+            return names.MAPPER + prefix + path[len(names.MAPPER):]
+        return path_of.get(path) or names.MAPPER + stand_ins[path].name
 
-    def devices_of(self, devices: List[tables.Device]) -> List[tables.Device]:
-        """The devices, in their order, after those that stand for disks."""
-        moved, taken = [], {self._prefix + it.name for it in devices}
-        for device in devices:
-            self._check_store(device, devices)
-        stand_ins = StandIns(self._source, self._target or "error", "ro", self._prefix, taken)
-        for device in devices:
-            made = tables.Device(self._prefix + device.name, "ro")
-            for line in device.lines:
-                stand_ins.add(line, self._is_missing)
-                made.lines.append(line.with_lowers(lambda it: self._lower(it, stand_ins)))
-            moved.append(made)
-        return stand_ins.devices() + moved
+    made = []
+    for device in devices:
+        made.append(tables.Device(prefix + device.name, "ro"))
+        for line in device.lines:
+            for disk, start, count in line.spans():
+                if disk.startswith(names.MAPPER) or disk in path_of:
+                    continue
+                if not target:
+                    raise Refusal(source, f"no path of the disk {quoting.shown(disk)}: add it to PATHS")
+                if count is None:
+                    raise Refusal(source, f"a snapshot needs the disk {quoting.shown(disk)}: give its path in PATHS")
+                if disk not in stand_ins:
+                    stand_ins[disk] = tables.Device(next(free), "ro")
+                    streams.tell(f"missing: {quoting.shown(disk)}, which reads as {target}: {stand_ins[disk].name}")
+                end = max([start + count] + [it.length for it in stand_ins[disk].lines])
+                stand_ins[disk].lines = [tables.Line(0, end, target, [])]
+            made[-1].lines.append(line.with_lowers(lower))
+    return [*stand_ins.values(), *made]
 
-    def _check_store(self, device: tables.Device, devices: List[tables.Device]) -> None:
-        """Refuses a snapshot whose store would read as zeros: a kernel takes one that begins so for new."""
-        line = device.lines[0]
-        if line.target == "snapshot" and self._target == "zero" and line.words[1].startswith(names.MAPPER):
-            disks = Stack(devices, {}).below([line.words[1]])[1]
-            lost = sorted(it for it in disks if it not in self._path_of)
-            if lost:
-                raise Refusal(self._source, "the store of %s lies on %s, and would read as one that has nothing in it: give --missing error"
-                              % (device.name, quoting.shown(lost[0])))
 
-    def _is_missing(self, disk: str) -> bool:
-        """Whether a disk has no path, which may be refused."""
-        if disk not in self._path_of and not self._target:
-            raise Refusal(self._source, "no path of the disk %s: add it to PATHS" % quoting.shown(disk))
-        return disk not in self._path_of
-
-    def _lower(self, lower: str, stand_ins: StandIns) -> str:
-        """What stands for a disk or a device."""
-        if lower.startswith(names.MAPPER):
-            return names.MAPPER + self._prefix + lower[len(names.MAPPER):]
-        return self._path_of.get(lower) or stand_ins.lower(lower)
+def check_store(source: str, device: tables.Device, stack: Stack, path_of: Dict[str, str], target: Optional[str]) -> None:
+    """Refuses a snapshot whose store would read as zeros: a kernel takes one that begins so for new."""
+    line = device.lines[0]
+    if line.target == "snapshot" and target == "zero" and line.words[1].startswith(names.MAPPER):
+        lost = sorted(stack.below([line.words[1]])[1] - path_of.keys())
+        if lost:
+            raise Refusal(source, f"the store of {device.name} lies on {quoting.shown(lost[0])}, and would read as one that has nothing "
+                          "in it: give --missing error")
 
 
 def losetup(source: str, device: tables.Device, path_of: Optional[Dict[str, str]]) -> str:

@@ -30,7 +30,6 @@ class Found(tables.Device):
             self.leave("dmremap takes no such name")
 
     def leave(self, why: str) -> None:
-        """Leaves it out, for the first reason that there is."""
         self.why = self.why or why
 
     def add(self, text: str) -> None:
@@ -51,49 +50,39 @@ class Found(tables.Device):
         self.lines.append(line)
         if target not in tables.TARGETS:
             self.leave(quoting.shown(target))
-        elif line.fault() or not 0 < line.length <= numbers.LONGEST_DEVICE - line.start or not all(MAJOR_MINOR.fullmatch(it) for it in line.lowers()):
+        elif (line.fault() or not 0 < line.length <= numbers.LONGEST_DEVICE - line.start
+              or not all(map(MAJOR_MINOR.fullmatch, line.lowers()))):
             self.leave(quoting.shown(text))
 
     def has(self, *targets: str) -> bool:
-        """Whether all of its lines have one of these targets."""
         return all(line.target in targets for line in self.lines)
 
 
 def read_tables(path: str, devices: Dict[str, Found]) -> bool:
     """Gives the devices their flags and lines, and says whether the text of these is the concise form."""
     rows = streams.rows(path)
-    is_concise = any(IS_CONCISE.search(it) for it in rows)
-    if is_concise:
-        _read_concise(path, "\n".join(rows).rstrip("\n"), devices)
-    else:
-        _read_table(path, rows, devices)
-    return is_concise
-
-
-def _read_concise(path: str, text: str, devices: Dict[str, Found]) -> None:
-    """Reads the concise form. A number has to fit its name."""
-    of = {(it.name, it.number.split(":")[1]): it for it in devices.values()}
-    for place, row in enumerate(re.split(r"(?<!\\);", text), 1):
+    if not any(IS_CONCISE.search(row) for row in rows):
+        of_name = {device.name: device for device in devices.values()}
+        for name, line in listings.rows_of(path, rows, ROW, "dmsetup table"):
+            if name not in of_name:
+                streams.tell(f"left out: {quoting.shown(name)}, which `dmsetup ls` has not")
+                continue
+            of_name[name].is_described = True
+            if line:
+                of_name[name].add(line)
+        return False
+    # A number has to fit its name.
+    of = {(device.name, device.number.split(":")[1]): device for device in devices.values()}
+    for place, row in enumerate(re.split(r"(?<!\\);", "\n".join(rows).rstrip("\n")), 1):
         match = DEVICE.fullmatch(row)
         device = of.get((re.sub(r"\\([,;\\])", r"\1", match[1]), match[2])) if match else None
         if not match or not device:
-            streams.tell("left out: device %d of %s, which `dmsetup ls` has not: %s" % (place, streams.name_of(path), quoting.shown(row)))
+            streams.tell(f"left out: device {place} of {streams.name_of(path)}, which `dmsetup ls` has not: {quoting.shown(row)}")
             continue
         device.flags, device.is_described = match[3], True
         for line in filter(None, re.split(r",(?=\d+ \d+ \S)", match[4] or "")):
             device.add(line)
-
-
-def _read_table(path: str, rows: List[str], devices: Dict[str, Found]) -> None:
-    """Reads what `dmsetup table` prints."""
-    of = {it.name: it for it in devices.values()}
-    for name, line in listings.rows_of(path, rows, ROW, "dmsetup table"):
-        if name not in of:
-            streams.tell("left out: %s, which `dmsetup ls` has not" % quoting.shown(name))
-            continue
-        of[name].is_described = True
-        if line:
-            of[name].add(line)
+    return True
 
 
 def read_status(path: str) -> Dict[str, bool]:
@@ -111,25 +100,22 @@ def leave_unknown(devices: Dict[str, Found], is_known: Dict[str, bool]) -> None:
     for device in devices.values():
         if not device.lines:
             device.leave("no table")
-        if device.origins and device.name not in is_known:
-            device.leave("`dmsetup status` says nothing of it")
-        elif device.origins and not is_known[device.name]:
-            device.leave("its store has copies, and nothing says of which chunks")
+        if device.origins and not is_known.get(device.name):
+            device.leave("its store has copies, and nothing says of which chunks" if device.name in is_known
+                         else "`dmsetup status` says nothing of it")
 
 
 def leave_others(devices: Dict[str, Found], wanted: List[str]) -> None:
     """Leaves out all but the devices of these names, and what they stand on."""
-    of = {it.name: it for it in devices.values()}
-    waiting, asked = [], set()
-    for name in wanted:
-        if name not in of:
-            raise Refusal("--only", "no device %s: give a name that LS has" % quoting.shown(name))
-        waiting.append(of[name].number)
+    number_of = {device.name: number for number, device in devices.items()}
+    unknown = next((name for name in wanted if name not in number_of), None)
+    if unknown is not None:
+        raise Refusal("--only", f"no device {quoting.shown(unknown)}: give a name that LS has")
+    waiting, asked = [number_of[name] for name in wanted], set()
     while waiting:
         number = waiting.pop()
         if number in devices and number not in asked:
             asked.add(number)
             waiting += devices[number].lowers()
-    for device in devices.values():
-        if device.number not in asked:
-            device.why = NOT_ASKED
+    for number in devices.keys() - asked:
+        devices[number].why = NOT_ASKED

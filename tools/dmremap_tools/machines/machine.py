@@ -33,21 +33,26 @@ Refuses a text that isn't what one of these commands prints, and a machine of wh
 """
 
 import argparse
+import re
 from typing import Dict, List, Optional, Tuple
 
 from dmremap_tools.base import disk_image, listings, numbers, paths, quoting, streams, tables
 from dmremap_tools.base.refusal import Refusal, WrongWords
 from dmremap_tools.machines.found import NOT_ASKED, Found, leave_others, leave_unknown, read_status, read_tables
-from dmremap_tools.machines.kernel_names import is_disk, is_partition
 from dmremap_tools.machines.placed import partitioned, sectors_at
 from dmremap_tools.machines.stack import Stack
 from dmremap_tools.metadata.chosen_part import GIVE
 
 EXAMPLE = "dmremap-tools machine --disks disks ls.txt status.txt lsblk.txt concise.txt > tables"
 
+# The numbers of disks called sd: each has a minor that is a multiple of 16, and its partitions have those after it.
+SD_MAJORS = [str(it) for it in (8, *range(65, 72), *range(128, 136))]
+SD_MINORS = 16
+# What a kernel or udev calls partitions.
+PARTITION = re.compile(r"(?:.*/)?(?:(?:s|v|xv|h)d[a-z]+|.*[0-9]p|.*-part)[0-9]{1,10}")
+
 
 def add_words(parser: argparse.ArgumentParser) -> None:
-    """Adds the four texts, and DISKS."""
     parser.add_argument("--disks", metavar="DISKS", required=True, help="the file to write DISKS to")
     parser.add_argument("--only", metavar="NAME", action="append", default=[], help="a device to keep, with all that it stands on")
     parser.add_argument("--store", metavar="SNAPSHOT=IMAGE", action="append", default=[], help="a snapshot whose store `map --paths` reads")
@@ -59,14 +64,17 @@ def add_words(parser: argparse.ArgumentParser) -> None:
 
 
 def run(words: argparse.Namespace) -> None:
-    """Reads the four texts, leaves out what dmremap would refuse, and writes the rest."""
     numbers.check_sector_size(words.sector_size)
     beside = streams.beside(words.disks)
     devices = {number: Found(name, number) for name, number in listings.read_ls(words.ls)}
-    is_known = {**read_status(words.status), **{it.partition("=")[0]: True for it in words.store}}
+    stored = [it.partition("=")[0] for it in words.store]
+    is_known = {**read_status(words.status), **dict.fromkeys(stored, True)}
     stack = Stack(devices, *lengths_of(words))
     is_concise = read_tables(words.table, devices)
-    check_stores(words.store, devices)
+    for name in stored:
+        if not any(it.origins and it.name == name for it in devices.values()):
+            # That which was meant would be left out.
+            raise Refusal("--store", f"no snapshot {quoting.shown(name)}: give a name that LS has")
     leave_unknown(devices, is_known)
     if words.only:
         leave_others(devices, words.only)
@@ -77,13 +85,6 @@ def run(words: argparse.Namespace) -> None:
         raise Refusal(streams.name_of(words.table), "no device is left that dmremap can follow: see above what was left out")
     beside.write("".join("%s %d\n" % it for it in disks.items()))
     streams.out.write(tables.text_of(kept, is_concise))
-
-
-def check_stores(given: List[str], devices: Dict[str, Found]) -> None:
-    """Refuses stores that are given of no snapshot, as that which was meant would be left out."""
-    for name in (it.partition("=")[0] for it in given):
-        if not any(it.origins and it.name == name for it in devices.values()):
-            raise Refusal("--store", "no snapshot %s: give a name that LS has" % quoting.shown(name))
 
 
 def lengths_of(words: argparse.Namespace) -> Tuple[Dict[str, Optional[int]], Dict[str, str]]:
@@ -112,27 +113,32 @@ def length_in(path: str, number: str, known: Optional[int], sector: int) -> int:
     kind, partitions = partitioned(disk_image.raw_image(place.path), sector)
     if known is not None and known in (it.size // numbers.SECTOR for it in partitions):
         return known
-    if kind and (is_partition(number) or known is None and not is_disk(number)):
-        raise Refusal(quoting.shown(path), "the image of a whole disk (%s), and %s %s a partition: %s"
-                      % (kind, quoting.shown(number), "is" if is_partition(number) else "may be", GIVE))
+    major, _, minor = number.partition(":")
+    is_of_sd = major in SD_MAJORS and minor.isdecimal()
+    is_disk = is_of_sd and int(minor) % SD_MINORS == 0
+    is_partition = is_of_sd and not is_disk or bool(PARTITION.fullmatch(number))
+    if kind and (is_partition or known is None and not is_disk):
+        raise Refusal(quoting.shown(path), f"the image of a whole disk ({kind}), and {quoting.shown(number)} "
+                      f"{'is' if is_partition else 'may be'} a partition: {GIVE}")
     return length
 
 
 def say_left_out(stack: Stack, disks: Dict[str, int]) -> None:
     """Says what is left out, what is encrypted, and which copies answers lack."""
+    left_out = [it for it in stack.devices.values() if it.why]
     for device in stack.devices.values():
         path = stack.lower(device.number)
         if device.why and device.why != NOT_ASKED:
-            streams.tell("left out: %s (%s)%s" % (quoting.shown(device.name), device.why, ", the disk " + quoting.shown(path) if path in disks else ""))
+            disk = f", the disk {quoting.shown(path)}" if path in disks else ""
+            streams.tell(f"left out: {quoting.shown(device.name)} ({device.why}){disk}")
         elif device.is_encrypted and not device.why:
-            streams.tell("encrypted: the sectors below %s, whose lines of crypt are linear here" % device.name)
-    left_out = [it for it in stack.devices.values() if it.why]
-    unknown = [it for it in left_out if not it.is_described]
+            streams.tell(f"encrypted: the sectors below {device.name}, whose lines of crypt are linear here")
     snapshots: Dict[str, List[Found]] = {}
     for other in left_out:
         for origin in dict.fromkeys(other.origins):
             snapshots.setdefault(origin, []).append(other)
-    for device in (it for it in stack.kept() if it.has("snapshot-origin")):
-        for other in snapshots.get(device.lowers()[0], []) + unknown:
-            streams.tell("kept: %s, without %s, which %s a snapshot of it: on the machine, a write to it also copies what it overwrites, "
-                         "which the answers don't show" % (device.name, quoting.shown(other.name), "is" if other.origins else "may be"))
+    unknown = [it for it in left_out if not it.is_described]
+    for device in stack.kept():
+        for other in snapshots.get(device.lowers()[0], []) + unknown if device.has("snapshot-origin") else []:
+            streams.tell(f"kept: {device.name}, without {quoting.shown(other.name)}, which {'is' if other.origins else 'may be'} a snapshot "
+                         "of it: on the machine, a write to it also copies what it overwrites, which the answers don't show")

@@ -10,43 +10,46 @@ from dmremap_tools.base.numbers import SECTOR
 from dmremap_tools.base.paths import Place
 from dmremap_tools.base.refusal import Refusal
 from dmremap_tools.machines.disks import names_by_id
-from dmremap_tools.metadata.array_members import check_place, check_places
-from dmremap_tools.metadata.chosen_part import GIVE, chosen_parts, table_in
-from dmremap_tools.metadata.physical_volume import label_of
-from dmremap_tools.metadata.volumes_within import check_mirrored, taken_from_array
+from dmremap_tools.metadata.chosen_part import (
+    GIVE, check_mirrored, check_places, chosen_parts, table_in, taken_from_array)
+from dmremap_tools.model.physical_volume import label_of
 
 
-def by_ids(text: Optional[str], places: Dict[str, Place], sizes: Dict[str, int], images: Sequence[Place] = ()) -> Dict[str, Place]:
-    """The places of disks, of which some may be whole disks that have a physical volume on a partition, and of those that these
-    images are. Without `text`, the metadata of their group, they are what was given. `sizes` has the sectors of each disk."""
+def by_ids(text: Optional[str], places: Dict[str, Place], sizes: Dict[str, int],
+           images: Sequence[Place] = ()) -> Dict[str, Place]:
+    """The places of disks, of which some may be whole disks that have a physical volume on a partition, and of those
+    that these images are. Without `text`, the metadata of their group, they are what was given. `sizes` has the sectors
+    of each disk."""
     named = names_by_id(text) if text is not None else {}
-    found, decided = dict(places), set()
-    check_places({**places, **{it.path: it for it in images}}, bool(named))
-    given, bare = [*places.values(), *images], {it.path for it in images}
-    for path in dict.fromkeys(it.path for it in given):
-        here = [it for it in given if it.path == path]
+    found, decided, bare = dict(places), set(), {image.path for image in images}
+    check_places({**places, **{image.path: image for image in images}}, bool(named))
+    given = [*places.values(), *images]
+    for path in dict.fromkeys(place.path for place in given):
+        here = [place for place in given if place.path == path]
         volumes = volumes_in(path, here) if named and (path in bare or os.path.exists(path)) else {}
         wanted = {name for name, place in places.items() if place.path == path}
         lost = [identity for identity, name in named.items() if volumes and name in wanted and identity not in volumes]
         if lost:
-            raise Refusal(quoting.shown(path), "it isn't %s, whose id is %s, but has the id %s: give the path of that"
-                          % (quoting.shown(named[lost[0]]), shown(lost[0]), " or ".join(map(shown, volumes))))
-        for identity in volumes:
+            wrong = f"it isn't {quoting.shown(named[lost[0]])}, whose id is {shown(lost[0])}"
+            ids = " or ".join(map(shown, volumes))
+            raise Refusal(quoting.shown(path), f"{wrong}, but has the id {ids}: give the path of that")
+        for identity, start in volumes.items():
             name = named.get(identity)
             if name in wanted or name and path in bare and name not in found:
-                found[name] = Place(path, volumes[identity])
+                found[name] = Place(path, start)
                 decided.add(name)
-        if path in bare and path not in (it.path for it in found.values()):
-            raise Refusal(quoting.shown(path), "no physical volume of the group is in it that isn't elsewhere: leave it out")
-    for name in places:
-        if name in sizes and name not in decided and not places[name].is_said:
-            check_partition(name, places[name].path, sizes[name])
+        if path in bare and path not in (place.path for place in found.values()):
+            raise Refusal(quoting.shown(path), "no physical volume of the group is in it that isn't elsewhere: leave "
+                          "it out")
+    for name, place in places.items():
+        if name in sizes and name not in decided and not place.is_said:
+            check_partition(name, place.path, sizes[name])
     return found
 
 
 def check_partition(name: str, path: str, size: int) -> None:
-    """Refuses an image of a whole disk for a partition of so many sectors, as these don't begin where that does. A disk that
-    is so long is taken, and one whose image ends too early, if its partitions lie within so many sectors."""
+    """Refuses an image of a whole disk for a partition of so many sectors, as these don't begin where that does. A disk
+    that is so long is taken, and one whose image ends too early, if its partitions lie within so many sectors."""
     try:
         image = disk_image.raw_image(path)
     except Refusal:
@@ -55,8 +58,9 @@ def check_partition(name: str, path: str, size: int) -> None:
     if image.size // SECTOR == size:
         return
     kind, partitions = partitioned(image)
-    if kind and max([image.size] + [it.start + it.size for it in partitions]) > size * SECTOR:
-        raise Refusal(image.path, "the image of a whole disk (%s), and %s has %d sectors: %s" % (kind, quoting.shown(name), size, GIVE))
+    if kind and max([image.size, *(each.start + each.size for each in partitions)]) > size * SECTOR:
+        raise Refusal(image.path, f"the image of a whole disk ({kind}), and {quoting.shown(name)} has {size} sectors: "
+                      f"{GIVE}")
 
 
 def partitioned(image: disk_image.Image, sector: int = SECTOR) -> Tuple[str, List[Partition]]:
@@ -72,26 +76,27 @@ def partitioned(image: disk_image.Image, sector: int = SECTOR) -> Tuple[str, Lis
 
 
 def volumes_in(path: str, given: List[Place]) -> Dict[bytes, int]:
-    """The ids of the physical volumes in a disk, and the bytes at which they begin. Where they can't be read, it is taken as it is,
-    and where it doesn't say which of its parts they are, the places in it that were given do."""
+    """The ids of the physical volumes in a disk, and the bytes at which they begin. Where they can't be read, it is
+    taken as it is, and where it doesn't say which of its parts they are, the places in it that were given do."""
     try:
         return begun_in(Place(path))
     except disk_image.Unreadable as fault:
-        streams.tell("nothing says which disk it is: %s" % fault)
+        streams.tell(f"nothing says which disk it is: {fault}")
         return {}
     except Refusal:
-        if not all(it.is_said for it in given):
+        if not all(place.is_said for place in given):
             raise
-    return {identity: start for it in given for identity, start in begun_in(it).items()}
+    return {identity: start for place in given for identity, start in begun_in(place).items()}
 
 
 def begun_in(place: Place) -> Dict[bytes, int]:
-    """The ids of the physical volumes in a disk, or of what begins at a place in it, and the bytes at which they begin."""
+    """The ids of the physical volumes in a disk, or of what begins at a place in it, and where they begin."""
     image = disk_image.image_at(place)
-    members = [image] if place.is_said else chosen_parts(image)
-    for each in [] if place.is_said else members:
-        check_mirrored(each)
-    return {label.identity: it.base for it in map(taken_from_array, members) for label in label_of(it)[:1] if label}
+    parts = [image] if place.is_said else chosen_parts(image)
+    for part in parts if not place.is_said else ():
+        check_mirrored(part)
+    labelled = [(part, label_of(part)[0]) for part in map(taken_from_array, parts)]
+    return {label.identity: part.base for part, label in labelled if label}
 
 
 def sectors_at(place: Place, sector: int = SECTOR) -> int:
@@ -99,10 +104,11 @@ def sectors_at(place: Place, sector: int = SECTOR) -> int:
     image = disk_image.raw_image(place.path)
     if not place.start:
         return image.size // SECTOR
-    check_place(place)
+    check_places({"": place})
     table, label = table_in(image, sector), label_of(image.part(place.start, image.size))[0]
-    sizes = [it.size for it in table.partitions if it.start == place.start] if table else []
+    sizes = [each.size for each in table.partitions if each.start == place.start] if table else []
     sizes += [label.size] if label else []
     if not sizes:
-        raise Refusal(image.path, "neither a partition nor a physical volume begins at byte %d: see `scan` for where some do" % place.start)
+        raise Refusal(image.path, f"neither a partition nor a physical volume begins at byte {place.start}: see `scan` "
+                      "for where some do")
     return sizes[0] // SECTOR

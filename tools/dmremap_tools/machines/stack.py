@@ -22,11 +22,9 @@ class Stack:
         self._counted = 0
 
     def kept(self) -> List[Found]:
-        """The devices that are not left out."""
         return [it for it in self.devices.values() if not it.why]
 
     def is_kept(self, number: str) -> bool:
-        """Whether this is the number of one of these."""
         return number in self.devices and not self.devices[number].why
 
     def length(self, number: str) -> Optional[int]:
@@ -60,65 +58,53 @@ class Stack:
                     waiting += lowers
 
     def _judge(self, device: Found) -> None:
-        """Judges a device whose lower devices were judged."""
         level = 1 + max([self._levels[it] for it in device.lowers() if self.is_kept(it)] + [0])
         why = TOO_DEEP if level > DEEPEST else self._fault(device)
         if why:
-            return device.leave(why)
+            device.leave(why)
+            return
         self._levels[device.number] = level
         is_plain = device.flags != "ro" and device.has("linear", "striped")
         if is_plain and all(it in self._stores or not self.is_kept(it) for it in device.lowers()):
             self._stores.add(device.number)
-        return None
 
     def _fault(self, device: Found) -> Optional[str]:
         """What is wrong with a device, or None."""
         if device.end() != self._sizes.get(device.number, device.end()):
             return "lsblk and its table differ in its length"
         for lower, start, count in (span for line in device.lines for span in line.spans()):
-            why = self._fault_below(lower, start + (count or 0))
-            if why:
-                return why
-        return None if device.has("linear", "striped", "zero", "error") else self._fault_of_snapshot(device)
-
-    def _fault_below(self, lower: str, end: int) -> Optional[str]:
-        """Whether what a line names is there, and long enough."""
-        length = self.length(lower)
-        if not length:
-            return "lsblk has no length of " + lower
-        if length > numbers.LONGEST_DEVICE:
-            return "dmremap takes no disk as long as " + lower
-        return "it goes past the end of " + quoting.shown(self.lower(lower)) if end > length else None
-
-    def _fault_of_snapshot(self, device: Found) -> Optional[str]:
-        """What is wrong with a snapshot, or the line of its origin."""
+            length = self.length(lower)
+            if not length:
+                return f"lsblk has no length of {lower}"
+            if length > numbers.LONGEST_DEVICE:
+                return f"dmremap takes no disk as long as {lower}"
+            if start + (count or 0) > length:
+                return f"it goes past the end of {quoting.shown(self.lower(lower))}"
+        if device.has("linear", "striped", "zero", "error"):
+            return None
         if len(device.lines) > 1:
             return "a snapshot beside other lines"
         if device.end() != self.length(device.lowers()[0]):
             return "it is not as long as its origin"
-        for kind, chunk, store in snapshots_in(device):
-            if chunk & (chunk - 1) or not 0 < chunk <= MOST_IN_CHUNK:
-                return "its chunks have %d sectors" % chunk
-            if self.is_kept(store) and store not in self._stores:
-                return "its store is read-only, or not made of linear and striped lines"
-            length = self.length(store) or 0
-            counted = self._counted + (length // chunk if kind == "N" else places(chunk, length))
-            if counted > MOST:
-                return "dmremap counts %d chunks of stores in all" % MOST
-            self._counted = counted
+        return self._fault_of_store(*device.lines[0].words[1:]) if device.has("snapshot") else None
+
+    def _fault_of_store(self, store: str, kind: str, said: str) -> Optional[str]:
+        chunk, length = int(said), self.length(store) or 0
+        if chunk & (chunk - 1) or not 0 < chunk <= MOST_IN_CHUNK:
+            return f"its chunks have {chunk} sectors"
+        if self.is_kept(store) and store not in self._stores:
+            return "its store is read-only, or not made of linear and striped lines"
+        counted = self._counted + (length // chunk if kind == "N" else places(chunk, length))
+        if counted > MOST:
+            return f"dmremap counts {MOST} chunks of stores in all"
+        self._counted = counted
         return None
 
     def with_names(self) -> Tuple[List[tables.Device], Dict[str, Optional[int]]]:
         """The devices that are kept, as FILE has them, and the disks below them with their lengths."""
         devices, disks = [], {}
         for device in self.kept():
-            named = tables.Device(device.name, device.flags)
-            named.lines = [line.with_lowers(self.lower) for line in device.lines]
-            devices.append(named)
+            devices.append(tables.Device(device.name, device.flags))
+            devices[-1].lines = [line.with_lowers(self.lower) for line in device.lines]
             disks.update((self.lower(it), self.length(it)) for it in device.lowers() if not self.is_kept(it))
         return devices, disks
-
-
-def snapshots_in(device: Found) -> List[Tuple[str, int, str]]:
-    """The kind, the chunk and the store of each line that is a snapshot."""
-    return [(line.words[2], int(line.words[3]), line.words[1]) for line in device.lines if line.target == "snapshot"]

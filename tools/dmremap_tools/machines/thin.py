@@ -17,14 +17,17 @@ import array
 from argparse import ArgumentParser, Namespace
 from typing import Dict, Iterable, Iterator, List, Optional, Set, Tuple
 
-from dmremap_tools.base import numbers, quoting, streams, tables
+from dmremap_tools.base import numbers, streams, tables
 from dmremap_tools.base.refusal import Refusal, WrongWords
 from dmremap_tools.layers import parts
-from dmremap_tools.machines import cache_blocks, dumps
+from dmremap_tools.machines import dumps
 
 EXAMPLE = "dmremap-tools thin --data tdata --device 1 vg0-thin1 2097152 dump.xml > thin.concise"
 # The runs of a device or a list, and of all together, where a list counts for as many as take its memory.
 MOST_RUNS, MOST_TOGETHER, RUNS_OF_LIST = 1 << 20, 1 << 22, 32
+# What a dump of a cache has, and how many blocks of it are taken.
+OF_CACHE = ("superblock", "mapping", "mappings", "hints", "hint", "discards", "discard")
+MOST_BLOCKS = 1 << 21
 
 
 class Runs:
@@ -40,7 +43,6 @@ class Runs:
         return len(self._figures) // 3 + len(self.lists)
 
     def add(self, element: dumps.Element, first: int, place: int, count: int) -> None:
-        """Adds a run."""
         self.blocks += count
         figures = self._figures
         if figures and figures[-3] + figures[-1] == first and figures[-2] + figures[-1] == place:
@@ -68,7 +70,6 @@ class Runs:
                 self.add(element, *run)
 
     def in_order(self) -> Iterator[Tuple[int, int, int]]:
-        """The runs by their first blocks."""
         return self.runs(sorted(range(0, len(self._figures), 3), key=self._figures.__getitem__))
 
     def runs(self, places: Iterable[int]) -> Iterator[Tuple[int, int, int]]:
@@ -80,8 +81,49 @@ class Runs:
             raise Refusal(element.name, f"more than {MOST_RUNS} runs of blocks: use `save` or `serve`")
 
 
+class Blocks:
+    """The blocks that a dump has, for each its number on the origin and in the cache and whether it is taken for dirty; and the sectors
+    of a block."""
+
+    def __init__(self, path: str, is_all: bool) -> None:
+        self.size = most = 0
+        self._origins, self._cached = array.array("Q"), array.array("Q")
+        self._is_dirty = bytearray()
+        for element in dumps.elements(path, "cache_dump"):
+            if element.tag not in OF_CACHE:
+                element.refuse("an element that isn't known")
+            if element.tag == "superblock" and not element.is_end:
+                self.size, most = element.block_size("block_size"), element.number("nr_cache_blocks")
+            elif element.tag == "mapping" and not element.is_end:
+                if element.number("cache_block") >= most or len(self._cached) == MOST_BLOCKS:
+                    element.refuse(f"past the end of the cache, of {min(most, MOST_BLOCKS)} blocks")
+                if element.said.get("dirty") not in ("true", "false"):
+                    element.refuse("`dirty` is neither true nor false")
+                self._origins.append(element.number("origin_block"))
+                self._cached.append(element.number("cache_block"))
+                self._is_dirty.append(is_all or element.said["dirty"] == "true")
+        for where, blocks in (("origin", self._origins), ("cache", self._cached)):
+            last = None
+            for block in sorted(blocks):
+                if block == last:
+                    raise Refusal(streams.name_of(path), f"block {block} of the {where} is there twice: {dumps.ANEW}")
+                last = block
+
+    def runs(self) -> Iterator[Tuple[int, int, int]]:
+        """The runs of dirty blocks, by their places on the origin: the first block there and in the cache, and how many there are."""
+        first = cached = count = 0
+        for place in sorted(filter(self._is_dirty.__getitem__, range(len(self._origins))), key=self._origins.__getitem__):
+            if count and (self._origins[place], self._cached[place]) == (first + count, cached + count):
+                count += 1
+                continue
+            if count:
+                yield first, cached, count
+            first, cached, count = self._origins[place], self._cached[place], 1
+        if count:
+            yield first, cached, count
+
+
 def add_words(parser: ArgumentParser) -> None:
-    """Adds the arguments."""
     parser.add_argument("--data", metavar="DISK", help="the pool's data: a disk, or /dev/mapper/NAME")
     parser.add_argument("--device", metavar=("NUMBER", "NAME", "SECTORS"), nargs=3, action="append", default=[],
                         help="a device: its number in the pool, a name, and its sectors")
@@ -97,19 +139,21 @@ def add_words(parser: ArgumentParser) -> None:
 
 
 def run(words: Namespace) -> None:
-    """Prints the devices."""
     of_cache = [words.cache, words.origin, words.name, words.sectors]
     if words.data is not None and words.device and of_cache == [None] * 4 and not words.all:
         made = thin_devices(words)
     elif words.data is None and not words.device and not words.external and None not in of_cache:
-        made = [cache_blocks.device(words)]
+        cache, origin = parts.disk_in(words.cache, "--cache"), parts.disk_in(words.origin, "--origin")
+        sectors = numbers.check_length("--sectors", words.sectors)
+        blocks = Blocks(words.dump, words.all)
+        lines = dumps.lines_of(words.name, blocks.runs(), blocks.size, sectors, cache, origin)
+        made = [parts.device_of(words.name, "ro", lines, parts.part_of(words))]
     else:
         raise WrongWords("give --data and --device, or --cache, --origin, --name and --sectors")
     streams.out.write(tables.text_of(made, True))
 
 
 def thin_devices(words: Namespace) -> List[tables.Device]:
-    """The devices of a pool."""
     data = parts.disk_in(words.data, "--data")
     wanted = [(streams.whole("--device", number), name, numbers.check_length("--device", streams.whole("--device", sectors)))
               for number, name, sectors in words.device]
@@ -119,7 +163,8 @@ def thin_devices(words: Namespace) -> List[tables.Device]:
     for number, name, sectors in wanted:
         if number not in pool.devices:
             raise Refusal(streams.name_of(words.dump), f"it has no device {number}: give a dev_id that it has")
-        lines = lines_of(name, pool.devices[number], pool.block, sectors, data, external.get(number))
+        runs = pool.devices[number].in_order()
+        lines = dumps.lines_of(name, runs, pool.block, sectors, data, external.get(number))
         made.append(parts.device_of(name, "ro", lines, parts.part_of(words)))
     return made
 
@@ -134,45 +179,36 @@ class Pool:
         self._lists: Dict[str, Runs] = {}
         self._into: Optional[Runs] = None
         for element in dumps.elements(path, "thin_dump"):
-            self._take(element)
-
-    def _take(self, element: dumps.Element) -> None:
-        tag = element.tag
-        if tag == "superblock":
-            if not element.is_end:
+            if element.tag in ("device", "def"):
+                self._end(element) if element.is_end else self._begin(element)
+            elif element.tag not in ("superblock", "ref", "single_mapping", "range_mapping"):
+                element.refuse("an element that isn't known")
+            elif element.tag == "superblock" and not element.is_end:
                 self.block, self._most = element.block_size("data_block_size"), element.number("nr_data_blocks")
-        elif tag == "device":
-            self._end_device(element) if element.is_end else self._begin_device(element)
-        elif tag == "def":
-            self._end_list(element) if element.is_end else self._begin_list(element)
-        elif tag not in ("ref", "single_mapping", "range_mapping"):
-            element.refuse("an element that isn't known")
-        elif not element.is_end:
-            self._add(element)
+            elif not element.is_end:
+                self._add(element)
 
-    def _begin_device(self, element: dumps.Element) -> None:
-        number, self._count = element.number("dev_id"), element.number("mapped_blocks")
-        self._into = self.devices.setdefault(number, Runs()) if number in self._wanted else None
-
-    def _end_device(self, element: dumps.Element) -> None:
-        if self._into is not None:
-            self._use(element, RUNS_OF_LIST)
-            self._into.take_lists(element)
-            self._use(element, len(self._into))
-            if self._into.blocks != self._count:
-                element.refuse(f"it has {self._into.blocks} blocks and not {self._count}, as it says")
-        self._into = None
-
-    def _begin_list(self, element: dumps.Element) -> None:
+    def _begin(self, element: dumps.Element) -> None:
+        if element.tag == "device":
+            number, self._count = element.number("dev_id"), element.number("mapped_blocks")
+            self._into = self.devices.setdefault(number, Runs()) if number in self._wanted else None
+            return
         self._into, self._name = Runs(), element.said.get("name", "")
         if self._name in self._lists:
             element.refuse("a list of this name is there already")
 
-    def _end_list(self, element: dumps.Element) -> None:
-        if self._into is not None:
-            self._use(element, RUNS_OF_LIST + len(self._into))
-            self._lists[self._name] = self._into
-        self._into = None
+    def _end(self, element: dumps.Element) -> None:
+        into, self._into = self._into, None
+        if into is None:
+            return
+        self._use(element, RUNS_OF_LIST)
+        if element.tag == "device":
+            into.take_lists(element)
+        self._use(element, len(into))
+        if element.tag == "def":
+            self._lists[self._name] = into
+        elif into.blocks != self._count:
+            element.refuse(f"it has {into.blocks} blocks and not {self._count}, as it says")
 
     def _add(self, element: dumps.Element) -> None:
         """Adds blocks, or a list of them, to what has begun."""
@@ -195,25 +231,3 @@ class Pool:
         self._runs += count
         if self._runs > MOST_TOGETHER:
             raise Refusal(element.name, f"more than {MOST_TOGETHER} runs of blocks in all: use `save` or `serve`")
-
-
-def lines_of(name: str, runs: Runs, block: int, sectors: int, data: str, external: Optional[str]) -> Iterator[tables.Line]:
-    """The lines of a device, from its first sector to its last."""
-    at = 0
-    for number, place, count in runs.in_order():
-        first, end = number * block, min((number + count) * block, sectors)
-        if first < at:
-            raise Refusal(quoting.shown(name), f"block {number} of a device is there twice: {dumps.ANEW}")
-        if first >= sectors:
-            break
-        if at < first:
-            yield hole(at, first, external)
-        yield tables.Line(first, end - first, "linear", [data, str(place * block)])
-        at = end
-    if at < sectors:
-        yield hole(at, sectors, external)
-
-
-def hole(first: int, end: int, external: Optional[str]) -> tables.Line:
-    """A line of sectors that the pool doesn't have."""
-    return tables.Line(first, end - first, *(("linear", [external, str(first)]) if external else ("zero", [])))

@@ -1,84 +1,258 @@
-"""The physical volumes in an image: the image itself, or partitions of it."""
+"""The physical volumes in an image: the image itself, partitions of it, the data of a member of an md array, whose
+bytes are those of the array only where each member has all of them, or what labels say anywhere."""
 
-from typing import List, Optional
+import itertools
+import re
+from typing import Dict, Iterable, Iterator, List, NamedTuple, Optional
 
-from dmremap_tools.base import quoting, streams
+from dmremap_tools.base import disk_image, quoting, streams
 from dmremap_tools.base.disk_image import Image
 from dmremap_tools.base.mbr import Partition
 from dmremap_tools.base.numbers import SECTOR
-from dmremap_tools.base.partition_table import DamagedTable, Table, backup_of, table_of
+from dmremap_tools.base.partition_table import GPT_SECTORS, DamagedTable, Table, backup_of, table_of
+from dmremap_tools.base.paths import Place
 from dmremap_tools.base.refusal import Refusal
-from dmremap_tools.metadata.physical_volume import label_of
-from dmremap_tools.metadata.volumes_within import array_data, where_volumes_begin
+from dmremap_tools.model import md_superblock
+from dmremap_tools.model.md_superblock import BAD_BLOCKS, BITMAP, LAYOUT_SAID, Superblock, has_all
+from dmremap_tools.model.physical_volume import LABEL, LABEL_SECTORS, Label, label_fault, label_of
 
+WINDOW, PROGRESS = 4 << 20, 64
+# What tables call an array, and a partition of one.
+ARRAY, PARTITION = re.compile(r"(?:/dev/)?md(?:_?d?\d+(?:p\d+)?|/.+)|9:\d+"), re.compile(r".*p\d+")
+# What a sector has on disks that don't have 512 bytes in it, and the last byte at which a superblock begins that lies
+# before its data.
+LARGE_SECTOR, LAST_BEFORE_DATA = 4096, 4096
+# Bits of a superblock's feature map that don't say that data is elsewhere; bad blocks are refused by themselves.
+HARMLESS = BITMAP | LAYOUT_SAID | BAD_BLOCKS
 # What is said where the image of a whole disk is given for a partition.
 GIVE = "give the partition that it is, as IMAGE?offset=BYTES"
-# What a sector has on disks that don't have 512 bytes in it.
-LARGE_SECTOR = 4096
+# What is said of a member that doesn't have all of a physical volume, and of what may be no member any more.
+PARTS = ("a member of an md array that isn't raid1, so that no member has all of a physical volume: give the images of "
+         "all members to `save GROUP/VOLUME OUT IMAGE..`, which puts it together")
+CHANGING = ("a member of an md array that is a spare, or is being filled or reshaped, so that it doesn't have the "
+            "array's bytes: take another member")
+BAD = "a member of an md array that has bad blocks, which a kernel reads from another one: take that"
+DAMAGED = ("the superblock of an md array at byte {} is damaged, so that nothing says whose bytes lie here: take "
+           "another member, or, if it is no member any more, a copy of the volume that dd cuts out")
+OLDER = ("a member of an md array that was away when others changed: it has the count of events {}, and {} has {}: "
+         "take that")
+
+
+class Member(NamedTuple):
+    """A member of an array: the disk or the partition that it is, how many bytes that has, and its superblock."""
+
+    image: Image
+    size: int
+    superblock: Superblock
+
+    @property
+    def data_at(self) -> int:
+        """The byte of the whole image at which its data begins."""
+        return self.image.base + self.superblock.start * SECTOR
+
+    def check(self, others: "Iterable[Member]") -> None:
+        """Refuses a member that doesn't have all data of its array, or is older than another one."""
+        why = fault_of(self.superblock)
+        if why:
+            raise Refusal(self.image.path, why)
+        self.check_age(others)
+
+    def check_age(self, others: "Iterable[Member]") -> None:
+        """Refuses a member that is older than another one of its array."""
+        mine = self.superblock
+        for image, _, other in others:
+            if other.array == mine.array and other.events > mine.events:
+                raise Refusal(self.image.path, OLDER.format(mine.events, image.path, other.events))
+
+    def has_volume(self) -> bool:
+        return label_of(self.image.part(self.superblock.start * SECTOR, self.image.size))[0] is not None
+
+
+def check_places(places: Dict[str, Place], are_volumes: bool = False) -> None:
+    """Refuses places behind the superblocks of members that don't have all data of their arrays, or of which another
+    one here is newer; or behind one that is damaged, so that nothing says of which level the array is. The names are
+    those of disks. Where they are physical volumes or arrays, a place at which a member begins is the same."""
+    members = {path: members_of(path) for path in dict.fromkeys(place.path for place in places.values())}
+    everyone = [member for found in members.values() for member in found]
+    for name, place in places.items():
+        for image, size in devices_in(place.path):
+            for at in md_superblock.damaged(image, size):
+                if image.base < place.start < image.base + size:
+                    raise Refusal(image.path, DAMAGED.format(image.base + at))
+        is_array = bool(ARRAY.fullmatch(name))
+        for member in members[place.path]:
+            is_behind = member.image.base < place.start < member.image.base + member.size
+            is_beginning = place.start in (member.image.base, member.data_at)
+            is_volume = are_volumes and (is_beginning or not place.is_said) and member.has_volume()
+            if is_behind or is_volume or is_array and is_beginning:
+                member.check(everyone)
+            is_array_place = is_array and not are_volumes and (is_behind or is_beginning)
+            if is_array_place and place.start != member.data_at and not PARTITION.fullmatch(name):
+                why = f"{quoting.shown(name)} is an array, and this place is in a member of one whose data begins at"
+                why = f"{why} byte {member.data_at}: give that, as IMAGE?offset=BYTES"
+                raise Refusal(quoting.shown(place.path), why)
+
+
+def check_newest(paths: Iterable[str]) -> None:
+    """Refuses a member with a physical volume that is older than another one in these images."""
+    members = [member for path in dict.fromkeys(paths) if path != "-" for member in members_of(path)]
+    for member in members:
+        if member.has_volume():
+            member.check_age(members)
+
+
+def members_of(path: str) -> List[Member]:
+    """The members of arrays that a disk and its partitions are. What ends both is the superblock of a partition."""
+    found = [Member(image, size, superblock) for image, size in devices_in(path)
+             for superblock in md_superblock.superblocks(image, size)]
+    return list({member.image.base + member.superblock.at: member for member in found}.values())
+
+
+def devices_in(path: str) -> Iterator["tuple[Image, int]"]:
+    """A disk and its partitions, with how many bytes each has. Who reads one that can't be read says why."""
+    try:
+        disk = disk_image.raw_image(path)
+        tables = [found_table(disk, sector) for sector in GPT_SECTORS]
+    except Refusal:
+        return
+    yield disk, disk.size
+    for partition in {partition: None for table in tables if table for partition in table.partitions}:
+        if partition.start < disk.size:
+            yield disk.part(partition.start, partition.size), partition.size
+
+
+def fault_of(superblock: Superblock) -> Optional[str]:
+    """Why the bytes of a member aren't those of its array, or None."""
+    if not has_all(superblock):
+        return PARTS
+    if superblock.role is None or superblock.features & ~HARMLESS:
+        return CHANGING
+    return BAD if superblock.features & BAD_BLOCKS else None
+
+
+def array_data(image: Image) -> Optional[Image]:
+    """The physical volume in a member of an array, or the image itself. Sums tell whether what is read is whole."""
+    for superblock in md_superblock.superblocks(image):
+        data = image.part(superblock.start * SECTOR, min(image.size, superblock.length * SECTOR))
+        if label_of(data)[0]:
+            return data
+    return None
+
+
+def volume_label(image: Image) -> Optional[Label]:
+    """The sound label at the beginning of an image, unless that is a member of an array whose bytes these are not."""
+    label = label_of(image)[0]
+    is_of_another = label and any(each.start == 0 and fault_of(each) for each in md_superblock.superblocks(image))
+    return None if is_of_another else label
+
+
+def check_mirrored(image: Image) -> None:
+    """Refuses a member of an md array that doesn't have all of its data. A label at its beginning is in that only where
+    the data begins there, and else of a time after the array's."""
+    is_labelled = label_of(image)[0] is not None
+    for superblock in md_superblock.superblocks(image):
+        why = fault_of(superblock)
+        if why and not (is_labelled and superblock.start):
+            raise Refusal(image.path, why)
+    for at in md_superblock.damaged(image):
+        if not is_labelled or at > LAST_BEFORE_DATA:
+            raise Refusal(image.path, DAMAGED.format(image.base + at))
+
+
+def taken_from_array(image: Image) -> Image:
+    """The physical volume in a member of an md array, or the image itself. Sums tell whether what is read there is
+    whole."""
+    data = array_data(image) if label_of(image)[0] is None else None
+    if data:
+        sector = (data.base - image.base) // SECTOR
+        streams.tell(f"{image.path}: a member of an md array, whose data begins at sector {sector}: that is read as "
+                     "the physical volume")
+    return data or image
 
 
 def chosen_parts(disk: Image) -> List[Image]:
-    """The physical volumes: the image itself, or each partition that is one."""
+    """The physical volumes: the image itself, or partitions of a whole disk, which is told, or why none is one."""
     try:
         table = table_in(disk)
     except DamagedTable as damaged:
         raise Refusal(disk.path, damaged.why + where_volumes_begin(disk))
-    return [disk] if table is None else volumes_of(disk, table)
-
-
-def part_of(disk: Image, partition: Partition) -> Image:
-    """The image of a partition, as far as it is there."""
-    return disk.part(partition.start, partition.size)
-
-
-def volumes_of(disk: Image, table: Table) -> List[Image]:
-    """The partitions of a whole disk that are physical volumes, which is told, or why there is none."""
+    if table is None:
+        return [disk]
     if label_of(disk)[0]:
-        raise Refusal(disk.path, "there are both a partition table (%s) and the label of a physical volume, which lvm2 doesn't take then: "
-                      "IMAGE?offset=BYTES takes a partition, and IMAGE?offset=0 the disk itself" % table.kind)
-    there = [it for it in table.partitions if it.start < disk.size]
-    volumes = with_volumes(disk, there)
+        raise Refusal(disk.path, f"there are both a partition table ({table.kind}) and the label of a physical volume, "
+                      "which lvm2 doesn't take then: IMAGE?offset=BYTES takes a partition, and IMAGE?offset=0 the disk "
+                      "itself")
+    volumes = with_volumes(disk, table.partitions)
     if not volumes and table.kind == "MBR":
         # It doesn't say in which sectors it counts, and labels do.
         larger = table_of(disk, LARGE_SECTOR)
         volumes = with_volumes(disk, larger.partitions if larger else [])
     if not volumes:
-        raise Refusal(disk.path, no_volume(disk, table, len(there)))
-    which = "partitions %s are physical volumes: these are" if len(volumes) > 1 else "partition %s is a physical volume: that is"
-    streams.tell("%s: the image of a whole disk (%s), whose %s read" % (disk.path, table.kind, which % numbers_of(volumes)))
-    return [part_of(disk, it) for it in volumes]
+        raise Refusal(disk.path, no_volume(disk, table))
+    which = f"partition {numbers_of(volumes)} is a physical volume: that is"
+    if len(volumes) > 1:
+        which = f"partitions {numbers_of(volumes)} are physical volumes: these are"
+    streams.tell(f"{disk.path}: the image of a whole disk ({table.kind}), whose {which} read")
+    return [disk.part(partition.start, partition.size) for partition in volumes]
 
 
 def table_in(disk: Image, sector: int = SECTOR) -> Optional[Table]:
     """The partition table of a disk, of which it is told where only its second copy is sound."""
     table = found_table(disk, sector)
     if table and table.is_backup:
-        streams.tell("%s: the first copy of the partition table (GPT) is damaged: its backup at the end is read" % disk.path)
+        streams.tell(f"{disk.path}: the first copy of the partition table (GPT) is damaged: its backup at the end is "
+                     "read")
     return table
 
 
 def found_table(disk: Image, sector: int = SECTOR) -> Optional[Table]:
-    """The partition table of a disk. Where its beginning is lost, the second copy of a GPT is read, unless the disk itself is
-    a physical volume, before whose time there may have been one."""
+    """The partition table of a disk. Where its beginning is lost, the second copy of a GPT is read, unless the disk
+    itself is a physical volume, before whose time there may have been one."""
     return table_of(disk, sector) or (backup_of(disk) if label_of(disk)[0] is None else None)
 
 
-def no_volume(disk: Image, table: Table, there: int) -> str:
-    """Why no partition is a physical volume, of which so many are there, and what to try."""
-    found = "the image of a whole disk (%s)" % table.kind
-    if there < len(table.partitions):
-        others = ["%d from sector %d on" % (it.number, it.start // SECTOR) for it in table.partitions]
-        return "%s, which ends before its partitions do (%s): take more of the disk" % (found, quoting.some(others))
-    return ("%s, none of whose partitions (%s) has a sound label: %s%s"
-            % (found, numbers_of(table.partitions) or "-", GIVE, where_volumes_begin(disk)))
+def no_volume(disk: Image, table: Table) -> str:
+    """Why no partition is a physical volume, and what to try."""
+    found = f"the image of a whole disk ({table.kind})"
+    if any(partition.start >= disk.size for partition in table.partitions):
+        others = [f"{partition.number} from sector {partition.start // SECTOR} on" for partition in table.partitions]
+        return f"{found}, which ends before its partitions do ({quoting.some(others)}): take more of the disk"
+    numbers = numbers_of(table.partitions) or "-"
+    return f"{found}, none of whose partitions ({numbers}) has a sound label: {GIVE}{where_volumes_begin(disk)}"
 
 
 def with_volumes(disk: Image, partitions: List[Partition]) -> List[Partition]:
-    """The partitions that are physical volumes, or have one in a member of an md array."""
-    parts = ((it, part_of(disk, it)) for it in partitions if it.start < disk.size)
-    return [it for it, part in parts if label_of(part)[0] is not None or array_data(part) is not None]
+    """The partitions that are there and are physical volumes, or have one in a member of an md array."""
+    parts = ((each, disk.part(each.start, each.size)) for each in partitions if each.start < disk.size)
+    return [each for each, part in parts if label_of(part)[0] is not None or array_data(part) is not None]
 
 
 def numbers_of(partitions: List[Partition]) -> str:
-    """The numbers of some partitions, in words."""
-    return quoting.some([str(it.number) for it in partitions])
+    return quoting.some([str(partition.number) for partition in partitions])
+
+
+def volumes_in(image: Image) -> Iterator[int]:
+    """The bytes at which physical volumes begin, of all sound labels in an image."""
+    at, count = image.next_data(0) // SECTOR * SECTOR, 0
+    while at < image.size:
+        window = image.read(at, WINDOW)
+        for place in (match.start() for match in re.finditer(LABEL, window)):
+            sector = window[place:place + SECTOR]
+            belongs = int.from_bytes(sector[8:16], "little")
+            begin = at + place - belongs * SECTOR
+            is_placed = place % SECTOR == 0 and belongs < LABEL_SECTORS and image.base + begin >= 0
+            if is_placed and not label_fault(sector, belongs):
+                yield begin
+        at, count = max(at + WINDOW, image.next_data(at + WINDOW) // SECTOR * SECTOR), count + 1
+        if count % PROGRESS == 0:
+            streams.show_progress(f"labels are searched: MiB {at >> 20} of {image.size >> 20}")
+
+
+def where_volumes_begin(image: Image) -> str:
+    """What is said of the physical volumes that are found by their labels, or nothing."""
+    found = [str(image.base + begin) for begin in itertools.islice(volumes_in(image), quoting.MOST_NAMED + 1)]
+    if not found:
+        return ""
+    if len(found) == 1:
+        return f"; the label of one that begins at byte {found[0]} is sound: give it as IMAGE?offset={found[0]}"
+    return f"; labels of some that begin at the bytes {quoting.some(found)} are sound: give one as IMAGE?offset=BYTES"

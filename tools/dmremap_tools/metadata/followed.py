@@ -14,10 +14,9 @@ NAME, COLUMNS = 127, 128
 
 
 def judge(group: Group) -> None:
-    """Says of each volume that can't stay why: first those of other types, then what stands on them, and what belongs
-    to their snapshots."""
+    """Says of each volume that can't stay why: by its type, by what it stands on, and by its snapshots."""
     for volume in group.volumes.values():
-        volume.why = volume.why or own_fault(group, volume)
+        volume.why = volume.why or _own_fault(group, volume)
     merging = {it.origin: it.store for it in group.records if it.is_merging}
     users: Dict[Optional[bytes], List[Record]] = {}
     for record in group.records:
@@ -26,9 +25,9 @@ def judge(group: Group) -> None:
     waiting = deque(group.records)
     while waiting:
         while waiting:
-            for name in judge_record(group, waiting.popleft(), merging):
+            for name in _judge_record(group, waiting.popleft(), merging):
                 waiting += users.get(name, ())
-        waiting += [record for name in judge_places(group) for record in users.get(name, ())]
+        waiting += [record for name in _judge_places(group) for record in users.get(name, ())]
 
 
 def leave_others(group: Group, wanted: List[bytes]) -> None:
@@ -47,20 +46,20 @@ def leave_others(group: Group, wanted: List[bytes]) -> None:
             volume.why = NOT_ASKED
 
 
-def own_fault(group: Group, volume: Volume) -> Optional[str]:
-    """Why a volume can't stay, whatever the others do, or None."""
+def _own_fault(group: Group, volume: Volume) -> Optional[str]:
     if not volume.segments:
         return "it has no segments"
     if not volume.record() and group.name_length(volume.name) > NAME:
-        return "the name of its device has more than %d bytes" % NAME
+        return f"the name of its device has more than {NAME} bytes"
     for segment in volume.segments:
+        key = shown(segment.node.key)
         if segment.kind is not None and segment.kind not in TYPES:
-            return "its %s has the type %s" % (shown(segment.node.key), shown(segment.kind))
+            return f"its {key} has the type {shown(segment.kind)}"
         lower = next((it for it, _ in segment.stripes if it not in group.physicals and it in group.volumes), None)
         if lower is not None:
-            return "it lies on the volume %s" % shown(lower)
+            return f"it lies on the volume {shown(lower)}"
         if segment.kind == STRIPED and not are_even(group, segment):
-            return "its %s isn't divided evenly by its stripes, so that no kernel takes it" % shown(segment.node.key)
+            return f"its {key} isn't divided evenly by its stripes, so that no kernel takes it"
     return None
 
 
@@ -73,61 +72,53 @@ def are_even(group: Group, segment: Segment) -> bool:
     return columns <= COLUMNS and segment.stripe_size > 0 and size % (columns * segment.stripe_size) == 0
 
 
-def judge_record(group: Group, record: Record, merging: Dict[Optional[bytes], Optional[bytes]]) -> List[bytes]:
+def _judge_record(group: Group, record: Record, merging: Dict[Optional[bytes], Optional[bytes]]) -> List[bytes]:
     """Looks at a snapshot anew, and returns the volumes that can no longer stay."""
     origin, store = group.volumes.get(record.origin), group.volumes.get(record.store)
     if record.is_merging:
-        return leave_merging(record, origin, store)
-    if not origin or not store:
+        snapshot, merged = (shown(it or record.volume.name) for it in (record.store, record.origin))
+        # The origin reads as the snapshot does, from what is left in the store; what it has itself is a mixture.
+        why = (f"the snapshot {snapshot} is being merged into it, so that some of its sectors are older and some "
+               "newer: go on when that is done (`lvs -o+copy_percent`)")
+        gone = _leave(record.volume, "the record of a snapshot that is being merged")
+        return gone + _leave(store, f"it is being merged into {merged}") + _leave(origin, why)
+    fault = _record_fault(group, record, origin, store, merging.get(origin.name)) if origin and store else None
+    return _leave_snapshot(record, store, fault) if store and fault else []
+
+
+def _leave_snapshot(record: Record, store: Volume, why: str) -> List[bytes]:
+    return _leave(record.volume, f"the record of the snapshot {shown(store.name)}") + _leave(store, why)
+
+
+def _leave(volume: Optional[Volume], why: str) -> List[bytes]:
+    """Says why a volume can't stay, if it is there and nothing was said before; returns its name then."""
+    if not volume or volume.why:
         return []
-    fault = record_fault(group, record, origin, store, merging.get(origin.name))
-    return leave_snapshot(record, store, fault) if fault else []
+    volume.why = why
+    return [volume.name]
 
 
-def leave_merging(record: Record, origin: Optional[Volume], store: Optional[Volume]) -> List[bytes]:
-    """Says of a snapshot that is being merged, and of its origin, why they can't stay: the origin reads as the snapshot does, from
-    what is left in the store, and what it has itself is a mixture of both. Returns the volumes that could."""
-    names = [shown(it or record.volume.name) for it in (record.store, record.origin)]
-    gone = leave([record.volume], "the record of a snapshot that is being merged")
-    gone += leave([store] if store else [], "it is being merged into %s" % names[1])
-    return gone + leave([origin] if origin else [], "the snapshot %s is being merged into it, so that some of its sectors are older and some "
-                        "newer: go on when that is done (`lvs -o+copy_percent`)" % names[0])
-
-
-def leave_snapshot(record: Record, store: Volume, why: str) -> List[bytes]:
-    """Says of the record and the store of a snapshot why they can't stay; returns the names of those that could."""
-    return leave([record.volume], "the record of the snapshot %s" % shown(store.name)) + leave([store], why)
-
-
-def leave(volumes: List[Volume], why: str) -> List[bytes]:
-    """Says why volumes can't stay, if nothing was said before; returns the names of those."""
-    staying = [it for it in volumes if not it.why]
-    for volume in staying:
-        volume.why = why
-    return [it.name for it in staying]
-
-
-def record_fault(group: Group, record: Record, origin: Volume, store: Volume, merged: Optional[bytes]) -> Optional[str]:
-    """Why dmremap can't follow a snapshot, as said of its store, or None. `merged` is what is being merged into its origin."""
-    count, name = record.volume.segments[0].count, shown(origin.name)
+def _record_fault(group: Group, record: Record, origin: Volume, store: Volume,
+                  merged: Optional[bytes]) -> Optional[str]:
+    """Why dmremap can't follow a snapshot, as said of its store. `merged` is what is being merged into its origin."""
+    count, snapshot = record.volume.segments[0].count, f"it is a snapshot of {shown(origin.name)}"
     if store.why:
         return store.why
-    if origin.why and not merged:
-        return "it is a snapshot of %s, which is left out" % name
     if merged:
-        return "it is a snapshot of %s, into which %s is being merged" % (name, shown(merged))
+        return f"{snapshot}, into which {shown(merged)} is being merged"
+    if origin.why:
+        return f"{snapshot}, which is left out"
     if count is not None and count != origin.extents:
-        return "it is a snapshot of %s, but not as long, as that was resized since" % name
+        return f"{snapshot}, but not as long, as that was resized since"
     if any(it.kind in NO_STORE for it in store.segments):
-        return "it is a snapshot of %s, but some of its segments keep nothing" % name
+        return f"{snapshot}, but some of its segments keep nothing"
     if max(group.name_length(origin.name, b"real"), group.name_length(store.name, b"cow")) > NAME:
-        return "it is a snapshot of %s, and the name of one of their devices has more than %d bytes" % (name, NAME)
+        return f"{snapshot}, and the name of one of their devices has more than {NAME} bytes"
     return None
 
 
-def judge_places(group: Group) -> List[bytes]:
-    """Leaves out the snapshots whose stores have more places for chunks than dmremap counts in all; returns the volumes
-    that can no longer stay."""
+def _judge_places(group: Group) -> List[bytes]:
+    """Leaves out the snapshots that have more places for chunks than dmremap counts in all; returns who can't stay."""
     records: Dict[Optional[bytes], List[Record]] = {}
     for record in group.records:
         if not record.volume.why:
@@ -138,7 +129,7 @@ def judge_places(group: Group) -> List[bytes]:
             wanted = store_places.places(record.chunk, volume.extents * (group.extent_size or 0))
             if wanted <= left:
                 left -= wanted
-                continue
-            gone += leave_snapshot(record, volume, "it is a snapshot of %s with places for %d chunks, and dmremap counts %d in all"
-                                   % (shown(record.origin or b""), wanted, store_places.MOST))
+            else:
+                why = f"with places for {wanted} chunks, and dmremap counts {store_places.MOST} in all"
+                gone += _leave_snapshot(record, volume, f"it is a snapshot of {shown(record.origin or b'')} {why}")
     return gone

@@ -36,11 +36,11 @@ from typing import Dict, List
 
 from dmremap_tools.base import program, quoting, streams
 from dmremap_tools.base.config_text import ANEW, Document, Node, shown
+from dmremap_tools.base.plain_text import MARK
 from dmremap_tools.base.refusal import Refusal
 from dmremap_tools.metadata.followed import NOT_ASKED, judge, leave_others
-from dmremap_tools.metadata.mending import LIST, ONE, Mending, mend_section
+from dmremap_tools.metadata.mending import LIST, ONE, Mending, mend_section, mended
 from dmremap_tools.metadata.volume_group import LINEAR, STRIPED, Group, Volume
-from dmremap_tools.metadata.white_space import MARK, mended
 
 EXAMPLE = "dmremap-tools lvm2-text vgm.backup > copy.backup && dmremap table lvm copy.backup"
 # How many bytes of a text are taken, and dmremap takes of the copy.
@@ -48,54 +48,50 @@ MOST_TEXT, MOST_COPY = 8 << 20, 1 << 20
 ADVICE = "take an older text, from /etc/lvm/archive or by `metadata --list`, or leave this out by --only"
 
 # The fields that dmremap reads, and what each has. Others it passes over.
-TOP = {b"contents": ONE, b"version": ONE}
+TOP = dict.fromkeys((b"contents", b"version"), ONE)
 GROUP = {b"extent_size": ONE}
-PHYSICAL = {b"device": ONE, b"dev_size": ONE, b"pe_start": ONE, b"pe_count": ONE}
+PHYSICAL = dict.fromkeys((b"device", b"dev_size", b"pe_start", b"pe_count"), ONE)
 VOLUME = {b"status": LIST, b"flags": LIST, b"segment_count": ONE}
-SEGMENT = {b"start_extent": ONE, b"extent_count": ONE, b"type": ONE, b"stripe_count": ONE, b"stripe_size": ONE,
-           b"stripes": LIST, b"chunk_size": ONE, b"origin": ONE, b"cow_store": ONE}
-WRITE, WRITE_LOCKED = b"WRITE", b"WRITE_LOCKED"
+SEGMENT = {b"stripes": LIST, **dict.fromkeys((b"start_extent", b"extent_count", b"type", b"stripe_count",
+                                              b"stripe_size", b"chunk_size", b"origin", b"cow_store"), ONE)}
 
 
 def add_words(parser: argparse.ArgumentParser) -> None:
-    """Adds TEXT and --only."""
-    parser.add_argument("--only", metavar="NAME", action="append", default=[], help="a volume to keep, with its origin and its disks")
+    parser.add_argument("--only", metavar="NAME", action="append", default=[],
+                        help="a volume to keep, with its origin and its disks")
     program.add_words(parser)
     parser.add_argument("text", metavar="TEXT", help="the metadata, as vgcfgbackup writes it")
 
 
 def run(words: argparse.Namespace) -> None:
-    """Prints the copy."""
     content = streams.read_bytes(words.text, MOST_TEXT)
-    name = streams.name_of(words.text)
+    path, only = streams.name_of(words.text), [os.fsencode(it) for it in words.only]
     if content.count(b"\n") > MOST_COPY:
-        raise Refusal(name, "it has more than %d lines, and dmremap takes as many bytes: give the text of one group" % MOST_COPY)
-    copy = Mending(Document(name, content[len(MARK):] if content.startswith(MARK) else content))
+        raise Refusal(path, f"it has more than {MOST_COPY} lines, and dmremap takes as many bytes: "
+                      "give the text of one group")
+    copy = Mending(Document(path, content[len(MARK):] if content.startswith(MARK) else content))
     drop_twice(copy)
     group = Group(group_of(copy))
-    for name in words.only:
-        if os.fsencode(name) not in group.volumes:
-            raise Refusal(copy.document.path, "no volume %s: give a name that the text has" % quoting.shown(name))
-    if words.only:
-        leave_others(group, [os.fsencode(it) for it in words.only])
+    for name, key in zip(words.only, only):
+        if key not in group.volumes:
+            raise Refusal(path, f"no volume {quoting.shown(name)}: give a name that the text has")
+    if only:
+        leave_others(group, only)
     drop_volumes(copy, group)
-    if words.only:
-        leave_physicals(copy, group)
+    if only:
+        _leave_physicals(copy, group)
     mend_group(copy, group)
     made = mended(copy, content)
     copy.tell()
-    check_copy(program.dmremap(words.program), copy.document.path, made)
-    streams.out.write(made.decode("utf-8", "surrogateescape"))
-
-
-def check_copy(asked: str, path: str, content: bytes) -> None:
-    """Refuses a copy that dmremap refuses: a text that lvm2 wrote passes, so what doesn't is damaged."""
+    # A text that lvm2 wrote passes, so what doesn't is damaged.
     with tempfile.NamedTemporaryFile(prefix="dmremap-tools-") as file:
-        file.write(content)
+        file.write(made)
         file.flush()
-        _, said = program.ask_quietly([asked, "map", "lvm", file.name])
+        _, said = program.ask_quietly([program.dmremap(words.program), "map", "lvm", file.name])
     if said:
-        raise Refusal(path, "dmremap refuses the copy, whose lines have the same numbers (%s): %s" % (quoting.shown(said.strip()), ADVICE))
+        raise Refusal(path, "dmremap refuses the copy, whose lines have the same numbers "
+                      f"({quoting.shown(said.strip())}): {ADVICE}")
+    streams.out.write(made.decode("utf-8", "surrogateescape"))
 
 
 def drop_twice(copy: Mending) -> None:
@@ -103,23 +99,19 @@ def drop_twice(copy: Mending) -> None:
     waiting = [copy.document.top]
     while waiting:
         section = waiting.pop()
-        last = {it.key: it for it in section.children or ()}
-        if len(last) < len(section.children or ()):
-            drop_earlier(copy, section, last)
+        children = section.children or []
+        last = {it.key: it for it in children}
+        for node in children if len(last) < len(children) else ():
+            counting = last[node.key]
+            if counting is node:
+                continue
+            if node.children is not None or counting.children is not None:
+                raise copy.document.refused(counting.start, f"{shown(node.key)} is there twice, first in line "
+                                            f"{copy.document.line_at(node.start)}: put the two together")
+            line = copy.document.line_at(counting.start)
+            copy.drop(node, shown(node.key), f"it is there again in line {line}, which counts")
+        section.children = [it for it in children if last[it.key] is it]
         waiting += section.sections()
-
-
-def drop_earlier(copy: Mending, section: Node, last: Dict[bytes, Node]) -> None:
-    """Leaves out the fields of a section that are there again."""
-    for node in section.children or ():
-        counting = last[node.key]
-        if counting is node:
-            continue
-        if node.children is not None or counting.children is not None:
-            raise copy.document.refused(counting.start, "%s is there twice, first in line %d: put the two together"
-                                        % (shown(node.key), copy.document.line_at(node.start)))
-        copy.drop(node, shown(node.key), "it is there again in line %d, which counts" % copy.document.line_at(counting.start))
-    section.children = [it for it in section.children or () if last[it.key] is it]
 
 
 def group_of(copy: Mending) -> Node:
@@ -127,7 +119,8 @@ def group_of(copy: Mending) -> Node:
     top = copy.document.top
     sections = top.sections()
     if not sections or sections[0].child(b"physical_volumes") is None:
-        raise Refusal(copy.document.path, "no metadata of a group: give a text of /etc/lvm/backup, or what `metadata` prints")
+        raise Refusal(copy.document.path, "no metadata of a group: "
+                      "give a text of /etc/lvm/backup, or what `metadata` prints")
     for node in sections[1:]:
         copy.drop(node, shown(node.key), "lvm2 reads one section of a text, the first")
     top.children = [it for it in top.children or () if it.children is None or it is sections[0]]
@@ -135,46 +128,43 @@ def group_of(copy: Mending) -> Node:
 
 
 def drop_volumes(copy: Mending, group: Group) -> None:
-    """Leaves out the volumes that can't stay."""
+    """Leaves out the volumes that can't stay, and says what answers lack of origins that lose snapshots."""
     for volume in group.volumes.values():
         if volume.node.value(b"segment_count", int) not in (None, len(volume.segments)):
-            raise copy.document.refused(volume.node.start, "%s: segment_count isn't the number of its segments, %d: %s"
-                                        % (shown(volume.name), len(volume.segments), ANEW))
+            why = f"segment_count isn't the number of its segments, {len(volume.segments)}: {ANEW}"
+            raise copy.document.refused(volume.node.start, f"{shown(volume.name)}: {why}")
     judge(group)
     for volume in group.volumes.values():
         if volume.why == NOT_ASKED:
-            copy.leave_out(volume.node)
+            copy.left_out.add(volume.node)
         elif volume.why:
             copy.drop(volume.node, shown(volume.name), volume.why)
-    say_kept(copy, group)
-    if group.volumes and all(it.why for it in group.volumes.values()):
-        copy.tell()
-        raise Refusal(copy.document.path, "nothing is left, as dmremap can follow none of its volumes: use `save`, `serve` or `machine`")
-
-
-def leave_physicals(copy: Mending, group: Group) -> None:
-    """Leaves out the physical volumes that nothing lies on which stays. One stays whose disk has the path of another that does,
-    as dmremap names both by their keys; and one of a group of which all volumes need none."""
-    needed = {name for volume in group.volumes.values() if not volume.why for segment in volume.segments for name, _ in segment.stripes}
-    paths = {tuple(group.physicals[it].values(b"device")) for it in needed if it in group.physicals}
-    kept = {key: node for key, node in group.physicals.items() if key in needed or tuple(node.values(b"device")) in paths}
-    for key, node in group.physicals.items():
-        if kept and key not in kept:
-            copy.leave_out(node)
-    group.physicals = kept or group.physicals
-
-
-def say_kept(copy: Mending, group: Group) -> None:
-    """Says of each origin that stays without some of its snapshots what answers lack."""
     without: Dict[bytes, List[bytes]] = {}
     for record in group.records:
         origin = group.volumes.get(record.origin or b"")
-        if not record.volume.why or not origin or origin.why:
-            continue
-        without.setdefault(origin.name, []).append(record.store or record.volume.name)
+        if record.volume.why and origin and not origin.why:
+            without.setdefault(origin.name, []).append(record.store or record.volume.name)
     for name, snapshots in without.items():
-        copy.say(group.volumes[name].node.start, "kept: %s, without its snapshot %s: on a machine, a write to it also copies what it "
-                 "overwrites, which the answers don't show" % (shown(name), shown(b", ".join(snapshots))))
+        copy.say(group.volumes[name].node.start, f"kept: {shown(name)}, without its snapshot "
+                 f"{shown(b', '.join(snapshots))}: on a machine, a write to it also copies what it overwrites, "
+                 "which the answers don't show")
+    if group.volumes and all(it.why for it in group.volumes.values()):
+        copy.tell()
+        raise Refusal(copy.document.path, "nothing is left, as dmremap can follow none of its volumes: "
+                      "use `save`, `serve` or `machine`")
+
+
+def _leave_physicals(copy: Mending, group: Group) -> None:
+    """Leaves out the physical volumes that nothing lies on which stays. One stays whose disk has the path of another
+    that does, as dmremap names both by their keys; and one of a group of which all volumes need none."""
+    staying = [it for it in group.volumes.values() if not it.why]
+    needed = {name for volume in staying for segment in volume.segments for name, _ in segment.stripes}
+    path_of = {key: tuple(node.values(b"device")) for key, node in group.physicals.items()}
+    paths = {path for key, path in path_of.items() if key in needed}
+    kept = {key: node for key, node in group.physicals.items() if key in needed or path_of[key] in paths}
+    if kept:
+        copy.left_out |= {node for key, node in group.physicals.items() if key not in kept}
+        group.physicals = kept
 
 
 def mend_group(copy: Mending, group: Group) -> None:
@@ -186,39 +176,34 @@ def mend_group(copy: Mending, group: Group) -> None:
         mend_section(copy, node, {}, set(node.sections()))
     for node in group.physicals.values():
         mend_section(copy, node, PHYSICAL, ())
-        mend_physical(copy, group, node)
+        _mend_physical(copy, group, node)
     parts = group.raid_parts()
     for volume in group.volumes.values():
-        if not volume.why:
-            mend_volume(copy, volume, volume.name in parts)
+        if volume.why:
+            continue
+        if volume.name in parts:
+            _mend_part(copy, volume)
+        mend_section(copy, volume.node, VOLUME, {it.node for it in volume.segments})
+        for segment in volume.segments:
+            mend_section(copy, segment.node, SEGMENT, ())
+            kind = segment.node.child(b"type")
+            if kind and segment.kind == LINEAR:
+                copy.put(kind, kind.items[0], b'"%s"' % STRIPED, "linear is another name of striped")
 
 
-def mend_volume(copy: Mending, volume: Volume, is_part: bool) -> None:
-    """Mends a volume that stays."""
-    if is_part:
-        mend_part(copy, volume)
-    mend_section(copy, volume.node, VOLUME, {it.node for it in volume.segments})
-    for segment in volume.segments:
-        mend_section(copy, segment.node, SEGMENT, ())
-        kind = segment.node.child(b"type")
-        if kind and segment.kind == LINEAR:
-            copy.put(kind, kind.items[0], b'"%s"' % STRIPED, "linear is another name of striped")
-
-
-def mend_part(copy: Mending, volume: Volume) -> None:
+def _mend_part(copy: Mending, volume: Volume) -> None:
     """lvm2 loads all parts of raid volumes as writable, whatever their status is."""
     status = volume.node.child(b"status")
-    if not status or status.children is not None or WRITE in status.own_values() or WRITE_LOCKED in volume.node.values(b"flags"):
+    if not status or status.children is not None or b"WRITE" in status.own_values():
         return
-    items = status.items
-    if items:
-        copy.insert(items[-1].end, b', "WRITE"')
-    else:
-        copy.insert(status.end - 1, b'"WRITE"')
-    copy.say(status.start, "changed: status: %s is part of a raid volume, which lvm2 loads as writable" % shown(volume.name))
+    if b"WRITE_LOCKED" not in volume.node.values(b"flags"):
+        at, before = (status.items[-1].end, b", ") if status.items else (status.end - 1, b"")
+        copy.insert(at, before + b'"WRITE"')
+        why = f"{shown(volume.name)} is part of a raid volume, which lvm2 loads as writable"
+        copy.say_changed(status.start, status.key, why)
 
 
-def mend_physical(copy: Mending, group: Group, node: Node) -> None:
+def _mend_physical(copy: Mending, group: Group, node: Node) -> None:
     """Gives a disk the length that its extents need at least, and a name. After a change of its size lvm2 writes
     less, and old versions wrote no size; the true one stands nowhere in the text."""
     start, count = node.value(b"pe_start", int), node.value(b"pe_count", int)
@@ -229,12 +214,12 @@ def mend_physical(copy: Mending, group: Group, node: Node) -> None:
         copy.drop(node, shown(node.key), "it has no sectors")
         return
     inside, name, size_field = node.value_at + 1, shown(node.key), node.child(b"dev_size")
+    long = f"at least {least} sectors long, where its extents end"
     if node.child(b"device") is None:
         copy.insert(inside, b' device = ""')
-        copy.say(node.start, "changed: device: %s has none, so that the disk has this name" % name)
+        copy.say_changed(node.start, b"device", f"{name} has none, so that the disk has this name")
     if size_field is None:
         copy.insert(inside, b" dev_size = %d" % least)
-        copy.say(node.start, "changed: dev_size: %s has none, and is at least %d sectors long, where its extents end" % (name, least))
+        copy.say_changed(node.start, b"dev_size", f"{name} has none, and is {long}")
     elif size is not None and size < least:
-        copy.put(size_field, size_field.items[0], b"%d" % least,
-                 "%s is at least %d sectors long, where its extents end, and not %d" % (name, least, size))
+        copy.put(size_field, size_field.items[0], b"%d" % least, f"{name} is {long}, and not {size}")

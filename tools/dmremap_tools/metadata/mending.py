@@ -1,11 +1,12 @@
-"""Writes the parts of a group that dmremap reads in the form that it reads, and leaves out what it can't pass over."""
+"""A copy of a text, whose lines have their numbers, in the form that dmremap reads, without what it can't pass over."""
 
 import re
-from typing import Collection, Dict, List, Optional, Tuple
+from typing import Collection, Dict, List, Optional, Set, Tuple
 
 from dmremap_tools.base import streams
-from dmremap_tools.base.config_text import ANEW, BARE, DECIMAL, DOUBLE, NUMBER, SINGLE, Document, Item, Node, shown
-from dmremap_tools.metadata.text_copy import UNKNOWN, Copy, newlines
+from dmremap_tools.base.config_text import (ANEW, BARE, DECIMAL, NUMBER, SINGLE, Document, Item, Node,
+                                            is_word_between, shown)
+from dmremap_tools.base.plain_text import MARK
 
 # What dmremap takes for a key, a number and a string, and how many sections it takes inside each other.
 WORD = re.compile(rb"[A-Za-z0-9_+.][A-Za-z0-9_+.-]*\Z")
@@ -14,139 +15,219 @@ QUOTED = re.compile(rb'"(?:[^"\\\n]|\\["\\])*"\Z')
 LEVELS = 16
 # What a field has.
 ONE, LIST = "one", "list"
+BLANK = b" \t\v\f\r"
+# What stands behind a section or a field in its line, up to the end of that.
+REST_OF_LINE = re.compile(rb"[ \t\v\f\r]*(?:#[^\n]*)?(?=\n)")
+# Carriage returns at the end of a line, white space that dmremap doesn't take for such outside of comments, and a
+# carriage return up to the end of its line.
+AT_END, OTHER, RETURNED = re.compile(rb"\r+(?=\n|\Z)"), re.compile(rb"(#[^\n]*)|[\r\v\f]"), re.compile(rb"\r[^\n]*")
+UNKNOWN = "\ufffd".encode()
+# That in the place of each byte that is no UTF-8, as Python reads these.
+MARKS = dict.fromkeys(range(0xDC80, 0xDD00), "\ufffd")
+# Bytes from the first of these on, up to the second, and what stands in their place.
+Change = Tuple[int, int, bytes]
 
 
-class Mending(Copy):
-    """A copy with what is to be said of it."""
+class Mending:
+    """The changes to a text: bytes that are replaced, and nodes that are left out, with what is to be said of them."""
 
     def __init__(self, document: Document) -> None:
-        super().__init__(document)
+        self.document = document
         self.said: List[Tuple[int, str]] = []
+        self.left_out: Set[Node] = set()
+        self._replaced: Dict[Tuple[int, int], bytes] = {}
+        self._inserted: List[Change] = []
 
     def say(self, at: int, what: str) -> None:
-        """Says something of the line of a byte."""
         self.said.append((self.document.line_at(at), what))
 
+    def say_changed(self, at: int, key: bytes, why: str) -> None:
+        self.say(at, f"changed: {shown(key)}: {why}")
+
     def drop(self, node: Node, what: str, why: str) -> None:
-        """Leaves a node out, and says why."""
-        self.leave_out(node)
-        self.say(node.start, "left out: %s: %s" % (what, why))
+        self.left_out.add(node)
+        self.say(node.start, f"left out: {what}: {why}")
 
     def tell(self) -> None:
-        """Tells all that was said, in the order of the lines."""
         self.said.sort(key=lambda it: it[0])
-        streams.tell(*("%s:%d: %s" % (self.document.path, line, what) for line, what in self.said))
+        streams.tell(*(f"{self.document.path}:{line}: {what}" for line, what in self.said))
+
+    def write(self, start: int, end: int, content: bytes) -> None:
+        """Puts bytes in the place of those from `start` to `end`, also where others were put there before."""
+        self._replaced[start, end] = content
+
+    def insert(self, at: int, content: bytes) -> None:
+        """Puts bytes before this one, behind those that were put there before."""
+        self._inserted.append((at, at, content))
 
     def put(self, node: Node, item: Item, content: bytes, why: str) -> None:
-        """Writes other bytes in the place of a value of a field, and says why."""
         self.write(item.start, item.end, content)
-        self.say(item.start, "changed: %s: %s" % (shown(node.key), why))
+        self.say_changed(item.start, node.key, why)
+
+    def gaps(self) -> List[Change]:
+        """The bytes that are left out, with indentation and a comment behind them, and the newlines that stay."""
+        content, gaps = self.document.content, []
+        for node in self.left_out:
+            start = node.start
+            while start > 0 and content[start - 1] in BLANK:
+                start -= 1
+            begins_line = content[max(start - 1, 0):start] in (b"", b"\n")
+            rest = REST_OF_LINE.match(content, node.end) if begins_line else None
+            kept = b"\n" * content.count(b"\n", node.start, node.end)
+            gaps.append((start if begins_line else node.start, rest.end() if rest else node.end, kept))
+        return gaps
+
+    def content(self) -> bytes:
+        changes = self.gaps() + self._inserted + [(at, at, b"") for at in self.document.tight]
+        changes += [(*place, new) for place, new in self._replaced.items()]
+        changes.sort(key=lambda it: (it[0], it[0] < it[1], -it[1]))
+        pieces, end = [], 0
+        for start, following, new in changes:
+            # What lies inside of what was left out is left out as well.
+            if start >= end:
+                pieces += [self.document.content[end:start], new]
+                end = following
+        return joined(pieces + [self.document.content[end:]])
+
+
+def joined(pieces: List[bytes]) -> bytes:
+    """Pieces of a text as one, with a space between two that would become one word."""
+    made: List[bytes] = []
+    for piece in filter(None, pieces):
+        if made and is_word_between(made[-1][-1:] + piece[:1], 1):
+            made.append(b" ")
+        made.append(piece)
+    return b"".join(made)
 
 
 def mend_section(copy: Mending, node: Node, fields: Dict[bytes, str], sections: Collection[Node]) -> None:
     """Mends the fields and sections of a section that dmremap reads, and leaves out what it can't pass over."""
     for child in node.children or ():
-        if is_as_read(child, fields) or copy.is_left_out(child):
+        wanted, is_field = fields.get(child.key), child.children is None
+        is_as_read = child.is_plain and is_field and (wanted is None or child.is_list == (wanted == LIST))
+        if is_as_read or child in copy.left_out:
+            # Nearly all fields need no second look.
             continue
         if child in sections:
-            mend_key(copy, child)
-        elif child.children is None and child.key in fields:
-            mend_key(copy, child)
-            mend_field(copy, child, fields[child.key])
+            _mend_key(copy, child)
+        elif is_field and wanted is not None:
+            _mend_key(copy, child)
+            _mend_field(copy, child, wanted)
         else:
-            fault = unreadable(copy.document, child)
+            fault = _unreadable(copy.document, child)
             if fault:
-                copy.drop(child, shown(child.key), "%s, which dmremap doesn't read; it says nothing of sectors" % fault)
+                copy.drop(child, shown(child.key), f"{fault}, which dmremap doesn't read; it says nothing of sectors")
 
 
-def is_as_read(field: Node, fields: Dict[bytes, str]) -> bool:
-    """Whether a field needs no second look, as nearly all don't."""
-    wanted = fields.get(field.key)
-    return field.is_plain and field.children is None and (wanted is None or field.is_list == (wanted == LIST))
-
-
-def mend_key(copy: Mending, node: Node) -> None:
-    """Writes a key without quotes."""
+def _mend_key(copy: Mending, node: Node) -> None:
     if not WORD.match(node.key):
-        raise copy.document.refused(node.start, "no name that lvm2 gives, %s: %s" % (ANEW, shown(node.key)))
+        raise copy.document.refused(node.start, f"no name that lvm2 gives, {ANEW}: {shown(node.key)}")
     quote = copy.document.content[node.start:node.start + 1]
     if quote in (b'"', b"'"):
-        end = copy.document.content.index(quote, node.start + 1) + 1
-        copy.write(node.start, end, node.key)
-        copy.say(node.start, "changed: %s: a key in quotes" % shown(node.key))
+        copy.write(node.start, copy.document.content.index(quote, node.start + 1) + 1, node.key)
+        copy.say_changed(node.start, node.key, "a key in quotes")
 
 
-def mend_field(copy: Mending, node: Node, kind: str) -> None:
-    """Writes the value of a field in the form that dmremap reads."""
+def _mend_field(copy: Mending, node: Node, kind: str) -> None:
+    """Writes the value of a field as dmremap reads it: numbers in decimal digits, strings in double quotes."""
     items, is_list = node.items, node.is_list
+    for item in items:
+        text = copy.document.content[item.start:item.end]
+        if item.kind in (NUMBER, DECIMAL):
+            if not isinstance(item.value, int) or item.value < 0:
+                why = f"{shown(node.key)} can't have this number, {ANEW}: {shown(text)}"
+                raise copy.document.refused(item.start, why)
+            if not DIGITS.match(text):
+                copy.put(node, item, b"%d" % item.value, f"lvm2 reads {shown(text)} as {item.value}")
+        elif not QUOTED.match(text):
+            quoted = b'"%s"' % re.sub(rb'(["\\])', rb"\\\1", item.value).replace(b"\n", UNKNOWN)
+            copy.put(node, item, quoted + b"\n" * text.count(b"\n"), f"written as {shown(quoted)}")
     if kind == LIST and not is_list:
         copy.insert(node.value_at, b"[")
-    for item in items:
-        mend_item(copy, node, item)
-    if kind == LIST and not is_list:
         copy.insert(node.end, b"]")
-        copy.say(node.start, "changed: %s: one value in place of a list" % shown(node.key))
+        copy.say_changed(node.start, node.key, "one value in place of a list")
     elif kind == ONE and is_list and len(items) == 1:
         copy.write(node.value_at, node.value_at + 1, b"")
         copy.write(node.end - 1, node.end, b"")
-        copy.say(node.start, "changed: %s: a list of one value" % shown(node.key))
+        copy.say_changed(node.start, node.key, "a list of one value")
     for item in items if is_list else ():
         is_last = item is items[-1]
         if is_last and item.comma >= 0:
             copy.write(item.comma, item.comma + 1, b"")
-            copy.say(item.start, "changed: %s: a comma too many" % shown(node.key))
+            copy.say_changed(item.start, node.key, "a comma too many")
         elif not is_last and item.comma < 0:
             copy.insert(item.end, b",")
-            copy.say(item.start, "changed: %s: a comma is missing" % shown(node.key))
+            copy.say_changed(item.start, node.key, "a comma is missing")
 
 
-def mend_item(copy: Mending, node: Node, item: Item) -> None:
-    """Writes a value of a field: a number in decimal digits, a string in double quotes."""
-    text = copy.document.content[item.start:item.end]
-    if item.kind in (NUMBER, DECIMAL):
-        if not isinstance(item.value, int) or item.value < 0:
-            raise copy.document.refused(item.start, "%s can't have this number, %s: %s" % (shown(node.key), ANEW, shown(text)))
-        if not DIGITS.match(text):
-            copy.put(node, item, b"%d" % item.value, "lvm2 reads %s as %d" % (shown(text), item.value))
-    elif not QUOTED.match(text):
-        quoted = b'"%s"' % re.sub(rb'(["\\])', rb"\\\1", item.value).replace(b"\n", UNKNOWN)
-        copy.put(node, item, quoted + newlines(text), "written as %s" % shown(quoted))
-
-
-def unreadable(document: Document, node: Node) -> Optional[str]:
+def _unreadable(document: Document, node: Node) -> Optional[str]:
     """Why dmremap can't pass over a field or a section, or None."""
     waiting = [node]
     while waiting:
         node = waiting.pop()
         if node.children is not None and node.level > LEVELS:
-            return "more than %d sections in each other" % LEVELS
+            return f"more than {LEVELS} sections in each other"
         waiting += node.children or ()
         if node.is_plain:
             continue
-        quote = document.content[node.start:node.start + 1] in (b'"', b"'")
-        if quote or not WORD.match(node.key):
+        if document.content[node.start:node.start + 1] in (b'"', b"'") or not WORD.match(node.key):
             return "a key that is no word"
-        items = node.items
-        for item in items:
-            fault = unreadable_item(document, item)
+        for item in node.items:
+            fault = _unreadable_item(document.content[item.start:item.end], item.kind)
+            if not fault and node.is_list and (item.comma >= 0) != (item is not node.items[-1]):
+                fault = "a comma too many or too few"
             if fault:
                 return fault
-            if node.is_list and (item.comma >= 0) != (item is not items[-1]):
-                return "a comma too many or too few"
     return None
 
 
-def unreadable_item(document: Document, item: Item) -> Optional[str]:
+def _unreadable_item(text: bytes, kind: str) -> Optional[str]:
     """Why dmremap doesn't read a value, or None."""
-    text = document.content[item.start:item.end]
-    if item.kind == DECIMAL:
+    if kind == DECIMAL:
         return "a number with a fraction"
-    if item.kind == NUMBER and not text.isdigit():
-        return "a number with a sign"
-    if item.kind == NUMBER and (len(text) > 19 or int(text) >= 1 << 63):
-        return "a number that is too large"
-    if item.kind in (SINGLE, BARE):
+    if kind == NUMBER:
+        is_too_large = text.isdigit() and (len(text) > 19 or int(text) >= 1 << 63)
+        return "a number that is too large" if is_too_large else None if text.isdigit() else "a number with a sign"
+    if kind in (SINGLE, BARE):
         return "a string without double quotes"
-    if item.kind == DOUBLE and not QUOTED.match(text):
-        return "a string of several lines" if b"\n" in text else "a backslash that stands for itself"
-    return None
+    fault = "a string of several lines" if b"\n" in text else "a backslash that stands for itself"
+    return None if QUOTED.match(text) else fault
+
+
+def mended(copy: Mending, content: bytes) -> bytes:
+    """The copy of a content, with white space as dmremap reads it. Says what it lacks of that."""
+    if content.startswith(MARK):
+        copy.said.append((1, "changed: a byte order mark is taken out"))
+    if b"\0" in content:
+        line = 1 + content[:content.index(b"\0")].count(b"\n")
+        copy.said.append((line, "left out: the NUL here, and what comes after it"))
+    for at in copy.document.tight:
+        if not any(start <= at < end for start, end, _ in copy.gaps()):
+            copy.say(at, "changed: a space is missing")
+    made = copy.content()
+    return made if _is_readable(made) and not re.search(rb"[\r\v\f]", made) else _with_plain_space(copy, made)
+
+
+def _with_plain_space(copy: Mending, content: bytes) -> bytes:
+    document, end = Document(copy.document.path, content), 0
+    pieces: List[bytes] = []
+    first = lines = last = 0
+    for _, start, following in document.tokens():
+        space = content[end:start]
+        if b"\r" in space:
+            begin = document.line_at(end + space.index(b"\r"))
+            lines += len(RETURNED.findall(space)) - (begin == last)
+            first, last = first or begin, document.line_at(end + space.rindex(b"\r"))
+        elif any(not match[1] for match in OTHER.finditer(space)):
+            copy.said.append((document.line_at(start), "changed: white space of another kind"))
+        if not _is_readable(content[end:following]):
+            copy.said.append((document.line_at(start), "changed: bytes that are no UTF-8"))
+        pieces += [OTHER.sub(lambda match: match[1] or b" ", AT_END.sub(b"", space)), content[start:following]]
+        end = following
+    if lines:
+        copy.said.append((first, f"changed: carriage returns are taken out of {lines} lines"))
+    return joined(pieces).decode("utf-8", "surrogateescape").translate(MARKS).encode()
+
+
+def _is_readable(content: bytes) -> bool:
+    return content.decode("utf-8", "ignore").encode() == content

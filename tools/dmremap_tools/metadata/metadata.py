@@ -24,67 +24,60 @@ numbers. No checksum tells whether another physical volume has a later text, or 
 import argparse
 from typing import List
 
-from dmremap_tools.base import numbers, streams
+from dmremap_tools.base import numbers, quoting, streams
 from dmremap_tools.base.disk_image import Image, open_image
 from dmremap_tools.base.numbers import SECTOR
 from dmremap_tools.base.paths import Place, place_of
 from dmremap_tools.base.refusal import Refusal, WrongWords
-from dmremap_tools.metadata.array_members import check_newest
-from dmremap_tools.metadata.chosen_part import chosen_parts
+from dmremap_tools.metadata.chosen_part import check_newest, chosen_parts, taken_from_array
 from dmremap_tools.metadata.group_text import summary, without_time
-from dmremap_tools.metadata.older_texts import text_at, text_with, texts_in
-from dmremap_tools.metadata.valid_text import areas_of, valid_text
-from dmremap_tools.metadata.volumes_within import taken_from_array
+from dmremap_tools.metadata.valid_text import areas_of, text_of, texts_in, valid_text
 
 EXAMPLE = "dmremap-tools metadata vg0-head.img > vg0.backup && dmremap table lvm vg0.backup"
 
 
 def add_words(parser: argparse.ArgumentParser) -> None:
-    """Adds HEAD, and what is to be had of it."""
     which = parser.add_mutually_exclusive_group()
     which.add_argument("--list", action="store_true", help="list the texts that are left in the metadata areas")
-    which.add_argument("--seqno", type=numbers.word, metavar="N", help="print the text with this number, which is one of the list")
-    which.add_argument("--at", type=numbers.word, metavar="BYTE", help="print the text at this place, which is one of the list")
+    for option, name, where in ("--seqno", "N", "with this number"), ("--at", "BYTE", "at this place"):
+        said = f"print the text {where}, which is one of the list"
+        which.add_argument(option, type=numbers.word, metavar=name, help=said)
     parser.add_argument("heads", nargs="+", metavar="HEAD", help="the physical volume, or an image of its beginning")
 
 
 def run(words: argparse.Namespace) -> None:
-    """Prints what is asked for."""
     is_of_one = words.list or words.seqno is not None or words.at is not None
     if len(words.heads) > 1 and is_of_one:
         raise WrongWords("--list, --seqno and --at take one HEAD")
     places = [place_of(path) for path in words.heads]
     check_newest(place.path for place in places)
-    images = [it for place in places for it in volumes_in(place)]
+    images = [it for place in places for it in _volumes_in(place)]
     if len(images) > 1 and is_of_one:
         raise Refusal(images[0].path, "it has several physical volumes: take one, as HEAD?offset=BYTES")
     if words.list:
-        for text in texts_in(images[0]):
-            streams.out.write(text.line())
+        for (at, group, identity, seqno), _, time in texts_in(images[0]):
+            line = b"%d %s %s seqno %d - %s" % (at, group, identity, seqno, time)
+            streams.out.write(quoting.escaped(line.decode("utf-8", "surrogateescape")) + "\n")
         return
-    if words.seqno is not None:
-        content = text_with(images[0], words.seqno)
-    elif words.at is not None:
-        content = text_at(images[0], words.at)
-    else:
-        content = first_if_equal(images, [valid_text(it, areas_of(it)) for it in images])
+    content = text_of(images[0], words.seqno, words.at) if is_of_one else _first_if_equal(images)
     streams.out.write(content.decode("utf-8", "surrogateescape"))
 
 
-def volumes_in(place: Place) -> List[Image]:
-    """The physical volumes in a HEAD, or the one that begins at a place in it."""
+def _volumes_in(place: Place) -> List[Image]:
     disk = open_image(place.path)
     if place.start >= disk.size:
-        raise Refusal(disk.path, "it ends before byte %d: give a lower offset, or more of the disk" % place.start)
+        raise Refusal(disk.path, f"it ends before byte {place.start}: give a lower offset, or more of the disk")
     parts = [disk.part(place.start, disk.size)] if place.is_said else chosen_parts(disk)
     return [taken_from_array(it) for it in parts]
 
 
-def first_if_equal(images: List[Image], texts: List[bytes]) -> bytes:
-    """The first of the texts of these volumes, which are one but for their times."""
+def _first_if_equal(images: List[Image]) -> bytes:
+    """The first of the valid texts of these volumes, which are one but for their times."""
+    texts = [valid_text(it, areas_of(it)) for it in images]
     if len({without_time(it) for it in texts}) > 1:
         for image, text in zip(images, texts):
-            where = " from sector %d on" % (image.base // SECTOR) if image.base else ""
-            streams.tell("%s%s: %s" % (image.path, where, summary(text)))
-        raise Refusal(images[0].path, "the texts differ: look at what each has, and take the volume that is right alone")
+            where = f" from sector {image.base // SECTOR} on" if image.base else ""
+            streams.tell(f"{image.path}{where}: {summary(text)}")
+        raise Refusal(images[0].path, "the texts differ: "
+                      "look at what each has, and take the volume that is right alone")
     return texts[0]

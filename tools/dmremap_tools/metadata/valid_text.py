@@ -1,118 +1,132 @@
-"""The valid text of the group that a physical volume belongs to, of as many metadata areas as it has."""
+"""The valid text of the group that a physical volume belongs to, and older ones, which no sum confirms."""
 
-from typing import List
+from typing import List, Optional
 
 from dmremap_tools.base import quoting, streams
 from dmremap_tools.base.disk_image import Image, other_form
 from dmremap_tools.base.numbers import SECTOR
 from dmremap_tools.base.refusal import Refusal
-from dmremap_tools.metadata import physical_volume
-from dmremap_tools.metadata.group_text import beginning_of, summary, without_time
-from dmremap_tools.metadata.physical_volume import (EMPTY, MISSING, MOST_AREAS, SEARCHED, Area, area_at, header_fault, label_of,
-                                                    listed_area)
-from dmremap_tools.metadata.volumes_within import where_volumes_begin
+from dmremap_tools.metadata.chosen_part import where_volumes_begin
+from dmremap_tools.metadata.group_text import RingText, beginning_of, summary, texts_of_ring, without_time
+from dmremap_tools.model import physical_volume
+from dmremap_tools.model.physical_volume import EMPTY, MISSING, MOST_AREAS, SEARCHED, Area, header_fault, label_of
 
 OTHER = "try another physical volume of the group, or a file in /etc/lvm/backup"
+OLDER = "see what is left of older texts with --list"
 LUKS, ENCRYPTED = b"LUKS\xba\xbe", "it is encrypted with LUKS: open it with cryptsetup, and take what is opened"
+# How much of an image is looked through for older texts where it isn't known where the areas are.
+HEAD = 1 << 20
 
 
 def areas_of(image: Image) -> List[Area]:
     """The metadata areas that the label lists, or that are found where no label is sound."""
     label, faults = label_of(image)
     if label is None:
-        return searched_areas(image, faults or ["there is no label in the first four sectors"])
+        return _searched_areas(image, faults or ["there is no label in the first four sectors"])
     if not label.areas:
-        raise Refusal(image.path, "this physical volume keeps no metadata: %s" % OTHER)
-    areas = [listed_area(image, label, start, size) for start, size in label.areas]
-    if all(it.fault == EMPTY for it in areas if it.fault != MISSING) and label.is_used is False:
-        raise Refusal(image.path, "the physical volume belongs to no group: see what is left of older texts with --list")
+        raise Refusal(image.path, f"this physical volume keeps no metadata: {OTHER}")
+    areas = [physical_volume.listed_area(image, label, start, size) for start, size in label.areas]
+    if label.is_used is False and all(it.fault in (EMPTY, MISSING) for it in areas):
+        raise Refusal(image.path, "the physical volume belongs to no group: " + OLDER)
     return areas
 
 
-def searched_areas(image: Image, faults: List[str]) -> List[Area]:
+def _searched_areas(image: Image, why: List[str]) -> List[Area]:
     """The sound areas in the first and the last bytes. Each says where it begins, so that no area of another
     physical volume passes for one, as of a guest's disk that lies on this one."""
-    areas, why = [], list(faults)
-    for at, header in sorted(set(physical_volume.search(image))):
+    areas: List[Area] = []
+    for at, header in physical_volume.search(image):
         belongs, size = physical_volume.place_in(header)
         fault = header_fault(header, belongs)
+        misplaced = f"the metadata area at byte {at} belongs at byte {belongs}, so "
         if fault:
-            why.append("the metadata area at byte %d: %s" % (at, fault))
-        elif belongs != at:
-            why.append(misplaced(image, at, belongs))
+            why.append(f"the metadata area at byte {at}: {fault}")
+        elif belongs > at:
+            why.append(f"{misplaced}the image lacks its first {belongs - at} bytes")
+        elif belongs < at:
+            begin = image.base + at - belongs
+            why.append(f"{misplaced}a physical volume begins at byte {begin} (sector {begin // SECTOR})")
         elif len(areas) == MOST_AREAS:
-            raise Refusal(image.path, "more than %d metadata areas are where they say that they begin: %s" % (MOST_AREAS, OTHER))
+            raise Refusal(image.path, f"more than {MOST_AREAS} metadata areas are where they say that they begin: "
+                          + OTHER)
         else:
-            areas.append(area_at(image, at, size))
-    said = quoting.some(why, "; ")
+            areas.append(physical_volume.area_at(image, at, size))
+    said, most = quoting.some(why, "; "), SEARCHED >> 20
     if not areas:
-        raise Refusal(image.path, "%s, and no metadata area is in the first or last %d MiB%s"
-                      % (said, SEARCHED >> 20, where_volumes_begin(image) or ": " + what_else(image)))
-    streams.tell("%s: %s: metadata areas were looked for in the first and last %d MiB" % (image.path, said, SEARCHED >> 20))
+        first = image.read(0, SECTOR)
+        known = ENCRYPTED if first.startswith(LUKS) else other_form(first)
+        advice = ": " + (known or "take the physical volume from its first byte on, or " + OTHER)
+        found = where_volumes_begin(image)
+        raise Refusal(image.path, f"{said}, and no metadata area is in the first or last {most} MiB{found or advice}")
+    streams.tell(f"{image.path}: {said}: metadata areas were looked for in the first and last {most} MiB")
     return areas
-
-
-def misplaced(image: Image, at: int, belongs: int) -> str:
-    """What is said of an area that isn't where it says that it begins."""
-    if belongs > at:
-        return "the metadata area at byte %d belongs at byte %d, so the image lacks its first %d bytes" % (at, belongs, belongs - at)
-    return ("the metadata area at byte %d belongs at byte %d, so a physical volume begins at byte %d (sector %d)"
-            % (at, belongs, image.base + at - belongs, (image.base + at - belongs) // SECTOR))
-
-
-def what_else(image: Image) -> str:
-    """What to try where nothing of a physical volume is found."""
-    first = image.read(0, SECTOR)
-    known = ENCRYPTED if first.startswith(LUKS) else other_form(first)
-    return known or "take the physical volume from its first byte on, or " + OTHER
 
 
 def valid_text(image: Image, areas: List[Area]) -> bytes:
     """The text with the highest number, of those that are sound."""
     sound = [it for it in areas if it.text is not None]
     if not sound:
-        raise Refusal(image.path, none_sound(image, areas))
-    check_agreement(image, sound)
-    chosen = max(sound, key=seqno)
-    for it in areas:
-        if it.fault:
-            streams.tell("%s: passed over: %s: %s" % (image.path, places([it]), it.fault))
-        elif seqno(it) != seqno(chosen):
-            streams.tell("%s: passed over: %s: its text is older: %s" % (image.path, places([it]), summary(it.text or b"")))
-            streams.tell("%s: taken: %s: %s" % (image.path, places([chosen]), summary(chosen.text or b"")))
+        why = "; ".join(f"{_places([it])}: {it.fault}" for it in areas)
+        is_cut = any(it.fault == MISSING for it in areas)
+        raise Refusal(image.path, f"{why}: " + ("take more of the disk" if is_cut else f"{OTHER}, or {OLDER}"))
+    _check_agreement(image, sound)
+    chosen = max(sound, key=_seqno)
+    for area in areas:
+        if area.fault:
+            streams.tell(f"{image.path}: passed over: {_places([area])}: {area.fault}")
+        elif _seqno(area) != _seqno(chosen):
+            for said, it in ("passed over", area), ("taken", chosen):
+                older = "its text is older: " if it is area else ""
+                streams.tell(f"{image.path}: {said}: {_places([it])}: {older}{summary(it.text or b'')}")
     return chosen.text or b""
 
 
-def check_agreement(image: Image, sound: List[Area]) -> None:
+def _check_agreement(image: Image, sound: List[Area]) -> None:
     """Refuses texts of different groups, and different texts with the highest number."""
-    found = [beginning_of(it.text or b"") for it in sound]
-    highest = max(map(seqno, sound))
-    newest = {without_time(it.text or b"") for it in sound if seqno(it) == highest}
-    if len(sound) > 1 and (not all(found) or len({it.identity for it in found if it}) > 1):
+    beginnings = [beginning_of(it.text or b"") for it in sound]
+    highest = max(map(_seqno, sound))
+    if len(sound) > 1 and (not all(beginnings) or len({it.identity for it in beginnings if it}) > 1):
         why = "have texts of different groups"
-    elif len(newest) > 1:
+    elif len({without_time(it.text or b"") for it in sound if _seqno(it) == highest}) > 1:
         why = "have different texts with one seqno"
     else:
         return
-    for it in sound:
-        streams.tell("%s: %s: %s" % (image.path, places([it]), summary(it.text or b"")))
-    raise Refusal(image.path, "%s %s: %s" % (places(sound), why, OTHER))
+    for area in sound:
+        streams.tell(f"{image.path}: {_places([area])}: {summary(area.text or b'')}")
+    raise Refusal(image.path, f"{_places(sound)} {why}: {OTHER}")
 
 
-def seqno(area: Area) -> int:
-    """The number of an area's text in its group."""
-    found = beginning_of(area.text or b"")
-    return found.seqno if found else -1
+def _seqno(area: Area) -> int:
+    beginning = beginning_of(area.text or b"")
+    return beginning.seqno if beginning else -1
 
 
-def places(areas: List[Area]) -> str:
-    """Where these areas are, in words."""
-    return "the metadata area%s at byte %s" % ("s" * (len(areas) > 1), " and ".join(str(it.start) for it in areas))
+def _places(areas: List[Area]) -> str:
+    return f"the metadata area{'s' * (len(areas) > 1)} at byte {' and '.join(str(it.start) for it in areas)}"
 
 
-def none_sound(image: Image, areas: List[Area]) -> str:
-    """Why there is no text, and what to try."""
-    why = "; ".join("%s: %s" % (places([it]), it.fault) for it in areas)
-    if any(it.fault == MISSING for it in areas):
-        return "%s: take more of the disk" % why
-    return "%s: %s, or see what is left of older texts with --list" % (why, OTHER)
+def texts_in(image: Image) -> List[RingText]:
+    """The older texts in the areas of an image, or at its beginning where these aren't known; no empty list."""
+    texts: List[RingText] = []
+    for start, size in physical_volume.areas_in(image):
+        texts += texts_of_ring(image.base + start + SECTOR, image.read(start + SECTOR, size - SECTOR))
+    texts = texts or texts_of_ring(image.base, image.read(0, HEAD), False)
+    if not texts:
+        raise Refusal(image.path, "there is no text of a group: "
+                      "take another physical volume, or a file in /etc/lvm/archive")
+    return texts
+
+
+def text_of(image: Image, seqno: int, at: Optional[int] = None) -> bytes:
+    """The older text with this number, or the one at a byte."""
+    texts = [it for it in texts_in(image) if (it.beginning.seqno == seqno if at is None else it.beginning.at == at)]
+    which, there = (f"with the seqno {seqno}", "those there are") if at is None else ("at that place", "the places")
+    if not texts:
+        raise Refusal(image.path, f"there is no text {which}: see {there} with --list")
+    whole = {it.content for it in (texts if at is None else texts[:1]) if it.content is not None}
+    if not whole:
+        raise Refusal(image.path, f"the text {which} is cut: see with --list which are whole")
+    if len(whole) > 1:
+        places = quoting.some([str(it.beginning.at) for it in texts])
+        raise Refusal(image.path, f"there are several texts {which}, at the bytes {places}: take one with --at BYTE")
+    return whole.pop()

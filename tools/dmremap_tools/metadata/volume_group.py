@@ -43,7 +43,7 @@ class Volume:
 
 
 class Record(NamedTuple):
-    """A snapshot: `store` is the volume that has its name, and `is_merging` says that it is written back to its origin."""
+    """A snapshot: `store` is the volume that has its name; one that `is_merging` is written back to its origin."""
 
     volume: Volume
     origin: Optional[bytes]
@@ -67,20 +67,17 @@ class Group:
         return len(b"-".join(it.replace(b"-", b"--") for it in (self.name,) + parts))
 
     def raid_parts(self) -> Set[Value]:
-        """The names of volumes that are parts of a raid volume."""
         return {name for volume in self.volumes.values() for segment in volume.segments
                 if (segment.kind or b"").startswith(b"raid") for key in RAID_PARTS for name in segment.node.values(key)}
 
 
 def sections_in(node: Node, key: bytes) -> List[Node]:
-    """The sections inside the one of this key."""
     found = node.child(key)
     return found.sections() if found else []
 
 
 def disk_names(physicals: List[Node]) -> List[str]:
-    """The names that dmremap has for the disks of these physical volumes: the paths, where they are names of disks and no
-    two are the same, and otherwise the keys."""
+    """The names that dmremap has for these disks: the paths that are names of one disk each, or else the keys."""
     found = [it.value(b"device", bytes) for it in physicals]
     count = collections.Counter(found)
     named = []
@@ -92,7 +89,6 @@ def disk_names(physicals: List[Node]) -> List[str]:
 
 
 def segment_of(node: Node) -> Segment:
-    """A segment, with what it has of numbers and stripes."""
     values = node.values(b"stripes")
-    return Segment(node, node.value(b"type", bytes), node.value(b"extent_count", int), list(zip(values[::2], values[1::2])),
-                   node.value(b"stripe_size", int))
+    kind, count, size = node.value(b"type", bytes), node.value(b"extent_count", int), node.value(b"stripe_size", int)
+    return Segment(node, kind, count, list(zip(values[::2], values[1::2])), size)

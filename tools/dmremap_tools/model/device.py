@@ -1,30 +1,35 @@
-"""Devices made of others. A device says in which images its bytes lie, extent by extent, so that they can be copied in large
-blocks, and so that what is missing is known before anything is read."""
+"""Devices made of others. A device says in which images its bytes lie, extent by extent, so that they can be copied in
+large blocks, and so that what is missing is known before anything is read."""
 
-from typing import Iterable, Iterator, List, NamedTuple, Optional, Sequence
+import bisect
+import functools
+import itertools
+from array import array
+from typing import Iterable, Iterator, NamedTuple, Optional, Sequence, Tuple
 
 from dmremap_tools.base.numbers import SECTOR
 from dmremap_tools.base.refusal import Refusal
+
+# The first of some bytes, and the one after them; and the end of what goes on without one.
+Run = Tuple[int, int]
+ALL = 1 << 64
 
 
 class Gap(Refusal):
     """Bytes that aren't there: their image is missing, ends before them, or can't be read."""
 
 
-class Extent(NamedTuple):
-    """Bytes of a source, from `start` on."""
-
-    source: "Source"
-    start: int
-    size: int
+# Bytes of a source, from `start` on.
+Extent = NamedTuple("Extent", [("source", "Device"), ("start", int), ("size", int)])
 
 
 class Device:
-    """So many bytes; `name` is what messages call them."""
+    """So many bytes; messages call them `name`. Most lie in other devices; a source reads or computes its own."""
+
+    is_zero = False
 
     def __init__(self, name: str, size: int) -> None:
         self.name, self.size = name, size
-        self._is_whole: Optional[bool] = None
 
     def extents(self, start: int, size: int) -> Iterator[Extent]:
         """Where these bytes lie, in their order. What is past its end is missing."""
@@ -35,14 +40,16 @@ class Device:
             yield Extent(Missing(self.ended()), 0, size - inside)
 
     def lack(self, start: int, size: int) -> Optional[str]:
-        """Why some of these bytes aren't there, or None if all are. Devices that can tell it sooner do."""
-        return next(filter(None, (extent.source.lack(extent.start, extent.size) for extent in self.extents(start, size))), None)
+        """Why some of these bytes aren't there, or None if all are."""
+        if start + size <= self.size and self.is_whole:
+            return None
+        others = (extent for extent in self.extents(start, size) if extent.source is not self)
+        return next(filter(None, (extent.source.lack(extent.start, extent.size) for extent in others)), None)
 
+    @functools.cached_property
     def is_whole(self) -> bool:
-        """Whether all its bytes are there."""
-        if self._is_whole is None:
-            self._is_whole = self.lack(0, self.size) is None
-        return self._is_whole
+        """Whether all its bytes are known to be there. Devices that can tell that sooner than by their extents do."""
+        return False
 
     def ended(self) -> str:
         """What is said of bytes past its end."""
@@ -51,60 +58,41 @@ class Device:
     def read(self, start: int, size: int) -> bytes:
         """These bytes, all of them; a Gap where some aren't there."""
         first = start // SECTOR * SECTOR
-        end = -(-(start + size) // SECTOR) * SECTOR
-        content = b"".join(extent.source.load(extent.start, extent.size) for extent in joined(self.extents(first, end - first)))
+        extents = joined(self.extents(first, -(-(start + size) // SECTOR) * SECTOR - first))
+        content = b"".join(extent.source.load(extent.start, extent.size) for extent in extents)
         return content[start - first:start - first + size]
 
-    def _extents(self, start: int, size: int) -> Iterator[Extent]:
-        raise NotImplementedError
-
-
-class Source(Device):
-    """A device whose bytes are read or computed, and not found in another one."""
-
-    is_zero = False
-
-    def lack(self, start: int, size: int) -> Optional[str]:
-        """Why some of these bytes aren't there, or None if all are."""
-        return self.ended() if start + size > self.size else None
-
     def load(self, start: int, size: int) -> bytes:
-        """Reads or computes these bytes, or raises a Gap."""
+        """Reads or computes these bytes of a source, or raises a Gap."""
         raise NotImplementedError
 
     def _extents(self, start: int, size: int) -> Iterator[Extent]:
         yield Extent(self, start, size)
 
 
-class Zeros(Source):
+class Zeros(Device):
     """Bytes that nobody wrote, and that read as zeros."""
 
     is_zero = True
 
-    def __init__(self) -> None:
-        super().__init__("zeros", 1 << 64)
-
     def load(self, start: int, size: int) -> bytes:
-        """Zeros."""
         return bytes(size)
 
 
-class Missing(Source):
+class Missing(Device):
     """Bytes that aren't there; the name says why."""
 
-    def __init__(self, why: str, size: int = 1 << 64) -> None:
+    def __init__(self, why: str, size: int = ALL) -> None:
         super().__init__(why, size)
 
     def lack(self, start: int, size: int) -> Optional[str]:
-        """Why."""
         return self.name
 
     def load(self, start: int, size: int) -> bytes:
-        """There are none."""
         raise Gap("missing", self.name)
 
 
-class Known(Source):
+class Known(Device):
     """Bytes that are known already."""
 
     def __init__(self, name: str, content: bytes) -> None:
@@ -112,7 +100,6 @@ class Known(Source):
         self._content = content
 
     def load(self, start: int, size: int) -> bytes:
-        """Them."""
         return self._content[start:start + size]
 
 
@@ -124,38 +111,44 @@ class Part(Device):
         self.lower, self.start = lower, start
 
     def lack(self, start: int, size: int) -> Optional[str]:
-        """What the device lacks there."""
-        if start + size > self.size:
-            return self.ended()
-        return self.lower.lack(self.start + start, size)
+        return self.ended() if start + size > self.size else self.lower.lack(self.start + start, size)
 
     def _extents(self, start: int, size: int) -> Iterator[Extent]:
         return self.lower.extents(self.start + start, size)
 
 
+class Holed(Device):
+    """A device without some runs of bytes, which don't meet; `why` is said of them."""
+
+    def __init__(self, lower: Device, runs: Sequence[Run], why: str) -> None:
+        super().__init__(lower.name, lower.size)
+        self._lower, self._runs, self._why = lower, runs, why
+
+    def _extents(self, start: int, size: int) -> Iterator[Extent]:
+        for begin, end, run in cut(self._runs, start, start + size):
+            yield from [Extent(Missing(self._why), 0, end - begin)] if run else self._lower.extents(begin, end - begin)
+
+
 class Overlaid(Device):
-    """A device with other bytes in some of its blocks: `blocks` has the extent of each of these, by its number. The extents
-    are of `above`, from their start on."""
+    """A device with other blocks over its own: sorted pairs of a block and the one of `above` that is read for it."""
 
-    def __init__(self, name: str, lower: Device, above: Device, block: int, places: "dict[int, int]", size: int) -> None:
+    def __init__(self, name: str, lower: Device, above: Device, block: int, pairs: Sequence[Run], size: int) -> None:
         super().__init__(name, size)
-        self._lower, self._above, self._block, self._places = lower, above, block, places
-        self._is_there: Optional[bool] = None
+        self._lower, self._above, self._block = lower, above, block
+        self._blocks, self._places = array("Q", (pair[0] for pair in pairs)), array("Q", (pair[1] for pair in pairs))
 
-    def lack(self, start: int, size: int) -> Optional[str]:
-        """What the devices lack there."""
-        if self._is_there is None:
-            above = max(self._places.values(), default=0)
-            self._is_there = self._lower.lack(0, self.size) is None and self._above.lack(0, above + self._block if self._places else 0) is None
-        return None if self._is_there and start + size <= self.size else super().lack(start, size)
+    @functools.cached_property
+    def is_whole(self) -> bool:
+        used = (max(self._places, default=-1) + 1) * self._block
+        return self._lower.lack(0, self.size) is None and self._above.lack(0, used) is None
 
     def _extents(self, start: int, size: int) -> Iterator[Extent]:
         for number, offset, count in blocks_of(start, size, self._block):
-            place = self._places.get(number)
-            if place is None:
-                yield from self._lower.extents(number * self._block + offset, count)
+            at = bisect.bisect_left(self._blocks, number)
+            if at < len(self._blocks) and self._blocks[at] == number:
+                yield from self._above.extents(self._places[at] * self._block + offset, count)
             else:
-                yield from self._above.extents(place + offset, count)
+                yield from self._lower.extents(number * self._block + offset, count)
 
 
 class Copies(Device):
@@ -166,7 +159,6 @@ class Copies(Device):
         self._copies = copies
 
     def lack(self, start: int, size: int) -> Optional[str]:
-        """What all copies lack."""
         if start + size <= self.size and any(copy.lack(start, size) is None for copy in self._copies):
             return None
         return super().lack(start, size)
@@ -176,23 +168,34 @@ class Copies(Device):
         return next((copy for copy in self._copies if copy.lack(0, self.size) is None), self._copies[0])
 
     def _extents(self, start: int, size: int) -> Iterator[Extent]:
-        return self._best(list(self._copies), start, size)
+        return self._best(self._copies, start, size)
 
-    def _best(self, copies: List[Device], start: int, size: int) -> Iterator[Extent]:
+    def _best(self, copies: Sequence[Device], start: int, size: int) -> Iterator[Extent]:
         """The extents of the first copy, and of the next ones where it lacks bytes."""
-        first, others = copies[0], copies[1:]
-        if not others or first.lack(start, size) is None:
-            yield from first.extents(start, size)
-            return
-        for extent in first.extents(start, size):
-            if extent.source.lack(extent.start, extent.size) is None:
+        is_last = len(copies) == 1 or copies[0].lack(start, size) is None
+        for extent in copies[0].extents(start, size):
+            if is_last or extent.source.lack(extent.start, extent.size) is None:
                 yield extent
             else:
-                yield from self._best(others, start, extent.size)
+                yield from self._best(copies[1:], start, extent.size)
             start += extent.size
 
 
-def blocks_of(start: int, size: int, block: int) -> "Iterator[tuple[int, int, int]]":
+def cut(runs: Sequence[Run], start: int, end: int) -> Iterator[Tuple[int, int, Optional[Run]]]:
+    """Some bytes in parts: those in a run, with that, and those between. The runs are sorted, and don't meet."""
+    for run in itertools.islice(runs, max(0, bisect.bisect_right(runs, (start, ALL)) - 1), None):
+        if run[0] >= end:
+            break
+        if run[1] > start:
+            if run[0] > start:
+                yield start, run[0], None
+            yield max(start, run[0]), min(run[1], end), run
+            start = min(run[1], end)
+    if start < end:
+        yield start, end, None
+
+
+def blocks_of(start: int, size: int, block: int) -> Iterator[Tuple[int, int, int]]:
     """The blocks that some bytes touch: the number of each, the first byte in it, and how many."""
     while size > 0:
         number, offset = divmod(start, block)
@@ -206,10 +209,13 @@ def joined(extents: Iterable[Extent]) -> Iterator[Extent]:
     last: Optional[Extent] = None
     for extent in extents:
         if last and last.source is extent.source and last.start + last.size == extent.start:
-            last = Extent(last.source, last.start, last.size + extent.size)
-            continue
-        if last:
-            yield last
-        last = extent
+            last = last._replace(size=last.size + extent.size)
+        else:
+            if last:
+                yield last
+            last = extent
     if last:
         yield last
+
+
+ZEROS = Zeros("zeros", ALL)

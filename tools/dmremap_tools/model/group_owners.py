@@ -1,5 +1,7 @@
 """Who has sectors of a physical volume: the volumes of its group, active or not, by its text."""
 
+import functools
+import itertools
 from array import array
 from bisect import bisect_right
 from typing import Dict, Iterator, List, NamedTuple, Optional, Sequence, Tuple
@@ -7,26 +9,27 @@ from typing import Dict, Iterator, List, NamedTuple, Optional, Sequence, Tuple
 from dmremap_tools.base.config_text import shown
 from dmremap_tools.base.numbers import SECTOR
 from dmremap_tools.base.refusal import Refusal
-from dmremap_tools.metadata import physical_volume
 from dmremap_tools.metadata.volume_group import Segment
 from dmremap_tools.model import snapshot
-from dmremap_tools.model.device import Device, Source, joined
+from dmremap_tools.model.device import Device, blocks_of, joined
 from dmremap_tools.model.groups import REMOVED, Group
-from dmremap_tools.model.image import Lenient
-from dmremap_tools.model.layout import LOWER, identity_of
+from dmremap_tools.model.layout import LOWER, Layout, number
 from dmremap_tools.model.mapping import NoProgram
-from dmremap_tools.model.owners import Claim, Ground, Run, Step, all_of, chunks, claimed, column, gaps, unknown
+from dmremap_tools.model.owners import Ground, Run, Step, all_of, claimed, column, gaps, unknown
 from dmremap_tools.model.parity import Shape
 from dmremap_tools.model.physical_volume import PhysicalVolume
-from dmremap_tools.model.side import Side
 
 # Segments that name no physical volume, and that have columns of data.
-BARE = (b"zero", b"error", b"snapshot", b"thin", b"thin-pool", b"cache", b"cache+CACHE_USES_CACHEVOL", b"cache-pool", b"integrity")
+BARE = (b"zero", b"error", b"snapshot", b"thin", b"thin-pool", b"cache", b"cache+CACHE_USES_CACHEVOL", b"cache-pool",
+        b"integrity")
 SNAPSHOT = (b"origin", b"cow_store", b"merging_store")
-PARITY = {b"raid5": "left-symmetric", b"raid5_ls": "left-symmetric"}
 # What a volume is to another one whose sectors it doesn't have one by one, by the field that names it.
-ROLES = {b"metadata": "metadata", b"meta_dev": "journal", b"mirror_log": "log", b"pool": "data", b"data": "data", b"cache_pool": "cache",
-         b"cache_vol": "cache", b"origin": "origin"}
+ROLES = {b"metadata": "metadata", b"meta_dev": "journal", b"mirror_log": "log", b"pool": "data", b"data": "data",
+         b"cache_pool": "cache", b"cache_vol": "cache", b"origin": "origin"}
+POOL_DATA, CACHE = (b"pool", b"data"), (b"cache_pool", b"cache_vol")
+# What lies on a volume or a physical volume: a volume with its segment, the field that names the lower one, its number
+# in that field, and the extent from which on it is named.
+Above = NamedTuple("Above", [("volume", bytes), ("segment", Segment), ("field", bytes), ("place", int), ("start", int)])
 
 
 class Reading:
@@ -34,81 +37,64 @@ class Reading:
 
     def __init__(self, device: Device) -> None:
         self.lacks: Optional[str] = None
-        self._sources: Dict[int, Tuple[Source, array, array, array]] = {}
-        at, found = 0, {}  # type: int, Dict[int, List[Tuple[int, int, int]]]
-        sources: Dict[int, Source] = {}
+        rows: Dict[Device, List[Tuple[int, int, int]]] = {}
+        at = 0
         for extent in joined(device.extents(0, device.size)):
             why = extent.source.lack(extent.start, extent.size)
             self.lacks = self.lacks or why
             if why is None and not extent.source.is_zero:
-                sources[id(extent.source)] = extent.source
-                found.setdefault(id(extent.source), []).append((extent.start, extent.size, at))
+                rows.setdefault(extent.source, []).append((extent.start, extent.size, at))
             at += extent.size
-        for key, rows in found.items():
-            rows.sort()
-            self._sources[key] = (sources[key], *(array("Q", (row[place] for row in rows)) for place in range(3)))
+        # The starts, the sizes and the places in the volume, by their sources.
+        self._sources = {source: [array("Q", each) for each in zip(*sorted(found))] for source, found in rows.items()}
 
-    def meeting(self, source: Source, start: int, size: int) -> Iterator[Tuple[int, int, int]]:
-        """Those of these bytes that the volume has: the first of each run, how many, and which they are of the volume."""
-        if id(source) not in self._sources:
-            return
-        _, starts, sizes, places = self._sources[id(source)]
-        for number in range(max(0, bisect_right(starts, start) - 1), len(starts)):
-            if starts[number] >= start + size:
+    def meeting(self, source: Device, start: int, size: int) -> Iterator[Tuple[int, int, int]]:
+        """Those of these bytes that the volume has: the first of each run, how many, and which of its own."""
+        starts, sizes, places = self._sources.get(source, ((), (), ()))
+        for row in range(max(0, bisect_right(starts, start) - 1), len(starts)):
+            if starts[row] >= start + size:
                 break
-            begin, stop = max(start, starts[number]), min(start + size, starts[number] + sizes[number])
+            begin, stop = max(start, starts[row]), min(start + size, starts[row] + sizes[row])
             if begin < stop:
-                yield begin, stop - begin, places[number] + begin - starts[number]
-
-
-class Above(NamedTuple):
-    """What lies on a volume or a physical volume: a volume with its segment, the field that names the lower one, its number in
-    that field, and the extent from which on it is named."""
-
-    volume: bytes
-    segment: Segment
-    field: bytes
-    place: int
-    start: int
+                yield begin, stop - begin, places[row] + begin - starts[row]
 
 
 class Stack:
-    """The volumes of a text, from below."""
+    """The volumes of a text, from below. `doubt` says why nobody can be sure what is free."""
 
-    def __init__(self, side: Side, doubt: Optional[str]) -> None:
-        self.side, self.group = side, side.group
-        self.extent = side.group.extent_size or 0
+    def __init__(self, side: Layout, doubt: Optional[str]) -> None:
+        self.side, self.group, self.extent = side, side.group, side.group.extent_size or 0
         self._above: Dict[bytes, List[Above]] = {}
-        self._readings: Dict[bytes, Reading] = {}
         self._visible = set(side.visible())
-        self._stores = {record.store: record for record in side.group.records}
-        # Why nobody can be sure what is free.
-        self.doubt: Optional[str] = doubt if self.extent > 0 else "the text says no size of extents"
+        self._stores = {record.store for record in side.group.records}
+        self._reading = functools.lru_cache(None)(lambda name: Reading(side.volume(name)))
+        self.doubt = doubt if self.extent > 0 else "the text says no size of extents"
         for name, volume in side.group.volumes.items():
             for segment in volume.segments:
                 self._add(name, segment)
 
     def path(self, name: bytes) -> str:
         """What a volume is called, or the store of a snapshot."""
-        return ("store of " if name in self._stores else "") + f"{self.side.text.group}/{shown(name)}"
+        return ("store of " if name in self._stores else "") + f"{self.side.name}/{shown(name)}"
 
     def _add(self, name: bytes, segment: Segment) -> None:
-        count, first = segment.count, segment.node.value(b"start_extent", int)
-        if not isinstance(first, int) or first < 0 or not count or count < 0:
-            self.doubt = self.doubt or f"the text doesn't say where {shown(segment.node.key)} of {shown(name)} lies"
-        named = False
+        first, which = number(segment.node, b"start_extent"), f"{shown(segment.node.key)} of {shown(name)}"
+        is_placed = first is not None and first >= 0 and (segment.count or 0) > 0
+        doubts = [] if is_placed else [f"the text doesn't say where {which} lies"]
+        is_named = False
         for field in LOWER:
-            values = segment.node.values(field)
-            step = 2 if field in (b"stripes", b"mirrors") else 1
-            for place, (lower, start) in enumerate(zip(values[::step], values[1::step] if step == 2 else [0] * len(values))):
-                is_known = isinstance(lower, bytes) and (lower in self.group.volumes or lower in self.group.physicals)
-                if is_known and isinstance(start, int) and start >= 0:
+            values, has_starts = segment.node.values(field), field in (b"stripes", b"mirrors")
+            pairs = zip(values[::2], values[1::2]) if has_starts else zip(values, itertools.repeat(0))
+            for place, (lower, start) in enumerate(pairs):
+                is_known = lower in self.group.volumes or lower in self.group.physicals
+                if is_known and isinstance(lower, bytes) and isinstance(start, int) and start >= 0:
                     self._above.setdefault(lower, []).append(Above(name, segment, field, place, start))
-                    named = True
-                elif step == 2:
-                    self.doubt = self.doubt or f"{shown(segment.node.key)} of {shown(name)} names no place"
-        if not named and segment.kind not in BARE:
-            self.doubt = self.doubt or f"nothing is known of the type {shown(segment.kind or b'none')} of {shown(name)}"
+                    is_named = True
+                elif has_starts:
+                    doubts.append(f"{which} names no place")
+        if not is_named and segment.kind not in BARE:
+            doubts.append(f"nothing is known of the type {shown(segment.kind or b'none')} of {shown(name)}")
+        self.doubt = self.doubt or next(iter(doubts), None)
 
     def on(self, name: bytes) -> Ground:
         """Who has sectors of a volume, or of the extents of a physical volume."""
@@ -127,85 +113,69 @@ class Stack:
 
     def _through(self, lower: bytes, above: Above, first: int, end: int) -> Iterator[Run]:
         """Who has sectors of a volume by way of one that lies on it."""
-        segment, kind, upper = above.segment, above.segment.kind or b"", above.volume
-        length = (segment.count or 0) * self.extent
-        begin, columns = above.start * self.extent, len(segment.stripes) if above.field == b"stripes" else 1
-        until = begin - (-length // (columns or 1))
-        to = (segment.node.value(b"start_extent", int) or 0) * self.extent
-        if above.field == b"raids":
+        segment, kind, upper, field = above.segment, above.segment.kind or b"", above.volume, above.field
+        length, to = (segment.count or 0) * self.extent, (number(segment.node, b"start_extent") or 0) * self.extent
+        begin, columns = above.start * self.extent, len(segment.stripes) if field == b"stripes" else 1
+        if field == b"raids":
             yield from self._of_raid(above, first, end, to, length)
-        elif above.field == b"stripes" and columns > 1 and not segment.stripe_size:
+        elif field == b"stripes" and columns > 1 and not segment.stripe_size:
             yield Run(first, end, unknown(f"the text says no stripes of {self.path(upper)}"))
-        elif above.field in (b"stripes", b"mirrors") or above.field == b"origin" and kind == b"integrity":
-            first, end = max(first, begin), min(end, until)
-            for at, count, sector in column(begin, first, end, segment.stripe_size or 1, columns, above.place) if first < end else ():
+        elif field in (b"stripes", b"mirrors") or field == b"origin" and kind == b"integrity":
+            first, end, chunk = max(first, begin), min(end, begin - -length // (columns or 1)), segment.stripe_size or 1
+            for at, count, sector in column(begin, first, end, chunk, columns, above.place) if first < end else ():
                 yield Run(at, at + count, Step(self.path(upper), to + sector), self.on(upper))
-        elif above.field in SNAPSHOT and not kind.startswith(b"cache"):
-            # What a snapshot reads of its origin and of its store is found otherwise; a thin one reads its pool.
-            return
-        else:
-            users = self._users(lower, above)
-            runs = [run for user in users for run in self._read(user, lower, first, end)]
+        elif field not in SNAPSHOT or kind.startswith(b"cache"):
+            # What a snapshot reads of its origin and of its store is found otherwise; a thin one reads its pool. Which
+            # thin or cached volumes may read this one: those of the pool whose data it is, or that it is the cache of.
+            pool = upper if field in POOL_DATA else lower if field in CACHE else b""
+            users = [other.volume for other in self._above.get(pool, ()) if other.field in (b"thin_pool", *CACHE)]
+            readers = dict.fromkeys([upper] if field == b"origin" else users)
+            runs = [run for reader in readers for run in self._read(reader, lower, first, end)]
             yield from runs
-            role = ROLES.get(above.field, "part")
             # Where nobody can be sure of a volume, it is told as well what is sure.
             for gap in gaps([run for run in runs if run.above], first, end):
-                yield Run(*gap, Step(f"{role} of {self.path(upper)}{self._tops(upper)}"))
-
-    def _users(self, lower: bytes, above: Above) -> List[bytes]:
-        """The thin or cached volumes that may read a volume: the data of their pool, or their cache."""
-        if above.field == b"origin":
-            return [above.volume]
-        if above.field not in (b"pool", b"data", b"cache_pool", b"cache_vol"):
-            return []
-        pool = above.volume if above.field in (b"pool", b"data") else lower
-        users = [other.volume for other in self._above.get(pool, ()) if other.field in (b"thin_pool", b"cache_pool", b"cache_vol")]
-        return list(dict.fromkeys(users))
+                yield Run(*gap, self._part(ROLES.get(field, "part"), upper))
 
     def _of_raid(self, above: Above, first: int, end: int, to: int, length: int) -> Iterator[Run]:
         """Who has sectors of a leg of a raid volume, or of what says how it is kept."""
         segment, upper = above.segment, above.volume
-        if above.place % 2 == 0:
-            yield Run(first, end, Step(f"superblock of {self.path(upper)}{self._tops(upper)}"))
-            return
         role, legs, chunk = above.place // 2, len(segment.node.values(b"raids")) // 2, segment.stripe_size or 0
-        if segment.kind == b"raid1":
-            yield from ([Run(first, min(end, length), Step(self.path(upper), to + first), self.on(upper))] if first < length else [])
-        elif segment.kind in PARITY and chunk and legs > 1:
-            shape = Shape("raid5", legs, PARITY[segment.kind], chunk * SECTOR)
-            for at, count, row, skipped in chunks(first, end, chunk):
-                data = shape.row(row).data
-                sector = (row * len(data) + data.index(role)) * chunk + skipped if role in data else None
-                if sector is None:
-                    yield Run(at, at + count, Step(f"parity of {self.path(upper)}{self._tops(upper)}"))
-                elif sector < length:
-                    yield Run(at, at + count, Step(self.path(upper), to + sector), self.on(upper))
+        if above.place % 2 == 0:
+            yield Run(first, end, self._part("superblock", upper))
+        elif segment.kind == b"raid1":
+            if first < length:
+                yield Run(first, min(end, length), Step(self.path(upper), to + first), self.on(upper))
+        elif segment.kind in (b"raid5", b"raid5_ls") and chunk and legs > 1:
+            shape = Shape("raid5", legs, "left-symmetric", chunk * SECTOR)
+            for row, skipped, count in blocks_of(first, end - first, chunk):
+                at, data = row * chunk + skipped, shape.number(role, row)
+                if data is None:
+                    yield Run(at, at + count, self._part("parity", upper))
+                elif data * chunk + skipped < length:
+                    yield Run(at, at + count, Step(self.path(upper), to + data * chunk + skipped), self.on(upper))
         else:
-            yield Run(first, end, Step(f"part of {self.path(upper)}{self._tops(upper)}"))
+            yield Run(first, end, self._part("part", upper))
 
-    def _tops(self, name: bytes) -> str:
-        """The volumes that a user sees above one that isn't seen."""
-        found, waiting = [], [name]
+    def _part(self, role: str, name: bytes) -> Step:
+        """What is a part of a volume, and which volumes that a user sees are above that."""
+        found: List[bytes] = []
+        waiting = [name]
         while waiting:
-            for above in self._above.get(waiting.pop(), ()):
-                if above.volume not in found:
-                    found.append(above.volume)
-                    waiting.append(above.volume)
+            volumes = dict.fromkeys(above.volume for above in self._above.get(waiting.pop(), ()))
+            waiting += [volume for volume in volumes if volume not in found]
+            found += [volume for volume in volumes if volume not in found]
         seen = [shown(other) for other in found if other in self._visible]
-        return f", below {', '.join(seen)}" if seen else ""
+        return Step(f"{role} of {self.path(name)}" + (f", below {', '.join(seen)}" if seen else ""))
 
     def _read(self, upper: bytes, lower: bytes, first: int, end: int) -> Iterator[Run]:
-        """The sectors of a volume that another one reads, which its own layer says."""
-        called = f"{self.side.text.group}/{shown(upper)}"
+        """The sectors of a volume that another one reads, which its own layer says. A snapshot's are its own."""
+        called, over = f"{self.side.name}/{shown(upper)}", None if upper in self._stores else self.on(upper)
         try:
-            layout = self.side.layout()
-            if upper not in self._readings:
-                self._readings[upper] = Reading(layout.volume(upper))
-            reading, at = self._readings[upper], first
-            for extent in joined(layout.plain(lower).extents(first * SECTOR, (end - first) * SECTOR)):
+            reading, at = self._reading(upper), first
+            for extent in joined(self.side.plain(lower).extents(first * SECTOR, (end - first) * SECTOR)):
                 for begin, size, place in reading.meeting(extent.source, extent.start, extent.size):
                     sector = at + (begin - extent.start) // SECTOR
-                    yield Run(sector, sector + size // SECTOR, Step(called, place // SECTOR), self._over(upper))
+                    yield Run(sector, sector + size // SECTOR, Step(called, place // SECTOR), over)
                 at += extent.size // SECTOR
             why = reading.lacks
         except NoProgram:
@@ -215,10 +185,6 @@ class Stack:
         if why and why != snapshot.INVALID:
             yield Run(first, end, unknown(f"whether {called} has it: {why}"))
 
-    def _over(self, upper: bytes) -> Optional[Ground]:
-        """Who has sectors of what was found to read others. A snapshot's are its own."""
-        return None if upper in self._stores else self.on(upper)
-
 
 class Groups:
     """All groups, to be asked for the sectors of physical volumes."""
@@ -226,36 +192,36 @@ class Groups:
     def __init__(self, groups: Sequence[Group]) -> None:
         sides = {id(group.side): group for group in groups if group.state != REMOVED}
         self._stacks = [Stack(group.side, group.doubt) for group in sides.values()]
-        self._removed: Dict[str, List[Claim]] = {}
+        self._removed: Dict[str, List[Run]] = {}
         for volume in (volume for group in groups for volume in group.volumes if volume.is_removed):
             for identity, first, end in volume.side.uses(volume.key):
-                self._removed.setdefault(identity, []).append(Claim(first, end, f"{volume.path}, removed"))
+                self._removed.setdefault(identity, []).append(Run(first, end, Step(f"{volume.path}, removed")))
 
     def of(self, volume: PhysicalVolume) -> Ground:
         """Who has the sectors of a physical volume."""
-        label, _ = physical_volume.label_of(Lenient(volume.device))  # type: ignore[arg-type]
-        claims = [Claim(label.sector, label.sector + 1, "label of LVM")] if label else []
-        areas = [(start, -(-(start + size) // SECTOR)) for start, size in (label.areas if label else ())]
-        claims += [Claim(start // SECTOR, end, "metadata area of LVM") for start, end in areas]
-        grounds = [self._extents(stack, key, volume) for stack in self._stacks for key, node in stack.group.physicals.items()
-                   if identity_of(node) == volume.identity] or [self._without_group(volume)]
+        sector, area = volume.label.sector, Step("metadata area of LVM")
+        claims = [Run(sector, sector + 1, Step("label of LVM"))]
+        claims += [Run(at // SECTOR, -(-(at + size) // SECTOR), area) for at, size in volume.label.areas]
+        keys = [(stack, key) for stack in self._stacks for key, identity in stack.side.physical_ids.items()
+                if identity == volume.identity]
+        grounds = [self._extents(stack, key, volume) for stack, key in keys] or [self._without_group(volume)]
         return claimed(claims, lambda first, end: [run for ground in grounds for run in ground(first, end)])
 
     def _extents(self, stack: Stack, key: bytes, volume: PhysicalVolume) -> Ground:
         """Who has the sectors of a physical volume by the text of one group."""
-        group, node = stack.side.text.group, stack.group.physicals[key]
-        start, count = node.value(b"pe_start", int), node.value(b"pe_count", int)
-        if not isinstance(start, int) or not isinstance(count, int) or start < 0 or count < 0:
+        group, node = stack.side.name, stack.group.physicals[key]
+        start, count = number(node, b"pe_start"), number(node, b"pe_count")
+        if start is None or count is None or start < 0 or count < 0:
             return all_of(unknown(f"the text of {group} doesn't say where the extents of {shown(key)} are"))
-        stop, on = start + count * stack.extent, stack.on(key)
+        begin, stop, on = start, start + count * stack.extent, stack.on(key)
         free = unknown(f"no volume of {group} has it, but {stack.doubt}") if stack.doubt else Step(f"free in {group}")
 
         def ground(first: int, end: int) -> Iterator[Run]:
-            for gap in gaps([Run(start, stop)], first, end):
+            for gap in gaps([Run(begin, stop)], first, end):
                 yield Run(*gap, Step(f"physical volume of {group}, outside of its extents"))
-            first, end = max(first, start), min(end, stop)
-            found = on(first - start, end - start) if first < end else ()
-            runs = [run._replace(first=run.first + start, end=run.end + start) for run in found]
+            first, end = max(first, begin), min(end, stop)
+            found = on(first - begin, end - begin) if first < end else ()
+            runs = [run._replace(first=run.first + begin, end=run.end + begin) for run in found]
             yield from runs
             for gap in gaps(runs, first, end):
                 yield Run(*gap, free)
@@ -268,8 +234,9 @@ class Groups:
         if volume.faults:
             step = unknown(volume.faults[0])
         elif volume.current:
-            step = unknown(f"the current text of {volume.current[0].group} doesn't name this physical volume, whose own is older")
-        elif volume.is_used is False:
+            group = volume.current[0].group
+            step = unknown(f"the current text of {group} doesn't name this physical volume, whose own is older")
+        elif volume.label.is_used is False:
             step = Step("physical volume of no group")
         else:
             step = unknown("nothing says to which group this physical volume belongs: give the images of the others")
@@ -278,4 +245,4 @@ class Groups:
     def _once(self, volume: PhysicalVolume, first: int, end: int) -> Iterator[Run]:
         """The volumes that were removed, and had some of these sectors."""
         claims = self._removed.get(volume.identity, ())
-        return (claim.run(first, end) for claim in claims if claim.first < end and first < claim.end)
+        return (claim.within(first, end) for claim in claims if claim.first < end and first < claim.end)

@@ -1,118 +1,102 @@
-"""The tables of a group for dmremap itself: its volumes under the names that lvm2 gives them, the arrays that they lie on, and
-where each disk is. What a layer computes has no table."""
+"""The tables of a group for dmremap itself: its volumes under the names that lvm2 gives them, the arrays that they lie
+on, and where each disk is. What a layer computes has no table."""
 
-from typing import Dict, List
+from typing import Dict, Tuple, Union
 
 from dmremap_tools.base import names, tables
 from dmremap_tools.base.numbers import SECTOR
 from dmremap_tools.base.refusal import Refusal
-from dmremap_tools.metadata.volume_group import Record
 from dmremap_tools.model.device import Copies, Device, Part
 from dmremap_tools.model.image import Image
 from dmremap_tools.model.layout import Layout
 from dmremap_tools.model.mapping import Mapped, Tables
+
+Devices = Dict[str, tables.Device]
 
 
 class GroupTables:
     """Tables that are gathered, and the disks that they name. `left_out` says why a volume isn't among them."""
 
     def __init__(self, layout: Layout) -> None:
+        layout.check()
         self._layout = layout
-        self.devices: Dict[str, tables.Device] = {}
+        self.devices: Devices = {}
         self.disks: Dict[str, Image] = {}
         self.left_out: Dict[str, str] = {}
         self.has_snapshots = False
-        self._disks: Dict[int, List[str]] = {}
+        self._arrays: Dict[int, str] = {}
 
     def add(self, name: bytes) -> None:
         """Adds a volume, or says why it can't be."""
         try:
-            made = self._volume(name)
+            self.devices.update(self._volume(name))
         except Refusal as refusal:
             self.left_out[name.decode("utf-8", "replace")] = refusal.why
-            return
-        self.devices.update(made)
 
-    def _volume(self, name: bytes) -> Dict[str, tables.Device]:
-        layout = self._layout
-        record = layout.records.get(name)
+    def _volume(self, name: bytes) -> Devices:
+        layout, record, called = self._layout, self._layout.records.get(name), self._name_of(name)
+        others = [other for other in layout.group.records if other.origin == name]
         if record and record.is_merging:
-            raise Refusal(name.decode("utf-8", "replace"), "it is being merged into its origin: use `save` or `serve`")
+            raise Refusal(called, "it is being merged into its origin: use `save` or `serve`")
+        if not record and any(other.is_merging for other in others):
+            raise Refusal(called, "a snapshot is being merged into it: use `save` or `serve`")
+        if not record and not others:
+            return self._plain(name, called)
+        origin = record.origin or b"" if record else name
+        real, store, device = self._name_of(origin, "real"), self._name_of(name, "cow"), tables.Device(called)
         if record:
-            return self._snapshot(name, record)
-        if any(other.origin == name and other.is_merging for other in layout.group.records):
-            raise Refusal(name.decode("utf-8", "replace"), "a snapshot is being merged into it: use `save` or `serve`")
-        if any(other.origin == name for other in layout.group.records):
-            real = self.name_of(name, "real")
-            made = self._plain(name, real)
-            device = tables.Device(self.name_of(name))
-            device.lines.append(tables.Line(0, layout.size_of(name) // SECTOR, "snapshot-origin", [names.MAPPER + real]))
-            return {**made, device.name: device}
-        return self._plain(name, self.name_of(name))
+            layout.volume(name)
+        made = {**self._plain(origin, real), **(self._plain(name, store) if record else {}), called: device}
+        words = [names.MAPPER + store, "P", str(record.chunk)] if record else []
+        target = "snapshot" if record else "snapshot-origin"
+        device.lines.append(tables.Line(0, layout.size_of(origin) // SECTOR, target, [names.MAPPER + real, *words]))
+        self.has_snapshots = self.has_snapshots or record is not None
+        return made
 
-    def _snapshot(self, name: bytes, record: Record) -> Dict[str, tables.Device]:
-        self._layout.volume(name)
-        origin = record.origin or b""
-        real, store = self.name_of(origin, "real"), self.name_of(name, "cow")
-        made = {**self._plain(origin, real), **self._plain(name, store)}
-        device = tables.Device(self.name_of(name))
-        words = [names.MAPPER + real, names.MAPPER + store, "P", str(record.chunk)]
-        device.lines.append(tables.Line(0, self._layout.size_of(origin) // SECTOR, "snapshot", words))
-        self.has_snapshots = True
-        return {**made, device.name: device}
-
-    def _plain(self, name: bytes, called: str) -> Dict[str, tables.Device]:
+    def _plain(self, name: bytes, called: str) -> Devices:
         """A volume under this name, and what it lies on."""
-        key = self._layout.key_of(name)
-        return self._renamed(self._layout.tables_of(name), key, called, f"{called}-below")
+        return self._renamed(self._layout.tables, self._layout.key_of(name), called)
 
-    def _renamed(self, source: Tables, key: str, called: str, below: str) -> Dict[str, tables.Device]:
-        found, closure = {}, source.closure([key])
-        new = {other: called if other == key else f"{below}-{number}" for number, other in enumerate(closure.devices)}
+    def _renamed(self, source: Tables, key: str, called: str) -> Devices:
+        found: Devices = {}
+        closure = source.closure([key])
+        new = {other: f"{called}-below-{number}" for number, other in enumerate(closure.devices)}
+        new[key] = called
         for other, device in closure.devices.items():
             made = tables.Device(new[other])
-            for line in device.lines:
-                made.lines += self._placed(closure, line, new, found)
+            made.lines += [self._placed(closure, line, new, found) for line in device.lines]
             found[made.name] = made
         # What others name comes first.
         return dict(reversed(list(found.items())))
 
-    def _placed(self, source: Tables, line: tables.Line, new: Dict[str, str], found: Dict[str, tables.Device]) -> List[tables.Line]:
+    def _placed(self, source: Tables, line: tables.Line, new: Dict[str, str], found: Devices) -> tables.Line:
         """A line with disks that are places in images, or arrays that are tables themselves."""
         words = list(line.words)
         for place in line.places():
-            lower = words[place]
-            if lower not in source.disks:
-                words[place] = names.MAPPER + new[names.of_path(lower)]
+            if words[place] not in source.disks:
+                words[place] = names.MAPPER + new[names.of_path(words[place])]
                 continue
-            words[place], start = self._disk(source.disks[lower], found)
+            words[place], start = self._disk(source.disks[words[place]], found)
             if line.target in ("linear", "striped"):
                 words[place + 1] = str(int(words[place + 1]) + start)
-        return [tables.Line(line.start, line.length, line.target, words)]
+        return tables.Line(line.start, line.length, line.target, words)
 
-    def _disk(self, device: Device, found: Dict[str, tables.Device]) -> "tuple[str, int]":
+    def _disk(self, device: Device, found: Devices) -> Tuple[str, int]:
         """What a line names for a device, and the sector at which the device begins there."""
         start = 0
         while isinstance(device, (Part, Copies)):
-            if isinstance(device, Copies):
-                device = device.best()
-            else:
-                device, start = device.lower, start + device.start
+            start += device.start if isinstance(device, Part) else 0
+            device = device.lower if isinstance(device, Part) else device.best()
         if isinstance(device, Image):
-            return self._image(device), start // SECTOR
-        if isinstance(device, Mapped):
-            called = f"array-{len(self._disks)}"
-            known = self._disks.setdefault(id(device), [called])
-            found.update(self._renamed(device.source, device.key, known[0], f"{known[0]}-below"))
-            return names.MAPPER + known[0], start // SECTOR
-        why = device.lack(0, device.size)
-        raise Refusal(device.name, why or f"{device.name} is computed, and no table can say how: use `save` or `serve`")
-
-    def _image(self, image: Image) -> str:
-        known = next((name for name, other in self.disks.items() if other is image), None)
-        name = known or f"disk{len(self.disks)}"
-        self.disks[name] = image
-        return name
+            name = next((name for name, other in self.disks.items() if other is device), f"disk{len(self.disks)}")
+            self.disks[name] = device
+            return name, start // SECTOR
+        if not isinstance(device, Mapped):
+            computed = f"{device.name} is computed, and no table can say how: use `save` or `serve`"
+            raise Refusal(device.name, device.lack(0, device.size) or computed)
+        called = self._arrays.setdefault(id(device), f"array-{len(self._arrays)}")
+        found.update(self._renamed(device.source, device.key, called))
+        return names.MAPPER + called, start // SECTOR
 
     def sectors_of(self, name: str) -> int:
         """The sectors of a disk: as many as its image has, or as the lines need where that ends too soon."""
@@ -120,7 +104,7 @@ class GroupTables:
         ends = [start + (count or 0) for line in lines for lower, start, count in line.spans() if lower == name]
         return max([self.disks[name].size // SECTOR, *ends])
 
-    def name_of(self, *parts: "bytes | str") -> str:
+    def _name_of(self, *parts: Union[bytes, str]) -> str:
         """The name that lvm2 gives a device: each hyphen of a part is doubled."""
-        words = [self._layout.name.encode(), *(part.encode() if isinstance(part, str) else part for part in parts)]
-        return "-".join(word.decode("utf-8", "replace").replace("-", "--") for word in words)
+        words = (part if isinstance(part, str) else part.decode("utf-8", "replace") for part in parts)
+        return "-".join(word.replace("-", "--") for word in (self._layout.name, *words))

@@ -1,30 +1,31 @@
 """Volume groups: which texts count, and which volumes each group has."""
 
-from typing import Callable, Dict, Iterable, List, NamedTuple, Optional, Sequence, Tuple
+from typing import Dict, Iterable, Iterator, List, NamedTuple, Optional, Sequence, Tuple
 
 from dmremap_tools.base.config_text import shown
 from dmremap_tools.base.numbers import SECTOR
 from dmremap_tools.model.device import Device, Missing
+from dmremap_tools.model.layout import Layout, number
 from dmremap_tools.model.physical_volume import PhysicalVolume, Text
-from dmremap_tools.model.removed import Writers, removed_volumes
-from dmremap_tools.model.side import Side
-from dmremap_tools.model.volume import Volume
+from dmremap_tools.model.volume import REMOVED, Volume, Writers
 
-COMPLETE, LACKING, TRUNCATED, FORKED, REMOVED = "complete", "missing", "truncated", "forked", "removed"
-TWO_SIDES = ("disks of this group were changed apart from each other, and both sides have a volume of this name: give the images of "
-             "one side alone ({})")
-NEWER = ("{} has {} ({}), and what can be read is the one with the seqno {}: restore one of them by vgcfgrestore on copies of the disks "
-         "(`metadata` prints it)")
+COMPLETE, LACKING, TRUNCATED, FORKED = "complete", "missing", "truncated", "forked"
+TWO_SIDES = ("disks of this group were changed apart from each other, and both sides have a volume of this name: give "
+             "the images of one side alone ({})")
+NEWER = ("{} has {} ({}), and what can be read is the one with the seqno {}: restore one of them by vgcfgrestore on "
+         "copies of the disks (`metadata` prints it)")
 
 
 class Group:
-    """A group, or one side of a group whose disks were changed apart from each other. `doubt` says why its text isn't the last."""
+    """A group, or one side of a group whose disks were changed apart from each other, with those of its physical
+    volumes that are here, and all its texts. `doubt` says why its text isn't the last."""
 
-    def __init__(self, side: Side, state: str, places: Sequence[str], volumes: List[Volume], doubt: Optional[str] = None) -> None:
-        self.side, self.state, self.places, self.volumes, self.doubt = side, state, list(places), volumes, doubt
-        self.name, self.identity, self.seqno = side.text.group, side.text.identity, side.text.seqno
-        self.former_names: List[str] = []
-        self.notes: List[str] = []
+    def __init__(self, side: Layout, state: str, here: Iterable[PhysicalVolume], texts: Iterable[Text],
+                 volumes: List[Volume], doubt: Optional[str] = None, notes: Sequence[str] = ()) -> None:
+        self.side, self.state, self.volumes, self.doubt, self.notes = side, state, volumes, doubt, list(notes)
+        self.name, self.identity, self.seqno = side.name, side.text.identity, side.text.seqno
+        self.places = [volume.place for volume in here if volume.identity in side.physical_ids.values()]
+        self.former_names = sorted({text.group for text in texts} - {self.name})
 
     def volume(self, name: str) -> Optional[Volume]:
         """A volume by its name or its id, also a hidden one. One that is there goes before one that was removed."""
@@ -32,7 +33,8 @@ class Group:
             if name == volume.name or same_id(name, volume.identity):
                 return volume
         key = name.encode("utf-8", "surrogateescape")
-        return Volume(self.side, key, lambda: self.doubt) if self.state != REMOVED and key in self.side.group.volumes else None
+        is_hidden = self.state != REMOVED and key in self.side.group.volumes
+        return Volume(self.side, key, lambda: self.doubt) if is_hidden else None
 
 
 class Holder(NamedTuple):
@@ -41,17 +43,10 @@ class Holder(NamedTuple):
     text: Text
     volumes: List[PhysicalVolume]
 
-
-class Texts:
-    """The texts of one group: the current ones, and all that are in rings, in the order of their numbers."""
-
-    def __init__(self) -> None:
-        self.current: Dict[bytes, Holder] = {}
-        self.known: Dict[bytes, Text] = {}
-
-    def newest_first(self) -> List[Text]:
-        """All texts."""
-        return sorted(self.known.values(), key=lambda text: -text.seqno)
+    def ring(self) -> List[Text]:
+        """The texts of the group that are in the rings here, and this one."""
+        texts = (text for volume in self.volumes for text in [*volume.older, self.text])
+        return list({text.key(): text for text in texts if text.identity == self.text.identity}.values())
 
 
 def same_id(one: str, other: str) -> bool:
@@ -61,40 +56,38 @@ def same_id(one: str, other: str) -> bool:
 
 def groups_of(volumes: Sequence[PhysicalVolume]) -> List[Group]:
     """The groups of these physical volumes: those that are there, and then those that were removed."""
-    find = finder(volumes)
-    texts: Dict[str, Texts] = {}
-    for volume in volumes:
-        for text in volume.older() + volume.current:
-            texts.setdefault(text.identity, Texts()).known[text.key()] = text
-        for text in volume.current:
-            texts[text.identity].current.setdefault(text.key(), Holder(text, [])).volumes.append(volume)
-    writers = Writers(find, {volume.identity: f"{volume.place}: {volume.faults[0]}" for volume in volumes
-                             if volume.faults and not volume.current})
-    for known in texts.values():
-        for text in known.known.values():
-            writers.add(text, text.key() in known.current)
-    made = [group for known in texts.values() if known.current for group in current_groups(known, find, volumes, writers)]
-    removed = [removed_group(known, find, volumes, writers) for known in texts.values() if not known.current]
-    return made + [group for group in removed if group]
-
-
-def finder(volumes: Sequence[PhysicalVolume]) -> Callable[[str], Device]:
-    """What gives a physical volume by its id. Two of one id are a copy and its original, or were changed apart."""
-    by_id: Dict[str, List[PhysicalVolume]] = {}
-    for volume in volumes:
-        by_id.setdefault(volume.identity, []).append(volume)
-
     def find(identity: str) -> Device:
-        found = by_id.get(identity, [])
-        believed = [volume for volume in found if not volume.doubt]
+        # Two of one id are a copy and its original, or were changed apart.
+        here = [volume for volume in volumes if volume.identity == identity]
+        believed = [volume for volume in here if not volume.doubt]
         if len(believed) == 1:
             return believed[0].device
-        if found and not believed:
-            return Missing(found[0].doubt or "")
-        if not found:
-            return Missing(f"the physical volume {identity} isn't in these images: give the image that has it")
-        return Missing(f"{' and '.join(volume.place for volume in believed)} both are the physical volume {identity}: give one of them")
-    return find
+        why = f"the physical volume {identity} isn't in these images: give the image that has it"
+        if believed:
+            places = " and ".join(volume.place for volume in believed)
+            why = f"{places} both are the physical volume {identity}: give one of them"
+        return Missing(here[0].doubt or "" if here and not believed else why)
+
+    current: Dict[str, Dict[bytes, Holder]] = {}
+    known: Dict[str, Dict[bytes, Text]] = {}
+    for volume in volumes:
+        for text in volume.older + volume.current:
+            known.setdefault(text.identity, {})[text.key()] = text
+        for text in volume.current:
+            holders = current.setdefault(text.identity, {})
+            holders.setdefault(text.key(), Holder(text, [])).volumes.append(volume)
+    unread = [volume for volume in volumes if volume.faults and not volume.current]
+    texts = ((text, key in current.get(text.identity, {})) for each in known.values() for key, text in each.items())
+    writers = Writers(find, {volume.identity: f"{volume.place}: {volume.faults[0]}" for volume in unread}, texts)
+    made: List[Group] = []
+    for identity in (identity for identity in known if identity in current):
+        made += current_groups(sides_of(current[identity].values()), list(known[identity].values()), volumes, writers)
+    for older in (list(known[identity].values()) for identity in known if identity not in current):
+        removed = list(writers.removed(older, set()))
+        if removed:
+            side = max((volume.side for volume in removed), key=lambda side: side.text.seqno)
+            made.append(Group(side, REMOVED, volumes, older, removed))
+    return made
 
 
 def sides_of(current: Iterable[Holder]) -> List[Holder]:
@@ -110,89 +103,55 @@ def sides_of(current: Iterable[Holder]) -> List[Holder]:
 
 
 def is_behind(holder: Holder, side: Holder) -> bool:
-    """Whether a text is an older one of a side: its rings have it. Where another text has its number there, the disks were
-    changed apart; where none has, the newer text tells whether it knows of the disk."""
-    rings = [text for volume in side.volumes for text in volume.older()] + [side.text]
+    """Whether a text is an older one of a side: its rings have it. Where another text has its number there, the disks
+    were changed apart; where none has, the newer text tells whether it knows of the disk."""
+    rings = [text for volume in side.volumes for text in volume.older] + [side.text]
     same = [text for text in rings if text.seqno == holder.text.seqno]
     if same:
         return any(text.key() == holder.text.key() for text in same)
-    named = {identity for _, identity in Side(side.text, Missing).physicals()}
+    named = Layout(side.text, Missing).physical_ids.values()
     return any(volume.identity in named for volume in holder.volumes)
 
 
-def current_groups(texts: Texts, find: Callable[[str], Device], volumes: Sequence[PhysicalVolume], writers: Writers) -> List[Group]:
-    """The group of some texts, or each side of it."""
-    holders = sides_of(texts.current.values())
-    sides = [Side(holder.text, find) for holder in holders]
-    made = []
+def current_groups(holders: Sequence[Holder], texts: List[Text], volumes: Sequence[PhysicalVolume],
+                   writers: Writers) -> Iterator[Group]:
+    """The group that has these texts, or each side of it."""
+    sides = [Layout(holder.text, writers.find) for holder in holders]
+    living = {identity for side in sides for identity in side.ids.values()}
+    refused = TWO_SIDES.format(" or ".join(", ".join(volume.place for volume in holder.volumes) for holder in holders))
     for side, holder in zip(sides, holders):
-        others = [other for other in sides if other is not side]
-        named = {name for other in others for name in other.visible()}
-        places = {id(other): ", ".join(volume.place for volume in found.volumes) for other, found in zip(sides, holders)}
-        refused = TWO_SIDES.format(" or ".join(places.values()))
-        state, notes = state_of(side, find)
-        newer = newer_text(holder, side, volumes)
+        is_forked, (state, notes), newer = len(sides) > 1, state_of(side), newer_text(holder, side, volumes)
+        named = {name for other in sides if other is not side for name in other.visible()}
         whys = {name: newer or (refused if name in named else None) for name in side.visible()}
         listed = [Volume(side, name, lambda why=why: why) for name, why in whys.items()]
-        known = texts.newest_first() if not others else ring_texts(holder, side.text.identity)
-        living = {identity for each in sides for identity in each.names()}
-        on_disks = [volume.place for volume in volumes if volume.identity in dict_of(side)]
-        group = Group(side, FORKED if others else state, on_disks, listed, newer)
-        group.volumes += removed_volumes(known, living, find, writers, newer)
-        group.former_names = sorted({text.group for text in known} - {side.text.group})
-        group.notes = notes
-        made.append(group)
-    return made
+        known = holder.ring() if is_forked else texts
+        listed += writers.removed(known, living, newer)
+        yield Group(side, FORKED if is_forked else state, volumes, known, listed, newer, notes)
 
 
-def newer_text(holder: Holder, side: Side, volumes: Sequence[PhysicalVolume]) -> Optional[str]:
-    """Why a text may not be the last one: a disk that it names has a later one that no sum confirms, or one that can't be read
-    and is another one by its sum."""
-    same = [volume.told_of(side.text) for volume in holder.volumes]
+def newer_text(holder: Holder, side: Layout, volumes: Sequence[PhysicalVolume]) -> Optional[str]:
+    """Why a text may not be the last: a disk that it names has a later one, or one that can't be read, of another
+    sum."""
+    same = [volume.told.get(side.text.key()) for volume in holder.volumes]
     for volume in volumes:
-        if volume.identity in dict_of(side) and (volume.faults or not volume.current):
+        if volume.identity in side.physical_ids.values() and (volume.faults or not volume.current):
             fault = volume.faults[0] if volume.faults else "it isn't the current one"
-            last = max((text.seqno for text in volume.older() if text.identity == side.text.identity), default=0)
+            last = max((text.seqno for text in volume.older if text.identity == side.text.identity), default=0)
             is_later = last > side.text.seqno
-            which = f"a later text, with the seqno {last}, that isn't confirmed" if is_later else "another text, which may be later"
+            later = f"a later text, with the seqno {last}, that isn't confirmed"
             if is_later or any(told not in same for told in volume.unread):
+                which = later if is_later else "another text, which may be later"
                 return NEWER.format(volume.place, which, fault, side.text.seqno)
     return None
 
 
-def dict_of(side: Side) -> List[str]:
-    """The ids of the physical volumes of a text."""
-    return [identity for _, identity in side.physicals()]
-
-
-def ring_texts(holder: Holder, identity: str) -> List[Text]:
-    """The texts of a group that are in the rings of one side, the newest first."""
-    known = {text.key(): text for volume in holder.volumes for text in volume.older() + [holder.text] if text.identity == identity}
-    return sorted(known.values(), key=lambda text: -text.seqno)
-
-
-def state_of(side: Side, find: Callable[[str], Device]) -> Tuple[str, List[str]]:
-    """The state of a group, and what its physical volumes lack."""
+def state_of(side: Layout) -> Tuple[str, List[str]]:
     state, notes = COMPLETE, []
-    for key, node in side.group.physicals.items():
-        identity = dict(side.physicals())[shown(key)]
-        device = find(identity)
-        end = (node.value(b"pe_start", int) or 0) + (node.value(b"pe_count", int) or 0) * (side.group.extent_size or 0)
-        why = device.lack(0, end * SECTOR)
+    for key, device in side.physical.items():
+        start, count = (number(side.group.physicals[key], field) or 0 for field in (b"pe_start", b"pe_count"))
+        why = device.lack(0, start * SECTOR + count * side.extent)
         if why is not None:
             notes.append(f"{shown(key)}: {why}")
             if state != LACKING:
                 state = LACKING if isinstance(device, Missing) else TRUNCATED
     return state, notes
-
-
-def removed_group(texts: Texts, find: Callable[[str], Device], volumes: Sequence[PhysicalVolume], writers: Writers) -> Optional[Group]:
-    """A group that only older texts have, if one of these has volumes."""
-    known = texts.newest_first()
-    listed = list(removed_volumes(known, set(), find, writers))
-    if not listed:
-        return None
-    side = max((volume.side for volume in listed), key=lambda side: side.text.seqno)
-    group = Group(side, REMOVED, [volume.place for volume in volumes if volume.identity in dict_of(side)], listed)
-    group.former_names = sorted({text.group for text in known} - {side.text.group})
-    return group

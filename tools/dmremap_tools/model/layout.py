@@ -1,10 +1,9 @@
-"""The volumes of a text of a group, over the physical volumes that are there.
-
-Linear and striped segments are lines of a table, which dmremap maps; any other segment is a disk of that table, which its
-own layer computes."""
+"""A text of a group, read: its volumes, and their devices over the physical volumes that are there. Linear and striped
+segments are lines of a table, which dmremap maps; any other is a disk of that table, which its own layer computes."""
 
 import contextlib
-from typing import Callable, Dict, Iterator, List, Optional
+import functools
+from typing import Callable, Dict, Iterator, List, NoReturn, Optional, Set, Tuple
 
 from dmremap_tools.base import names, tables
 from dmremap_tools.base.config_text import Node, shown
@@ -12,8 +11,7 @@ from dmremap_tools.base.numbers import SECTOR
 from dmremap_tools.base.refusal import Refusal
 from dmremap_tools.metadata.followed import are_even
 from dmremap_tools.metadata.volume_group import Group, Record, Segment, Volume
-from dmremap_tools.model import cached, integrity, raid_volume, snapshot, thin
-from dmremap_tools.model.device import Device, Extent, Missing, Part
+from dmremap_tools.model.device import Device, Extent, Missing
 from dmremap_tools.model.mapping import Mapped, Tables
 from dmremap_tools.model.physical_volume import Text
 
@@ -25,45 +23,64 @@ MANY = f"no more than {MOST_SNAPSHOTS} snapshots of a group are looked at togeth
 # The most levels of volumes on each other, and the fields of a segment that name other volumes.
 MOST_LEVELS = 40
 LOWER = (b"stripes", b"mirrors", b"raids", b"raid0_lvs", b"origin", b"cow_store", b"merging_store", b"external_origin",
-         b"thin_pool", b"metadata", b"pool", b"data", b"cache_pool", b"cache_vol", b"meta_dev", b"mirror_log", b"writecache", b"vdo_pool")
-PLAIN = (b"striped", b"linear", b"zero", b"error")
-# Each layer makes the device of a segment; it gets the layout, the volume's name, the segment and its bytes.
-Maker = Callable[["Layout", str, Segment, int], Device]
-LAYERS: Dict[bytes, Maker] = {
-    b"thin": thin.device_of, b"cache": cached.device_of, b"cache+CACHE_USES_CACHEVOL": cached.device_of, b"integrity": integrity.device_of,
-    b"raid1": raid_volume.mirror_of, b"raid5": raid_volume.parity_of, b"raid5_ls": raid_volume.parity_of}
+         b"thin_pool", b"metadata", b"pool", b"data", b"cache_pool", b"cache_vol", b"meta_dev", b"mirror_log",
+         b"writecache", b"vdo_pool")
+POOLS = (b"thin-pool", b"cache-pool", b"vdo-pool")
 NEXT = "activate the group's copy on a machine with lvm2 for this volume; the others are followed here"
+ODD = "restore an older text by vgcfgrestore on copies of the disks (`metadata --list` shows what there is)"
+# Sectors of a physical volume: its id, the first one, and the one after the last.
+Use = Tuple[str, int, int]
 
 
 class Layout:
-    """The volumes by their names; `find` gives the device of a physical volume by its id, or one that is missing."""
+    """The volumes by their names; `find` gives the device of a physical volume by its id, or one that is missing. Of a
+    group whose disks were changed apart from each other there is one for each side."""
 
     def __init__(self, text: Text, find: Callable[[str], Device]) -> None:
-        self.text, self.name = text, text.group
-        self.group = Group(text.node())
-        extent = self.group.extent_size
-        if extent is None or not 0 < extent <= MOST_EXTENT:
-            raise Refusal(text.group, "its text has no size of extents")
-        self.extent = extent * SECTOR
-        self._physical = {key: find(identity_of(node)) for key, node in self.group.physicals.items()}
+        self.text, self.name, self._find, self.group = text, text.group, find, Group(text.node())
+        self.extent = (self.group.extent_size or 0) * SECTOR
+        self.ids = {name: identity_of(volume.node) for name, volume in self.group.volumes.items()}
+        self.physical_ids = {key: identity_of(node) for key, node in self.group.physicals.items()}
         self.records: Dict[bytes, Record] = {record.store: record for record in self.group.records if record.store}
-        self._tables = Tables()
+        # The origins of snapshots, by the names of their stores.
+        self.origins = {record.store: record.origin for record in reversed(self.group.records) if not record.is_merging}
+        self.tables = Tables()
         self._keys = {name: f"v{number}" for number, name in enumerate(self.group.volumes)}
-        deep = f"it lies on itself, or on others in more than {MOST_LEVELS} levels"
-        self._whys: Dict[bytes, str] = {name: deep for name in deep_volumes(self.group)}
         self._are_all_added, self._snapshots = False, 0
-        self._devices: Dict[bytes, Device] = {}
+        # The bytes of a volume as its user sees them.
+        self.volume = functools.lru_cache(None)(self._volume)
 
-    def volume(self, name: bytes) -> Device:
-        """The bytes of a volume as its user sees them."""
-        if name not in self._devices:
-            self._devices[name] = self._made(name)
-        return self._devices[name]
+    @functools.cached_property
+    def physical(self) -> Dict[bytes, Device]:
+        return {key: self._find(identity) for key, identity in self.physical_ids.items()}
 
-    def _made(self, name: bytes) -> Device:
+    @functools.cached_property
+    def _whys(self) -> Dict[bytes, str]:
+        """Why volumes aren't followed, as far as that is known."""
+        deep = f"it lies on itself, or on others in more than {MOST_LEVELS} levels: {ODD}"
+        return {name: deep for name in deep_volumes(self.group)}
+
+    def refuse(self, name: bytes, why: str) -> NoReturn:
+        """Refuses a volume of which the text makes no sense."""
+        raise Refusal(f"{self.name}/{shown(name)}", f"{why}: {ODD}")
+
+    def check(self) -> None:
+        """Refuses a text of whose volumes nobody can say the length."""
+        if not 0 < self.extent <= MOST_EXTENT * SECTOR:
+            raise Refusal(self.name, f"its text has no size of extents: {ODD}")
+
+    def visible(self) -> List[bytes]:
+        """The volumes that a user sees, without pools. A snapshot has the name of its store, which the text hides."""
+        records = {record.volume.name for record in self.group.records}
+        return [name for name, volume in self.group.volumes.items() if name not in records
+                and not any(segment.kind in POOLS for segment in volume.segments)
+                and (name in self.origins or b"VISIBLE" in volume.node.values(b"status"))]
+
+    def _volume(self, name: bytes) -> Device:
+        from dmremap_tools.model import snapshot
         record = self.records.get(name)
         if record is None or record.is_merging:
-            record = next((record for record in self.group.records if record.is_merging and record.origin == name), None)
+            record = next((other for other in self.group.records if other.is_merging and other.origin == name), None)
         if record is None:
             return self.plain(name)
         self._snapshots += 1
@@ -79,97 +96,121 @@ class Layout:
             for other in self.group.volumes:
                 with contextlib.suppress(Refusal):
                     self.key_of(other)
-        return Mapped(f"{self.name}/{shown(name)}", self._tables, key)
+        return Mapped(f"{self.name}/{shown(name)}", self.tables, key)
 
-    def tables_of(self, *names_of: bytes) -> Tables:
-        """Tables with these volumes and what they lie on, for others to add to."""
-        return self._tables.closure([self.key_of(name) for name in names_of])
+    def named(self, segment: Segment, field: bytes) -> Optional[Volume]:
+        name = segment.node.value(field, bytes)
+        return self.group.volumes.get(name) if isinstance(name, bytes) else None
 
-    def path_of(self, name: bytes) -> str:
-        """A volume as a line of these tables names it."""
-        return names.MAPPER + self.key_of(name)
+    def lower(self, segment: Segment, field: bytes) -> Optional[Device]:
+        """The bytes of the volume that a field of a segment names, or None where it has none."""
+        name = segment.node.value(field, bytes)
+        return self.plain(name) if isinstance(name, bytes) else None
 
     def key_of(self, name: bytes) -> str:
         """The name of a volume in the tables, where its lines stand then. One that can't be followed is refused."""
+        self.check()
+        key = self._keys.get(name)
         if name in self._whys:
             raise Refusal(f"{self.name}/{shown(name)}", self._whys[name])
-        key = self._keys.get(name)
         if key is None:
-            raise Refusal(f"{self.name}/{shown(name)}", "the text has no such volume")
-        if key in self._tables.devices:
-            return key
-        try:
-            self._tables.add(key, list(self._lines(name, self.group.volumes[name])))
-        except Refusal as refusal:
-            self._whys[name] = refusal.why
-            raise
+            self.refuse(name, "the text has no such volume")
+        if key not in self.tables.devices:
+            try:
+                self.tables.add(key, list(self._lines(name, self.group.volumes[name])))
+            except Refusal as refusal:
+                self._whys[name] = refusal.why
+                raise
         return key
 
     def size_of(self, name: bytes) -> int:
-        """The bytes of a volume, by its text."""
         volume = self.group.volumes.get(name)
         return volume.extents * self.extent if volume else 0
 
     def _lines(self, name: bytes, volume: Volume) -> Iterator[tables.Line]:
         start = 0
         if not volume.segments or volume.extents > MOST_EXTENTS:
-            raise Refusal(shown(name), "its text says no length")
-        for segment in sorted(volume.segments, key=lambda segment: segment.node.value(b"start_extent", int) or 0):
+            self.refuse(name, "its text says no length")
+        for segment in sorted(volume.segments, key=lambda segment: number(segment.node, b"start_extent") or 0):
             count = segment.count or 0
-            if segment.node.value(b"start_extent", int) != start or count <= 0:
-                raise Refusal(shown(name), f"its {shown(segment.node.key)} doesn't begin where the one before ends")
-            yield self._line(name, volume, segment)
+            if number(segment.node, b"start_extent") != start or count <= 0:
+                self.refuse(name, f"its {shown(segment.node.key)} doesn't begin where the one before ends")
+            yield self._line(name, volume, segment, start * self.extent // SECTOR, count * self.extent // SECTOR)
             start += count
 
-    def _line(self, name: bytes, volume: Volume, segment: Segment) -> tables.Line:
-        sectors = self.extent // SECTOR
-        first, length = (segment.node.value(b"start_extent", int) or 0) * sectors, (segment.count or 0) * sectors
-        if segment.kind in (b"zero", b"error"):
-            return tables.Line(first, length, segment.kind.decode(), [])
-        if segment.kind in (b"striped", b"linear"):
+    def _line(self, name: bytes, volume: Volume, segment: Segment, first: int, length: int) -> tables.Line:
+        label, which, kind = f"{self.name}/{shown(name)}", shown(segment.node.key), segment.kind or b"none"
+        if kind in (b"zero", b"error"):
+            return tables.Line(first, length, kind.decode(), [])
+        if kind in (b"striped", b"linear"):
             return self._striped(name, segment, first, length)
-        if segment.kind == b"mirror" and b"PVMOVE" in volume.node.values(b"status"):
-            return tables.Line(first, length, "linear", self._area(*moved_leg(segment), length))
-        return tables.Line(first, length, "linear", [self._tables.disk(self._layer(name, segment, length * SECTOR)), "0"])
+        if kind == b"mirror" and b"PVMOVE" in volume.node.values(b"status"):
+            legs = areas_of(segment)
+            moved = number(segment.node, b"extents_moved") or 0
+            if len(legs) != 2 or not 0 <= moved <= (segment.count or 0):
+                self.refuse(name, f"its {which} says no two legs")
+            # The second one if all extents were moved. The first is written all the time, while the second isn't whole.
+            return tables.Line(first, length, "linear", self._area(name, *legs[moved == segment.count], length))
+        maker = layers().get(kind)
+        if maker is None:
+            raise Refusal(label, f"its {which} is of type {shown(kind)}, which isn't followed: {NEXT}")
+        device = Deferred(label, length * SECTOR, functools.partial(maker, self, label, segment, length * SECTOR))
+        return tables.Line(first, length, "linear", [self.tables.disk(device), "0"])
 
     def _striped(self, name: bytes, segment: Segment, first: int, length: int) -> tables.Line:
-        columns = len(segment.stripes)
-        if not columns or columns != (segment.node.value(b"stripe_count", int) or columns):
-            raise Refusal(shown(name), f"its {shown(segment.node.key)} has other stripes than it counts")
+        columns, which = len(segment.stripes), f"its {shown(segment.node.key)}"
+        if not columns or columns != (number(segment.node, b"stripe_count") or columns):
+            self.refuse(name, f"{which} has other stripes than it counts")
         if length % columns:
-            raise Refusal(shown(name), f"its {shown(segment.node.key)} isn't divided evenly by its stripes")
-        areas = [word for area, extent in segment.stripes for word in self._area(area, extent, length // columns)]
+            self.refuse(name, f"{which} isn't divided evenly by its stripes")
+        areas = [word for area, extent in segment.stripes for word in self._area(name, area, extent, length // columns)]
         if columns == 1:
             return tables.Line(first, length, "linear", areas)
         if not are_even(self.group, segment) or not segment.stripe_size:
-            raise Refusal(shown(name), f"its {shown(segment.node.key)} isn't divided evenly by its stripes, so that no kernel takes it")
+            self.refuse(name, f"{which} isn't divided evenly by its stripes, so that no kernel takes it")
         return tables.Line(first, length, "striped", [str(columns), str(segment.stripe_size), *areas])
 
-    def _area(self, area: object, extent: object, length: int) -> List[str]:
+    def _area(self, name: bytes, area: object, extent: object, length: int) -> List[str]:
         """Where a column begins, as words of a line: on a physical volume or on a volume."""
-        sectors = self.extent // SECTOR
         if not isinstance(area, bytes) or not isinstance(extent, int) or not 0 <= extent <= MOST_EXTENTS:
-            raise Refusal(self.name, "a segment names no place")
-        if area in self._physical:
-            node = self.group.physicals[area]
-            start, count = node.value(b"pe_start", int), node.value(b"pe_count", int)
-            if not isinstance(start, int) or not isinstance(count, int) or start < 0 or extent * sectors + length > count * sectors:
-                raise Refusal(self.name, f"a segment goes past the end of {shown(area)}")
-            return [self._tables.disk(self._physical[area]), str(start + extent * sectors)]
-        if extent * sectors + length > self.size_of(area) // SECTOR:
-            raise Refusal(self.name, f"a segment goes past the end of the volume {shown(area)}")
-        return [self.path_of(area), str(extent * sectors)]
+            self.refuse(name, "a segment names no place")
+        first = extent * self.extent // SECTOR
+        if area in self.physical:
+            start, count = (number(self.group.physicals[area], key) for key in (b"pe_start", b"pe_count"))
+            if start is None or count is None or start < 0 or first + length > count * self.extent // SECTOR:
+                self.refuse(name, f"a segment goes past the end of {shown(area)}")
+            return [self.tables.disk(self.physical[area]), str(start + first)]
+        if first + length > self.size_of(area) // SECTOR:
+            self.refuse(name, f"a segment goes past the end of the volume {shown(area)}")
+        return [names.MAPPER + self.key_of(area), str(first)]
 
-    def _layer(self, name: bytes, segment: Segment, size: int) -> Device:
-        maker = LAYERS.get(segment.kind or b"")
-        label = f"{self.name}/{shown(name)}"
-        if maker is None:
-            raise Refusal(label, f"its {shown(segment.node.key)} is of type {shown(segment.kind or b'none')}, which isn't followed: {NEXT}")
-        return Deferred(label, size, lambda: maker(self, label, segment, size))
+    def below(self, name: bytes) -> List[bytes]:
+        """The other volumes that a volume lies on; the origin of a snapshot is one."""
+        found, waiting = [name], [name]
+        while waiting:
+            volume = self.group.volumes.get(waiting.pop())
+            if volume:
+                records = [record for record in self.group.records
+                           if volume.name in (record.store, record.is_merging and record.origin)]
+                lower = [*lower_in(volume), *(each for record in records for each in (record.origin, record.store))]
+                names_here = (each for each in dict.fromkeys(lower) if isinstance(each, bytes) and each not in found)
+                new = [each for each in names_here if each in self.group.volumes]
+                found += new
+                waiting += new
+        return found[1:]
 
-    def part(self, name: bytes, start: int, size: int) -> Device:
-        """Sectors of a volume, as a layer names them."""
-        return Part(f"{self.name}/{shown(name)}", self.plain(name), start * SECTOR, size * SECTOR)
+    def uses(self, name: bytes) -> Set[Use]:
+        """What a volume and what it lies on use of physical volumes."""
+        found, sectors = set(), self.extent // SECTOR
+        volumes = [self.group.volumes[lower] for lower in (name, *self.below(name)) if lower in self.group.volumes]
+        for segment in (segment for volume in volumes for segment in volume.segments):
+            length = (segment.count or 0) // (len(segment.stripes) or 1) * sectors
+            for area, start in segment.stripes or areas_of(segment):
+                node = self.group.physicals.get(area) if isinstance(area, bytes) else None
+                if node is not None and isinstance(start, int):
+                    first = (number(node, b"pe_start") or 0) + start * sectors
+                    found.add((self.physical_ids[node.key], first, first + length))
+        return found
 
 
 class Deferred(Device):
@@ -177,23 +218,29 @@ class Deferred(Device):
 
     def __init__(self, name: str, size: int, make: Callable[[], Device]) -> None:
         super().__init__(name, size)
-        self._make, self._made = make, None  # type: Callable[[], Device], Optional[Device]
+        self._make = make
 
-    def made(self) -> Device:
-        """The device."""
-        if self._made is None:
-            try:
-                self._made = self._make()
-            except Refusal as refusal:
-                self._made = Missing(refusal.why)
-        return self._made
+    @functools.cached_property
+    def _made(self) -> Device:
+        try:
+            return self._make()
+        except Refusal as refusal:
+            return Missing(refusal.why)
 
     def lack(self, start: int, size: int) -> Optional[str]:
-        """What the device lacks."""
-        return self.made().lack(start, size)
+        return self._made.lack(start, size)
 
     def _extents(self, start: int, size: int) -> Iterator[Extent]:
-        return self.made().extents(start, size)
+        return self._made.extents(start, size)
+
+
+@functools.lru_cache(None)
+def layers() -> Dict[bytes, Callable[[Layout, str, Segment, int], Device]]:
+    """What makes the device of a segment of each type, of the layout, the volume's name, the segment and its bytes."""
+    from dmremap_tools.model import integrity, pools, raid_volume
+    return {b"thin": pools.thin_of, b"cache": pools.cached_of, b"cache+CACHE_USES_CACHEVOL": pools.cached_of,
+            b"integrity": integrity.device_of, b"raid1": raid_volume.mirror_of, b"raid5": raid_volume.parity_of,
+            b"raid5_ls": raid_volume.parity_of}
 
 
 def deep_volumes(group: Group) -> List[bytes]:
@@ -207,25 +254,24 @@ def deep_volumes(group: Group) -> List[bytes]:
 
 
 def lower_in(volume: Volume) -> Iterator[object]:
-    """What a volume lies on, beside the numbers in its lists. A thin one has what it shares with its origin from their pool."""
+    """What a volume lies on, beside numbers. A thin one has from the pool what it shares with its origin."""
     for segment in volume.segments:
         for key in LOWER:
             if (key, segment.kind) != (b"origin", b"thin"):
                 yield from segment.node.values(key)
 
 
+def areas_of(segment: Segment) -> List[Tuple[object, object]]:
+    """The legs of a mirror: pairs of a name and an extent."""
+    values = segment.node.values(b"mirrors")
+    return list(zip(values[::2], values[1::2]))
+
+
+def number(node: Node, key: bytes) -> Optional[int]:
+    value = node.value(key, int)
+    return value if isinstance(value, int) else None
+
+
 def identity_of(node: Node) -> str:
-    """The id of a section, as the text has it."""
     value = node.value(b"id", bytes)
     return value.decode("ascii", "replace") if isinstance(value, bytes) else ""
-
-
-def moved_leg(segment: Segment) -> "tuple[object, object]":
-    """The leg of a segment of pvmove that is right: the second one if all its extents were moved, and else the first one, which
-    is written all the time, while the second isn't whole."""
-    values = segment.node.values(b"mirrors")
-    legs = list(zip(values[::2], values[1::2]))
-    moved = segment.node.value(b"extents_moved", int) or 0
-    if len(legs) != 2 or not isinstance(moved, int) or not 0 <= moved <= (segment.count or 0):
-        raise Refusal("pvmove", f"its {shown(segment.node.key)} says no two legs")
-    return legs[1] if moved == segment.count else legs[0]

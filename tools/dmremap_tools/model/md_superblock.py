@@ -1,150 +1,155 @@
-"""The superblock of an md member, metadata 1.0, 1.1 and 1.2 (struct mdp_superblock_1 of the kernel's md_p.h)."""
+"""The superblocks of members of md arrays, as linux/raid/md_p.h has them: metadata 0.90, and 1.0 to 1.2. Nothing of one
+is believed that its sum doesn't confirm, or that says that it lies elsewhere."""
 
+import functools
 import struct
-from typing import List, NamedTuple, Optional, Tuple
+from typing import Iterator, List, NamedTuple, Optional, Tuple
 
+from dmremap_tools.base import streams
+from dmremap_tools.base.disk_image import Image, Unreadable
 from dmremap_tools.base.numbers import SECTOR
-from dmremap_tools.model.device import Device, Gap
+from dmremap_tools.model.device import Device
+from dmremap_tools.model.image import Lenient
 
-MAGIC, OLD_MAGIC = b"\xfc\x4e\x2b\xa9\x01\0\0\0", b"\xfc\x4e\x2b\xa9\0\0\0\0"
-FORM = struct.Struct("<4L16s32sQlLQLLlLQlLLlQQQQLL16sBBHlQQQLL32x")
-ROLES_AT, MOST_ROLES = 256, 384
-SUM_AT, SUM = 216, struct.Struct("<L")
-# Bits of feature_map.
-RECOVERY_OFFSET, RESHAPE_ACTIVE, BAD_BLOCKS, REPLACEMENT, JOURNAL, RAID0_LAYOUT = 2, 4, 8, 16, 512, 4096
+MAGIC = 0xA92B4EFC
+LINEAR, STRIPED, MIRRORED = -1, 0, 1
+NAMES = {LINEAR: "linear", STRIPED: "raid0", MIRRORED: "raid1", 4: "raid4", 5: "raid5", 6: "raid6", 10: "raid10"}
+# Versions 1.x: the fields up to the table of roles, which follows them, where their sum is, and for how many roles
+# there is room.
+FIRST, SUM_AT, MOST_BYTES = struct.Struct("<8xL4x16s32s8xlLQLL32xQQQ8xL21xBHl8xQQLL32x"), 216, 4096
+MOST_ROLES = (MOST_BYTES - FIRST.size) // 2
 # Roles from here on are none: a spare, a faulty member, a journal.
-FIRST_OTHER_ROLE = 0xFFF0
+NO_PLACE = 0xFFF0
+# Bits of their feature map: a bitmap, a member that is being filled, a reshape, bad blocks, a member that is being
+# replaced, a journal, and the layout of raid0 that is said.
+BITMAP, RECOVERING, RESHAPING, BAD_BLOCKS, REPLACEMENT, JOURNAL, LAYOUT_SAID = 0x1, 0x2, 0x4, 0x8, 0x10, 0x200, 0x1000
 CLEAN = (1 << 64) - 1
-# Metadata 0.90 lies in the last 64 KiB that begin at a multiple of that.
-OLD_ROOM = 64 << 10
+# Version 0.90: it lies in the last 64 KiB of a member that begin at a multiple of that, and has the bytes of a page.
+OLD, OLD_ROOM, OLD_MINOR, OLD_RESHAPING = "0.90", 1 << 16, 90, 91
+# The word where it says what the device itself is, and the bits there that say whether it has all data.
+OLD_SELF, OLD_ACTIVE, OLD_FAULTY = 992, 0b110, 0b1001
+MOST_DEVICES = 4096
+# A superblock: its version, and where it lies in the member; the array, its level, layout, sectors of a chunk and
+# number of places; the first sector of this member's data, how many it has, and how many the array uses of each; how
+# often the array had changed; the number of the member, its place, if it has one, and the place of each number; the
+# bits of its feature map; the array's name; up to which sector it is in sync; and the power of two of sectors in which
+# its log of bad blocks counts, how many sectors that has, and where.
+Superblock = NamedTuple("Superblock", [
+    ("version", str), ("at", int), ("array", bytes), ("level", int), ("layout", int), ("chunk", int), ("places", int),
+    ("start", int), ("length", int), ("used", int), ("events", int), ("number", int), ("role", Optional[int]),
+    ("roles", Tuple[int, ...]), ("features", int), ("name", str), ("resync", int), ("bad_log", Tuple[int, int, int])])
+# A device with a superblock.
+Member = NamedTuple("Member", [("device", Device), ("superblock", Superblock)])
 
 
-class Superblock(NamedTuple):
-    """The fields of the structure under their names there."""
-
-    magic: int
-    major_version: int
-    feature_map: int
-    pad0: int
-    set_uuid: bytes
-    set_name: bytes
-    ctime: int
-    level: int
-    layout: int
-    size: int
-    chunksize: int
-    raid_disks: int
-    bitmap_offset: int
-    new_level: int
-    reshape_position: int
-    delta_disks: int
-    new_layout: int
-    new_chunk: int
-    new_offset: int
-    data_offset: int
-    data_size: int
-    super_offset: int
-    recovery_offset: int
-    dev_number: int
-    cnt_corrected_read: int
-    device_uuid: bytes
-    devflags: int
-    bblog_shift: int
-    bblog_size: int
-    bblog_offset: int
-    utime: int
-    events: int
-    resync_offset: int
-    sb_csum: int
-    max_dev: int
+def level_name(superblock: Superblock) -> str:
+    return NAMES.get(superblock.level, f"level {superblock.level}")
 
 
-class Member(NamedTuple):
-    """A device with a superblock; `roles` has the role of each member by its dev_number, as this one knows it."""
-
-    device: Device
-    superblock: Superblock
-    roles: Tuple[int, ...]
-
-    @property
-    def name(self) -> str:
-        """The name of the array."""
-        return self.superblock.set_name.split(b"\0", 1)[0].decode("utf-8", "replace")
+def has_all(superblock: Superblock) -> bool:
+    """Whether a member has all data of its array, one byte after the other."""
+    return superblock.level == MIRRORED or superblock.places == 1 and superblock.level in (LINEAR, STRIPED)
 
 
-class Damaged(NamedTuple):
-    """A superblock that isn't sound: its byte, and the id that it gives its array, which may be wrong, too."""
-
-    start: int
-    set_uuid: bytes
+def superblocks(image: Image, size: Optional[int] = None) -> List[Superblock]:
+    """The sound superblocks of a member, which has so many bytes, or those that the image has."""
+    return [found for _, _, found in _found(image, image.size if size is None else size) if found]
 
 
-def member_in(device: Device) -> Optional[Member]:
-    """The member that a device is, by its first sound superblock."""
-    for place in places(device.size // SECTOR):
-        member = _member_at(device, place)
-        if member:
-            return member
-    return None
+def damaged(image: Image, size: Optional[int] = None) -> List[int]:
+    """The bytes at which something begins as a superblock does, and isn't sound."""
+    return [at for at, _, found in _found(image, image.size if size is None else size) if not found]
 
 
-def places(sectors: int) -> List[int]:
-    """The sectors at which a device of so many has a superblock: 1.2, 1.1, 1.0."""
-    return [8, 0] + ([(sectors - 16) & ~7] if sectors >= 32 else [])
-
-
-def has_old_superblock(device: Device) -> bool:
-    """Whether there is metadata 0.90, which nothing here follows."""
-    place = device.size // OLD_ROOM * OLD_ROOM - OLD_ROOM
-    return place >= 0 and _read(device, place, len(OLD_MAGIC)) == OLD_MAGIC
-
-
-def damaged_in(device: Device) -> Optional[Damaged]:
-    """What begins as a superblock does where one may be; for devices that have no sound one."""
-    for place in places(device.size // SECTOR):
-        content = _read(device, place * SECTOR, ROLES_AT)
-        if content.startswith(MAGIC):
-            return Damaged(place * SECTOR, Superblock(*FORM.unpack(content)).set_uuid)
-    return None
-
-
-def _member_at(device: Device, sector: int) -> Optional[Member]:
-    content = _read(device, sector * SECTOR, ROLES_AT + 2 * MOST_ROLES)
-    if not content.startswith(MAGIC):
-        return None
-    found = Superblock(*FORM.unpack_from(content))
-    if found.max_dev > MOST_ROLES or found.super_offset != sector or _sum_of(content, found.max_dev) != found.sb_csum:
-        return None
-    if not 0 < found.raid_disks <= MOST_ROLES or found.data_offset + found.data_size > 1 << 54 or found.size > 1 << 54:
-        return None
-    return Member(device, found, struct.unpack_from(f"<{found.max_dev}H", content, ROLES_AT))
-
-
-def _sum_of(content: bytes, roles: int) -> int:
-    """The sum of the 32-bit words of a superblock, without the word that keeps it."""
-    size = ROLES_AT + 2 * roles
-    total = sum(struct.unpack_from(f"<{size // 4}L", content)) - SUM.unpack_from(content, SUM_AT)[0]
-    if size % 4:
-        total += struct.unpack_from("<H", content, size - 2)[0]
-    return ((total & 0xFFFFFFFF) + (total >> 32)) & 0xFFFFFFFF
+def members_in(device: Device) -> Tuple[List[Member], List[int], List[Tuple[int, bytes]]]:
+    """The members that a device is by sound superblocks of versions 1.x; where one of version 0.90 begins; and where
+    any of 1.x does, with the id of its array. The last of them is in force."""
+    found = list(_found(Lenient(device), device.size))
+    old = [at for at, content, _ in found if content[4:8] == bytes(4)]
+    first = [(at, content[16:32]) for at, content, _ in found if content[4:8] != bytes(4)]
+    return [Member(device, each) for _, _, each in found if each and each.version != OLD], old, first
 
 
 def bad_blocks(member: Member) -> List[Tuple[int, int]]:
-    """The sectors, from the start of a member's device on, that its log says it lacks: the first of each run, and how many."""
-    superblock = member.superblock
-    if not superblock.feature_map & BAD_BLOCKS:
+    """The sectors of a member that its log says it lacks: the first of each run, and how many."""
+    superblock, (shift, size, offset) = member.superblock, member.superblock.bad_log
+    if not superblock.features & BAD_BLOCKS:
         return []
-    content = member.device.read((superblock.super_offset + superblock.bblog_offset) * SECTOR, superblock.bblog_size * SECTOR)
-    found = []
-    for entry, in struct.iter_unpack("<Q", content):
-        if entry == CLEAN:
-            break
-        found.append(((entry >> 10) << superblock.bblog_shift, (entry & 0x3FF) << superblock.bblog_shift))
-    return found
+    content = member.device.read(superblock.at + offset * SECTOR, size * SECTOR)
+    entries = [entry for entry, in struct.iter_unpack("<Q", content)]
+    used = entries[:entries.index(CLEAN)] if CLEAN in entries else entries
+    return [((entry >> 10) << shift, (entry & 0x3FF) << shift) for entry in used]
 
 
-def _read(device: Device, start: int, size: int) -> bytes:
+def _found(image: Image, size: int) -> Iterator[Tuple[int, bytes, Optional[Superblock]]]:
+    """Each place at which a superblock begins, what is there, and the superblock, if it is sound."""
+    sectors = size // SECTOR
+    for version, sector in (("1.0", (sectors - 16) & ~7), ("1.1", 0), ("1.2", 8)):
+        content = _read(image, sector * SECTOR) if sector >= 0 else b""
+        if content[:8] == struct.pack("<LL", MAGIC, 1):
+            yield sector * SECTOR, content, _first_version(content, version, sector)
+    at = size // OLD_ROOM * OLD_ROOM - OLD_ROOM
+    content = _read(image, at) if at >= 0 else b""
+    for order in "<>":
+        if content[:8] == struct.pack(order + "LL", MAGIC, 0):
+            yield at, content, _old_version(content, order, at)
+
+
+def _read(image: Image, at: int) -> bytes:
+    """What may be a superblock. Where it can't be read, a disk that fails is none the less looked into."""
     try:
-        return device.read(start, size)
-    except Gap:
+        return image.read(at, MOST_BYTES)
+    except Unreadable:
+        _tell_unread(image.path, image.base + at)
         return b""
+
+
+@functools.lru_cache(maxsize=None)
+def _tell_unread(path: str, at: int) -> None:
+    """Tells once that it can't be read."""
+    streams.tell(f"{path}: byte {at} can't be read, where the superblock of an md array may be")
+
+
+def _sum(content: bytes, order: str) -> int:
+    """The sum of all words, with what goes over added."""
+    total = sum(struct.unpack(f"{order}{len(content) // 4}L", content[:len(content) // 4 * 4]))
+    if len(content) % 4:
+        total += int.from_bytes(content[-2:], "little")
+    return (total & 0xFFFFFFFF) + (total >> 32) & 0xFFFFFFFF
+
+
+def _first_version(content: bytes, version: str, sector: int) -> Optional[Superblock]:
+    """A superblock of version 1.x at this sector of a member, or None where it isn't sound."""
+    if len(content) < FIRST.size:
+        return None
+    (features, array, name, level, layout, used, chunk, count, start, length, belongs, number, shift, log_size,
+     log_offset, events, resync, stored, most) = FIRST.unpack_from(content)
+    size = FIRST.size + 2 * most
+    summed = content[:SUM_AT] + bytes(4) + content[SUM_AT + 4:size]
+    is_placed = start >= sector + -(-size // SECTOR) if version != "1.0" else start + length <= sector
+    if most > MOST_ROLES or len(content) < size or _sum(summed, "<") != stored or belongs != sector or not is_placed \
+            or not 0 < count <= MOST_DEVICES or start + length > 1 << 55:
+        return None
+    roles = struct.unpack_from(f"<{most}H", content, FIRST.size)
+    role = roles[number] if number < most and roles[number] < NO_PLACE else None
+    name = name.split(b"\0", 1)[0].decode("utf-8", "replace")
+    return Superblock(version, sector * SECTOR, array, level, layout, chunk, count, start, length, used, events, number,
+                      role, roles, features, name, resync, (shift, log_size, log_offset))
+
+
+def _old_version(content: bytes, order: str, at: int) -> Optional[Superblock]:
+    """A superblock of version 0.90 at this byte, whose words are in this order, or None where it isn't sound."""
+    if len(content) < MOST_BYTES:
+        return None
+    words = struct.unpack(f"{order}{MOST_BYTES // 4}L", content)
+    is_sound = _sum(content[:38 * 4] + bytes(4) + content[39 * 4:], order) == words[38]
+    if not is_sound or words[2] not in (OLD_MINOR, OLD_RESHAPING) or not 0 < words[10] <= MOST_DEVICES:
+        return None
+    low, high = words[39:41] if order == "<" else words[40:38:-1]
+    level, = struct.unpack_from(order + "l", content, 7 * 4)
+    number, role, state = words[OLD_SELF], words[OLD_SELF + 3], words[OLD_SELF + 4]
+    is_active = state & OLD_ACTIVE == OLD_ACTIVE and not state & OLD_FAULTY and role < words[10]
+    array = struct.pack(">4L", words[5], *words[13:16])
+    features = RESHAPING if words[2] == OLD_RESHAPING else 0
+    return Superblock(OLD, at, array, level, words[64], words[65] // SECTOR, words[10], 0, at // SECTOR, 2 * words[8],
+                      high << 32 | low, number, role if is_active else None, (), features, "", CLEAN, (0, 0, 0))

@@ -1,31 +1,30 @@
-"""A pile of images: everything that is found in them, each image being read where labels and superblocks lie, and the whole of
-it where nothing sound is there."""
+"""A pile of images: what is found in them where labels and superblocks lie, or else anywhere."""
 
-from typing import Dict, List, NamedTuple, Optional, Sequence, Set, Tuple
+from typing import Dict, List, NamedTuple, Optional, Sequence, Tuple
 
 from dmremap_tools.base.refusal import Refusal
-from dmremap_tools.model import file_system, luks, md_superblock, physical_volume, searched
-from dmremap_tools.model.device import Device
+from dmremap_tools.model import md_superblock, physical_volume
+from dmremap_tools.model.contents import BIG_SECTOR, Container, Partitions, container_in, file_system_of, partitions_of
+from dmremap_tools.model.device import Device, Run
 from dmremap_tools.model.groups import Group, groups_of
-from dmremap_tools.model.image import Image
-from dmremap_tools.model.luks import Container
+from dmremap_tools.model.image import Image, Lenient
 from dmremap_tools.model.md_array import Array
-from dmremap_tools.model.md_superblock import Damaged, Member
-from dmremap_tools.model.partitions import BIG_SECTOR, Partitions, partitions_of
+from dmremap_tools.model.md_superblock import Member
 from dmremap_tools.model.physical_volume import PhysicalVolume
 
 NOTHING = "nothing is found in it"
-# The most disks, partitions and arrays that are looked at.
-MOST_SPOTS = 1 << 13
-# The most levels of arrays that are members of others.
-MOST_LEVELS = 8
-NESTED = f"its members lie on arrays in {MOST_LEVELS} levels, and no more are followed: assemble it with mdadm --readonly"
+# The most disks, partitions and arrays that are looked at, and the most levels of arrays that are members of others.
+MOST_SPOTS, MOST_LEVELS = 1 << 13, 8
+MANY = f"no more than {MOST_SPOTS} disks, partitions and arrays are looked at: give fewer images"
+NESTED = (f"its members lie on arrays in {MOST_LEVELS} levels, and no more are followed: assemble it with mdadm "
+          "--readonly")
 OLD = "a member of an md array with metadata 0.90, which isn't followed: assemble copies with mdadm --readonly"
-DAMAGED = ("its md superblock at byte {} is damaged: give the other members alone, or of a mirror this image alone, or make the array anew "
-           "on copies (mdadm --create --assume-clean)")
-MAY_BE_NEWER = "it lacks members, and {} may be one with newer data, as its md superblock is damaged: leave that out to take what is here"
-ONE_MEMBER = ("{} has {} bytes, and the physical volume in it {}: it seems to be one member of an array whose md superblock is lost, "
-              "or is cut off: give the whole disk, or all members with their superblocks")
+DAMAGED = ("its md superblock at byte {} is damaged: give the other members alone, or of a mirror this image alone, or "
+           "make the array anew on copies (mdadm --create --assume-clean)")
+MAY_BE_NEWER = ("it lacks members, and {} may be one with newer data, as its md superblock is damaged: leave that out "
+                "to take what is here")
+ONE_MEMBER = ("{} has {} bytes, and the physical volume in it {}: it seems to be one member of an array whose md "
+              "superblock is lost, or is cut off: give the whole disk, or all members with their superblocks")
 
 
 class Spot(NamedTuple):
@@ -33,68 +32,76 @@ class Spot(NamedTuple):
 
     device: Device
     image: Optional[Image]
-    partition: int
+    partition: int = 0
 
     @property
     def path(self) -> str:
         """The image as it was given, or what the array is called."""
         return self.image.path if self.image else self.device.name
 
+    @property
+    def place(self) -> str:
+        """The same, with the partition."""
+        return self.path + (f":{self.partition}" if self.partition else "")
 
-class Found(NamedTuple):
-    """What a spot is: a word for it, and what is to be said of it."""
 
-    spot: Spot
-    what: str
-    note: str = ""
+# What a spot is: a word for it, and what is to be said of it.
+Found = NamedTuple("Found", [("spot", Spot), ("what", str), ("note", str)])
 
 
 class Pile:
-    """What is in some images."""
+    """What is in some images; of each some runs may not have been read from the disk."""
 
-    def __init__(self, paths: Sequence[str], unread: Optional[Dict[str, List[Tuple[int, int]]]] = None) -> None:
-        self._unread = unread or {}
-        self.images: List[Image] = []
+    def __init__(self, paths: Sequence[str], unread: Optional[Dict[str, List[Run]]] = None) -> None:
         self.found: List[Found] = []
         self.tables: List[Tuple[Spot, Partitions]] = []
         self.arrays: List[Array] = []
         self.containers: List[Tuple[Spot, Container]] = []
         self.volumes: List[PhysicalVolume] = []
+        self.groups: List[Group] = []
         self._members: Dict[bytes, List[Member]] = {}
-        self._damaged: List[Tuple[Spot, Damaged]] = []
+        # Members with damaged superblocks, and the ids that these give their arrays.
+        self._damaged: List[Tuple[Spot, bytes]] = []
         self._spots: Dict[int, Spot] = {}
         self._unknown: List[Spot] = []
-        for path in paths:
-            self._open(path)
-        for image in self.images:
+        images: Dict[Tuple[int, int], Image] = {}
+        for image in [Image(path, (unread or {}).get(path, ())) for path in paths]:
+            if images.setdefault(image.identity, image) is not image:
+                self._say(Spot(image, image), "foreign", f"it is {images[image.identity].name} under another name")
+        for image in images.values():
             if image.other_form or not image.size:
-                self.found.append(Found(Spot(image, image, 0), "foreign", image.other_form or "it is empty"))
-            else:
-                self._look_at(Spot(image, image, 0))
+                self._say(Spot(image, image), "foreign", image.other_form or "it is empty")
+            elif not self._is_member(Spot(image, image)):
+                self._look_into(Spot(image, image))
         self._assemble()
         if not self.arrays:
             # A half of a mirror alone has all data.
             for spot, _ in self._damaged:
                 self._look_into(spot)
-        self.groups: List[Group] = []
         # What isn't known may be the other half of a mirror, with newer data.
         if not any(array.device and array.may_be_old for array in self.arrays) or not self.search():
             self._group()
 
     def search(self) -> bool:
-        """Looks through the whole of the images in which nothing sound was where it should be, and says whether that was of use."""
+        """Looks through the whole of the images in which nothing sound was found, and says whether that was of use."""
         waiting, self._unknown, known = self._unknown, [], len(self.volumes)
         for spot in waiting:
-            self._search(spot)
-        if len(self.volumes) > known:
+            for volume in physical_volume.volumes_within(spot.image) if spot.image else ():
+                inner = self._spots[id(volume.device)] = Spot(volume.device, spot.image)
+                self.volumes.append(volume)
+                self.found = [found for found in self.found if found.spot is not spot]
+                self._say(inner, "physical volume", f"found at byte {volume.start} by looking through the whole image")
+        is_of_use = len(self.volumes) > known
+        if is_of_use:
             self._group()
-        return len(self.volumes) > known
+        return is_of_use
 
     def _group(self) -> None:
-        """Puts the groups together. A physical volume that is longer than what it is in is doubted where it was looked for, or
-        where a text says that it was on an array."""
-        cut = [volume for volume in self.volumes if self.spot_of(volume.device).image and volume.size > volume.device.size]
-        on_arrays = {identity for volume in self.volumes for text in volume.current for identity in text.on_arrays()} if cut else set()
+        """Puts the groups together. A physical volume that is longer than where it lies is doubted if it was looked
+        for, or a text says that it was on an array."""
+        cut = [each for each in self.volumes if self.spot_of(each.device).image and each.size > each.device.size]
+        texts = [text for volume in self.volumes for text in volume.current] if cut else []
+        on_arrays = {identity for text in texts for identity in text.on_arrays()}
         damaged = [spot.device for spot, _ in self._damaged]
         for volume in cut:
             if volume.start or volume.identity in on_arrays or volume.device in damaged:
@@ -103,30 +110,22 @@ class Pile:
 
     def spots(self) -> List[Spot]:
         """All devices that were looked at: images, partitions, arrays and their partitions."""
-        return list(self._spots.values()) + [found.spot for found in self.found if id(found.spot.device) not in self._spots]
+        others = [found.spot for found in self.found if id(found.spot.device) not in self._spots]
+        return [*self._spots.values(), *others]
 
     def spot_of(self, device: Device) -> Spot:
-        """Where a device that was looked at is."""
-        return self._spots.get(id(device)) or Spot(device, None, 0)
+        return self._spots.get(id(device)) or Spot(device, None)
 
-    def _open(self, path: str) -> None:
-        image = Image(path)
-        image.unread = self._unread.get(path, [])
-        same = next((other for other in self.images if other.identity == image.identity), None)
-        if same:
-            self.found.append(Found(Spot(image, image, 0), "foreign", f"it is {same.name} under another name"))
-        else:
-            self.images.append(image)
+    def table_of(self, device: Device) -> Optional[Partitions]:
+        return next((table for spot, table in self.tables if spot.device is device), None)
 
-    def _look_at(self, spot: Spot) -> None:
-        """Looks at a whole disk or array: a member of an array is looked into no more."""
-        if not self._is_member(spot):
-            self._look_into(spot)
+    def _say(self, spot: Spot, what: str, note: str = "") -> None:
+        self.found.append(Found(spot, what, note))
 
     def _look_into(self, spot: Spot) -> None:
         """Looks at what is no member: a disk with partitions is these."""
-        known = self._known(spot.device)
-        table = None if known in ("luks", "lvm2") else self._table(spot.device, known)
+        known = known_in(spot.device)
+        table = None if known in ("luks", "lvm2") else table_in(spot.device, known)
         if not table:
             self._recognise(spot, known)
             return
@@ -134,80 +133,67 @@ class Pile:
         for partition in table.partitions:
             inner = Spot(partition.device, spot.image, partition.number)
             if not self._is_member(inner):
-                self._recognise(inner, self._known(inner.device))
-
-    def _table(self, device: Device, known: Optional[str]) -> Optional[Partitions]:
-        """The partition table of a device. An MBR, which has no sum, is one if something is in its partitions, with sectors of
-        512 or of 4096 bytes, or if nothing is known of the device itself."""
-        first = partitions_of(device, known is None)
-        if not first or first.kind != "MBR":
-            return first
-        for table in (first, partitions_of(device, False, BIG_SECTOR)):
-            if table and any(self._known(each.device) or md_superblock.member_in(each.device) for each in table.partitions):
-                return table
-        return None if known else first
-
-    def _known(self, device: Device) -> Optional[str]:
-        return "lvm2" if physical_volume.has_label(device) else file_system.file_system_of(device)
+                self._recognise(inner, known_in(inner.device))
 
     def _is_member(self, spot: Spot) -> bool:
+        """Whether it is a member of an array, which is looked into no more."""
         if len(self._spots) >= MOST_SPOTS:
-            raise Refusal(spot.device.name, f"no more than {MOST_SPOTS} disks, partitions and arrays are looked at: give fewer images")
+            raise Refusal(spot.device.name, MANY)
         self._spots[id(spot.device)] = spot
-        member = md_superblock.member_in(spot.device)
-        if member:
-            self._members.setdefault(member.superblock.set_uuid, []).append(member)
-            return True
-        if md_superblock.has_old_superblock(spot.device):
-            self.found.append(Found(spot, "md member", OLD))
-            return True
-        damaged = md_superblock.damaged_in(spot.device)
-        if damaged:
-            self._damaged.append((spot, damaged))
-            self.found.append(Found(spot, "md member", DAMAGED.format(damaged.start)))
-        return damaged is not None
+        members, old, damaged = md_superblock.members_in(spot.device)
+        if members:
+            self._members.setdefault(members[-1].superblock.array, []).append(members[-1])
+        elif old:
+            self._say(spot, "md member", OLD)
+        elif damaged:
+            self._damaged.append((spot, damaged[-1][1]))
+            self._say(spot, "md member", DAMAGED.format(damaged[-1][0]))
+        return bool(members or old or damaged)
 
     def _recognise(self, spot: Spot, known: Optional[str]) -> None:
         """Says what a device is that has no partitions and is no member."""
-        container = luks.container_in(spot.device)
+        container = container_in(spot.device)
+        volume = None if container else physical_volume.volume_in(spot.device)
         if container:
             self.containers.append((spot, container))
-            self.found.append(Found(spot, f"LUKS{container.version}", container.fault or ""))
-            return
-        volume = physical_volume.volume_in(spot.device, spot.device.name)
-        if volume:
+            self._say(spot, f"LUKS{container.version}", container.fault or "")
+        elif volume:
             self.volumes.append(volume)
-            self.found.append(Found(spot, "physical volume", "; ".join(volume.faults)))
+            self._say(spot, "physical volume", "; ".join(volume.faults))
         elif known:
-            self.found.append(Found(spot, known))
+            self._say(spot, known)
         else:
-            faults = physical_volume.label_faults(spot.device)
-            self.found.append(Found(spot, "unknown", "; ".join(faults) or NOTHING))
+            self._say(spot, "unknown", "; ".join(physical_volume.label_of(Lenient(spot.device))[1]) or NOTHING)
             if spot.image and not spot.partition:
                 self._unknown.append(spot)
 
-    def _search(self, spot: Spot) -> None:
-        """Looks through the whole of an image."""
-        for volume in searched.volumes_in(spot.image) if spot.image else ():
-            inner = Spot(volume.device, spot.image, 0)
-            self.volumes.append(volume)
-            self._spots[id(volume.device)] = inner
-            self.found = [found for found in self.found if found.spot is not spot]
-            self.found.append(Found(inner, "physical volume", f"found at byte {volume.start} by looking through the whole image"))
-
     def _assemble(self) -> None:
         """Puts the arrays together, and looks at them in turn, as one may be a member of another."""
-        done: Set[bytes] = set()
         for level in range(MOST_LEVELS + 1):
-            waiting = [identity for identity in self._members if identity not in done]
-            for identity in waiting:
-                done.add(identity)
+            for identity in list(self._members)[len(self.arrays):]:
                 array = Array(self._members[identity])
                 self.arrays.append(array)
                 if level == MOST_LEVELS:
                     array.refuse(NESTED)
-                newer = [spot for spot, damaged in self._damaged if damaged.set_uuid not in self._members or damaged.set_uuid == identity]
+                newer = [spot for spot, other in self._damaged if other == identity or other not in self._members]
                 if newer and array.device and array.may_be_old:
                     array.refuse(MAY_BE_NEWER.format(newer[0].device.name))
-                if array.device:
-                    self._look_at(Spot(array.device, None, 0))
+                if array.device and not self._is_member(Spot(array.device, None)):
+                    self._look_into(Spot(array.device, None))
+
+
+def known_in(device: Device) -> Optional[str]:
+    return "lvm2" if physical_volume.label_of(Lenient(device))[0] else file_system_of(device)
+
+
+def table_in(device: Device, known: Optional[str]) -> Optional[Partitions]:
+    """The partition table of a device. An MBR, which has no sum, is one if something is in its partitions, with sectors
+    of 512 or of 4096 bytes, or if nothing is known of the device itself."""
+    first = partitions_of(device, known is None)
+    if not first or first.kind != "MBR":
+        return first
+    for table in (first, partitions_of(device, False, BIG_SECTOR)):
+        devices = [partition.device for partition in table.partitions] if table else []
+        if any(known_in(each) or md_superblock.members_in(each)[0] for each in devices):
+            return table
+    return None if known else first

@@ -1,19 +1,24 @@
-"""What `scan` says of a pile, as an object for other programs."""
+"""What `scan` says of a pile, as an object for other programs, and as a tree for a person."""
 
-from typing import Any, Dict, Iterator, Optional, Tuple
+from typing import Any, Dict, Iterator, List, Optional, Tuple
 
-from dmremap_tools.model import luks
+from dmremap_tools.base import quoting
+from dmremap_tools.base.numbers import SECTOR
+from dmremap_tools.model.contents import Container, container_in, ways_in
+from dmremap_tools.model.device import Device
 from dmremap_tools.model.groups import Group
-from dmremap_tools.model.luks import Container
 from dmremap_tools.model.md_array import Array
-from dmremap_tools.model.pile import Found, Pile, Spot
-from dmremap_tools.model.volume import Volume
+from dmremap_tools.model.pile import Pile, Spot
+from dmremap_tools.model.volume import WHOLE, Volume
 
 Row = Dict[str, Any]
+UNITS = ("bytes", "KiB", "MiB", "GiB", "TiB", "PiB", "EiB")
+COPIES = {"first": " (first copy)", "backup": " (backup copy, as the first is damaged)"}
+# How many columns the name of a volume gets at least, and its length, its kind and what begins there.
+COLUMNS = (24, 10, 10, 8)
 
 
 def object_of(pile: Pile) -> Row:
-    """The whole of it."""
     return {"images": [image_row(pile, spot) for spot in pile.spots() if spot.device is spot.image],
             "arrays": [array_row(pile, array) for array in pile.arrays],
             "luks": [luks_row(*found) for found in containers(pile)],
@@ -23,56 +28,126 @@ def object_of(pile: Pile) -> Row:
 def containers(pile: Pile) -> Iterator[Tuple[str, Optional[Spot], Container]]:
     """The containers in images, and those in volumes: the name of each for `save`, and where it is."""
     for spot, container in pile.containers:
-        yield place_of(spot), spot, container
-    for group in pile.groups:
-        for volume in group.volumes:
-            container = luks.container_in(volume.device()) if volume.file_system() == "luks" else None
-            if container:
-                yield volume.path, None, container
+        yield spot.place, spot, container
+    for volume in (volume for group in pile.groups for volume in group.volumes):
+        inner = container_in(volume.device()) if volume.file_system() == "luks" else None
+        if inner:
+            yield volume.path, None, inner
 
 
 def luks_row(name: str, spot: Optional[Spot], container: Container) -> Row:
-    """A container, and the ways into it."""
     image, partition = (spot.path, spot.partition) if spot and spot.image else (None, 0)
-    return {"name": name, "image": image or name, "partition": partition, "version": container.version, "id": container.identity,
-            "start": container.start, "sectors": container.length, "why": container.fault,
-            "ways": luks.ways_in(container, name, image, partition)}
+    return {"name": name, "image": image or name, "partition": partition, "version": container.version,
+            "id": container.identity, "start": container.start, "sectors": container.length, "why": container.fault,
+            "ways": ways_in(container, name, image, partition)}
 
 
 def image_row(pile: Pile, spot: Spot) -> Row:
-    """An image, and what lies in it."""
-    table = next((table for other, table in pile.tables if other.device is spot.device), None)
-    return {"image": spot.path, "bytes": spot.image.bytes if spot.image else 0,
-            "table": {"kind": table.kind, "copy": table.copy, "sector": table.sector, "why": table.fault} if table else None,
-            "holds": [found_row(found) for found in pile.found if found.spot.image is spot.image]}
-
-
-def found_row(found: Found) -> Row:
-    """What a partition or a whole image is."""
-    return {"partition": found.spot.partition, "what": found.what, "why": found.note or None}
+    table = pile.table_of(spot.device)
+    holds = [{"partition": found.spot.partition, "what": found.what, "why": found.note or None}
+             for found in pile.found if found.spot.image is spot.image]
+    row = table and {"kind": table.kind, "copy": table.copy, "sector": table.sector, "why": table.fault}
+    return {"image": spot.path, "bytes": spot.image.bytes if spot.image else 0, "table": row, "holds": holds}
 
 
 def array_row(pile: Pile, array: Array) -> Row:
-    """An array, and its members by their images."""
-    return {"name": array.label, "id": array.identity, "level": array.level,
-            "members": [place_of(pile.spot_of(member.device)) for member in array.by_role.values()], "missing": array.missing,
-            "stale": [place_of(pile.spot_of(member.device)) for member in array.stale],
-            "sectors": array.device.size // 512 if array.device else None, "why": array.why}
-
-
-def place_of(spot: Spot) -> str:
-    """An image, or a partition of one."""
-    return spot.path + (f":{spot.partition}" if spot.partition else "")
+    members = [pile.spot_of(member.device).place for member in array.by_role.values()]
+    stale = [pile.spot_of(member.device).place for member in array.stale]
+    return {"name": array.label, "id": array.identity, "level": array.level, "members": members,
+            "missing": array.missing, "stale": stale, "sectors": array.device.size // SECTOR if array.device else None,
+            "why": array.why}
 
 
 def group_row(group: Group) -> Row:
-    """A group with its volumes."""
-    return {"name": group.name, "id": group.identity, "seqno": group.seqno, "state": group.state, "images": group.places,
-            "former_names": group.former_names, "notes": group.notes, "volumes": [volume_row(volume) for volume in group.volumes]}
+    return {"name": group.name, "id": group.identity, "seqno": group.seqno, "state": group.state,
+            "images": group.places, "former_names": group.former_names, "notes": group.notes,
+            "volumes": [volume_row(volume) for volume in group.volumes]}
 
 
 def volume_row(volume: Volume) -> Row:
-    """A volume."""
-    why = volume.why()
-    return {"name": volume.name, "id": volume.identity, "sectors": volume.sectors, "kind": volume.kind, "file_system": volume.file_system(),
-            "state": volume.state(), "why": why, "origin": volume.origin, "chunks_used": volume.chunks_used()}
+    return {"name": volume.name, "id": volume.identity, "sectors": volume.sectors, "kind": volume.kind,
+            "file_system": volume.file_system(), "state": volume.state(), "why": volume.why(), "origin": volume.origin,
+            "chunks_used": volume.chunks_used()}
+
+
+def lines_of(pile: Pile) -> Iterator[str]:
+    for spot in (spot for spot in pile.spots() if spot.device is spot.image):
+        table, inner = pile.table_of(spot.device), list(held_by(pile, spot.device))
+        if table:
+            count = f"{len(table.partitions)} partition" + "s" * (len(table.partitions) != 1)
+            fault = f": {table.fault}" if table.fault else ""
+            yield f"{quoting.shown(spot.place)}: {table.kind}{COPIES.get(table.copy, '')}, {count}{fault}"
+            yield from (f"  {line}" for line in inner)
+        else:
+            yield f"{quoting.shown(spot.place)}: {inner[0]}"
+    for array in pile.arrays:
+        row = array_row(pile, array)
+        missing = f", {array.missing} missing" if array.missing else ""
+        stale = f"; stale, so not read: {shown_list(row['stale'])}" if array.stale else ""
+        why = f": {array.why}" if array.why else ""
+        what = f"{array.level} of {array.count}{missing}: {shown_list(row['members'])}"
+        yield f"{quoting.shown(array.label)}: {what}{stale}{why}"
+        yield from (f"  {line}" for line in (held_by(pile, array.device) if array.device else ()))
+    for group in pile.groups:
+        yield from group_lines(group)
+    for row in (luks_row(*found) for found in containers(pile)):
+        why = f": {row['why']}" if row["why"] else ""
+        identity = quoting.shown(row["id"]) or "unknown"
+        yield f"LUKS{row['version']} container on {quoting.shown(row['name'])}, id {identity}{why}"
+        yield from (f"  {who}: {quoting.escaped(way)}" for who, way in zip(("as root", "without root"), row["ways"]))
+
+
+def held_by(pile: Pile, device: Device) -> Iterator[str]:
+    """What lies on a device, in words: a line for each partition, or one for all of it."""
+    table = pile.table_of(device)
+    for partition in table.partitions if table else ():
+        yield f"{partition.number}: {what_is(pile, partition.device)}"
+    if not table:
+        yield what_is(pile, device)
+
+
+def what_is(pile: Pile, device: Device) -> str:
+    for array in pile.arrays:
+        if any(member.device is device for member in [*array.by_role.values(), *array.stale]):
+            return f"member of {array.label}"
+    words: List[str] = []
+    for found in pile.found:
+        if found.spot.device is device or found.spot.image is device:
+            group = next((group.name for group in reversed(pile.groups) if found.spot.device.name in group.places), "")
+            without = " without a group" if found.what == "physical volume" else ""
+            what = found.what + (f" of {quoting.shown(group)}" if group else without)
+            is_noted = found.note and found.what != "unknown"
+            words.append(quoting.shown(f"{what}: {found.note}" if is_noted else found.note or what))
+    return "; ".join(words) or "looked into no more"
+
+
+def group_lines(group: Group) -> Iterator[str]:
+    former = f", formerly {quoting.some(group.former_names)}" if group.former_names else ""
+    yield f"group {quoting.shown(group.name)}: {group.state}, seqno {group.seqno}, id {group.identity}{former}"
+    yield f"  on {shown_list(group.places) or 'none of these images'}"
+    yield from (f"  {note}" for note in group.notes)
+    for volume in group.volumes:
+        row, path = volume_row(volume), quoting.shown(f"{group.name}/{volume.name}")
+        columns = [path, in_units(volume.sectors * SECTOR), row["kind"], row["file_system"] or "-"]
+        chunks = f"{row['chunks_used']} chunks" if row["chunks_used"] is not None else ""
+        origin = f"of {quoting.shown(row['origin'])}" if row["origin"] else ""
+        notes = [origin, chunks, row["state"] if row["state"] != WHOLE else "", row["why"] or ""]
+        line = " ".join(column.ljust(width) for column, width in zip(columns, COLUMNS))
+        yield f"  {line} {': '.join(filter(None, notes))}".rstrip()
+
+
+def shown_list(words: List[str]) -> str:
+    return ", ".join(map(quoting.shown, words))
+
+
+def in_units(size: int) -> str:
+    """A number of bytes in the largest unit that divides it, or with a fraction in that of its size."""
+    unit = 0
+    while size and size % 1024 == 0 and unit < len(UNITS) - 1:
+        size, unit = size // 1024, unit + 1
+    if size < 10240:
+        return f"{size} {UNITS[unit]}"
+    value = float(size)
+    while value >= 1024 and unit < len(UNITS) - 1:
+        value, unit = value / 1024, unit + 1
+    return f"{value:.1f} {UNITS[unit]}"

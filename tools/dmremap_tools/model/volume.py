@@ -1,61 +1,60 @@
-"""A volume of a group, as somebody asks for it by its name."""
+"""A volume of a group, as somebody asks for it, and those that were removed, by the texts of the time before."""
 
-from typing import Callable, Optional
+import functools
+import re
+from typing import Callable, Dict, Iterable, Iterator, List, Optional, Sequence, Set, Tuple, Union
 
+from dmremap_tools.base.config_text import shown
 from dmremap_tools.base.numbers import SECTOR
 from dmremap_tools.base.refusal import Refusal
-from dmremap_tools.model import snapshot
+from dmremap_tools.model.contents import file_system_of
 from dmremap_tools.model.device import Device
-from dmremap_tools.model.file_system import file_system_of
+from dmremap_tools.model.layout import Layout, Use
 from dmremap_tools.model.mapping import NoProgram
-from dmremap_tools.model.side import Side
+from dmremap_tools.model.physical_volume import Text
+from dmremap_tools.model.snapshot import INVALID as INVALID_SNAPSHOT
 
 WHOLE, INVALID, INCOMPLETE, UNKNOWN, REMOVED = "whole", "invalid", "incomplete", "not followed", "removed"
+# Where the volumes of a text begin, as lvm2 writes it, and where they end, and the id of each.
+VOLUMES, HISTORY = b"\nlogical_volumes {", b"\nhistorical_logical_volumes {"
+SINCE, LEFT = "nothing tells who wrote there since", "nothing tells which of its sectors are left"
+IDENTITY = re.compile(rb'\n[ \t]*[A-Za-z0-9_+.-]+ \{\n[ \t]*id = "([^"\n]*)"')
+Refused = Callable[[], Optional[str]]
 
 
 class Volume:
-    """A volume of a text; `refused` says why it can't be given whatever its bytes are, or None."""
+    """A volume of a text: its length, its kind and its origin. `refused` says why it can't be given, if it can't."""
 
-    def __init__(self, side: Side, key: bytes, refused: Callable[[], Optional[str]] = lambda: None, is_removed: bool = False) -> None:
-        self.side, self.key, self.name = side, key, key.decode("utf-8", "surrogateescape")
-        self.identity = side.identity(key)
-        self.is_removed, self._refused = is_removed, refused
-        self._device: Optional[Device] = None
-        self._refusal: Optional[Refusal] = None
+    def __init__(self, side: Layout, key: bytes, refused: Refused, is_removed: bool = False) -> None:
+        self.side, self.key, self.name, self.is_removed = side, key, key.decode("utf-8", "surrogateescape"), is_removed
+        self.path, self.identity, self._refused = f"{side.name}/{self.name}", side.ids[key], refused
+        segments, origin = side.group.volumes[key].segments, side.origins.get(key)
+        self.sectors = side.size_of(origin or key) // SECTOR
+        kinds = [segment.kind or b"" for segment in segments]
+        kind = kinds[0].decode("ascii", "replace").partition("+")[0] if kinds else "none"
+        self.kind = "linear" if kind == "striped" else re.sub(r"^(raid\d+)_.*", r"\1", kind)
+        if any(segment.kind == b"striped" and len(segment.stripes) > 1 for segment in segments):
+            self.kind = "striped"
+        if origin is not None:
+            self.kind = "snapshot"
+        elif b"thin" in kinds:
+            value = segments[kinds.index(b"thin")].node.value(b"origin", bytes)
+            origin = value if isinstance(value, bytes) else None
+        self.origin = None if origin is None else origin.decode("utf-8", "surrogateescape")
 
-    @property
-    def path(self) -> str:
-        """Its name with its group's."""
-        return f"{self.side.text.group}/{self.name}"
-
-    @property
-    def sectors(self) -> int:
-        """Its length by the text; that of a snapshot is its origin's."""
-        return self.side.size_of(self.side.record_of(self.key) or self.key) // SECTOR
-
-    @property
-    def kind(self) -> str:
-        """What it consists of."""
-        return self.side.kind_of(self.key)
-
-    @property
-    def origin(self) -> Optional[str]:
-        """What it is a snapshot of."""
-        return self.side.origin_of(self.key)
+    @functools.cached_property
+    def _made(self) -> Union[Device, Refusal]:
+        try:
+            why = self._refused()
+            return Refusal(self.path, why) if why else self.side.volume(self.key)
+        except Refusal as refusal:
+            return Refusal(self.path, refusal.why)
 
     def device(self) -> Device:
         """Its bytes, or a refusal that says why they can't be given."""
-        if self._device is None and self._refusal is None:
-            try:
-                why = self._refused()
-                if why:
-                    raise Refusal(self.path, why)
-                self._device = self.side.layout().volume(self.key)
-            except Refusal as refusal:
-                self._refusal = Refusal(self.path, refusal.why)
-        if self._device is None:
-            raise self._refusal or Refusal(self.path, "")
-        return self._device
+        if isinstance(self._made, Refusal):
+            raise self._made
+        return self._made
 
     def why(self) -> Optional[str]:
         """Why its bytes can't be given, or aren't all there; None if they can."""
@@ -71,12 +70,11 @@ class Volume:
         why = self.why()
         if self.is_removed:
             return REMOVED
-        if why is None or why == snapshot.INVALID:
+        if why is None or why == INVALID_SNAPSHOT:
             return INVALID if why else WHOLE
-        return UNKNOWN if self._device is None else INCOMPLETE
+        return UNKNOWN if isinstance(self._made, Refusal) else INCOMPLETE
 
     def file_system(self) -> Optional[str]:
-        """What begins there."""
         try:
             return file_system_of(self.device())
         except NoProgram:
@@ -85,5 +83,89 @@ class Volume:
             return None
 
     def chunks_used(self) -> Optional[int]:
-        """How many chunks the store of a snapshot has."""
-        return getattr(self._device, "chunks_used", None)
+        return getattr(self._made, "chunks_used", None)
+
+
+class Writers:
+    """All texts that are known, of any group, and whether each is current: their volumes may have written where a
+    removed volume was. `lost` says of physical volumes, by their ids, why their current text can't be read."""
+
+    def __init__(self, find: Callable[[str], Device], lost: Dict[str, str], texts: Iterable[Tuple[Text, bool]]) -> None:
+        self.find, self._lost, self._texts = find, lost, list(texts)
+        self._uses = functools.lru_cache(None)(self._uses_of)
+        self._fault = functools.lru_cache(None)(self._fault_of)
+
+    def _after(self, text: Text) -> Iterator[Text]:
+        """The texts that were written after one, as far as that is known."""
+        for other, is_current in self._texts:
+            is_same = other.identity == text.identity
+            if other.seqno > text.seqno if is_same else is_current or other.time >= text.time:
+                yield other
+
+    def _uses_of(self, text: Text) -> List[Tuple[Use, str]]:
+        side = Layout(text, self.find)
+        return [(use, f"{text.group}/{shown(name)}") for name in side.group.volumes for use in side.uses(name)]
+
+    def _fault_of(self, text: Text) -> Optional[str]:
+        try:
+            text.node()
+            return None
+        except Refusal as refusal:
+            return str(refusal)
+
+    def owner(self, side: Layout, name: bytes) -> Optional[str]:
+        """A volume of a later text that has some of the sectors of a removed one."""
+        mine = side.uses(name)
+        for (identity, first, end), owner in (each for text in self._after(side.text) for each in self._uses(text)):
+            if any(identity == other and first < stop and start < end for other, start, stop in mine):
+                return owner
+        return None
+
+    def unreadable(self, side: Layout) -> Optional[str]:
+        """Why a later text can't be read, if one can't: it may be the current one of a disk of this side."""
+        lost = (self._lost.get(identity) for identity in side.physical_ids.values())
+        return next(filter(None, lost), None) or next(filter(None, map(self._fault, self._after(side.text))), None)
+
+    def refused(self, side: Layout, name: bytes, texts: Sequence[Text], doubt: Optional[str]) -> Optional[str]:
+        """Why a removed volume of a group that has these texts can't be given, or None."""
+        if doubt:
+            return doubt
+        why = self._why(side, name, [text for text in texts if text.seqno > side.text.seqno])
+        restored = f"restore the text with the seqno {side.text.seqno} on copies (vgcfgrestore)"
+        return why and f"{why}: to see what is left, {restored}"
+
+    def _why(self, side: Layout, name: bytes, later: Sequence[Text]) -> Optional[str]:
+        numbers, below = {text.seqno for text in later}, {side.ids[lower] for lower in side.below(name)}
+        between = range(side.text.seqno + 1, max(numbers, default=0))
+        lost = next((number for number in between if number not in numbers), None)
+        if lost:
+            return f"it was removed, and the text with the seqno {lost} that came after it is lost: {SINCE}"
+        unreadable = self.unreadable(side)
+        if unreadable:
+            return f"only an older text has it, and a later one can't be read ({unreadable}), so that {SINCE}"
+        owner = self.owner(side, name)
+        if owner:
+            return f"it was removed, and some of its extents belong to {owner} since, so that {LEFT}"
+        if any(below & ids_in(text) for text in later):
+            return "it was removed, and what it was a part of went on without it, and may have changed"
+        return None
+
+    def removed(self, texts: Sequence[Text], living: Set[str], doubt: Optional[str] = None) -> Iterator[Volume]:
+        """The volumes of texts, by the newest that has them, that aren't there now; `doubt` refuses them all."""
+        seen = set(living)
+        for text in sorted(texts, key=lambda text: -text.seqno):
+            ids = ids_in(text) - seen
+            seen |= ids
+            try:
+                sides = [Layout(text, self.find)] if ids else []
+            except Refusal:
+                continue
+            for side, name in ((side, name) for side in sides for name in side.visible() if side.ids[name] in ids):
+                yield Volume(side, name, functools.partial(self.refused, side, name, texts, doubt), True)
+
+
+@functools.lru_cache(maxsize=1 << 12)
+def ids_in(text: Text) -> Set[str]:
+    begin, end = text.content.find(VOLUMES), text.content.find(HISTORY)
+    region = text.content[begin:end if end > begin else len(text.content)] if begin >= 0 else b""
+    return {identity.decode("ascii", "replace") for identity in IDENTITY.findall(region)}

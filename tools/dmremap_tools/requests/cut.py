@@ -13,14 +13,12 @@ EXAMPLE = "echo 'R vg0-lv0 8000 2500000' | dmremap-tools cut | dmremap map lvm v
 
 
 def add_words(parser: ArgumentParser) -> None:
-    """Adds the arguments."""
     parser.add_argument("file", metavar="FILE", nargs="?", default="-", help="requests; else standard input")
     parser.add_argument("--bytes", action="store_true", help="their numbers are an offset and a length in bytes")
     names.add_words(parser)
 
 
 def run(words: Namespace) -> None:
-    """Cuts them as they come."""
     source = streams.Lines(words.file)
     form = "give R or W, a device, an offset and a length, and not" if words.bytes else requests.NO_REQUEST
     for asked in requests.read(source, names.Names(words.ls), form):

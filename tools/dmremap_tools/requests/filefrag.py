@@ -21,7 +21,7 @@ part of XFS has its extents on another device.
 
 import re
 from argparse import ArgumentParser, Namespace
-from typing import Iterator, List, Match, NoReturn, Set, Tuple
+from typing import Iterator, List, Set, Tuple
 
 from dmremap_tools.base import names, numbers, quoting, requests, streams, tables
 from dmremap_tools.base.refusal import WrongWords
@@ -47,7 +47,6 @@ Extent = Tuple[int, int, int]
 
 
 def add_words(parser: ArgumentParser) -> None:
-    """Adds the arguments."""
     parser.add_argument("volume", metavar="VOLUME", help="the device that the file system lies on, by its name or path")
     parser.add_argument("file", metavar="FILE", nargs="?", default="-", help="what filefrag or debugfs printed; else standard input")
     kinds = parser.add_mutually_exclusive_group()
@@ -61,7 +60,6 @@ def add_words(parser: ArgumentParser) -> None:
 
 
 def run(words: Namespace) -> None:
-    """Prints the requests of each file as its extents come, or the device."""
     if words.device is None and (words.on is not None or words.size is not None or words.part is not None):
         raise WrongWords("--on, --size and --part are for --device")
     if words.device is not None and (words.size is None) == (words.debugfs is not None):
@@ -80,7 +78,6 @@ def run(words: Namespace) -> None:
 
 
 def lines_of(reader: "Reader | ExtentList", disk: str) -> Iterator[tables.Line]:
-    """The lines of a device for a file, in its order."""
     end = 0
     for at, first, count in reader.extents():
         if at > end:
@@ -98,68 +95,59 @@ class Reader:
     """Reads the text line by line; `opened` is the line that the list of a file began with."""
 
     def __init__(self, source: streams.Lines, known: Set[str] = KNOWN) -> None:
-        self.source, self.known = source, known
-        self.opened = ""
-        self.files = self.size = self.block = self.count = self.after = 0
-        self.is_known = self.is_last = False
+        self.source, self._known = source, known
+        self._opened = ""
+        self.files = self.size = self._block = self._count = self._after = 0
+        self._is_known = self._is_last = False
 
     def extents(self) -> Iterator[Extent]:
         """The extents as they come: the sector of the file, that of the device, and how many there are."""
         for fields in self.source.rows(EXTENT):
-            if isinstance(fields, tuple) and self.opened:
-                yield from self.take_extent(*map(int, fields[:6]), fields[6].split(","))
+            if isinstance(fields, tuple) and self._opened:
+                yield from self._take_extent(*map(int, fields[:6]), fields[6].split(","))
             else:
-                self.take_other(self.source.line)
-        if self.opened:
-            self.source.refuse("the end is missing, %s: %s" % (ANEW, quoting.shown(self.opened)))
+                self._take_other(self.source.line)
+        if self._opened:
+            self.source.refuse(f"the end is missing, {ANEW}: {quoting.shown(self._opened)}")
         if not self.files:
             self.source.refuse("no file: " + ANEW)
 
-    def take_other(self, line: str) -> None:
-        """Takes a line that is no extent."""
+    def _take_other(self, line: str) -> None:
         size, kind = SIZE.fullmatch(line), TYPE.fullmatch(line)
         if size:
-            self._take_file(size, line)
+            if not self._is_known or self._opened:
+                self.source.refuse_line("the line comes too early, " + ANEW)
+            self.size, blocks, self._block = map(self.source.whole, size.groups())
+            if not 0 <= blocks * self._block - self.size < MOST_SPARE:
+                self.source.refuse_line("bytes and blocks differ, " + ANEW)
+            self._opened, self._is_last = line, False
+            self._count = self._after = 0
+            self.files += 1
         elif kind:
-            if kind[1] not in self.known:
-                self.source.refuse_line("not btrfs, leave out --addresses" if self.known is BTRFS
+            if kind[1] not in self._known:
+                self.source.refuse_line("not btrfs, leave out --addresses" if self._known is BTRFS
                                         else "neither ext2, ext3, ext4 nor XFS, see `btrfs` and --addresses")
-            self.is_known = True
-        elif self.opened and FOUND.search(line):
-            if not self.is_last and (self.count or not NONE_FOUND.search(line)):
+            self._is_known = True
+        elif self._opened and FOUND.search(line):
+            if not self._is_last and (self._count or not NONE_FOUND.search(line)):
                 self.source.refuse_line("an extent is missing before, " + ANEW)
-            self.opened = ""
-        elif not GROUPS.fullmatch(line) and not (self.opened and HEAD.fullmatch(line)):
+            self._opened = ""
+        elif not GROUPS.fullmatch(line) and not (self._opened and HEAD.fullmatch(line)):
             self.source.refuse_line("not a line of filefrag -v, " + ANEW)
 
-    def take_extent(self, number: int, first: int, last: int, start: int, end: int, length: int, flags: List[str]) -> Iterator[Extent]:
+    def _take_extent(self, number: int, first: int, last: int, start: int, end: int, length: int, flags: List[str]) -> Iterator[Extent]:
         """Takes an extent: from the block `first` to `last` of the file, from `start` to `end` of the device."""
-        if not PLACED.issuperset(flags):
-            self._refuse("an extent whose place is not known")
-        if number != self.count or first < self.after or self.is_last:
-            self._refuse("an extent is missing")
-        self.count += 1
-        self.is_last, self.after = "last" in flags, last + 1
-        if self.after - first != length or end + 1 - start != length:
-            self._refuse("ends and length differ")
-        if "eof" in flags and self.after * self.block < self.size:
-            self._refuse("the file ends elsewhere")
+        after, is_last = last + 1, "last" in flags
+        faults = {"an extent whose place is not known": not PLACED.issuperset(flags),
+                  "an extent is missing": number != self._count or first < self._after or self._is_last,
+                  "ends and length differ": after - first != length or end + 1 - start != length,
+                  "the file ends elsewhere": "eof" in flags and after * self._block < self.size}
+        for why, is_so in faults.items():
+            if is_so:
+                self.source.refuse(f"{why}, {ANEW}: {quoting.shown(self.source.line.lstrip(' '))}")
+        self._count, self._is_last, self._after = self._count + 1, is_last, after
         if "unwritten" in flags:
             streams.tell("unwritten, so that it reads as zeros: " + quoting.shown(self.source.line.lstrip(" ")))
             return
-        sectors = requests.sectors_of(self.source, self.block)
+        sectors = requests.sectors_of(self.source, self._block)
         yield first * sectors, start * sectors, length * sectors
-
-    def _take_file(self, found: Match[str], line: str) -> None:
-        if not self.is_known or self.opened:
-            self.source.refuse_line("the line comes too early, " + ANEW)
-        self.size, blocks, self.block = map(self.source.whole, found.groups())
-        if not 0 <= blocks * self.block - self.size < MOST_SPARE:
-            self.source.refuse_line("bytes and blocks differ, " + ANEW)
-        self.opened = line
-        self.count = self.after = 0
-        self.is_last = False
-        self.files += 1
-
-    def _refuse(self, reason: str) -> NoReturn:
-        self.source.refuse("%s, %s: %s" % (reason, ANEW, quoting.shown(self.source.line.lstrip(" "))))

@@ -1,0 +1,247 @@
+"""Thin volumes and cached ones, by the metadata of their pool (struct thin_disk_superblock) or of their cache (struct
+cache_disk_superblock), which the kernel's persistent-data library keeps in trees and arrays. A block of that has 4096
+bytes, a CRC-32C of its own, and its number; only what both confirm is believed."""
+
+import functools
+import itertools
+import struct
+from collections import namedtuple
+from typing import Iterator, List, NamedTuple, Optional, Tuple, Union
+
+from dmremap_tools.base.config_text import shown
+from dmremap_tools.base.numbers import SECTOR
+from dmremap_tools.base.refusal import Refusal
+from dmremap_tools.metadata.volume_group import Segment
+from dmremap_tools.model.device import ZEROS, Device, Extent, Gap, Missing, Overlaid, Part, Run
+from dmremap_tools.model.layout import Layout, number
+
+BLOCK, WORD = 4096, 8
+# struct node_header and struct array_block, and what the sum of a block of each kind is changed by.
+NODE, NODE_SUM, INTERNAL, LEAF = struct.Struct("<LLQLLLL"), 121107, 1, 2
+ARRAY, ARRAY_SUM = struct.Struct("<LLLLQ"), 595846735
+# The most levels of a tree: with the fewest children a node may have, more don't fit into a device.
+MOST_LEVELS, MOST_KEPT, LAST_KEY = 16, 128, 1 << 64
+POLYNOMIAL, VERSIONS = 0x82F63B78, (1, 2)
+THIN, THIN_SUM, THIN_MAGIC = struct.Struct("<32xQL4xQ264xQ8xLL16xL"), 160774, 27022010
+ThinSuperblock = namedtuple(
+    "ThinSuperblock", "magic version trans_id data_mapping_root data_block_size metadata_block_size incompat_flags")
+CACHE, CACHE_SUM, CACHE_MAGIC = struct.Struct("<32xQL148xQ32xLLL8xL"), 9031977, 0o6142003
+CacheSuperblock = namedtuple(
+    "CacheSuperblock", "magic version mapping_root data_block_size metadata_block_size cache_blocks incompat_flags")
+Superblock = Union[ThinSuperblock, CacheSuperblock]
+# A mapping of a pool is a block of it, and in the lower bits a time; one of a cache is a block of the origin, and
+# flags.
+TIME_BITS, FLAG_BITS, VALID = 24, 16, 1
+MODES = (b"writethrough", b"writeback")
+ONE_TIME = "give images of one time"
+ODD_CACHE = "the cache's metadata maps a block twice, or one that isn't there: run cache_check on a copy of it"
+# A node of a tree: its keys, and for each the block below it or a value.
+Node = NamedTuple("Node", [("is_leaf", bool), ("keys", Tuple[int, ...]), ("values", Tuple[int, ...])])
+# A key with its value; or the keys up to an end of which nothing is known, and why.
+Entry = NamedTuple("Entry", [("key", int), ("end", int), ("value", int), ("why", Optional[str])])
+
+
+class Tree:
+    """A tree in a device, whose root is this block."""
+
+    def __init__(self, device: Device, root: int) -> None:
+        self._device, self._root = device, root
+        self._node = functools.lru_cache(MOST_KEPT)(self._read)
+
+    def entries(self, first: int = 0, end: int = LAST_KEY) -> Iterator[Entry]:
+        """The entries with keys from the first one up to the end, in their order."""
+        return self._below(self._root, (0, LAST_KEY), (first, end), 0)
+
+    def _below(self, block: int, bounds: Run, wanted: Run, level: int) -> Iterator[Entry]:
+        try:
+            if level == MOST_LEVELS:
+                raise damage(self._device, "its tree has too many levels")
+            node = self._node(block)
+            if node.keys and not (bounds[0] <= node.keys[0] and node.keys[-1] < bounds[1]):
+                raise damage(self._device, f"the keys of block {block} of its tree lie in another place")
+        except Gap as gap:
+            yield Entry(max(bounds[0], wanted[0]), min(bounds[1], wanted[1]), 0, gap.why)
+            return
+        for key, end, value in zip(node.keys, [*node.keys[1:], bounds[1]], node.values):
+            if end > wanted[0] and key < wanted[1] and not node.is_leaf:
+                yield from self._below(value, (key, end), wanted, level + 1)
+            elif wanted[0] <= key < wanted[1]:
+                yield Entry(key, key + 1, value, None)
+
+    def _read(self, block: int) -> Node:
+        content = checked(self._device, block, NODE_SUM)
+        _, flags, _, count, most, size, _ = NODE.unpack_from(content)
+        is_fitting = size == WORD and count <= most and NODE.size + most * 2 * WORD <= BLOCK
+        if flags & (INTERNAL | LEAF) not in (INTERNAL, LEAF) or not is_fitting or not count and block != self._root:
+            raise damage(self._device, f"block {block} of its tree is no node")
+        keys = struct.unpack_from(f"<{count}Q", content, NODE.size)
+        if any(one >= other for one, other in zip(keys, keys[1:])):
+            raise damage(self._device, f"the keys of block {block} of its tree are out of order")
+        return Node(flags & LEAF != 0, keys, struct.unpack_from(f"<{count}Q", content, NODE.size + most * WORD))
+
+
+def array_values(device: Device, root: int) -> Iterator[int]:
+    """The values of an array of 64-bit numbers; a Gap where a block of it is damaged."""
+    for expected, entry in enumerate(Tree(device, root).entries()):
+        if entry.why:
+            raise Gap(device.name, entry.why)
+        if entry.key != expected:
+            raise damage(device, "its array has holes")
+        content = checked(device, entry.value, ARRAY_SUM, ARRAY.size - WORD)
+        _, _, count, size, _ = ARRAY.unpack_from(content)
+        if size != WORD or ARRAY.size + count * size > BLOCK:
+            raise damage(device, "a block of its array is none")
+        yield from struct.unpack_from(f"<{count}Q", content, ARRAY.size)
+
+
+def check_superblock(meta: Device, found: Superblock, is_known: bool, what: str, tool: str, owner: str) -> None:
+    """Refuses the superblock of a pool or a cache that is of another kind, or says what isn't known here."""
+    is_known = is_known and found.version in VERSIONS and found.metadata_block_size * SECTOR == BLOCK
+    if not is_known or not found.data_block_size:
+        raise Gap(meta.name, f"it has no superblock of {what} that is followed: run {tool} on a copy of it")
+    if found.incompat_flags:
+        raise Gap(meta.name, f"its superblock has features that aren't followed: activate the {owner} with lvm2")
+
+
+def damage(device: Device, what: str) -> Gap:
+    """What is said of metadata that isn't sound."""
+    return Gap(device.name, f"{what}: mend a copy of the metadata by thin_repair or cache_repair")
+
+
+def checked(device: Device, block: int, changed: int, number_at: int = 8) -> bytes:
+    """The bytes of a block, if its sum and its number are right."""
+    if (block + 1) * BLOCK > device.size:
+        raise damage(device, f"block {block} of its metadata is past its end")
+    content = device.read(block * BLOCK, BLOCK)
+    stored, (said,) = int.from_bytes(content[:4], "little"), struct.unpack_from("<Q", content, number_at)
+    if said != block or sum_of(content[4:]) ^ changed != stored:
+        raise damage(device, f"block {block} of its metadata is damaged")
+    return content
+
+
+def sum_of(content: bytes) -> int:
+    """The CRC-32C of some bytes, as the kernel's crc32c gives it for ~0."""
+    value, (fourth, third, second, first) = 0xFFFFFFFF, TABLES
+    for word, in struct.iter_unpack("<L", content):
+        value ^= word
+        value = first[value & 0xFF] ^ second[value >> 8 & 0xFF] ^ third[value >> 16 & 0xFF] ^ fourth[value >> 24]
+    return value
+
+
+def _tables() -> List[List[int]]:
+    """What a byte adds to the sum, if none, one, two or three bytes follow it in its word."""
+    tables = [list(range(256))]
+    for _ in range(8):
+        tables[0] = [value >> 1 ^ (POLYNOMIAL if value & 1 else 0) for value in tables[0]]
+    for _ in range(3):
+        tables.append([value >> 8 ^ tables[0][value & 0xFF] for value in tables[-1]])
+    return tables
+
+
+TABLES = _tables()
+
+
+class ThinDevice(Device):
+    """A thin volume: its tree of blocks leads to those of its pool. What nobody wrote reads as zeros."""
+
+    def __init__(self, name: str, tree: Tree, data: Device, block: int, size: int) -> None:
+        super().__init__(name, size)
+        self._tree, self._data, self._block = tree, data, block
+        self._is_data_whole = data.lack(0, data.size) is None
+
+    def lack(self, start: int, size: int) -> Optional[str]:
+        if start + size > self.size or not self._is_data_whole:
+            return super().lack(start, size)
+        for entry in self._tree.entries(start // self._block, -(-(start + size) // self._block)):
+            if entry.why:
+                return entry.why
+            if ((entry.value >> TIME_BITS) + 1) * self._block > self._data.size:
+                return f"{self.name}: a block lies past the end of its pool: {ONE_TIME}"
+        return None
+
+    def _extents(self, start: int, size: int) -> Iterator[Extent]:
+        at, end = start, start + size
+        for entry in self._tree.entries(start // self._block, -(-end // self._block)):
+            first, stop = entry.key * self._block, min(end, entry.end * self._block)
+            if first > at:
+                yield Extent(ZEROS, 0, first - at)
+                at = first
+            if entry.why:
+                yield Extent(Missing(entry.why), 0, stop - at)
+            else:
+                yield from self._data.extents((entry.value >> TIME_BITS) * self._block + at - first, stop - at)
+            at = stop
+        if at < end:
+            yield Extent(ZEROS, 0, end - at)
+
+
+def thin_of(layout: Layout, name: str, segment: Segment, size: int) -> Device:
+    """The device of a thin segment: the tree of devices of its pool leads to its own."""
+    device, pool = number(segment.node, b"device_id"), layout.named(segment, b"thin_pool")
+    if not pool or len(pool.segments) != 1 or device is None or device < 0:
+        raise Refusal(name, "its text doesn't say in which pool it is: activate it with lvm2")
+    if segment.node.child(b"external_origin"):
+        raise Refusal(name, "it has an external origin, which isn't followed: activate it with lvm2")
+    segments = [other for volume in layout.group.volumes.values() for other in volume.segments if other.kind == b"thin"]
+    for other in (other for other in segments if other.node.child(b"merge")):
+        merged = layout.named(other, b"merge")
+        if device in (number(each.node, b"device_id") for each in [other, *(merged.segments[:1] if merged else ())]):
+            raise Refusal(name, "a thin snapshot is being merged, which isn't followed: activate it with lvm2")
+    meta, data = (layout.lower(pool.segments[0], key) for key in (b"metadata", b"pool"))
+    if not meta or not data:
+        raise Refusal(name, f"the text doesn't say where the pool {shown(pool.name)} is: activate it with lvm2")
+    superblock = ThinSuperblock(*THIN.unpack_from(checked(meta, 0, THIN_SUM)))
+    check_superblock(meta, superblock, superblock.magic == THIN_MAGIC, "a thin pool", "thin_check", "pool")
+    if superblock.data_block_size != number(pool.segments[0].node, b"chunk_size"):
+        raise Refusal(name, f"the pool's metadata has other blocks than the text: {ONE_TIME}")
+    told, here = number(pool.segments[0].node, b"transaction_id"), superblock.trans_id
+    if told is not None and abs(told - here) > 1:
+        raise Refusal(name, f"the pool's metadata has the transaction {here}, and the text {told}: {ONE_TIME}")
+    root = next(Tree(meta, superblock.data_mapping_root).entries(device, device + 1), None)
+    if root is None:
+        raise Refusal(name, f"the pool's metadata has no device {device}: it was deleted from the pool, and `scan` "
+                      "lists what is left")
+    if root.why:
+        raise Refusal(name, root.why)
+    return ThinDevice(name, Tree(meta, root.value), data, superblock.data_block_size * SECTOR, size)
+
+
+def cached_of(layout: Layout, name: str, segment: Segment, size: int) -> Device:
+    """The device of a cached segment: a block that is mapped is read from the cache, any other from the origin. Which
+    blocks are dirty needn't be asked: a mapped block is never older than the origin's."""
+    pool, origin = (segment.node.value(key, bytes) for key in (b"cache_pool", b"origin"))
+    if not isinstance(pool, bytes) or not isinstance(origin, bytes):
+        raise Refusal(name, "its text doesn't say what is cached where: activate it with lvm2")
+    meta, data, settings = cache_of(layout, segment, pool)
+    if not meta or not data:
+        raise Refusal(name, "its text doesn't say where the cache's metadata is: activate it with lvm2")
+    mode = segment.node.value(b"cache_mode", bytes) or settings.node.value(b"cache_mode", bytes)
+    if mode not in (None, *MODES):
+        raise Refusal(name, f"a cache of the mode {mode!r} isn't followed: activate it with lvm2")
+    superblock = CacheSuperblock(*CACHE.unpack_from(checked(meta, 0, CACHE_SUM)))
+    check_superblock(meta, superblock, superblock.magic == CACHE_MAGIC, "a cache", "cache_check", "volume")
+    if superblock.data_block_size != number(settings.node, b"chunk_size"):
+        raise Refusal(name, f"the cache's metadata has other blocks than the text: {ONE_TIME}")
+    block = superblock.data_block_size * SECTOR
+    if superblock.cache_blocks * block > data.size:
+        raise Refusal(name, f"the cache's metadata counts more blocks than the cache has: {ONE_TIME}")
+    values = itertools.islice(array_values(meta, superblock.mapping_root), superblock.cache_blocks)
+    pairs = sorted((value >> FLAG_BITS, place) for place, value in enumerate(values) if value & VALID)
+    if any(one[0] == other[0] for one, other in zip(pairs, pairs[1:])) or pairs and pairs[-1][0] * block >= size:
+        raise Refusal(name, ODD_CACHE)
+    return Overlaid(name, layout.plain(origin), data, block, pairs, size)
+
+
+def cache_of(layout: Layout, segment: Segment, pool: bytes) -> Tuple[Optional[Device], Optional[Device], Segment]:
+    """The metadata and the data of a cache, a pool's or runs of one volume, and the segment that says its blocks."""
+    volume = layout.group.volumes.get(pool)
+    if segment.node.child(b"metadata_start"):
+        runs = [number(segment.node, key) for key in (b"metadata_start", b"metadata_len", b"data_start", b"data_len")]
+        places = [run * SECTOR for run in runs if run is not None and run >= 0]
+        if len(places) == 4:
+            whole = layout.plain(pool)
+            return Part(whole.name, whole, *places[:2]), Part(whole.name, whole, *places[2:]), segment
+    elif volume and len(volume.segments) == 1:
+        inner = volume.segments[0]
+        return layout.lower(inner, b"metadata"), layout.lower(inner, b"data"), inner
+    return None, None, segment
