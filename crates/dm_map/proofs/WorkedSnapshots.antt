@@ -135,18 +135,18 @@ served = record {
 
 served_taken : request_step served Write 1 0 1 (start_state served)
     ≡ keep (CopyOf 0 0 1 16 ∷ CopyOf 0 1 1 17 ∷ CopyOf 0 2 1 18 ∷ CopyOf 0 3 1 19 ∷ CopyOf 0 4 1 20 ∷ CopyOf 0 5 1 21 ∷ CopyOf 0 6 1 22 ∷ CopyOf 0 7 1 23 ∷ WriteOf 1 16 ∷ []) (none_taken ∷ has_taken (0 ∷ []) ∷ [])
-unfolding write_step read_unit home_to
+unfolding write_step read_unit home_to lib.Count.ones
 served_taken = refl
 
 served_refused : request_step served Write 1 8 1 (none_taken ∷ has_taken (0 ∷ []) ∷ []) ≡ keep (Fails ∷ []) (none_taken ∷ has_taken (0 ∷ []) ∷ [])
-unfolding write_step
+unfolding write_step lib.Count.ones
 served_refused = refl
 
 served_read : request_step served Read 1 0 1 (none_taken ∷ has_taken (0 ∷ []) ∷ []) ≡ keep (ReadOf 1 16 ∷ []) (none_taken ∷ has_taken (0 ∷ []) ∷ [])
-unfolding read_unit
+unfolding read_unit lib.Count.ones
 served_read = refl
 
 -- the origin can't wait: what s had there is gone, and s with it
 served_lost : request_step served Write 0 8 1 (none_taken ∷ has_taken (0 ∷ []) ∷ []) ≡ keep (WriteOf 0 8 ∷ []) (none_taken ∷ has_lost (0 ∷ []) ∷ [])
-unfolding write_step serve snapshots_over all_over
+unfolding write_step serve snapshots_over all_over lib.Count.ones
 served_lost = refl

@@ -5,6 +5,7 @@ pub mod SnapshotRule
 pub mod SoundLines
 mod WorkedOrigins
 -- what crates above cite: they see no folder of a module that is private
+pub use Rattle.dm_stack.proofs.checks.ChunkLemmas
 pub use Rattle.dm_stack.proofs.checks.DepthLemmas
 pub use Rattle.dm_stack.proofs.checks.HandedOn
 pub use Rattle.dm_stack.proofs.checks.LayoutLemmas

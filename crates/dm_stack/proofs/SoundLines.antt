@@ -130,8 +130,8 @@ snapshot_sound stack id lines line origin store kind chunk whole good stored =
     let limits = chunk_within chunk b.0 in
     let alone = whole (eqb-true _ _ (not-false _ a.0)) in
     record {
-      chunk_some = limits.0;
-      chunk_small = limits.1;
+      chunk_some = rw b.0 limits.0;
+      chunk_small = rw b.0 limits.1;
       from = alone.from;
       whole = alone.len;
       origin = sym (eqb-true _ _ (not-false _ b.1));

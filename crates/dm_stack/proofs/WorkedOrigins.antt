@@ -46,7 +46,7 @@ abbrev served : List ResolvedOver
 served = record { device = 1; snapshot = record { origin = Disk 0; store = Disk 1; kind = Persistent; chunk = 8 } } ∷ record { device = 3; snapshot = record { origin = Disk 0; store = Disk 2; kind = Persistent; chunk = 4 } } ∷ []
 
 origin_line : found_at sample 0 3 ≡ Some (record { start = 0; len = 16; target = found.Origin (record { to = Disk 0; over = served }) })
-unfolding snapshots_over all_over
+unfolding snapshots_over all_over lib.Count.ones
 origin_line = refl
 
 origin_below : below (λ snapshot sector. IsError) sample 0 3 ≡ Lies (Disk 0) 3

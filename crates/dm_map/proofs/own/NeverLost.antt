@@ -21,8 +21,9 @@ use Rattle.dm_stack.specs.lines.Below.{IsSnapshotSound, found_at, resolved_targe
 use Rattle.dm_stack.specs.lines.StoreLayout.{place_count}
 use Rattle.dm_stack.specs.claims.Claims.{IsTidy, IsTop}
 use Rattle.dm_stack.specs.Description.{Description, device_len, lines_at, lower_len}
-use Rattle.dm_stack.specs.checks.Soundness.{IsSound}
-use Rattle.dm_stack.proofs.SoundLines.{found, lines_there, of_device, there}
+use Rattle.dm_stack.specs.checks.Soundness.{HasGoodChunk, IsSound}
+use Rattle.dm_stack.proofs.SoundLines.{device_sound, found, lines_there, of_device, there}
+use Rattle.dm_stack.proofs.ChunkLemmas.{good_lines}
 use Rattle.dm_stack.proofs.StoreLayoutLemmas.{has_place}
 use Rattle.dm_map.specs.own.Ample.{AreOwnChunks, AreExact, IsAmple, IsAmpleTarget, IsIntact, chunk_count}
 use Rattle.dm_map.specs.own.Contents.{Stays, Values, content, played, sector_past, value_read}
@@ -58,10 +59,10 @@ IsAmpleFound stack len founds.Error = ⊥
 IsAmpleFound stack len (founds.Snapshot snapshot) = chunk_count snapshot.chunk len ≤ place_count snapshot.kind snapshot.chunk (lower_len stack snapshot.store)
 IsAmpleFound stack len _ = Unit {0}
 
-ample_target : (stack : Description) (len : ℕ) (target : Target) → IsAmpleTarget stack len target → IsAmpleFound stack len (resolved_target stack target)
-ample_target stack len targets.Error ample = ample
-ample_target stack len (targets.Snapshot origin store kind chunk) ample = ample
-ample_target stack len _ ample = tt
+ample_target : (stack : Description) (len : ℕ) (target : Target) → HasGoodChunk target → IsAmpleTarget stack len target → IsAmpleFound stack len (resolved_target stack target)
+ample_target stack len targets.Error good ample = ample
+ample_target stack len (targets.Snapshot origin store kind chunk) good ample = rw good ample
+ample_target stack len _ good ample = tt
 
 ample_line : (stack : Description) (device sector : ℕ) (line : ResolvedLine) → IsSound stack → IsAmple stack → found_at stack device sector ≡ Some line → IsAmpleFound stack line.len line.target
 ample_line stack device sector line sound ample is =
@@ -71,7 +72,9 @@ ample_line stack device sector line sound ample is =
     let P : Line → Type 0 = λ it. IsAmpleTarget stack it.len it.target in
     let held : line_of d.it.lines sector ≡ Some raw.0 = rw (← lines) raw.1 in
     let each = of_device P stack.devices device d.it ample d.at in
-    subst (λ (l : ResolvedLine). IsAmpleFound stack l.len l.target) raw.2 (ample_target stack raw.0.len raw.0.target (found P (holds sector) d.it.lines raw.0 each held).1)
+    let fitting = good_lines stack (length d.it.lines) d.it.lines (device_sound stack device d.it sound d.at).fitting in
+    let good : HasGoodChunk raw.0.target = (found (λ it. HasGoodChunk it.target) (holds sector) d.it.lines raw.0 fitting held).1 in
+    subst (λ (l : ResolvedLine). IsAmpleFound stack l.len l.target) raw.2 (ample_target stack raw.0.len raw.0.target good (found P (holds sector) d.it.lines raw.0 each held).1)
 
 ample_error : (stack : Description) (device sector : ℕ) (line : ResolvedLine) → IsSound stack → IsAmple stack → found_at stack device sector ≡ Some line → line.target ≡ founds.Error → ⊥
 ample_error stack device sector line sound ample is target = subst (IsAmpleFound stack line.len) target (ample_line stack device sector line sound ample is)

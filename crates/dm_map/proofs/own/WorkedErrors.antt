@@ -57,17 +57,17 @@ abbrev chunk_1 : StoreKind → Due
 chunk_1 kind = record { device = 1; snapshot = over_disk kind; chunk = 1 }
 
 own_due : due (sample Persistent 24 targets.Zero) full (Device 1) 8 ≡ chunk_1 Persistent ∷ []
-unfolding due_in
+unfolding due_in lib.Count.ones
 own_due = refl
 
 -- a store that keeps what it has refuses its own write
 refused : due (sample Keeping 24 targets.Zero) full (Device 1) 8 ≡ []
-unfolding due_in
+unfolding due_in lib.Count.ones
 refused = refl
 
 -- but not that of its origin
 served_due : due (sample Keeping 24 targets.Zero) full (Device 0) 8 ≡ chunk_1 Keeping ∷ []
-unfolding due_in serve snapshots_over all_over
+unfolding due_in serve snapshots_over all_over lib.Count.ones
 served_due = refl
 
 -- which finds no place

@@ -27,7 +27,7 @@ good_chunk stack lines len (targets.Snapshot origin store kind chunk) good =
     (or_parts (is_bad_chunk chunk) (not (len == lower_len stack (lower_of stack origin))) a.1).0
 good_chunk stack lines len _ good = tt
 
-good_lines : (stack : Description) (count : ℕ) (lines : List Line) → AllByRecursion (λ line. is_bad_snapshot stack count line.len line.target ≡ false) lines → AllByRecursion (λ line. HasGoodChunk line.target) lines
+pub good_lines : (stack : Description) (count : ℕ) (lines : List Line) → AllByRecursion (λ line. is_bad_snapshot stack count line.len line.target ≡ false) lines → AllByRecursion (λ line. HasGoodChunk line.target) lines
 good_lines stack count [] good = tt
 good_lines stack count (line ∷ lines) good = (good_chunk stack count line.len line.target good.0, good_lines stack count lines good.1)
 

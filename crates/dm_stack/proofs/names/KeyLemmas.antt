@@ -1,6 +1,5 @@
 -- Keys of names: what is kept of sixteen bytes, and that a key is of one name.
 use Rattle.std.proofs.Common.{◌≡◌, ℕ, zero, suc, ◌+◌, ◌-◌, ◌%◌, ◌^◌, ◌<◌, not, cond, Bool, true, false, List, [], ◌∷◌, ◌++◌, Some, get_or, length, map, take, drop, replicate, refl, sym, ap, ◌∙◌, arith, bit_and}
-use Rattle.std.specs.Int.{to_le_bytes, w64}
 use Rattle.std.specs.List.{All, list_any, prefix_len, slice_get, slice_range}
 use Rattle.std.proofs.Math.Seq.{take-append_seam}
 use Rattle.std.proofs.lemmas.List.{drop_more, take-append-drop}

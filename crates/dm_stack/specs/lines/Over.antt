@@ -1,5 +1,5 @@
 -- The snapshots of an origin (the kernel's admin guide, device-mapper/snapshot).
-use Rattle.std.specs.Prelude.{ℕ, List, [], ◌∷◌, filter, length}
+use Rattle.std.specs.Prelude.{ℕ, List, [], ◌∷◌, filter, length, if◌then◌else◌}
 use Rattle.std.specs.List.{flat_map, range_with_len}
 use Rattle.dm_table.specs.declared.tables.table.DevRef.{DevRef}
 use Rattle.dm_table.specs.declared.tables.table.StoreKind.{StoreKind}
@@ -9,10 +9,15 @@ use Rattle.dm_stack.specs.declared.lines.resolved_line.ResolvedOver.{ResolvedOve
 use Rattle.dm_stack.specs.declared.lines.resolved_line.ResolvedSnapshot.{ResolvedSnapshot}
 use Rattle.dm_stack.specs.declared.id.Lower.{Lower}
 use Rattle.dm_stack.specs.Description.{Description, is_same_lower, lines_at, lower_of}
+use Rattle.dm_stack.specs.checks.Soundness.{is_bad_chunk}
+
+-- a chunk that is within its limits; 1 for any other, which a load refuses
+abbrev pub fit_chunk : ℕ → ℕ
+fit_chunk chunk = if is_bad_chunk chunk then 1 else chunk
 
 -- what a snapshot's line says, with ids for names
 abbrev pub resolved_snapshot : Description → (origin store : DevRef) → StoreKind → (chunk : ℕ) → ResolvedSnapshot
-resolved_snapshot stack origin store kind chunk = record { origin = lower_of stack origin; store = lower_of stack store; kind = kind; chunk = chunk }
+resolved_snapshot stack origin store kind chunk = record { origin = lower_of stack origin; store = lower_of stack store; kind = kind; chunk = fit_chunk chunk }
 
 -- the snapshot that a line of a device with this target is; one of any other target is none
 abbrev pub over_of : Description → (device : ℕ) → Target → List ResolvedOver

@@ -9,11 +9,11 @@ ghost use Rattle.std.specs.Result.{result_err};
 ghost use Rattle.dm_table.specs.load.LoadFault.{first_or};
 ghost use Rattle.dm_stack.specs.Description.{described};
 ghost use Rattle.dm_stack.specs.checks.Snapshots.{has_snapshot, snapshots};
-ghost use Rattle.dm_stack.specs.checks.Soundness.{is_bad_chunk, is_bad_snapshot, snapshot, bad_snapshots_in};
+ghost use Rattle.dm_stack.specs.checks.Soundness.{is_bad_snapshot, snapshot, bad_snapshots_in};
 
 use crate::checks::faults::check_each;
-use crate::checks::limits::MOST_SNAPSHOT_CHUNK;
 use crate::id::DeviceId;
+use crate::lines::chunk_size::is_bad_chunk;
 use crate::names::indexed::Indexed;
 use dm_table::{DeviceSpec, Line, LoadFault, LoadKind, Target};
 use std::alloc::{AllocError, Global};
@@ -53,13 +53,6 @@ fn is_bad_snapshot(stack: &Indexed, lines: usize, len: u64, target: &Target) -> 
         Target::Origin { origin } => lines != 1 || len != stack.len_of(origin),
         _ => false,
     }
-}
-
-/// Whether a chunk is no power of two from 1 to 1,024.
-fn is_bad_chunk(chunk: u64) -> bool
-    ensures { result ≡ is_bad_chunk chunk }
-{
-    MOST_SNAPSHOT_CHUNK < chunk || !chunk.is_power_of_two()
 }
 
 /// The devices that are snapshots, in their order.

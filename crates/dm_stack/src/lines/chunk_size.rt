@@ -5,10 +5,12 @@
 //! This is here for speed alone: RESULTS.md has its gain as *chunk sizes by their exponent*. It rests on sizes that
 //! are powers of two, which a load checks. Change it only if you measure random first writes before and after.
 
-ghost use Rattle.std.specs.Prelude.{◌≡◌, ◌*◌, ◌/◌, ◌%◌, ◌<◌, ◌≤◌, false};
+ghost use Rattle.std.specs.Prelude.{◌≡◌, ◌*◌, ◌/◌, ◌%◌, ◌<◌, ◌≤◌};
 ghost use Rattle.dm_stack.specs.checks.Soundness.{is_bad_chunk};
 ghost use Rattle.dm_stack.specs.declared.checks.limits.TheConstants.{MOST_SNAPSHOT_CHUNK};
+ghost use Rattle.dm_stack.specs.lines.Over.{fit_chunk};
 
+use crate::checks::limits::MOST_SNAPSHOT_CHUNK;
 use std::marker::Model;
 
 /// The number of sectors of a snapshot's chunks: a power of two from 1 to 1,024. Clauses see it as the number.
@@ -34,12 +36,14 @@ impl Model for ChunkSize {
 }
 
 impl ChunkSize {
-    /// The size of chunks of this many sectors.
+    /// The size of chunks of this many sectors; 1 where a load refuses chunks of so many.
     #[tactic(auto, using(crate::proofs::checks::ChunkLemmas::chunk_within, crate::proofs::lines::ChunkSizes::exponent_of))]
     pub(crate) fn new(sectors: u64) -> ChunkSize
-        requires { is_bad_chunk sectors ≡ false }
-        ensures { result ≡ sectors }
+        ensures { result ≡ fit_chunk sectors }
     {
+        if is_bad_chunk(sectors) {
+            return ChunkSize { shift: 0 };
+        }
         ChunkSize {
             shift: sectors.ilog2(),
         }
@@ -82,4 +86,11 @@ impl ChunkSize {
     {
         numbers >> (self.shift + 5)
     }
+}
+
+/// Whether a chunk is no power of two from 1 to 1,024.
+pub(crate) fn is_bad_chunk(chunk: u64) -> bool
+    ensures { result ≡ is_bad_chunk chunk }
+{
+    MOST_SNAPSHOT_CHUNK < chunk || !chunk.is_power_of_two()
 }

@@ -3,11 +3,10 @@
 //! All snapshots of a stack are collected once a load, and each line of an origin has a copy of its
 //! own, so that a write to one neither goes over the devices nor searches their lines.
 
-ghost use Rattle.std.specs.Prelude.{◌≡◌, ◌++◌, false, IfOk, OnOk, filter};
-ghost use Rattle.std.specs.List.{All, flat_map};
+ghost use Rattle.std.specs.Prelude.{◌≡◌, ◌++◌, IfOk, OnOk, filter};
+ghost use Rattle.std.specs.List.{flat_map};
 ghost use Rattle.dm_stack.specs.Description.{is_same_lower};
 ghost use Rattle.dm_stack.specs.lines.Over.{all_over, resolved_snapshot, over_of};
-ghost use Rattle.dm_stack.specs.checks.Soundness.{is_bad_chunk, HasGoodChunk, HaveGoodChunks};
 
 use crate::id::{DeviceId, Lower};
 use crate::lines::chunk_size::ChunkSize;
@@ -16,11 +15,10 @@ use crate::names::indexed::Indexed;
 use dm_table::{DevRef, Line, Listed, StoreKind, Target};
 use std::alloc::{AllocError, Global};
 
-/// All snapshots of a stack, whose chunks are within their limits, in the order of their devices.
+/// All snapshots of a stack, in the order of their devices.
 ///
 /// Fails only when out of memory. Cost: a walk over the lines, with memory for each snapshot.
 pub(crate) fn all_over(alloc: Global, stack: &Indexed) -> Result<Vec<ResolvedOver>, AllocError>
-    requires { All (λ device. HaveGoodChunks device.lines) stack.now.devices }
     ensures { IfOk result (λ over. over.items ≡ all_over stack.now) }
 {
     let mut over = Vec::new(alloc);
@@ -37,7 +35,6 @@ fn add_lines(
     device: DeviceId,
     lines: &[Line],
 ) -> Result<(), AllocError>
-    requires { HaveGoodChunks lines.now }
     ensures { OnOk result (over.new.items
         ≡ over.old.items ++ flat_map (λ line. over_of stack.now device line.target) lines.now) }
 {
@@ -54,7 +51,6 @@ fn add_line(
     device: DeviceId,
     target: &Target,
 ) -> Result<(), AllocError>
-    requires { HasGoodChunk target.now }
     ensures { OnOk result (over.new.items ≡ over.old.items ++ over_of stack.now device target.now) }
 {
     if let Target::Snapshot {
@@ -70,7 +66,7 @@ fn add_line(
     Ok(())
 }
 
-/// What the line of a snapshot with a chunk within its limits says, with ids for names.
+/// What the line of a snapshot says, with ids for names.
 pub(crate) fn resolved_snapshot(
     stack: &Indexed,
     origin: &DevRef,
@@ -78,7 +74,6 @@ pub(crate) fn resolved_snapshot(
     kind: StoreKind,
     chunk: u64,
 ) -> ResolvedSnapshot
-    requires { is_bad_chunk chunk ≡ false }
     ensures { result ≡ resolved_snapshot stack.now origin.now store.now kind chunk }
 {
     ResolvedSnapshot {

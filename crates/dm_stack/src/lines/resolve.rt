@@ -4,13 +4,12 @@
 //! nothing. A new target is an arm of `target` here and of `resolved_target` in the specs.
 
 ghost use Rattle.std.specs.Prelude.{◌≡◌, IfOk, None, map};
-ghost use Rattle.std.specs.List.{All};
 ghost use Rattle.std.specs.Result.{result_err};
 ghost use Rattle.dm_table.specs.load.LoadFault.{first_or};
 ghost use Rattle.dm_stack.specs.lines.Below.{resolved_columns, resolved_line, resolved_target};
 ghost use Rattle.dm_stack.specs.Stack.{resolved_device};
 ghost use Rattle.dm_stack.specs.lines.Over.{all_over};
-ghost use Rattle.dm_stack.specs.checks.Soundness.{HasGoodChunk, HaveGoodChunks, is_unknown, unknown};
+ghost use Rattle.dm_stack.specs.checks.Soundness.{is_unknown, unknown};
 
 use crate::checks::faults::check_lines;
 use crate::checks::layout::end_of;
@@ -50,7 +49,6 @@ pub(crate) fn resolved_devices(
     alloc: Global,
     stack: &Indexed,
 ) -> Result<Vec<ResolvedDevice>, AllocError>
-    requires { All (λ device. HaveGoodChunks device.lines) stack.now.devices }
     ensures { IfOk result (λ found. found.items ≡ map (resolved_device stack.now) stack.now.devices) }
 {
     let over = all_over(alloc, stack)?;
@@ -74,8 +72,7 @@ fn table(
     over: &[ResolvedOver],
     lines: &[Line],
 ) -> Result<ResolvedTable, AllocError>
-    requires over { over.now ≡ all_over stack.now }
-    requires chunks { HaveGoodChunks lines.now }
+    requires { over.now ≡ all_over stack.now }
     ensures { IfOk result (λ table. table ≡ map (resolved_line stack.now) lines.now) }
 {
     let mut by_ids = Vec::with_capacity(alloc, lines.len())?;
@@ -97,8 +94,7 @@ fn target(
     over: &[ResolvedOver],
     target: &Target,
 ) -> Result<ResolvedTarget, AllocError>
-    requires over { over.now ≡ all_over stack.now }
-    requires chunk { HasGoodChunk target.now }
+    requires { over.now ≡ all_over stack.now }
     ensures { IfOk result (λ by_ids. by_ids ≡ resolved_target stack.now target.now) }
 {
     match target {

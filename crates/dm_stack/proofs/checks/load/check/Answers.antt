@@ -147,9 +147,6 @@ check_starts-requires c =
     let stack : Description = record { devices = c.args.devices.now; disks = c.args.disks.now } in
     ends_within stack (first_or-none (too_large stack) None (sym c.in_ok-check_numbers.ensures)).0
 
-pub resolved_devices-requires : goal.resolved_devices-requires
-resolved_devices-requires c = good_chunks c.new-stack.result (first_or-none (snapshot c.new-stack.result) None (sym c.in_ok-check_snapshots.ensures)).0
-
 pub check_places-requires : goal.check_places-requires
 check_places-requires c = good_chunks c.new-stack.result (first_or-none (snapshot c.new-stack.result) None (sym c.in_ok-check_snapshots.ensures)).0
 

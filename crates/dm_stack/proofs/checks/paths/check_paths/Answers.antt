@@ -1,5 +1,4 @@
-use Rattle.std.proofs.Common.{◌≡◌, None}
-use Rattle.dm_table.specs.load.LoadFault.{faults_by, first_or}
+use Rattle.dm_table.specs.load.LoadFault.{faults_by}
 use Rattle.dm_table.specs.declared.load.load_fault.LoadKind.TheVariants.{Unknown}
 use Rattle.dm_table.specs.declared.tables.disk_path.DiskPath.{DiskPath}
 use Rattle.dm_stack.specs.checks.Paths.{is_unknown_path}
