@@ -37,19 +37,19 @@ written = request 1 Write 0 0 1 ∷ request 2 Write 1 0 1 ∷ []
 
 -- neither reads what the other wrote, and each is like its row
 own_read : asked_answers sample (world_after sample written) (request 3 Read 0 0 3) ≡ Gives (value.Wrote 1 0) ∷ Gives (value.Old 0 1) ∷ Gives (value.Old 0 2) ∷ []
-unfolding world_from contents_played played_answers write_step read_unit home_to
+unfolding world_from contents_played played_answers write_step read_unit home_to lib.Count.ones
 own_read = refl
 
 other_read : asked_answers sample (world_after sample written) (request 3 Read 1 0 2) ≡ Gives (value.Wrote 2 0) ∷ Gives (value.Old 0 1) ∷ []
-unfolding world_from contents_played played_answers write_step read_unit home_to
+unfolding world_from contents_played played_answers write_step read_unit home_to lib.Count.ones
 other_read = refl
 
 own_row : rows_after sample written 0 0 ≡ Some (value.Wrote 1 0)
-unfolding rows_from rows_played write_step read_unit home_to
+unfolding rows_from rows_played write_step read_unit home_to lib.Count.ones
 own_row = refl
 
 other_row : rows_after sample written 1 0 ≡ Some (value.Wrote 2 0)
-unfolding rows_from rows_played write_step read_unit home_to
+unfolding rows_from rows_played write_step read_unit home_to lib.Count.ones
 other_row = refl
 
 -- request 3 takes a second chunk of s, for which there is no place
@@ -58,16 +58,16 @@ overfull = request 1 Write 0 0 1 ∷ request 2 Write 1 0 1 ∷ request 3 Write 0
 
 -- s is lost: its row stays, and its sectors are errors
 lost_read : asked_answers sample (world_after sample overfull) (request 4 Read 0 0 3) ≡ Failed ∷ Failed ∷ Failed ∷ []
-unfolding world_from contents_played played_answers write_step read_unit home_to
+unfolding world_from contents_played played_answers write_step read_unit home_to lib.Count.ones
 lost_read = refl
 
 lost_row : rows_after sample overfull 0 0 ≡ Some (value.Wrote 1 0)
-unfolding rows_from rows_played write_step read_unit home_to
+unfolding rows_from rows_played write_step read_unit home_to lib.Count.ones
 lost_row = refl
 
 -- the write that failed is in no row
 failed_row : rows_after sample overfull 0 2 ≡ Some (value.Old 0 2)
-unfolding rows_from rows_played write_step read_unit home_to
+unfolding rows_from rows_played write_step read_unit home_to lib.Count.ones
 failed_row = refl
 
 -- request 1 writes two sectors of s, which are one chunk: it has two copies and two writes, of which the first three are played
@@ -76,11 +76,11 @@ halted = request_to (Some 3) 1 Write 0 0 2 ∷ []
 
 -- the sector that was written is read, and the chunk is taken
 halted_read : asked_answers sample (world_after sample halted) (request 2 Read 0 0 3) ≡ Gives (value.Wrote 1 0) ∷ Gives (value.Old 0 1) ∷ Gives (value.Old 0 2) ∷ []
-unfolding world_from contents_played played_answers sector_past write_step read_unit home_to
+unfolding world_from contents_played played_answers sector_past write_step read_unit home_to lib.Count.ones
 halted_read = refl
 
 halted_row : rows_after sample halted 0 0 ≡ Some (value.Wrote 1 0)
-unfolding rows_from rows_played write_step read_unit home_to
+unfolding rows_from rows_played write_step read_unit home_to lib.Count.ones
 halted_row = refl
 
 -- of another one only the copies: its chunk is not taken, and the place is taken by a later write
@@ -88,5 +88,5 @@ abbrev torn : List Asked
 torn = request_to (Some 2) 1 Write 0 0 2 ∷ request 2 Write 0 2 1 ∷ []
 
 torn_read : asked_answers sample (world_after sample torn) (request 3 Read 0 0 4) ≡ Gives (value.Old 0 0) ∷ Gives (value.Old 0 1) ∷ Gives (value.Wrote 2 2) ∷ Gives (value.Old 0 3) ∷ []
-unfolding world_from contents_played played_answers sector_past write_step read_unit home_to
+unfolding world_from contents_played played_answers sector_past write_step read_unit home_to lib.Count.ones
 torn_read = refl
