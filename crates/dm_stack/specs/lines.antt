@@ -4,5 +4,6 @@ pub mod ResolvedColumns
 pub mod Leg
 pub mod LineSearch
 pub mod Over
+pub mod Span
 pub mod StoreLayout
 pub mod StripePosition

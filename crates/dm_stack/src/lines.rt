@@ -8,6 +8,7 @@ pub mod line_search;
 pub mod over;
 pub mod prefetched;
 pub mod resolve;
+pub mod resolved;
 pub mod resolved_columns;
 pub mod resolved_line;
 pub mod resolved_table;

@@ -37,9 +37,9 @@ use crate::claims::tidy::first_clash;
 use crate::id::{DeviceId, DiskId};
 use crate::lines::line_search::{LastLine, find};
 use crate::lines::prefetched::Prefetched;
+use crate::lines::resolved::Resolved;
 use crate::lines::resolved_line::Found;
 use crate::lines::resolved_table::ResolvedDevice;
-use crate::names::indexed::Indexed;
 use crate::names::name_index::NameIndex;
 use dm_table::{DeviceSpec, Disk, Listed, LoadFault, Reserved};
 use std::alloc::{AllocError, Global};
@@ -281,22 +281,22 @@ impl Stack {
 
     /// Whether no line names a device of the stack, so that none claims any of it.
     ///
-    /// No memory is taken. Cost: a look-up for each line of the stack and each of its columns.
+    /// No memory is taken. Cost: linear in the lines of the stack and their columns.
     pub fn is_top(&self, device: DeviceId) -> bool
         requires { device < length self.now.devices }
         ensures { IsTrue result ↔ IsTop self.now device }
     {
-        !is_named(&self.indexed(), device)
+        !is_named(&self.resolved(), device)
     }
 
     /// For each device of the stack, whether no line names it: what `is_top` answers, for all of them at once.
     ///
-    /// Fails only when out of memory. Cost: a look-up for each line of the stack and each of its columns, with
-    /// memory for the claims.
+    /// Fails only when out of memory. Cost: linear in the lines of the stack and their columns, with memory for the
+    /// claims.
     pub fn tops(&self, alloc: Global) -> Result<Vec<bool>, AllocError>
         ensures { IfOk result (λ tops. AreTops self.now tops.items) }
     {
-        let claims = claims(alloc, &self.indexed())?;
+        let claims = claims(alloc, &self.resolved())?;
         unclaimed(alloc, &claims, self.device_count())
     }
 
@@ -320,7 +320,7 @@ impl Stack {
         ensures one { (all : List Claim) (found other : Option Clash)
             → IsFirstClash all found → IsFirstClash all other → found ≡ other }
     {
-        let claims = claims(alloc, &self.indexed())?;
+        let claims = claims(alloc, &self.resolved())?;
         // A name that is not there would have the count as its id, so ids are at most that.
         first_clash(
             alloc,
@@ -348,16 +348,15 @@ impl Stack {
         self.disks.as_slice()[disk.index()].name.as_str()
     }
 
-    /// The description, with its names indexed.
-    fn indexed(&self) -> Indexed<'_>
+    /// The description, with its lines by ids.
+    fn resolved(&self) -> Resolved<'_>
         ensures description { result ≡ self.now }
         ensures sound { IsSound self.now }
     {
-        Indexed::new(
+        Resolved::new(
             self.devices.as_slice(),
             self.disks.as_slice(),
-            &self.device_names,
-            &self.disk_names,
+            self.found.as_slice(),
         )
     }
 

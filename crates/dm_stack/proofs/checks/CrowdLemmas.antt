@@ -5,16 +5,19 @@ use Rattle.std.proofs.lemmas.Bool.{le-ltb, ltb-false}
 use Rattle.std.proofs.lemmas.List.Sums.{sum_by-cons}
 use Rattle.dm_table.specs.declared.load.place.Place.{Place}
 use Rattle.dm_table.specs.declared.tables.table.Line.{Line}
+use Rattle.dm_table.specs.declared.tables.table.Target.{Target}
+use Rattle.dm_table.specs.declared.tables.table.Target.TheVariants as targets
 use Rattle.dm_table.specs.declared.load.load_fault.LoadKind.{LoadKind}
 use Rattle.dm_table.specs.declared.load.load_fault.LoadKind.TheVariants.{Limit}
 use Rattle.dm_table.specs.declared.load.load_fault.LoadFault.{LoadFault}
 use Rattle.dm_table.specs.load.LoadFault.{fault, faults_by, first_or}
 use Rattle.dm_stack.specs.Description.{Description}
-use Rattle.dm_stack.specs.checks.StoreLimit.{all_places}
-use Rattle.dm_stack.specs.checks.Soundness.{IsSound, WithBefore, all_lines, checks_after, target_places, with_before}
+use Rattle.dm_stack.specs.checks.StoreLimit.{all_places, places_of}
+use Rattle.dm_stack.specs.lines.Below.{resolved_target}
+use Rattle.dm_stack.specs.checks.Soundness.{HasGoodChunk, IsSound, WithBefore, all_lines, checks_after, target_places, with_before}
 use Rattle.dm_table.proofs.FaultLemmas.{first_fault-none}
 use Rattle.dm_stack.proofs.checks.Passes.{cond_none}
-use Rattle.dm_stack.proofs.checks.PlacedLemmas.{next_of}
+use Rattle.dm_stack.proofs.checks.PlacedLemmas.{next_before}
 use Rattle.dm_stack.proofs.checks.WithBefore.{further_on}
 
 -- Faults at elements that are made of others, or by a test that agrees
@@ -32,6 +35,11 @@ by_same kind place bad worse (x ∷ xs) same = let here = same x in let later = 
 abbrev pub line_places : Description → Line → ℕ
 line_places stack line = target_places stack line.target
 
+-- by what the line says by ids, where its chunk is a good one
+pub places_are : (stack : Description) (target : Target) → HasGoodChunk target → places_of stack (resolved_target stack target) ≡ target_places stack target
+places_are stack (targets.Snapshot origin store kind chunk) good = rw good
+places_are stack _ good = refl
+
 abbrev pub passes_most : Description → ℕ → WithBefore Line → Bool
 passes_most stack used line = nat_lt 4194304 (used + (sum_by (line_places stack) line.before + line_places stack line.it))
 
@@ -47,13 +55,10 @@ crowded_next stack used line lines few =
 
 -- The next line of a device, before the lines of later devices
 
-next_line : (items rest : List Line) (i : ℕ) (line : Line) → i < length items → line ≡ get_or items i line → drop i items ++ rest ≡ line ∷ (drop (i + 1) items ++ rest)
-next_line items rest i line within is = rw (next_of items i line within is)
-
 pub crowded_passes : (stack : Description) (used places : ℕ) (items rest : List Line) (i : ℕ) (line : Line) → i < length items → line ≡ get_or items i line → places ≡ line_places stack line → used + places ≤ 4194304
     → first_or (crowded_from stack (used + places) (drop (i + 1) items ++ rest)) None ≡ first_or (crowded_from stack used (drop i items ++ rest)) None
 crowded_passes stack used places items rest i line within is are few =
-    rw are (cc (crowded_next stack used line (drop (i + 1) items ++ rest) (omega (arith, are, few)), next_line items rest i line within is))
+    rw are (cc (crowded_next stack used line (drop (i + 1) items ++ rest) (omega (arith, are, few)), next_before items rest i line within is))
 
 -- Where no line is found
 

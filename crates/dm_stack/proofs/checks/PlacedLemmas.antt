@@ -1,5 +1,6 @@
 -- A walk over a list by what a test says of its next element.
-use Rattle.std.proofs.Common.{◌≡◌, ℕ, ◌+◌, ◌<◌, Bool, true, false, List, ◌∷◌, Some, None, sym, ◌∙◌, drop, get_or, length}
+use Rattle.std.proofs.Common.{◌≡◌, ℕ, ◌+◌, ◌<◌, Bool, true, false, List, ◌∷◌, ◌++◌, Some, None, sym, ◌∙◌, drop, get_or, length}
+use Rattle.std.specs.List.{flat_map}
 use Rattle.std.proofs.lemmas.List.{drop_more}
 use Rattle.dm_table.specs.declared.load.load_fault.LoadFault.{LoadFault}
 use Rattle.dm_table.specs.declared.load.load_fault.LoadKind.{LoadKind}
@@ -25,6 +26,29 @@ good_here kind place test xs i x within is good =
     let at = next_of xs i x within is in
     let here = sym good in
     rw (at, here)
+
+-- the same of a list with more after it
+
+pub next_before : {X : Type 0} (items rest : List X) (i : ℕ) (x : X) → i < length items → x ≡ get_or items i x → drop i items ++ rest ≡ x ∷ (drop (i + 1) items ++ rest)
+next_before items rest i x within is = rw (next_of items i x within is)
+
+pub bad_before : {X : Type 0} (kind : LoadKind) (place : X → Place) (test : X → Bool) (items rest : List X) (i : ℕ) (x : X) → i < length items → x ≡ get_or items i x → true ≡ test x → first_or (faults_by kind place test (drop i items ++ rest)) None ≡ Some (fault kind (place x))
+bad_before kind place test items rest i x within is bad =
+    let at = next_before items rest i x within is in
+    let here = sym bad in
+    rw (at, here)
+
+pub good_before : {X : Type 0} (kind : LoadKind) (place : X → Place) (test : X → Bool) (items rest : List X) (i : ℕ) (x : X) → i < length items → x ≡ get_or items i x → false ≡ test x → faults_by kind place test (drop (i + 1) items ++ rest) ≡ faults_by kind place test (drop i items ++ rest)
+good_before kind place test items rest i x within is good =
+    let at = next_before items rest i x within is in
+    let here = sym good in
+    rw (at, here)
+
+-- a check of each element, at the next of which it finds a fault
+pub flat_stops : {X : Type 0} (check : X → List LoadFault) (xs : List X) (i : ℕ) (x : X) (found : LoadFault) → i < length xs → x ≡ get_or xs i x → first_or (check x) None ≡ Some found → first_or (flat_map check (drop i xs)) None ≡ Some found
+flat_stops check xs i x found within is here =
+    let at = next_of xs i x within is in
+    rw (at, first_append) (first_or-found (check x) _ found here)
 
 device_at : (kind : LoadKind) (test : Line → Bool) (devices : List DeviceSpec) (i : ℕ) (device : DeviceSpec) → i < length devices → device ≡ get_or devices i device
     → first_or (faults_by kind (λ line. line.at) test (all_lines (drop i devices))) None ≡ first_or (faults_by kind (λ line. line.at) test device.lines) (first_or (faults_by kind (λ line. line.at) test (all_lines (drop (i + 1) devices))) None)

@@ -14,16 +14,14 @@ use Rattle.dm_table.specs.declared.tables.table.DeviceSpec.{DeviceSpec}
 use Rattle.dm_table.specs.declared.tables.table.Line.{Line}
 use Rattle.dm_table.specs.declared.tables.table.Target.{Target}
 use Rattle.dm_table.specs.declared.tables.table.Target.TheVariants as targets
-use Rattle.dm_table.specs.declared.load.load_fault.LoadKind.TheVariants.{Store}
-use Rattle.dm_table.specs.load.LoadFault.{faults_by}
 use Rattle.dm_stack.specs.declared.id.Lower.{Lower}
 use Rattle.dm_stack.specs.declared.id.Lower.TheVariants.{Device, Disk}
 use Rattle.dm_stack.specs.Description.{Description, device_links, is_ro_at, line_links, lines_at, lines_or_none, links, lower_of, ref_link}
 use Rattle.dm_stack.specs.checks.Graph.{IsClosed, depth_to, depths_to, greatest, links_in, links_of}
 use Rattle.dm_table.specs.tables.Span.{Span, spans}
-use Rattle.dm_stack.specs.checks.Soundness.{all_lines, has_bad_store, store}
+use Rattle.dm_stack.specs.lines.Below.{resolved_target}
+use Rattle.dm_stack.specs.checks.Soundness.{has_bad_store}
 use Rattle.dm_stack.specs.checks.Store.{has_deep_store, is_plain, is_shallow, is_store_to, may_store, store_links, store_links_at, store_links_of}
-use Rattle.dm_stack.proofs.checks.CrowdLemmas.{by_same}
 use Rattle.dm_stack.proofs.checks.PathLemmas.{links_of-at}
 use Rattle.dm_stack.proofs.checks.RoundLemmas.{depths_to-at, depths_to-length}
 
@@ -201,12 +199,10 @@ shallow_same stack depths (Device device) is = cc (by_place (cases_lt device (le
     by_place (inr past) =
         rw (get_or_past (depths_to (store_links stack) 33) device 0 (omega (arith, past, count, depths_to-length (store_links stack) 33))) (sym (past_store stack device past))
 
-deep_same : (stack : Description) (depths : List ℕ) (target : Target) → depths ≡ depths_to (store_links stack) 33 → has_deep_store stack depths target ≡ has_bad_store stack target
+-- the store of a snapshot by ids may be none exactly where it is too deep
+pub deep_same : (stack : Description) (depths : List ℕ) (target : Target) → depths ≡ depths_to (store_links stack) 33 → has_deep_store depths (resolved_target stack target) ≡ has_bad_store stack target
 deep_same stack depths (targets.Snapshot origin store kind chunk) is = ap not (shallow_same stack depths (lower_of stack store) is)
 deep_same stack depths _ is = refl
-
-pub deep_stores : (stack : Description) (depths : List ℕ) → depths ≡ depths_to (store_links stack) 33 → faults_by Store (λ line. line.at) (λ line. has_deep_store stack depths line.target) (all_lines stack.devices) ≡ store stack
-deep_stores stack depths is = by_same Store (λ line. line.at) (λ line. has_deep_store stack depths line.target) (λ line. has_bad_store stack line.target) (all_lines stack.devices) (λ line. deep_same stack depths line.target is)
 
 -- The links, device by device
 

@@ -6,7 +6,7 @@ use Rattle.std.specs.declared.alloc.AllocError.{AllocError}
 use Rattle.std.specs.List.{All, AllByRecursion, AllPairs, flat_map, list_any, position_or_len, range_with_len}
 use Rattle.std.proofs.Math.Seq.{get_or-append_seam}
 use Rattle.std.proofs.lemmas.Bool.{eq-eqb, eqb-true, ltb-false, ltb-true, or_parts, true≢false}
-use Rattle.std.proofs.lemmas.List.{append_assoc, get_or_default, get_or_append_left, length-append}
+use Rattle.std.proofs.lemmas.List.{append_assoc, get_or_append_left, length-append}
 use Rattle.std.proofs.lemmas.List.Elements.{All-from_recursion}
 use Rattle.std.proofs.lemmas.List.Folds.{Any-from_list_any}
 use Rattle.std.proofs.lemmas.Option.{slice_get_past, slice_get_read}
@@ -14,6 +14,7 @@ use Rattle.dm_table.specs.declared.tables.table.DevRef.{DevRef}
 use Rattle.dm_table.specs.declared.tables.table.DevRef.TheVariants as refs
 use Rattle.dm_table.specs.declared.tables.table.DeviceSpec.{DeviceSpec}
 use Rattle.dm_table.specs.declared.tables.table.Line.{Line}
+use Rattle.dm_table.specs.declared.load.load_fault.LoadKind.TheVariants.{Range}
 use Rattle.dm_stack.specs.declared.claims.claim.Claim.{Claim}
 use Rattle.dm_stack.specs.declared.claims.clash.Clash.{Clash}
 use Rattle.dm_stack.specs.declared.id.Lower.{Lower}
@@ -22,19 +23,33 @@ use Rattle.dm_stack.specs.claims.Claims.{AreTops, NeverMeet, IsClash, IsFirstCla
 use Rattle.dm_stack.specs.Description.{Description, is_same, lines_at, lines_or_none, lower_len, lower_of}
 use Rattle.dm_stack.specs.claims.Naming.{is_device, is_named, line_names}
 use Rattle.dm_stack.specs.Report.{IsReport, report_text}
-use Rattle.dm_stack.specs.checks.Soundness.{IsSound, is_past, passes, passes_end}
+use Rattle.dm_stack.specs.declared.lines.resolved_table.ResolvedDevice.{ResolvedDevice}
+use Rattle.dm_stack.specs.Stack.{resolved_device}
+use Rattle.dm_stack.specs.lines.Below.{resolved_line}
+use Rattle.dm_stack.specs.lines.Span as by_id
+use Rattle.dm_stack.specs.checks.Soundness.{IsSound, all_lines, is_past, passes, passes_end}
 use Rattle.dm_table.specs.tables.Span.{Span, spans}
 use Rattle.dm_stack.specs.claims.Sweep.{IsCounted}
 use Rattle.dm_stack.proofs.checks.HandedOn.{all_append, all_each}
+use Rattle.dm_stack.proofs.checks.Passes.{all_parts, faults_by_none, passes_all}
 use Rattle.dm_stack.proofs.claims.PairLemmas.{none_before}
+use Rattle.dm_stack.proofs.lines.SpanLemmas.{any_map, any_same, any_span, past_is}
 use Rattle.dm_stack.proofs.SoundLines.{device_sound, lines_there, there}
 
 -- no line of a sound stack passes the end of what it names
-pub none_passes : (stack : Description) → IsSound stack → All (λ device. All (λ line. passes_end stack line ≡ false) device.lines) stack.devices
-none_passes stack sound k d within =
-    let device = get_or stack.devices k d in
-    let at : slice_get stack.devices k ≡ Some device = slice_get_read stack.devices (length stack.devices) k device refl within (get_or_default stack.devices k d device within) in
-    All-from_recursion (λ line. passes_end stack line ≡ false) device.lines (device_sound stack k device sound at).inside
+
+inside_by_ids : (stack : Description) (lines : List Line) → AllByRecursion (λ line. passes_end stack line ≡ false) lines → AllByRecursion (λ line. by_id.passes_end stack line ≡ false) (map (resolved_line stack) lines)
+inside_by_ids stack [] inside = tt
+inside_by_ids stack (line ∷ lines) inside = (past_is stack line ∙ inside.0, inside_by_ids stack lines inside.1)
+
+pub none_passes : (stack : Description) → IsSound stack → All (λ device. All (λ line. by_id.passes_end stack line ≡ false) device.table) (map (resolved_device stack) stack.devices)
+none_passes stack sound = All-from_recursion (λ device. All (λ line. by_id.passes_end stack line ≡ false) device.table) (map (resolved_device stack) stack.devices) (each stack.devices (faults_by_none Range (λ line. line.at) (passes_end stack) (all_lines stack.devices) (passes_all stack sound).inside))
+  where
+    each : (devices : List DeviceSpec) → AllByRecursion (λ line. passes_end stack line ≡ false) (all_lines devices) → AllByRecursion (λ device. All (λ line. by_id.passes_end stack line ≡ false) device.table) (map (resolved_device stack) devices)
+    each [] inside = tt
+    each (device ∷ devices) inside =
+        let parts = all_parts (λ line. passes_end stack line ≡ false) device.lines (all_lines devices) inside in
+        (All-from_recursion (λ line. by_id.passes_end stack line ≡ false) (map (resolved_line stack) device.lines) (inside_by_ids stack device.lines parts.0), each devices parts.1)
 
 -- What claims are on has an id of the stack, or the one past the last
 
@@ -74,14 +89,6 @@ any_flat : {X Y : Type 0} (test : Y → Bool) (f : X → List Y) (xs : List X) �
 any_flat test f [] = refl
 any_flat test f (x ∷ xs) = rw (← any_flat test f xs) (any_append test (f x) (flat_map f xs))
 
-any_map : {X Y : Type 0} (test : Y → Bool) (f : X → Y) (xs : List X) → list_any test (map f xs) ≡ list_any (λ x. test (f x)) xs
-any_map test f [] = refl
-any_map test f (x ∷ xs) = rw (any_map test f xs)
-
-any_same : {X : Type 0} (p q : X → Bool) (xs : List X) → ((x : X) → p x ≡ q x) → list_any p xs ≡ list_any q xs
-any_same p q [] same = refl
-any_same p q (x ∷ xs) same = rw (same x, any_same p q xs same)
-
 by_ids : (stack : Description) (test : List Line → Bool) (before devices : List DeviceSpec) (id : ℕ) → stack.devices ≡ before ++ devices → id ≡ length before
     → list_any (λ device. test (lines_at stack device)) (range_with_len id (length devices)) ≡ list_any (λ device. test device.lines) devices
 by_ids stack test before [] id split is = refl
@@ -94,15 +101,26 @@ by_ids stack test before (device ∷ devices) id split is =
     let later = by_ids stack test (before ++ device ∷ []) devices (id + 1) (split ∙ sym (append_assoc before (device ∷ []) devices)) (omega (arith, is, length-append before (device ∷ []))) in
     rw (here, later)
 
+-- a line names this device, by what it says by ids
+abbrev names_it : Description → ℕ → Line → Bool
+names_it stack device line = line_names device (resolved_line stack line)
+
+named_lines : (stack : Description) (device : ℕ) → is_named stack device ≡ list_any (λ spec. list_any (names_it stack device) spec.lines) stack.devices
+named_lines stack device =
+    any_map (λ (found : ResolvedDevice). list_any (line_names device) found.table) (resolved_device stack) stack.devices
+    ∙ any_same (λ (spec : DeviceSpec). list_any (line_names device) (map (resolved_line stack) spec.lines)) (λ spec. list_any (names_it stack device) spec.lines) stack.devices
+    (λ spec. any_map (line_names device) (resolved_line stack) spec.lines)
+
 named_by_claims : (stack : Description) (device : ℕ) → list_any (λ claim. is_device device claim.to) (claims stack) ≡ is_named stack device
 named_by_claims stack device =
     let test = λ (claim : Claim). is_device device claim.to in
     any_flat test (device_claims stack) (range_with_len 0 (length stack.devices))
-    ∙ any_same (λ id. list_any test (device_claims stack id)) (λ id. list_any (line_names stack device) (lines_at stack id)) (range_with_len 0 (length stack.devices))
+    ∙ any_same (λ id. list_any test (device_claims stack id)) (λ id. list_any (names_it stack device) (lines_at stack id)) (range_with_len 0 (length stack.devices))
     (λ id.
     any_flat test (line_claims stack id) (lines_at stack id)
-    ∙ any_same (λ line. list_any test (line_claims stack id line)) (line_names stack device) (lines_at stack id) (λ line. any_map test (span_claim stack id) (spans line)))
-    ∙ by_ids stack (list_any (line_names stack device)) [] stack.devices 0 refl refl
+    ∙ any_same (λ line. list_any test (line_claims stack id line)) (names_it stack device) (lines_at stack id)
+    (λ line. any_map test (span_claim stack id) (spans line) ∙ sym (any_span (λ span. is_device device span.to) stack line)))
+    ∙ by_ids stack (list_any (names_it stack device)) [] stack.devices 0 refl refl ∙ sym (named_lines stack device)
 
 device_is : (device : ℕ) (lower : Lower) → is_device device lower ≡ true → lower ≡ Device device
 device_is device (Device id) e = rw (eqb-true id device e)

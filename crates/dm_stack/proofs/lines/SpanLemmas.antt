@@ -1,12 +1,28 @@
--- The spans of a line that are left, one by one.
-use Rattle.std.proofs.Common.{◌≡◌, ℕ, zero, suc, ◌+◌, List, [], ◌∷◌, Some, None, arith, refl, drop}
-use Rattle.std.specs.Prelude.{slice_get}
-use Rattle.std.specs.Iterator.{YieldsFirstBy}
-use Rattle.std.proofs.lemmas.Iterator.{YieldsList}
-use Rattle.std.proofs.lemmas.Iterator.Consumers.{YieldsList-from_first}
+-- The spans of a line by ids, one by one; they are those by names, with ids for these.
+use Rattle.std.proofs.Common.{◌≡◌, ℕ, zero, suc, ◌+◌, Bool, true, false, cond, not, List, [], ◌∷◌, Some, None, arith, refl, ap, ◌∙◌, drop, length, map}
+use Rattle.std.specs.Prelude.{find, is_none, nat_le, slice_get}
+use Rattle.std.specs.List.{flat_map, list_any, position_or_len}
+use Rattle.std.proofs.lemmas.List.{length-map}
+use Rattle.std.proofs.lemmas.List.Folds.{flat_map-map}
+use Rattle.std.proofs.lemmas.Simd.{map-map}
+use Rattle.std.proofs.Math.Dec.{leb-suc-suc, leb-suc-zero}
+use Rattle.dm_table.specs.declared.tables.table.DevRef.{DevRef}
+use Rattle.dm_table.specs.declared.tables.table.DevRef.TheVariants as refs
 use Rattle.dm_table.specs.declared.tables.table.Line.{Line}
+use Rattle.dm_table.specs.declared.tables.table.Target.{Target}
+use Rattle.dm_table.specs.declared.tables.table.Target.TheVariants as targets
+use Rattle.dm_table.specs.tables.Span as named
+use Rattle.dm_stack.specs.declared.lines.resolved_line.ResolvedLine.{ResolvedLine}
+use Rattle.dm_stack.specs.declared.lines.span.Span.{Span}
 use Rattle.dm_stack.specs.declared.lines.span.Spans.{Spans}
-use Rattle.dm_table.specs.tables.Span.{Span, spans}
+use Rattle.dm_stack.specs.Description.{Description, device_links, is_same, lower_of, ref_link}
+use Rattle.dm_stack.specs.Description as by_names
+use Rattle.dm_stack.specs.Stack.{resolved_device}
+use Rattle.dm_stack.specs.checks.Soundness.{is_unknown, is_unknown_ref}
+use Rattle.dm_stack.specs.checks.Soundness as soundness
+use Rattle.dm_stack.specs.claims.Claims as claims
+use Rattle.dm_stack.specs.lines.Below.{resolved_columns, resolved_line, resolved_target}
+use Rattle.dm_stack.specs.lines.Span.{is_missing, line_claims, line_links, lower_link, names_missing, passes_end, spans, target_spans}
 
 pub drop_at : {X : Type 0} (xs : List X) (i : ℕ) (x : X) → Some x ≡ slice_get xs i → drop i xs ≡ x ∷ drop (i + 1) xs
 drop_at [] i x e = absurd cc
@@ -23,6 +39,83 @@ drop_past (x ∷ xs) (suc i) e = drop_past xs i e
 abbrev pub spans_left : Spans → List Span
 spans_left left = drop left.index (spans left.line.now)
 
--- from the start it gives all spans of its line
-pub yields_spans : (line : Line) (all : Spans) → all.line.now ≡ line → all.index ≡ 0 → YieldsList (YieldsFirstBy (λ (span : Span). span) spans_left) (λ span. span) all (spans line)
-yields_spans line all of from = YieldsList-from_first (λ (span : Span). span) spans_left (spans line) (rw (from, of))
+-- Lists of what is made of others, or by tests that agree
+
+pub any_map : {X Y : Type 0} (test : Y → Bool) (f : X → Y) (xs : List X) → list_any test (map f xs) ≡ list_any (λ x. test (f x)) xs
+any_map test f [] = refl
+any_map test f (x ∷ xs) = rw (any_map test f xs)
+
+pub any_same : {X : Type 0} (p q : X → Bool) (xs : List X) → ((x : X) → p x ≡ q x) → list_any p xs ≡ list_any q xs
+any_same p q [] same = refl
+any_same p q (x ∷ xs) same = rw (same x, any_same p q xs same)
+
+map_same : {X Y : Type 0} (f g : X → Y) (xs : List X) → ((x : X) → f x ≡ g x) → map f xs ≡ map g xs
+map_same f g [] same = refl
+map_same f g (x ∷ xs) same = let here = same x in let later = map_same f g xs same in rw (here, later)
+
+flat_same : {X Y : Type 0} (f g : X → List Y) (xs : List X) → ((x : X) → f x ≡ g x) → flat_map f xs ≡ flat_map g xs
+flat_same f g [] same = refl
+flat_same f g (x ∷ xs) same = let here = same x in let later = flat_same f g xs same in rw (here, later)
+
+-- The spans of a line by ids
+
+-- a span, with the id of what it names
+abbrev pub by_id : Description → named.Span → Span
+by_id stack span = record { to = lower_of stack span.to; offset = span.offset; len = span.len; kind = span.kind }
+
+target_are : (stack : Description) (len : ℕ) (target : Target) → target_spans len (resolved_target stack target) ≡ map (by_id stack) (named.target_spans len target)
+target_are stack len (targets.Striped chunk columns) =
+    let count : length (resolved_columns stack columns) ≡ length columns = length-map columns _ in
+    rw (count, map-map, map-map)
+target_are stack len _ = refl
+
+pub spans_are : (stack : Description) (line : Line) → spans (resolved_line stack line) ≡ map (by_id stack) (named.spans line)
+spans_are stack line = target_are stack line.len line.target
+
+-- a test of them is one of those by names
+pub any_span : (test : Span → Bool) (stack : Description) (line : Line) → list_any test (spans (resolved_line stack line)) ≡ list_any (λ span. test (by_id stack span)) (named.spans line)
+any_span test stack line = ap (list_any test) (spans_are stack line) ∙ any_map test (by_id stack) (named.spans line)
+
+-- What is not there has an id past the last
+
+none_past : {X : Type 0} (test : X → Bool) (xs : List X) → nat_le (length xs) (position_or_len test xs) ≡ is_none (find test xs)
+none_past test [] = refl
+none_past test (x ∷ xs) = by (test x) (none_past test xs) where
+  by : (b : Bool) → nat_le (length xs) (position_or_len test xs) ≡ is_none (find test xs) → nat_le (suc (length xs)) (cond (not b) (1 + position_or_len test xs) 0) ≡ is_none (cond b (Some x) (find test xs))
+  by true e = leb-suc-zero (length xs)
+  by false e = let one : 1 + position_or_len test xs ≡ suc (position_or_len test xs) = omega arith in rw one (leb-suc-suc (length xs) (position_or_len test xs) ∙ e)
+
+missing_is : (stack : Description) (to : DevRef) → is_missing stack (lower_of stack to) ≡ is_unknown_ref stack to
+missing_is stack (refs.Device name) = none_past (λ device. is_same device.name name) stack.devices
+missing_is stack (refs.Disk name) = none_past (λ disk. is_same disk.name name) stack.disks
+
+pub unknown_is : (stack : Description) (line : Line) → names_missing stack (resolved_line stack line) ≡ is_unknown stack line
+unknown_is stack line =
+    any_span (λ span. is_missing stack span.to) stack line
+    ∙ any_same (λ (span : named.Span). is_missing stack (lower_of stack span.to)) (λ span. is_unknown_ref stack span.to) (named.spans line) (λ span. missing_is stack span.to)
+
+-- What a line by ids passes, names and claims
+
+pub past_is : (stack : Description) (line : Line) → passes_end stack (resolved_line stack line) ≡ soundness.passes_end stack line
+past_is stack line = any_span _ stack line
+
+link_is : (stack : Description) (to : DevRef) → lower_link (lower_of stack to) ≡ ref_link stack to
+link_is stack (refs.Device name) = refl
+link_is stack (refs.Disk name) = refl
+
+links_are : (stack : Description) (line : Line) → line_links (resolved_line stack line) ≡ by_names.line_links stack line
+links_are stack line =
+    ap (flat_map (λ (span : Span). lower_link span.to)) (spans_are stack line) ∙ flat_map-map (λ (span : Span). lower_link span.to) (by_id stack) (named.spans line)
+    ∙ flat_same (λ (span : named.Span). lower_link (lower_of stack span.to)) (λ span. ref_link stack span.to) (named.spans line) (λ span. link_is stack span.to)
+
+pub claims_are : (stack : Description) (device : ℕ) (line : Line) → line_claims stack device (resolved_line stack line) ≡ claims.line_claims stack device line
+claims_are stack device line = ap (map _) (spans_are stack line) ∙ map-map _ (by_id stack) (named.spans line)
+
+-- what is made of each line by ids, where it is what is made of the line by names
+pub flat_lines : {X : Type 0} (stack : Description) (f : ResolvedLine → List X) (g : Line → List X) (lines : List Line) → ((line : Line) → f (resolved_line stack line) ≡ g line) → flat_map f (map (resolved_line stack) lines) ≡ flat_map g lines
+flat_lines stack f g lines same = flat_map-map f (resolved_line stack) lines ∙ flat_same (λ line. f (resolved_line stack line)) g lines same
+
+-- what the devices name
+pub all_links : (stack : Description) → map (λ device. flat_map line_links device.table) (map (resolved_device stack) stack.devices) ≡ by_names.links stack
+all_links stack =
+    map-map _ (resolved_device stack) stack.devices ∙ map_same _ (device_links stack) stack.devices (λ device. flat_lines stack line_links (by_names.line_links stack) device.lines (links_are stack))

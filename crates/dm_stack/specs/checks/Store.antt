@@ -7,6 +7,8 @@ use Rattle.dm_table.specs.declared.tables.table.Target.TheVariants as targets
 use Rattle.dm_stack.specs.declared.checks.graph.TheConstants.{MOST_DEPTH}
 use Rattle.dm_stack.specs.declared.id.Lower.{Lower}
 use Rattle.dm_stack.specs.declared.id.Lower.TheVariants.{Device, Disk}
+use Rattle.dm_stack.specs.declared.lines.resolved_line.ResolvedTarget.{ResolvedTarget}
+use Rattle.dm_stack.specs.declared.lines.resolved_line.ResolvedTarget.TheVariants as found
 use Rattle.dm_stack.specs.Description.{Description, is_ro_at, lines_at, links, lower_of}
 use Rattle.dm_stack.specs.checks.Graph.{links_of}
 use Rattle.dm_table.specs.tables.Span.{spans}
@@ -52,6 +54,6 @@ is_shallow depths (Device device) = nat_le (slice_index_or depths device 0) MOST
 is_shallow depths (Disk disk) = true
 
 -- a snapshot whose store is deeper, by these depths, than a store may be
-abbrev pub has_deep_store : Description → List ℕ → Target → Bool
-has_deep_store stack depths (targets.Snapshot origin store kind chunk) = not (is_shallow depths (lower_of stack store))
-has_deep_store stack depths _ = false
+abbrev pub has_deep_store : List ℕ → ResolvedTarget → Bool
+has_deep_store depths (found.Snapshot snapshot) = not (is_shallow depths snapshot.store)
+has_deep_store depths _ = false

@@ -9,8 +9,11 @@ ghost use Rattle.dm_table.specs.load.LoadFault.{IsMemoryFault, faults_by, first_
 ghost use Rattle.dm_table.specs.declared.load.place.Part.TheVariants.{Source};
 ghost use Rattle.dm_table.specs.declared.load.place.Place.{Place};
 ghost use Rattle.dm_table.specs.declared.tables.table.Line.{Line};
-ghost use Rattle.dm_stack.specs.checks.Soundness.{all_lines};
+ghost use Rattle.dm_stack.specs.checks.Soundness.{all_lines, line_faults};
+ghost use Rattle.dm_stack.specs.lines.Below.{resolved_line};
 
+use crate::lines::resolved::Resolved;
+use crate::lines::resolved_line::ResolvedLine;
 use dm_table::{DeviceSpec, Disk, DiskPath, Line, LoadFault, LoadKind, Part, Place};
 use std::alloc::AllocError;
 
@@ -106,6 +109,29 @@ pub(crate) fn check_lines<F: Fn(&Line) -> bool>(
 {
     for device in devices {
         check_each(kind, device.lines.as_slice(), &is_bad)?;
+    }
+    Ok(())
+}
+
+/// Fails at the first line of all devices that is bad by ids, with the fault of a kind.
+pub(crate) fn check_by_ids<F: Fn(&ResolvedLine) -> bool>(
+    kind: LoadKind,
+    stack: &Resolved,
+    is_bad: F,
+) -> Result<(), LoadFault>
+    requires { F.IsAlwaysCallable is_bad }
+    ensures { (test : Line → Bool)
+        → ((line : Line) (bad : Bool) → FnReturnsAt F.Fn is_bad (resolved_line stack.now line) bad → bad ≡ test line)
+        → result_err result ≡ first_or (line_faults kind test stack.now) None }
+{
+    let by_ids = stack.by_ids();
+    for (id, device) in stack.devices().iter().enumerate() {
+        let resolved = by_ids[id].table.lines();
+        for (index, line) in device.lines.as_slice().iter().enumerate() {
+            if is_bad(&resolved[index]) {
+                return Err(LoadFault { kind, at: line.at });
+            }
+        }
     }
     Ok(())
 }

@@ -3,17 +3,17 @@
 //! Sums of two numbers within the limits fit 64 bits, so every later check adds freely. The
 //! definitions name these constants, so a limit that changes here changes for them too.
 
-ghost use Rattle.std.specs.Prelude.{◌≡◌, None, option_copied, slice_get};
+ghost use Rattle.std.specs.Prelude.{◌≡◌, None, nat_lt, option_copied, slice_get};
 ghost use Rattle.std.specs.List.{list_any};
 ghost use Rattle.std.specs.Result.{result_err};
 ghost use Rattle.dm_table.specs.load.LoadFault.{first_or};
 ghost use Rattle.dm_stack.specs.checks.Soundness.{all_lines, is_far, is_large, past, too_large, too_many};
 ghost use Rattle.dm_table.specs.tables.Span.{spans};
 ghost use Rattle.dm_stack.specs.Description.{described};
+ghost use Rattle.dm_stack.specs.declared.checks.limits.TheConstants.{MOST_LENGTH};
 
 use crate::checks::faults::{Placed, check_each, check_lines};
-use crate::lines::span::Spans;
-use dm_table::{DeviceSpec, Disk, Line, LoadFault, LoadKind};
+use dm_table::{Column, DeviceSpec, Disk, Line, LoadFault, LoadKind, Target};
 
 /// The most devices of a stack.
 pub const MOST_DEVICES: usize = 1024;
@@ -108,5 +108,16 @@ fn is_large(line: &Line) -> bool
 fn has_far_span(line: &Line) -> bool
     ensures { result ≡ list_any is_far (spans line.now) }
 {
-    Spans::of(line).any(|span| MOST_LENGTH < span.offset)
+    match &line.target {
+        Target::Linear { offset, .. } => MOST_LENGTH < *offset,
+        Target::Striped { columns, .. } => has_far_column(columns.as_slice()),
+        _ => false,
+    }
+}
+
+/// Whether the offset of a column is above the greatest length.
+fn has_far_column(columns: &[Column]) -> bool
+    ensures { result ≡ list_any (λ column. nat_lt MOST_LENGTH column.offset) columns.now }
+{
+    columns.iter().any(|column| MOST_LENGTH < column.offset)
 }

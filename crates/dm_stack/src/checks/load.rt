@@ -21,12 +21,14 @@ use crate::checks::limits::{check_counts, check_numbers};
 use crate::checks::links::links;
 use crate::checks::names::{Names, check_names};
 use crate::checks::ranges::check_ranges;
+use crate::checks::references::check_references;
 use crate::checks::snapshots::{check_snapshots, snapshots};
 use crate::checks::store_limit::check_places;
 use crate::checks::stores::{check_stores, store_depths};
 use crate::checks::stripes::check_stripes;
 use crate::id::DeviceId;
-use crate::lines::resolve::{check_references, resolved_devices};
+use crate::lines::resolve::resolved_devices;
+use crate::lines::resolved::Resolved;
 use crate::lines::resolved_table::ResolvedDevice;
 use crate::names::indexed::Indexed;
 use dm_table::{DeviceSpec, Disk, LoadFault, LoadKind};
@@ -69,7 +71,9 @@ pub(crate) fn check(
     let names = check_names(alloc, devices, disks)?;
     check_lengths(devices, disks)?;
     check_starts(devices)?;
-    let stack = Indexed::new(devices, disks, &names.devices, &names.disks);
+    let indexed = Indexed::new(devices, disks, &names.devices, &names.disks);
+    let found = or_out_of_memory(resolved_devices(alloc, &indexed))?;
+    let stack = Resolved::new(devices, disks, &found);
     check_references(&stack)?;
     let graph = or_out_of_memory(follow(alloc, &stack))?;
     check_cycles(&stack, graph.cycle)?;
@@ -79,7 +83,6 @@ pub(crate) fn check(
     check_snapshots(&stack)?;
     check_stores(&stack, &graph.store_depths)?;
     check_places(&stack)?;
-    let found = or_out_of_memory(resolved_devices(alloc, &stack))?;
     let snapshots = or_out_of_memory(snapshots(alloc, devices))?;
     Ok(Checked {
         names,
@@ -90,7 +93,7 @@ pub(crate) fn check(
 }
 
 /// Which device reaches itself first, and how deep each is.
-fn follow(alloc: Global, stack: &Indexed) -> Result<Graph, AllocError>
+fn follow(alloc: Global, stack: &Resolved) -> Result<Graph, AllocError>
     requires { IsClosed (links stack.now) }
     ensures depths { IfOk result (λ graph. graph.depths.items ≡ depths_to (links stack.now) FOLLOWED_LEVELS) }
     ensures stores { IfOk result (λ graph. graph.store_depths.items ≡ depths_to (store_links stack.now) FOLLOWED_LEVELS) }
@@ -108,7 +111,7 @@ fn follow(alloc: Global, stack: &Indexed) -> Result<Graph, AllocError>
 }
 
 /// Fails at the first device that reaches itself.
-fn check_cycles(stack: &Indexed, cycle: Option<usize>) -> Result<(), LoadFault>
+fn check_cycles(stack: &Resolved, cycle: Option<usize>) -> Result<(), LoadFault>
     requires { IsFirstRing (links stack.now) cycle }
     ensures passed { OnOk result (HasNoCycle stack.now) }
     ensures fault { IfErr result (IsFirstCycle stack.now) }

@@ -4,17 +4,21 @@
 //! Each is a whole device: its line stands alone in its table and is as long as the origin that it
 //! names. Mapping relies on it, and shifts where it would divide by a chunk, so that no rule here may be let go.
 
-ghost use Rattle.std.specs.Prelude.{◌≡◌, ◌∷◌, ◌++◌, [], IfOk, None, OnOk, if◌then◌else◌};
+ghost use Rattle.std.specs.Prelude.{◌≡◌, ◌∷◌, ◌++◌, [], ℕ, IfOk, None, OnOk, if◌then◌else◌, map};
 ghost use Rattle.std.specs.Result.{result_err};
 ghost use Rattle.dm_table.specs.load.LoadFault.{first_or};
+ghost use Rattle.dm_table.specs.declared.tables.table.DevRef.{DevRef};
+ghost use Rattle.dm_table.specs.declared.tables.table.StoreKind.{StoreKind};
+ghost use Rattle.dm_table.specs.declared.tables.table.Target.TheVariants.{Snapshot};
 ghost use Rattle.dm_stack.specs.Description.{described};
+ghost use Rattle.dm_stack.specs.lines.Below.{resolved_line, resolved_target};
 ghost use Rattle.dm_stack.specs.checks.Snapshots.{has_snapshot, snapshots};
-ghost use Rattle.dm_stack.specs.checks.Soundness.{is_bad_snapshot, snapshot, bad_snapshots_in};
+ghost use Rattle.dm_stack.specs.checks.Soundness.{is_bad_chunk, is_bad_snapshot, snapshot, bad_snapshots_in};
 
-use crate::checks::faults::check_each;
 use crate::id::DeviceId;
 use crate::lines::chunk_size::is_bad_chunk;
-use crate::names::indexed::Indexed;
+use crate::lines::resolved::Resolved;
+use crate::lines::resolved_line::{ResolvedLine, ResolvedTarget};
 use dm_table::{DeviceSpec, Line, LoadFault, LoadKind, Target};
 use std::alloc::{AllocError, Global};
 
@@ -23,34 +27,58 @@ use std::alloc::{AllocError, Global};
 /// from 1 to 1,024 sectors.
 ///
 /// Cost: a walk over the lines.
-pub(crate) fn check_snapshots(stack: &Indexed) -> Result<(), LoadFault>
+pub(crate) fn check_snapshots(stack: &Resolved) -> Result<(), LoadFault>
     ensures { result_err result ≡ first_or (snapshot stack.now) None }
 {
-    for device in stack.devices() {
-        check_snapshots_in(stack, device.lines.as_slice())?;
+    let by_ids = stack.by_ids();
+    for (id, device) in stack.devices().iter().enumerate() {
+        check_snapshots_in(stack, device.lines.as_slice(), by_ids[id].table.lines())?;
     }
     Ok(())
 }
 
 /// Fails at the first line of a device that is no fit snapshot, or no fit line of an origin.
-fn check_snapshots_in(stack: &Indexed, lines: &[Line]) -> Result<(), LoadFault>
+fn check_snapshots_in(
+    stack: &Resolved,
+    lines: &[Line],
+    by_ids: &[ResolvedLine],
+) -> Result<(), LoadFault>
+    requires { by_ids.now ≡ map (resolved_line stack.now) lines.now }
     ensures { result_err result ≡ first_or (bad_snapshots_in stack.now lines.now) None }
 {
     let count = lines.len();
-    check_each(LoadKind::Snapshot, lines, |line| {
-        is_bad_snapshot(stack, count, line.len, &line.target)
-    })
+    for (index, line) in lines.iter().enumerate() {
+        if is_bad_snapshot(stack, count, line, &by_ids[index].target) {
+            return Err(LoadFault {
+                kind: LoadKind::Snapshot,
+                at: line.at,
+            });
+        }
+    }
+    Ok(())
 }
 
-/// Whether the target of a line, among so many of its device, is such a one.
-fn is_bad_snapshot(stack: &Indexed, lines: usize, len: u64, target: &Target) -> bool
-    ensures { result ≡ is_bad_snapshot stack.now lines len target.now }
+/// Whether a line, among so many of its device, is such a one.
+fn is_bad_snapshot(stack: &Resolved, lines: usize, line: &Line, target: &ResolvedTarget) -> bool
+    requires { target.now ≡ resolved_target stack.now line.now.target }
+    ensures { result ≡ is_bad_snapshot stack.now lines line.now.len line.now.target }
 {
     match target {
-        Target::Snapshot { origin, chunk, .. } => {
-            lines != 1 || is_bad_chunk(*chunk) || len != stack.len_of(origin)
+        ResolvedTarget::Snapshot(snapshot) => {
+            lines != 1 || has_bad_chunk(&line.target) || line.len != stack.len_of(snapshot.origin)
         }
-        Target::Origin { origin } => lines != 1 || len != stack.len_of(origin),
+        ResolvedTarget::Origin(origin) => lines != 1 || line.len != stack.len_of(origin.to),
+        _ => false,
+    }
+}
+
+/// Whether the chunk of a snapshot is no power of two from 1 to 1,024.
+fn has_bad_chunk(target: &Target) -> bool
+    ensures { (origin store : DevRef) (kind : StoreKind) (chunk : ℕ)
+        → target.now ≡ Snapshot origin store kind chunk → result ≡ is_bad_chunk chunk }
+{
+    match target {
+        Target::Snapshot { chunk, .. } => is_bad_chunk(*chunk),
         _ => false,
     }
 }

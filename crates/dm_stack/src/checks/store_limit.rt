@@ -4,25 +4,28 @@ ghost use Rattle.std.specs.Prelude.{◌≡◌, None};
 ghost use Rattle.std.specs.List.{All};
 ghost use Rattle.std.specs.Result.{result_err};
 ghost use Rattle.dm_table.specs.load.LoadFault.{first_or};
-ghost use Rattle.dm_stack.specs.checks.Soundness.{HasGoodChunk, HaveGoodChunks, crowded, target_places};
+ghost use Rattle.dm_stack.specs.checks.Soundness.{HaveGoodChunks, crowded};
+ghost use Rattle.dm_stack.specs.checks.StoreLimit.{places_of};
 
 use crate::checks::limits::MOST_PLACES;
-use crate::lines::chunk_size::ChunkSize;
+use crate::lines::resolved::Resolved;
+use crate::lines::resolved_line::ResolvedTarget;
 use crate::lines::store_layout::place_count;
-use crate::names::indexed::Indexed;
-use dm_table::{LoadFault, LoadKind, Target};
+use dm_table::{LoadFault, LoadKind};
 
 /// Fails at the first snapshot whose store brings all stores together to more than 4,194,304 places.
 ///
 /// Cost: a walk over the lines.
-pub(crate) fn check_places(stack: &Indexed) -> Result<(), LoadFault>
+pub(crate) fn check_places(stack: &Resolved) -> Result<(), LoadFault>
     requires { All (λ device. HaveGoodChunks device.lines) stack.now.devices }
     ensures { result_err result ≡ first_or (crowded stack.now) None }
 {
     let mut used = 0;
-    for device in stack.devices() {
-        for line in device.lines.as_slice() {
-            let places = target_places(stack, &line.target);
+    let by_ids = stack.by_ids();
+    for (id, device) in stack.devices().iter().enumerate() {
+        let resolved = by_ids[id].table.lines();
+        for (index, line) in device.lines.as_slice().iter().enumerate() {
+            let places = places_of(stack, &resolved[index].target);
             if MOST_PLACES - used < places {
                 return Err(LoadFault {
                     kind: LoadKind::Limit,
@@ -36,17 +39,13 @@ pub(crate) fn check_places(stack: &Indexed) -> Result<(), LoadFault>
 }
 
 /// The places of the store of a line, where it has one.
-fn target_places(stack: &Indexed, target: &Target) -> u64
-    requires { HasGoodChunk target.now }
-    ensures { result ≡ target_places stack.now target.now }
+fn places_of(stack: &Resolved, target: &ResolvedTarget) -> u64
+    ensures { result ≡ places_of stack.now target.now }
 {
     match target {
-        Target::Snapshot {
-            store,
-            kind,
-            chunk,
-            ..
-        } => place_count(*kind, ChunkSize::new(*chunk), stack.len_of(store)),
+        ResolvedTarget::Snapshot(snapshot) => {
+            place_count(snapshot.kind, snapshot.chunk, stack.len_of(snapshot.store))
+        }
         _ => 0,
     }
 }

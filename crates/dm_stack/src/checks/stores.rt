@@ -15,10 +15,11 @@ ghost use Rattle.dm_stack.specs.checks.Soundness.{store};
 ghost use Rattle.dm_stack.specs.checks.Store.{has_deep_store, is_plain, is_shallow, may_store, store_links};
 ghost use Rattle.dm_stack.specs.checks.Store.{store_links_of};
 
-use crate::checks::faults::check_lines;
+use crate::checks::faults::check_by_ids;
 use crate::checks::graph::{MOST_DEPTH, depths};
 use crate::id::Lower;
-use crate::names::indexed::Indexed;
+use crate::lines::resolved::Resolved;
+use crate::lines::resolved_line::ResolvedTarget;
 use dm_table::{DeviceSpec, Line, LoadFault, LoadKind, Target};
 use std::alloc::{AllocError, Global};
 
@@ -27,7 +28,7 @@ use std::alloc::{AllocError, Global};
 /// Fails only when out of memory. Cost: that of finding depths.
 pub(crate) fn store_depths(
     alloc: Global,
-    stack: &Indexed,
+    stack: &Resolved,
     named: &[Vec<usize>],
 ) -> Result<Vec<u32>, AllocError>
     requires named { links_in named.now ≡ links stack.now }
@@ -41,7 +42,7 @@ pub(crate) fn store_depths(
 /// What each device names, and itself where no store may be made of it.
 fn store_links(
     alloc: Global,
-    stack: &Indexed,
+    stack: &Resolved,
     named: &[Vec<usize>],
 ) -> Result<Vec<Vec<usize>>, AllocError>
     requires { links_in named.now ≡ links stack.now }
@@ -93,21 +94,23 @@ fn is_plain(target: &Target) -> bool
 /// Fails at the first snapshot whose store may not be one, by the depths that `store_depths` returns.
 ///
 /// Cost: a walk over the lines.
-pub(crate) fn check_stores(stack: &Indexed, depths: &[u32]) -> Result<(), LoadFault>
+pub(crate) fn check_stores(stack: &Resolved, depths: &[u32]) -> Result<(), LoadFault>
     requires { depths.now ≡ depths_to (store_links stack.now) FOLLOWED_LEVELS }
     ensures { result_err result ≡ first_or (store stack.now) None }
 {
-    check_lines(LoadKind::Store, stack.devices(), |line| {
-        has_deep_store(stack, depths, &line.target)
-    })
+    check_by_ids(
+        LoadKind::Store,
+        stack,
+        |line| has_deep_store(depths, &line.target),
+    )
 }
 
 /// Whether a target is a snapshot whose store may not be one.
-fn has_deep_store(stack: &Indexed, depths: &[u32], target: &Target) -> bool
-    ensures { result ≡ has_deep_store stack.now depths.now target.now }
+fn has_deep_store(depths: &[u32], target: &ResolvedTarget) -> bool
+    ensures { result ≡ has_deep_store depths.now target.now }
 {
     match target {
-        Target::Snapshot { store, .. } => !is_shallow(depths, stack.lower_of(store)),
+        ResolvedTarget::Snapshot(snapshot) => !is_shallow(depths, snapshot.store),
         _ => false,
     }
 }

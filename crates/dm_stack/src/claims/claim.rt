@@ -4,17 +4,18 @@
 //! to share what it names in another way is a variant of `Use` (`dm_table`), and arms in `may_share`
 //! here and in `reach`.
 
-ghost use Rattle.std.specs.Prelude.{◌≡◌, ◌<◌, ◌∷◌, ◌++◌, ◌&&◌, [], ℕ, IfOk, OnOk, false, length, not};
+ghost use Rattle.std.specs.Prelude.{◌≡◌, ◌<◌, ◌∷◌, ◌++◌, ◌&&◌, [], ℕ, IfOk, OnOk, false, length, map, not};
 ghost use Rattle.std.specs.List.{All, flat_map, list_any, slice_index_or};
-ghost use Rattle.dm_stack.specs.claims.Claims.{claims, line_claims, may_share, span_claim};
-ghost use Rattle.dm_stack.specs.Description.{lower_of};
+ghost use Rattle.dm_stack.specs.Stack.{resolved_device};
+ghost use Rattle.dm_stack.specs.claims.Claims.{claims, may_share};
 ghost use Rattle.dm_stack.specs.claims.Naming.{is_device, is_named, line_names};
-ghost use Rattle.dm_stack.specs.checks.Soundness.{is_past, passes_end};
+ghost use Rattle.dm_stack.specs.lines.Span.{is_past, line_claims, passes_end, span_claim};
 
 use crate::id::{DeviceId, Lower};
+use crate::lines::resolved::Resolved;
+use crate::lines::resolved_line::ResolvedLine;
 use crate::lines::span::{Span, Spans};
-use crate::names::indexed::Indexed;
-use dm_table::{DevRef, Line, Use};
+use dm_table::Use;
 use std::alloc::{AllocError, Global};
 
 /// Sectors of a lower device or disk, from a start to before an end, that a device claims.
@@ -41,19 +42,14 @@ pub(crate) fn may_share(one: Use, other: Use) -> bool
 ///
 /// No line passes the end of what it names. Fails only when out of memory. Cost: linear in the
 /// lines and their columns.
-pub(crate) fn claims(alloc: Global, stack: &Indexed) -> Result<Vec<Claim>, AllocError>
-    requires { All (λ device. All (λ line. passes_end stack.now line ≡ false) device.lines)
-        stack.now.devices }
+pub(crate) fn claims(alloc: Global, stack: &Resolved) -> Result<Vec<Claim>, AllocError>
+    requires { All (λ device. All (λ line. passes_end stack.now line ≡ false) device.table)
+        (map (resolved_device stack.now) stack.now.devices) }
     ensures { IfOk result (λ all. all.items ≡ claims stack.now) }
 {
     let mut claims = Vec::new(alloc);
-    for (id, device) in stack.devices().iter().enumerate() {
-        add_lines(
-            &mut claims,
-            stack,
-            DeviceId::new(id),
-            device.lines.as_slice(),
-        )?;
+    for (id, device) in stack.by_ids().iter().enumerate() {
+        add_lines(&mut claims, stack, DeviceId::new(id), device.table.lines())?;
     }
     Ok(claims)
 }
@@ -61,9 +57,9 @@ pub(crate) fn claims(alloc: Global, stack: &Indexed) -> Result<Vec<Claim>, Alloc
 /// Adds the claims of the lines of a device.
 fn add_lines(
     claims: &mut Vec<Claim>,
-    stack: &Indexed,
+    stack: &Resolved,
     device: DeviceId,
-    lines: &[Line],
+    lines: &[ResolvedLine],
 ) -> Result<(), AllocError>
     requires { All (λ line. passes_end stack.now line ≡ false) lines.now }
     ensures { OnOk result
@@ -78,15 +74,15 @@ fn add_lines(
 /// Adds the claims of a line of a device, one for each of its spans.
 fn add_line(
     claims: &mut Vec<Claim>,
-    stack: &Indexed,
+    stack: &Resolved,
     device: DeviceId,
-    line: &Line,
+    line: &ResolvedLine,
 ) -> Result<(), AllocError>
     requires { passes_end stack.now line.now ≡ false }
     ensures { OnOk result (claims.new.items ≡ claims.old.items ++ line_claims stack.now device line.now) }
 {
     for span in Spans::of(line) {
-        add_claim(claims, stack, device, &span)?;
+        add_claim(claims, stack, device, span)?;
     }
     Ok(())
 }
@@ -94,18 +90,17 @@ fn add_line(
 /// Adds what a device claims by a span that ends within what it names.
 fn add_claim(
     claims: &mut Vec<Claim>,
-    stack: &Indexed,
+    stack: &Resolved,
     device: DeviceId,
-    span: &Span<'_>,
+    span: Span,
 ) -> Result<(), AllocError>
-    requires { is_past stack.now span.now ≡ false }
-    ensures { OnOk result (claims.new.items ≡ claims.old.items ++ span_claim stack.now device span.now ∷ []) }
+    requires { is_past stack.now span ≡ false }
+    ensures { OnOk result (claims.new.items ≡ claims.old.items ++ span_claim stack.now device span ∷ []) }
 {
-    let to = stack.lower_of(span.to);
     let whole = stack.len_of(span.to);
     let claim = Claim {
         device,
-        to,
+        to: span.to,
         start: span.offset,
         end: match span.len {
             Some(len) => span.offset + len,
@@ -152,34 +147,39 @@ fn note_claim(free: &mut [bool], to: Lower)
 /// Whether a line of any device names the device of an id.
 ///
 /// Cost: linear in the lines and their columns.
-pub(crate) fn is_named(stack: &Indexed, device: DeviceId) -> bool
+pub(crate) fn is_named(stack: &Resolved, device: DeviceId) -> bool
     ensures { result ≡ is_named stack.now device }
 {
     stack
-        .devices()
+        .by_ids()
         .iter()
-        .any(|other| lines_name(stack, other.lines.as_slice(), device))
+        .any(|other| lines_name(other.table.lines(), device))
 }
 
 /// Whether one of these lines names a device.
-fn lines_name(stack: &Indexed, lines: &[Line], device: DeviceId) -> bool
-    ensures { result ≡ list_any (line_names stack.now device) lines.now }
+fn lines_name(lines: &[ResolvedLine], device: DeviceId) -> bool
+    ensures { result ≡ list_any (line_names device) lines.now }
 {
-    lines.iter().any(|line| line_names(stack, line, device))
+    lines.iter().any(|line| line_names(line, device))
 }
 
 /// Whether a line names a device.
-fn line_names(stack: &Indexed, line: &Line, device: DeviceId) -> bool
-    ensures { result ≡ line_names stack.now device line.now }
+fn line_names(line: &ResolvedLine, device: DeviceId) -> bool
+    ensures { result ≡ line_names device line.now }
 {
-    Spans::of(line).any(|span| is_device(stack, span.to, device))
+    for span in Spans::of(line) {
+        if is_device(span.to, device) {
+            return true;
+        }
+    }
+    false
 }
 
 /// Whether what a line names is this device.
-fn is_device(stack: &Indexed, to: &DevRef, device: DeviceId) -> bool
-    ensures { result ≡ is_device device (lower_of stack.now to.now) }
+fn is_device(to: Lower, device: DeviceId) -> bool
+    ensures { result ≡ is_device device to }
 {
-    match stack.lower_of(to) {
+    match to {
         Lower::Device(id) => id == device,
         Lower::Disk(_) => false,
     }

@@ -1,45 +1,23 @@
 //! Lines by ids: what each names is looked up once, while a stack is loaded.
 //!
-//! What is not there is found by `check_references`, which runs first; making lines by ids then asks for
-//! nothing. A new target is an arm of `target` here and of `resolved_target` in the specs.
+//! They are made right after the check of how lines follow one another, and ask for nothing: a name that is not
+//! there has an id past the last, which `check_references` finds. The checks from there on look no name up. A new
+//! target is an arm of `target` here and of `resolved_target` in the specs.
 
-ghost use Rattle.std.specs.Prelude.{◌≡◌, IfOk, None, map};
-ghost use Rattle.std.specs.Result.{result_err};
-ghost use Rattle.dm_table.specs.load.LoadFault.{first_or};
+ghost use Rattle.std.specs.Prelude.{◌≡◌, IfOk, map};
 ghost use Rattle.dm_stack.specs.lines.Below.{resolved_columns, resolved_line, resolved_target};
 ghost use Rattle.dm_stack.specs.Stack.{resolved_device};
 ghost use Rattle.dm_stack.specs.lines.Over.{all_over};
-ghost use Rattle.dm_stack.specs.checks.Soundness.{is_unknown, unknown};
 
-use crate::checks::faults::check_lines;
 use crate::checks::layout::end_of;
 use crate::lines::divisor::Divisor;
 use crate::lines::over::{all_over, resolved_snapshot, snapshots_over};
 use crate::lines::resolved_columns::{ResolvedColumn, ResolvedColumns};
 use crate::lines::resolved_line::{ResolvedLine, ResolvedOrigin, ResolvedOver, ResolvedTarget};
 use crate::lines::resolved_table::{ResolvedDevice, ResolvedTable};
-use crate::lines::span::Spans;
 use crate::names::indexed::Indexed;
-use dm_table::{Column, Line, LoadFault, LoadKind, Target};
+use dm_table::{Column, Line, Target};
 use std::alloc::{AllocError, Global};
-
-/// Fails at the first line that names a device or a disk that is not there.
-///
-/// Cost: linear in the lines and their columns.
-pub(crate) fn check_references(stack: &Indexed) -> Result<(), LoadFault>
-    ensures { result_err result ≡ first_or (unknown stack.now) None }
-{
-    check_lines(LoadKind::Unknown, stack.devices(), |line| {
-        is_unknown(stack, line)
-    })
-}
-
-/// Whether a line names a device or a disk that is not there.
-fn is_unknown(stack: &Indexed, line: &Line) -> bool
-    ensures { result ≡ is_unknown stack.now line.now }
-{
-    Spans::of(line).any(|span| stack.is_unknown(span.to))
-}
 
 /// The devices by ids, in their order.
 ///

@@ -1,49 +1,38 @@
-//! What a line names below, and where: its spans.
+//! What a line names below, and where: its spans, by ids.
 //!
-//! Unknown names, offsets, ranges, cycles, depths and claims are checked on spans, so these checks
-//! know no target: a new target says what it names here, in `span_at`, and in `target_spans`
-//! (`specs/tables/Span` of `dm_table`). No memory is taken.
+//! Unknown names, ranges, cycles, depths and claims are checked on spans, so these checks know no
+//! target: a new target says what it names here, in `span_at`, and in `target_spans`
+//! (`specs/lines/Span`, and by names `specs/tables/Span` of `dm_table`). No memory is taken.
 
 ghost use Rattle.std.specs.Prelude.{◌≡◌, ◌+◌, ◌/◌, ◌<◌, ◌^◌, IfSome, drop, length, map, slice_get};
 ghost use Rattle.std.specs.Iterator.{YieldsFirst, item_count};
-ghost use Rattle.dm_table.specs.tables.Span.{column_span, spans, whole_span};
+ghost use Rattle.dm_stack.specs.lines.Span.{column_span, spans, whole_span};
 
-use dm_table::{Column, DevRef, Line, Target, Use};
-use std::marker::Model;
+use crate::id::Lower;
+use crate::lines::resolved_columns::ResolvedColumn;
+use crate::lines::resolved_line::{ResolvedLine, ResolvedTarget};
+use dm_table::Use;
 
 /// A range of sectors of a lower device or disk, that a line names.
 #[derive(Drop)]
-pub(crate) struct Span<'a> {
-    pub to: &'a DevRef,
+pub(crate) struct Span {
+    pub to: Lower,
     pub offset: u64,
     /// How many sectors; all of what is named where it is not said.
     pub len: Option<u64>,
     pub kind: Use,
 }
 
-impl<'a> Model for Span<'a> {
-    ghost use Rattle.dm_table.specs.tables.Span.{Span};
-
-    ghost Value = { Span };
-
-    ghost view = { λ span. record {
-      to = span.to.now;
-      offset = span.offset;
-      len = span.len;
-      kind = span.kind;
-    } };
-}
-
 /// The spans of a line that are left.
 #[derive(Drop)]
 pub(crate) struct Spans<'a> {
-    line: &'a Line,
+    line: &'a ResolvedLine,
     index: usize,
 }
 
 impl<'a> Spans<'a> {
     /// The spans of a line, in their order.
-    pub(crate) fn of(line: &'a Line) -> Spans<'a>
+    pub(crate) fn of(line: &'a ResolvedLine) -> Spans<'a>
         ensures line { result.line.now ≡ line.now }
         ensures index { result.index ≡ 0 }
     {
@@ -52,13 +41,13 @@ impl<'a> Spans<'a> {
 }
 
 impl<'a> Iterator for Spans<'a> {
-    type Item = Span<'a>;
+    type Item = Span;
 
     ghost next_gives = { YieldsFirst (λ left. drop left.index (spans left.line.now)) };
 
     ghost remaining = { item_count (λ left. drop left.index (spans left.line.now)) };
 
-    fn next(&mut self) -> Option<Span<'a>> {
+    fn next(&mut self) -> Option<Span> {
         let span = span_at(self.line, self.index)?;
         self.index += 1;
         Some(span)
@@ -66,28 +55,34 @@ impl<'a> Iterator for Spans<'a> {
 }
 
 /// The span of an index, where there is one.
-fn span_at(line: &Line, index: usize) -> Option<Span<'_>>
+fn span_at(line: &ResolvedLine, index: usize) -> Option<Span>
     ensures span { result ≡ slice_get (spans line.now) index }
     ensures within { IfSome result (λ _. index + 1 < 2 ^ 64) }
 {
     match &line.target {
-        Target::Linear { to, offset } if index == 0 => Some(Span {
-            to,
+        ResolvedTarget::Linear { to, offset } if index == 0 => Some(Span {
+            to: *to,
             offset: *offset,
             len: Some(line.len),
             kind: Use::Own,
         }),
-        Target::Striped { columns, .. } => column_span(line.len, columns.as_slice(), index),
-        Target::Snapshot { store, .. } if index == 0 => Some(whole_span(store, Use::Own)),
-        Target::Snapshot { origin, .. } if index == 1 => Some(whole_span(origin, Use::Reading)),
-        Target::Origin { origin } if index == 0 => Some(whole_span(origin, Use::Serving)),
+        ResolvedTarget::Striped { columns, .. } => {
+            column_span(line.len, columns.as_slice(), index)
+        }
+        ResolvedTarget::Snapshot(snapshot) if index == 0 => {
+            Some(whole_span(snapshot.store, Use::Own))
+        }
+        ResolvedTarget::Snapshot(snapshot) if index == 1 => {
+            Some(whole_span(snapshot.origin, Use::Reading))
+        }
+        ResolvedTarget::Origin(origin) if index == 0 => Some(whole_span(origin.to, Use::Serving)),
         _ => None,
     }
 }
 
 /// All of what is named.
-fn whole_span(to: &DevRef, kind: Use) -> Span<'_>
-    ensures { result ≡ whole_span to.now kind }
+fn whole_span(to: Lower, kind: Use) -> Span
+    ensures { result ≡ whole_span to kind }
 {
     Span {
         to,
@@ -98,13 +93,13 @@ fn whole_span(to: &DevRef, kind: Use) -> Span<'_>
 }
 
 /// The span of a column, which has its share of a line's length.
-fn column_span(len: u64, columns: &[Column], index: usize) -> Option<Span<'_>>
+fn column_span(len: u64, columns: &[ResolvedColumn], index: usize) -> Option<Span>
     ensures within { IfSome result (λ _. index + 1 < 2 ^ 64) }
     ensures span { result ≡ slice_get (map (column_span (len / length columns.now)) columns.now) index }
 {
     let column = columns.get(index)?;
     Some(Span {
-        to: &column.to,
+        to: column.to,
         offset: column.offset,
         len: Some(len / columns.len() as u64),
         kind: Use::Own,

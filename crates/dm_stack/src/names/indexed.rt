@@ -1,14 +1,13 @@
 //! Descriptions whose names are indexed.
 //!
-//! The checks after the one for names, and what makes lines by ids, look names up only here. A
-//! clause sees the description alone; the invariant says that the indexes are those of its names.
+//! What makes lines by ids looks names up here, and no check does. A clause sees the description alone; the
+//! invariant says that the indexes are those of its names.
 
 ghost use Rattle.std.specs.Prelude.{◌≡◌, map};
 ghost use Rattle.std.specs.List.{All};
-ghost use Rattle.dm_stack.specs.Description.{described, device_id, disk_id, lower_len, lower_of};
-ghost use Rattle.dm_stack.specs.checks.Soundness.{HaveSmallEnds, is_unknown_ref};
+ghost use Rattle.dm_stack.specs.Description.{described, device_id, disk_id, lower_of};
+ghost use Rattle.dm_stack.specs.checks.Soundness.{HaveSmallEnds};
 
-use crate::checks::layout::end_of;
 use crate::id::{DeviceId, DiskId, Lower};
 use crate::names::name_index::NameIndex;
 use dm_table::{DevRef, DeviceSpec, Disk, DiskName, Name};
@@ -65,25 +64,8 @@ impl<'a> Indexed<'a> {
         self.devices
     }
 
-    /// The disks in their order.
-    pub(crate) fn disks(&self) -> &'a [Disk]
-        ensures { result.now ≡ self.now.disks }
-    {
-        self.disks
-    }
-
-    /// Whether no device or disk has the name.
-    pub(crate) fn is_unknown(&self, to: &DevRef) -> bool
-        ensures { result ≡ is_unknown_ref self.now to.now }
-    {
-        match to {
-            DevRef::Device(name) => self.device_names.find(name.as_str()).is_none(),
-            DevRef::Disk(name) => self.disk_names.find(name.as_str()).is_none(),
-        }
-    }
-
     /// The id of a device's name; one past the last where no device has it.
-    pub(crate) fn device_of(&self, name: &Name) -> DeviceId
+    fn device_of(&self, name: &Name) -> DeviceId
         ensures { result ≡ device_id self.now name.now }
     {
         let index = self.device_names.find(name.as_str());
@@ -105,22 +87,6 @@ impl<'a> Indexed<'a> {
         match to {
             DevRef::Device(name) => Lower::Device(self.device_of(name)),
             DevRef::Disk(name) => Lower::Disk(self.disk_of(name)),
-        }
-    }
-
-    /// The length of what is named, in sectors; 0 where it is not there.
-    pub(crate) fn len_of(&self, to: &DevRef) -> u64
-        ensures { result ≡ lower_len self.now (lower_of self.now to.now) }
-    {
-        match self.lower_of(to) {
-            Lower::Device(id) => match self.devices.get(id.index()) {
-                Some(device) => end_of(device.lines.as_slice()),
-                None => 0,
-            },
-            Lower::Disk(id) => match self.disks.get(id.index()) {
-                Some(disk) => disk.len,
-                None => 0,
-            },
         }
     }
 }

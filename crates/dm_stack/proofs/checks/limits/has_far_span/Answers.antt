@@ -1,8 +1,7 @@
-use Rattle.std.proofs.Common.{rules, tests}
-use Rattle.std.proofs.lemmas.Iterator.Search.{any_from_yields_List}
-use Rattle.dm_stack.specs.checks.Soundness.{is_far}
-use Rattle.dm_stack.proofs.lines.SpanLemmas.{yields_spans}
+use Rattle.std.proofs.Common.{ap, ◌∙◌}
+use Rattle.std.specs.List.{list_any}
+use Rattle.dm_stack.proofs.lines.SpanLemmas.{any_map}
 use Rattle.dm_stack.proofs.checks.limits.has_far_span.Goals as goal
 
-pub returns : goal.returns
-returns c = any_from_yields_List is_far c.any.new.self _ c.any.result c.any.ensures.ran (yields_spans c.args.line.now c.of.result c.of.ensures.line c.of.ensures.index) (λ x b q k. search (rules, tests))
+pub returns-in-Striped : goal.returns-in-Striped
+returns-in-Striped c = rw (c.in-Striped.is, any_map) (c.has_far_column.ensures ∙ ap (list_any _) c.as_slice.ensures)

@@ -1,9 +1,9 @@
 -- what is left to name, after what was named so far, gives all of it
 use Rattle.std.proofs.Common.{◌≡◌, ◌++◌}
 use Rattle.std.specs.List.{flat_map}
-use Rattle.dm_stack.specs.Description.{line_links, ref_link}
+use Rattle.dm_stack.specs.lines.Span.{line_links, lower_link}
 use Rattle.dm_stack.proofs.lines.SpanLemmas.{spans_left}
 use Rattle.dm_stack.proofs.checks.links.add_line.Given as goal
 
 abbrev pub invariant-loop-span : goal.invariant-loop-span
-invariant-loop-span l = l.links.items ++ flat_map (λ span. ref_link l.stack span.to) (spans_left l.span-iterator) ≡ l.fn.links.items ++ line_links l.stack l.line
+invariant-loop-span l = l.links.items ++ flat_map (λ span. lower_link span.to) (spans_left l.span-iterator) ≡ l.fn.links.items ++ line_links l.line

@@ -1,7 +1,7 @@
 use Rattle.std.proofs.Common.{◌≡◌, take}
 use Rattle.std.specs.List.{flat_map}
-use Rattle.dm_stack.specs.Description.{line_links}
+use Rattle.dm_stack.specs.lines.Span.{line_links}
 use Rattle.dm_stack.proofs.checks.links.lines_links.Given as goal
 
 abbrev pub invariant-loop-line : goal.invariant-loop-line
-invariant-loop-line l = l.links.items ≡ flat_map (line_links l.stack) (take l.line-index l.lines)
+invariant-loop-line l = l.links.items ≡ flat_map line_links (take l.line-index l.lines)

@@ -17,7 +17,7 @@ use Rattle.dm_stack.proofs.checks.DepthTests.{depth_each, told_deep}
 use Rattle.dm_stack.proofs.checks.HandedOn.{ends_within}
 use Rattle.dm_stack.proofs.checks.LoadLemmas.{are_sound, closed_links, deepest_is, early_passed, found_or_memory, made_ok, refused_early, refused_late}
 use Rattle.dm_stack.proofs.checks.load.check.Goals as goal
-use Rattle.dm_stack.proofs.checks.load.check.Goals.{After-deref}
+use Rattle.dm_stack.proofs.checks.load.check.Goals.{After-deref-2, In_ok-found}
 
 pub returns-in_err-check_counts-clause-fault : goal.returns-in_err-check_counts-clause-fault
 returns-in_err-check_counts-clause-fault c =
@@ -58,10 +58,19 @@ returns-in_err-names-clause-fault c =
     (found_or_memory c.in_err-names.field-0.0.kind
     (λ other. refused_early stack 2 _ (sym c.in_ok-check_counts.ensures, (sym c.in_ok-check_numbers.ensures, tt)) (c.in_err-names.ensures.fault other)) c.in_err-names.ensures.memory)
 
-pub new-stack-requires-clause-small : goal.new-stack-requires-clause-small
-new-stack-requires-clause-small c =
+pub new-indexed-requires-clause-small : goal.new-indexed-requires-clause-small
+new-indexed-requires-clause-small c =
     let stack : Description = record { devices = c.args.devices.now; disks = c.args.disks.now } in
     ends_within stack (first_or-none (too_large stack) None (sym c.in_ok-check_numbers.ensures)).0
+
+-- the devices by ids
+by_ids : (c : In_ok-found) → c.in_ok-found.found.items ≡ map (resolved_device (record { devices = c.args.devices.now; disks = c.args.disks.now })) c.args.devices.now
+by_ids c =
+    made_ok c.resolved_devices.result c.in_ok-found.found (λ found. found.items ≡ map (resolved_device c.new-indexed.result) c.new-indexed.result.devices) c.in_ok-found.ensures.made c.resolved_devices.ensures
+    ∙ ap (λ (stack : Description). map (resolved_device stack) stack.devices) c.new-indexed.ensures
+
+pub new-stack-requires : goal.new-stack-requires
+new-stack-requires c = c.deref.ensures.value ∙ by_ids (goal.at.new-stack-requires c).In_ok-found
 
 pub follow-requires : goal.follow-requires
 follow-requires c = closed_links c.new-stack.result (sym c.in_ok-check_references.ensures)
@@ -79,11 +88,11 @@ check_cycles-requires c = made_ok c.follow.result c.in_ok-graph.graph (λ graph.
 
 pub check_stores-requires : goal.check_stores-requires
 check_stores-requires c =
-    c.deref-2.ensures.value ∙ made_ok c.follow.result c.in_ok-graph.graph (λ graph. graph.store_depths.items ≡ depths_to (store_links c.new-stack.result) 33) c.in_ok-graph.ensures.made c.follow.ensures.stores
+    c.deref-3.ensures.value ∙ made_ok c.follow.result c.in_ok-graph.graph (λ graph. graph.store_depths.items ≡ depths_to (store_links c.new-stack.result) 33) c.in_ok-graph.ensures.made c.follow.ensures.stores
 
 -- the depths that were counted
-depths_are : (c : After-deref) → c.deref.result.now ≡ depths_to (links c.new-stack.result) 33
-depths_are c = c.deref.ensures.value ∙ made_ok c.follow.result c.in_ok-graph.graph (λ graph. graph.depths.items ≡ depths_to (links c.new-stack.result) 33) c.in_ok-graph.ensures.made c.follow.ensures.depths
+depths_are : (c : After-deref-2) → c.deref-2.result.now ≡ depths_to (links c.new-stack.result) 33
+depths_are c = c.deref-2.ensures.value ∙ made_ok c.follow.result c.in_ok-graph.graph (λ graph. graph.depths.items ≡ depths_to (links c.new-stack.result) 33) c.in_ok-graph.ensures.made c.follow.ensures.depths
 
 -- what is known once no device reaches itself
 record Passed (stack described : Description) (depths : List ℕ) : Type 0 where
@@ -92,7 +101,7 @@ record Passed (stack described : Description) (depths : List ℕ) : Type 0 where
   acyclic : HasNoCycle stack
   told : first_or (faults_by_id Deep (λ id. nat_lt 32 (get_or depths id 0)) 0 stack.devices) None ≡ first_or (deep stack) None
 
-passed : (c : After-deref) → Passed (record { devices = c.args.devices.now; disks = c.args.disks.now }) c.new-stack.result c.deref.result.now
+passed : (c : After-deref-2) → Passed (record { devices = c.args.devices.now; disks = c.args.disks.now }) c.new-stack.result c.deref-2.result.now
 passed c =
     let stack : Description = record { devices = c.args.devices.now; disks = c.args.disks.now } in
     let is = c.new-stack.ensures in
@@ -100,46 +109,46 @@ passed c =
       same = is;
       before = early_passed stack (sym c.in_ok-check_counts.ensures, (sym c.in_ok-check_numbers.ensures, (c.in_ok-names.ensures.apart, (sym c.in_ok-check_lengths.ensures, (sym c.in_ok-check_starts.ensures, (ap (λ (described : Description). first_or (unknown described) None) (sym is) ∙ sym c.in_ok-check_references.ensures, tt))))));
       acyclic = rw is at c.in_ok-check_cycles.ensures.passed;
-      told = told_deep stack c.deref.result.now stack.devices (rw is at (depths_are c)) refl;
+      told = told_deep stack c.deref-2.result.now stack.devices (rw is at (depths_are c)) refl;
     }
 
 pub check_depths-requires : goal.check_depths-requires
-check_depths-requires c = rw (depth_each c.new-stack.result c.deref.result.now (depths_are c), c.new-stack.ensures)
+check_depths-requires c = rw (depth_each c.new-stack.result c.deref-2.result.now (depths_are c), c.new-stack.ensures)
 
 pub returns-in_err-check_depths-clause-fault : goal.returns-in_err-check_depths-clause-fault
 returns-in_err-check_depths-clause-fault c =
     let p = err_from_is_err_and c.from_residual-in_err-check_depths.result c.from_residual-in_err-check_depths.ensures.1 in
-    let k = passed (goal.at.returns-in_err-check_depths-clause-fault c).After-deref in
+    let k = passed (goal.at.returns-in_err-check_depths-clause-fault c).After-deref-2 in
     rw (p.1, p.2) (inl (refused_late _ 0 _ k.before k.acyclic tt (sym k.told ∙ sym c.in_err-check_depths.ensures)))
 
 pub returns-in_err-check_stripes-clause-fault : goal.returns-in_err-check_stripes-clause-fault
 returns-in_err-check_stripes-clause-fault c =
     let p = err_from_is_err_and c.from_residual-in_err-check_stripes.result c.from_residual-in_err-check_stripes.ensures.1 in
-    let k = passed (goal.at.returns-in_err-check_stripes-clause-fault c).After-deref in
+    let k = passed (goal.at.returns-in_err-check_stripes-clause-fault c).After-deref-2 in
     rw (p.1, p.2) (inl (refused_late _ 1 _ k.before k.acyclic (sym k.told ∙ sym c.in_ok-check_depths.ensures, tt) (sym c.in_err-check_stripes.ensures)))
 
 pub returns-in_err-check_ranges-clause-fault : goal.returns-in_err-check_ranges-clause-fault
 returns-in_err-check_ranges-clause-fault c =
     let p = err_from_is_err_and c.from_residual-in_err-check_ranges.result c.from_residual-in_err-check_ranges.ensures.1 in
-    let k = passed (goal.at.returns-in_err-check_ranges-clause-fault c).After-deref in
+    let k = passed (goal.at.returns-in_err-check_ranges-clause-fault c).After-deref-2 in
     rw (p.1, p.2) (inl (refused_late _ 2 _ k.before k.acyclic (sym k.told ∙ sym c.in_ok-check_depths.ensures, (sym c.in_ok-check_stripes.ensures, tt)) (rw (c.in_err-check_ranges.ensures, k.same))))
 
 pub returns-in_err-check_snapshots-clause-fault : goal.returns-in_err-check_snapshots-clause-fault
 returns-in_err-check_snapshots-clause-fault c =
     let p = err_from_is_err_and c.from_residual-in_err-check_snapshots.result c.from_residual-in_err-check_snapshots.ensures.1 in
-    let k = passed (goal.at.returns-in_err-check_snapshots-clause-fault c).After-deref in
+    let k = passed (goal.at.returns-in_err-check_snapshots-clause-fault c).After-deref-2 in
     rw (p.1, p.2) (inl (refused_late _ 3 _ k.before k.acyclic (sym k.told ∙ sym c.in_ok-check_depths.ensures, (sym c.in_ok-check_stripes.ensures, (ap (λ (described : Description). first_or (range described) None) (sym k.same) ∙ sym c.in_ok-check_ranges.ensures, tt))) (rw (c.in_err-check_snapshots.ensures, k.same))))
 
 pub returns-in_err-check_stores-clause-fault : goal.returns-in_err-check_stores-clause-fault
 returns-in_err-check_stores-clause-fault c =
     let p = err_from_is_err_and c.from_residual-in_err-check_stores.result c.from_residual-in_err-check_stores.ensures.1 in
-    let k = passed (goal.at.returns-in_err-check_stores-clause-fault c).After-deref in
+    let k = passed (goal.at.returns-in_err-check_stores-clause-fault c).After-deref-2 in
     rw (p.1, p.2) (inl (refused_late _ 4 _ k.before k.acyclic (sym k.told ∙ sym c.in_ok-check_depths.ensures, (sym c.in_ok-check_stripes.ensures, (ap (λ (described : Description). first_or (range described) None) (sym k.same) ∙ sym c.in_ok-check_ranges.ensures, (ap (λ (described : Description). first_or (snapshot described) None) (sym k.same) ∙ sym c.in_ok-check_snapshots.ensures, tt)))) (rw (c.in_err-check_stores.ensures, k.same))))
 
 pub returns-in_err-check_places-clause-fault : goal.returns-in_err-check_places-clause-fault
 returns-in_err-check_places-clause-fault c =
     let p = err_from_is_err_and c.from_residual-in_err-check_places.result c.from_residual-in_err-check_places.ensures.1 in
-    let k = passed (goal.at.returns-in_err-check_places-clause-fault c).After-deref in
+    let k = passed (goal.at.returns-in_err-check_places-clause-fault c).After-deref-2 in
     rw (p.1, p.2) (inl (refused_late _ 5 _ k.before k.acyclic (sym k.told ∙ sym c.in_ok-check_depths.ensures, (sym c.in_ok-check_stripes.ensures, (ap (λ (described : Description). first_or (range described) None) (sym k.same) ∙ sym c.in_ok-check_ranges.ensures, (ap (λ (described : Description). first_or (snapshot described) None) (sym k.same) ∙ sym c.in_ok-check_snapshots.ensures, (ap (λ (described : Description). first_or (store described) None) (sym k.same) ∙ sym c.in_ok-check_stores.ensures, tt))))) (rw (c.in_err-check_places.ensures, k.same))))
 
 pub check_starts-requires : goal.check_starts-requires
@@ -167,15 +176,14 @@ returns-in_err-snapshots-clause-fault c =
 
 pub returns-clause-loaded : goal.returns-clause-loaded
 returns-clause-loaded c =
-    let k = passed (goal.at.returns-clause-loaded c).After-deref in
+    let k = passed (goal.at.returns-clause-loaded c).After-deref-2 in
     record {
       sound = are_sound _ k.before k.acyclic
           (sym k.told ∙ sym c.in_ok-check_depths.ensures, (sym c.in_ok-check_stripes.ensures, (ap (λ (described : Description). first_or (range described) None) (sym k.same) ∙ sym c.in_ok-check_ranges.ensures, (ap (λ (described : Description). first_or (snapshot described) None) (sym k.same) ∙ sym c.in_ok-check_snapshots.ensures, (ap (λ (described : Description). first_or (store described) None) (sym k.same) ∙ sym c.in_ok-check_stores.ensures, (ap (λ (described : Description). first_or (crowded described) None) (sym k.same) ∙ sym c.in_ok-check_places.ensures, tt))))));
       device_names = c.in_ok-names.ensures.devices;
       disk_names = c.in_ok-names.ensures.disks;
-      found =
-          rw (made_ok c.resolved_devices.result c.in_ok-found.found (λ found. found.items ≡ map (resolved_device c.new-stack.result) c.new-stack.result.devices) c.in_ok-found.ensures.made c.resolved_devices.ensures, k.same);
+      found = by_ids (goal.at.returns-clause-loaded c).In_ok-found;
       depth =
-          c.deepest.ensures ∙ ap greatest (c.deref-3.ensures.value ∙ sym c.deref.ensures.value) ∙ deepest_is c.new-stack.result c.deref.result.now (depths_are (goal.at.returns-clause-loaded c).After-deref) ∙ ap stack_depth k.same;
+          c.deepest.ensures ∙ ap greatest (c.deref-4.ensures.value ∙ sym c.deref-2.ensures.value) ∙ deepest_is c.new-stack.result c.deref-2.result.now (depths_are (goal.at.returns-clause-loaded c).After-deref-2) ∙ ap stack_depth k.same;
       snapshots = made_ok c.snapshots.result c.in_ok-snapshots.snapshots (λ ids. ids.items ≡ snapshots (record { devices = c.args.devices.now; disks = [] })) c.in_ok-snapshots.ensures.made c.snapshots.ensures;
     }

@@ -5,14 +5,14 @@ use Rattle.dm_stack.specs.checks.Soundness.{all_lines, crowded}
 use Rattle.dm_stack.proofs.checks.CrowdLemmas.{crowded_from}
 use Rattle.dm_stack.proofs.checks.store_limit.check_places.Given as goal
 
-abbrev pub invariant-loop-line : goal.invariant-loop-line
-invariant-loop-line l = record {
+abbrev pub invariant-loop-index : goal.invariant-loop-index
+invariant-loop-index l = record {
   few : l.used ≤ 4194304;
-  left : first_or (crowded_from l.stack l.used (drop l.line-index l.line-items ++ all_lines (drop (l.device-index + 1) l.stack.devices))) None ≡ first_or (crowded l.stack) None;
+  left : first_or (crowded_from l.stack l.used (drop l.index l.line-items ++ all_lines (drop (l.id + 1) l.stack.devices))) None ≡ first_or (crowded l.stack) None;
 }
 
-abbrev pub invariant-loop-device : goal.invariant-loop-device
-invariant-loop-device l = record {
+abbrev pub invariant-loop-id : goal.invariant-loop-id
+invariant-loop-id l = record {
   few : l.used ≤ 4194304;
-  left : first_or (crowded_from l.stack l.used (all_lines (drop l.device-index l.stack.devices))) None ≡ first_or (crowded l.stack) None;
+  left : first_or (crowded_from l.stack l.used (all_lines (drop l.id l.stack.devices))) None ≡ first_or (crowded l.stack) None;
 }

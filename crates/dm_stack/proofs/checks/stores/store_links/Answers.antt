@@ -4,13 +4,13 @@ use Rattle.dm_stack.proofs.checks.StoreLemmas.{links_length, store_links_next}
 use Rattle.dm_stack.proofs.checks.stores.store_links.Goals as goal
 
 pub bounds-named-id : goal.bounds-named-id
-bounds-named-id c = omega (arith, c.loop-id-test.true, links_length c.args.stack.now c.args.named.now c.requires, ap length c.devices-device-items.ensures.devices)
+bounds-named-id c = omega (arith, c.loop-id-test.true, links_length c.args.stack.now c.args.named.now c.requires, ap length c.devices-device-items.ensures)
 
 pub loop-id-preserved : goal.loop-id-preserved
 loop-id-preserved c =
     let id = c.loop-id.id in
     let device = c.device-item.result in
-    let count = ap length c.devices-device-items.ensures.devices in
+    let count = ap length c.devices-device-items.ensures in
     let within : id < length c.args.stack.now.devices = omega (arith, c.loop-id-test.true, count) in
     let below : id < length c.args.named.now = omega (arith, within, links_length c.args.stack.now c.args.named.now c.requires) in
     let is : device ≡ get_or c.args.stack.now.devices id device = cc in

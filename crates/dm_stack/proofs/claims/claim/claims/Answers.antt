@@ -1,15 +1,23 @@
-use Rattle.std.proofs.Common.{◌≡◌, ◌<◌, ap, arith, get_or, length}
+use Rattle.std.proofs.Common.{◌≡◌, ap, arith, length}
+use Rattle.std.proofs.lemmas.List.{length-map}
+use Rattle.dm_stack.specs.Stack.{resolved_device}
 use Rattle.dm_stack.specs.claims.Claims.{line_claims}
-use Rattle.dm_stack.proofs.lines.ByDevice.{device_next}
+use Rattle.dm_stack.specs.Description.{lines_at}
+use Rattle.dm_stack.specs.lines.Span as by_id
+use Rattle.dm_stack.proofs.lines.ByDevice.{lines_next, table_at}
+use Rattle.dm_stack.proofs.lines.SpanLemmas.{claims_are, flat_lines}
 use Rattle.dm_stack.proofs.claims.claim.claims.Goals as goal
 
 pub loop-id-preserved : goal.loop-id-preserved
 loop-id-preserved c =
+    let stack = c.args.stack.now in
     let id = c.loop-id.id in
-    let device = c.device-item.result in
-    let before = c.loop-id.claims.items in
-    let devices = c.devices-device-items.ensures.devices in
-    let within : id < length c.args.stack.now.devices = omega (arith, c.loop-id-test.true, ap length devices) in
-    let is : device ≡ get_or c.args.stack.now.devices id device = rw (← devices) c.device-item.is in
-    device_next (line_claims c.args.stack.now) c.args.stack.now id device before c.add_lines.new.claims.items within is c.loop-id.invariant
-    (rw (c.in_ok-add_lines.ensures, c.new.ensures, c.as_slice.ensures))
+    let table = table_at stack c.by_ids-device-items.result.now id c.device-item.result c.by_ids-device-items.ensures c.loop-id-test.true c.device-item.is in
+    let claimed = flat_lines stack (by_id.line_claims stack id) (line_claims stack id) (lines_at stack id) (claims_are stack id) in
+    lines_next (line_claims stack) stack id c.loop-id.claims.items c.add_lines.new.claims.items c.loop-id.invariant (rw (c.in_ok-add_lines.ensures, c.new.ensures, c.lines.ensures, table, claimed))
+
+pub returns : goal.returns
+returns c =
+    let stack = c.args.stack.now in
+    let end : c.loop-id.id ≡ length stack.devices = omega (arith, c.loop-id-test.false, c.loop-id.auto.id-end, ap length c.by_ids-device-items.ensures, length-map stack.devices (resolved_device stack)) in
+    rw end at c.loop-id.invariant

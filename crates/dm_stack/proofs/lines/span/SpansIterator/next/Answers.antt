@@ -1,5 +1,5 @@
 use Rattle.std.proofs.Common.{arith, ap, length}
-use Rattle.dm_table.specs.tables.Span.{spans}
+use Rattle.dm_stack.specs.lines.Span.{spans}
 use Rattle.dm_stack.proofs.lines.SpanLemmas.{drop_at, drop_past}
 use Rattle.dm_stack.proofs.lines.span.SpansIterator.next.Goals as goal
 

@@ -1,0 +1,24 @@
+-- What the closure returned of a line by ids is what its test says of the line.
+use Rattle.std.proofs.Common.{◌≡◌, ◌+◌, true, false, ◌∙◌, drop}
+use Rattle.dm_stack.specs.checks.Soundness.{all_lines}
+use Rattle.dm_stack.specs.lines.Below.{resolved_line}
+use Rattle.dm_stack.proofs.checks.PlacedLemmas.{bad_before, good_before}
+use Rattle.dm_stack.proofs.lines.ByDevice.{made_at, table_is}
+use Rattle.dm_stack.proofs.checks.faults.check_by_ids.Goals as goal
+use Rattle.dm_stack.proofs.checks.faults.check_by_ids.Goals.{After-is_bad}
+
+-- the line by ids
+line_is : (g : _) (c : After-is_bad g) → c.index-resolved-index.result ≡ resolved_line c.args.stack.now c.line-item.result
+line_is g c =
+    let table = table_is c.args.stack.now c.devices-device-items.result.now c.by_ids-by_ids.result.now c.loop-id.id c.device-item.result c.index-by_ids-id.result c.as_slice-line-items.result.now c.lines-resolved.result.now c.devices-device-items.ensures c.by_ids-by_ids.ensures c.loop-id-test.true c.device-item.is c.as_slice-line-items.ensures c.lines-resolved.ensures in
+    c.index-resolved-index.is ∙ made_at (resolved_line c.args.stack.now) c.as_slice-line-items.result.now c.lines-resolved.result.now c.loop-index.index c.line-item.result c.index-resolved-index.result table c.loop-index-test.true c.line-item.is
+
+pub returns-then-is_bad : goal.returns-then-is_bad
+returns-then-is_bad g c test computes =
+    let bad = computes c.line-item.result true (record { shown = _; shows = line_is g (goal.at.returns-then-is_bad g c).After-is_bad; says = record { met = c.if-is_bad.ensures } }) in
+    cc (bad_before c.args.kind (λ line. line.at) test c.as_slice-line-items.result.now (all_lines (drop (c.loop-id.id + 1) c.args.stack.now.devices)) c.loop-index.index c.line-item.result c.loop-index-test.true c.line-item.is bad, c.loop-index.invariant test computes)
+
+pub loop-index-preserved : goal.loop-index-preserved
+loop-index-preserved g c test computes =
+    let good = computes c.line-item.result false (record { shown = _; shows = line_is g (goal.at.loop-index-preserved g c).After-is_bad; says = record { met = c.if-is_bad.ensures } }) in
+    cc (good_before c.args.kind (λ line. line.at) test c.as_slice-line-items.result.now (all_lines (drop (c.loop-id.id + 1) c.args.stack.now.devices)) c.loop-index.index c.line-item.result c.loop-index-test.true c.line-item.is good, c.loop-index.invariant test computes)

@@ -1,0 +1,11 @@
+use Rattle.std.proofs.Common.{◌≡◌, ◌∙◌, rules, tests}
+use Rattle.dm_stack.specs.checks.Soundness.{is_unknown}
+use Rattle.dm_stack.specs.lines.Below.{resolved_line}
+use Rattle.dm_stack.specs.lines.Span.{names_missing}
+use Rattle.dm_stack.proofs.lines.SpanLemmas.{unknown_is}
+use Rattle.dm_stack.proofs.checks.references.check_references.Goals as goal
+
+pub returns : goal.returns
+returns c =
+    let stack = c.args.stack.now in
+    c.check_by_ids.ensures (is_unknown stack) (λ line bad called. let is : bad ≡ names_missing stack (resolved_line stack line) = search (rules, tests) in is ∙ unknown_is stack line)

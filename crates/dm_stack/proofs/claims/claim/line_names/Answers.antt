@@ -1,9 +1,0 @@
-use Rattle.std.proofs.Common.{rules, tests}
-use Rattle.std.proofs.lemmas.Iterator.Search.{any_from_yields_List}
-use Rattle.dm_stack.specs.Description.{lower_of}
-use Rattle.dm_stack.specs.claims.Naming.{is_device}
-use Rattle.dm_stack.proofs.lines.SpanLemmas.{yields_spans}
-use Rattle.dm_stack.proofs.claims.claim.line_names.Goals as goal
-
-pub returns : goal.returns
-returns c = any_from_yields_List (λ span. is_device c.args.device (lower_of c.args.stack.now span.to)) c.any.new.self _ c.any.result c.any.ensures.ran (yields_spans c.args.line.now c.of.result c.of.ensures.line c.of.ensures.index) (λ x b q k. search (rules, tests))
