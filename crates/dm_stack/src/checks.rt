@@ -10,7 +10,6 @@ pub mod load;
 pub mod names;
 pub mod paths;
 pub mod ranges;
-pub mod references;
 pub mod snapshots;
 pub mod store_limit;
 pub mod stores;

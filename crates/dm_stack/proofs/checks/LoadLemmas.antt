@@ -2,7 +2,7 @@
 use Rattle.std.proofs.Common.{◌≡◌, ◌≢◌, ◌⊎◌, ℕ, zero, suc, ◌+◌, ◌<◌, Bool, true, false, cond, inl, inr, not, List, [], ◌∷◌, Option, Some, None, Result, Ok, Vec, Global, arith, refl, sym, ap, ◌∙◌, drop, get_or, length, map, take}
 use Rattle.std.specs.Prelude.{IfOk, IfSome, IfNone, find, is_none}
 use Rattle.std.specs.List.{AllByRecursion, flat_map, list_any, position_or_len}
-use Rattle.std.proofs.lemmas.Bool.{or_parts}
+use Rattle.std.proofs.lemmas.Bool.{leb-false, or_parts}
 use Rattle.std.proofs.lemmas.List.{drop_more, length-map, length-take-le, take-append-drop}
 use Rattle.std.proofs.lemmas.List.Elements.{All-from_recursion}
 use Rattle.dm_table.specs.declared.tables.table.DevRef.{DevRef}
@@ -22,6 +22,7 @@ use Rattle.dm_table.specs.tables.Span.{Span, spans}
 use Rattle.dm_stack.proofs.checks.HandedOn.{all_append, refused_not_memory}
 use Rattle.dm_table.proofs.FaultLemmas.{first_or-found, first_or-none, first_or-passed}
 use Rattle.dm_stack.proofs.checks.Passes.{all_parts, faults_by_none}
+use Rattle.dm_stack.proofs.lines.SpanLemmas.{none_past}
 
 -- Checks in a row
 
@@ -78,13 +79,8 @@ made_ok {T} {E} made value P is holds = rw is at holds
 
 -- What is named is there
 
-place_step : {X : Type 0} (x : X) (found : Option X) (place end : ℕ) (b : Bool) → is_none (cond b (Some x) found) ≡ false → (is_none found ≡ false → place < end) → cond (not b) (1 + place) 0 < suc end
-place_step x found place end true e more = omega arith
-place_step x found place end false e more = omega (arith, more e)
-
 place_before : {X : Type 0} (test : X → Bool) (xs : List X) → is_none (find test xs) ≡ false → position_or_len test xs < length xs
-place_before test [] e = absurd cc
-place_before test (x ∷ xs) e = place_step x (find test xs) (position_or_len test xs) (length xs) (test x) e (place_before test xs)
+place_before test xs e = leb-false (length xs) (position_or_len test xs) (none_past test xs ∙ e)
 
 -- ids of devices of a stack
 abbrev pub AreThere : Description → List ℕ → Type 0

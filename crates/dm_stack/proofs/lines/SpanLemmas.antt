@@ -78,7 +78,7 @@ any_span test stack line = ap (list_any test) (spans_are stack line) ∙ any_map
 
 -- What is not there has an id past the last
 
-none_past : {X : Type 0} (test : X → Bool) (xs : List X) → nat_le (length xs) (position_or_len test xs) ≡ is_none (find test xs)
+pub none_past : {X : Type 0} (test : X → Bool) (xs : List X) → nat_le (length xs) (position_or_len test xs) ≡ is_none (find test xs)
 none_past test [] = refl
 none_past test (x ∷ xs) = by (test x) (none_past test xs) where
   by : (b : Bool) → nat_le (length xs) (position_or_len test xs) ≡ is_none (find test xs) → nat_le (suc (length xs)) (cond (not b) (1 + position_or_len test xs) 0) ≡ is_none (cond b (Some x) (find test xs))

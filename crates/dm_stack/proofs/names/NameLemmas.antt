@@ -17,6 +17,7 @@ use Rattle.dm_table.specs.load.LoadFault.{fault, faults_by, IsMemoryFault, first
 use Rattle.dm_stack.specs.Description.{is_same}
 use Rattle.dm_stack.specs.checks.Soundness.{is_repeated, with_before}
 use Rattle.dm_stack.proofs.lines.StripeLemmas.{at_index}
+use Rattle.dm_stack.proofs.lines.SpanLemmas.{any_map}
 use Rattle.dm_stack.proofs.checks.WithBefore.{drop-with_before, none-with_before}
 
 same_by : (a b : List ℕ) (p q : Bool) → is_same a b ≡ p → is_same b a ≡ q → p ≡ q
@@ -83,10 +84,6 @@ named_distinct name keys number apart at =
 
 -- Names that stand twice
 
-any_mapped : {X Y : Type 0} (f : X → Y) (p : Y → Bool) (xs : List X) → list_any p (map f xs) ≡ list_any (λ x. p (f x)) xs
-any_mapped f p [] = refl
-any_mapped f p (x ∷ xs) = rw (any_mapped f p xs)
-
 -- whether a name is among those that were added
 abbrev pub seen_in : List ℕ → List (List ℕ) → Bool
 seen_in name names = list_any (λ other. is_same other name) names
@@ -100,7 +97,7 @@ abbrev pub twice_from : {X : Type 0} → (X → List ℕ) → (X → Place) → 
 twice_from own place xs i = faults_by Twice (λ x. place x.it) (is_repeated own) (drop i (with_before xs))
 
 repeated_at : {X : Type 0} (own : X → List ℕ) (xs : List X) (i : ℕ) (x : X) (names : List (List ℕ)) (seen : Bool) → names ≡ map own (take i xs) → seen_in (own x) names ≡ seen → is_repeated own (record { before = take i xs; it = x }) ≡ seen
-repeated_at own xs i x names seen all is = sym (any_mapped own (λ other. is_same other (own x)) (take i xs)) ∙ ap (seen_in (own x)) (sym all) ∙ is
+repeated_at own xs i x names seen all is = sym (any_map (λ other. is_same other (own x)) own (take i xs)) ∙ ap (seen_in (own x)) (sym all) ∙ is
 
 -- where the next name is among those before it, and where it is not
 pub stands_twice : {X : Type 0} (own : X → List ℕ) (place : X → Place) (xs : List X) (i : ℕ) (x : X) (names : List (List ℕ)) → i < length xs → x ≡ get_or xs i x → names ≡ map own (take i xs) → seen_in (own x) names ≡ true → first_or (twice_from own place xs i) None ≡ Some (fault Twice (place x))
@@ -125,18 +122,6 @@ refused_twice {Y} part place found value e = (λ memory. absurd cc, λ other. cc
 
 -- Names that are looked up, by the elements that have them
 
-none_from : {X : Type 0} (test : X → Bool) (i : ℕ) (xs : List X) → is_none (position_from test i xs) ≡ is_none (find test xs)
-none_from test i [] = refl
-none_from test i (x ∷ xs) = none_step i x (position_from test (i + 1) xs) (find test xs) (test x) (none_from test (i + 1) xs) where
-  none_step : {Y : Type 0} (i : ℕ) (x : Y) (place : Option ℕ) (found : Option Y) (b : Bool) → is_none place ≡ is_none found → is_none (cond b (Some i) place) ≡ is_none (cond b (Some x) found)
-  none_step i x place found true e = refl
-  none_step i x place found false e = e
-
--- no place of a name among the names, and none that has it
-pub unknown_name : {X : Type 0} (own : X → List ℕ) (name : List ℕ) (xs : List X) (names : List (List ℕ)) → names ≡ map own xs → is_none (position (λ other. is_same other name) names) ≡ is_none (find (λ x. is_same (own x) name) xs)
-unknown_name own name xs names e =
-    rw e (ap is_none (sym (position_mapped own (λ other. is_same other name) (λ x. is_same (own x) name) (λ x. refl) xs) ∙ position_from-zero (λ x. is_same (own x) name) xs) ∙ none_from (λ x. is_same (own x) name) 0 xs)
-
 or_end : (end place : ℕ) → place ≤ end → unwrap_or (within end place) end ≡ place
 or_end end place most = by_test (nat_lt place end) refl where
   by_test : (b : Bool) → nat_lt place end ≡ b → unwrap_or (cond b (Some place) None) end ≡ place
@@ -144,12 +129,6 @@ or_end end place most = by_test (nat_lt place end) refl where
   by_test false e = omega (arith, most, ltb-false place end e)
 
 -- the place of a name among the names, or else the end, is that of the first that has it
-pub place_of_name : {X : Type 0} (own : X → List ℕ) (name : List ℕ) (xs : List X) (names : List (List ℕ)) → names ≡ map own xs → unwrap_or (position (λ other. is_same other name) names) (length xs) ≡ position_or_len (λ x. is_same (own x) name) xs
-place_of_name own name xs names e =
-    rw (e, ← (position_mapped own (λ other. is_same other name) (λ x. is_same (own x) name) (λ x. refl) xs)) (or_end (length xs) (position_or_len (λ x. is_same (own x) name) xs) (prefix_len-le-length _ xs))
-
-pub none_of : {X : Type 0} (found : Option X) (none : Bool) → is_some found ≡ not none → none ≡ is_none found
-none_of None true e = refl
-none_of None false e = absurd cc
-none_of (Some x) true e = absurd cc
-none_of (Some x) false e = refl
+pub place_of_name : {X : Type 0} (own : X → List ℕ) (name : List ℕ) (xs : List X) (names : List (List ℕ)) (place : Option ℕ) → names ≡ map own xs → place ≡ position (λ other. is_same other name) names → unwrap_or place (length xs) ≡ position_or_len (λ x. is_same (own x) name) xs
+place_of_name own name xs names place e found =
+    rw (found, e, ← (position_mapped own (λ other. is_same other name) (λ x. is_same (own x) name) (λ x. refl) xs)) (or_end (length xs) (position_or_len (λ x. is_same (own x) name) xs) (prefix_len-le-length _ xs))

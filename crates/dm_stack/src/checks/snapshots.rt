@@ -4,16 +4,13 @@
 //! Each is a whole device: its line stands alone in its table and is as long as the origin that it
 //! names. Mapping relies on it, and shifts where it would divide by a chunk, so that no rule here may be let go.
 
-ghost use Rattle.std.specs.Prelude.{◌≡◌, ◌∷◌, ◌++◌, [], ℕ, IfOk, None, OnOk, if◌then◌else◌, map};
+ghost use Rattle.std.specs.Prelude.{◌≡◌, ◌∷◌, ◌++◌, [], IfOk, None, OnOk, if◌then◌else◌, map};
 ghost use Rattle.std.specs.Result.{result_err};
 ghost use Rattle.dm_table.specs.load.LoadFault.{first_or};
-ghost use Rattle.dm_table.specs.declared.tables.table.DevRef.{DevRef};
-ghost use Rattle.dm_table.specs.declared.tables.table.StoreKind.{StoreKind};
-ghost use Rattle.dm_table.specs.declared.tables.table.Target.TheVariants.{Snapshot};
 ghost use Rattle.dm_stack.specs.Description.{described};
 ghost use Rattle.dm_stack.specs.lines.Below.{resolved_line, resolved_target};
 ghost use Rattle.dm_stack.specs.checks.Snapshots.{has_snapshot, snapshots};
-ghost use Rattle.dm_stack.specs.checks.Soundness.{is_bad_chunk, is_bad_snapshot, snapshot, bad_snapshots_in};
+ghost use Rattle.dm_stack.specs.checks.Soundness.{is_bad_snapshot, snapshot, bad_snapshots_in};
 
 use crate::id::DeviceId;
 use crate::lines::chunk_size::is_bad_chunk;
@@ -63,22 +60,11 @@ fn is_bad_snapshot(stack: &Resolved, lines: usize, line: &Line, target: &Resolve
     requires { target.now ≡ resolved_target stack.now line.now.target }
     ensures { result ≡ is_bad_snapshot stack.now lines line.now.len line.now.target }
 {
-    match target {
-        ResolvedTarget::Snapshot(snapshot) => {
-            lines != 1 || has_bad_chunk(&line.target) || line.len != stack.len_of(snapshot.origin)
+    match (&line.target, target) {
+        (Target::Snapshot { chunk, .. }, ResolvedTarget::Snapshot(snapshot)) => {
+            lines != 1 || is_bad_chunk(*chunk) || line.len != stack.len_of(snapshot.origin)
         }
-        ResolvedTarget::Origin(origin) => lines != 1 || line.len != stack.len_of(origin.to),
-        _ => false,
-    }
-}
-
-/// Whether the chunk of a snapshot is no power of two from 1 to 1,024.
-fn has_bad_chunk(target: &Target) -> bool
-    ensures { (origin store : DevRef) (kind : StoreKind) (chunk : ℕ)
-        → target.now ≡ Snapshot origin store kind chunk → result ≡ is_bad_chunk chunk }
-{
-    match target {
-        Target::Snapshot { chunk, .. } => is_bad_chunk(*chunk),
+        (_, ResolvedTarget::Origin(origin)) => lines != 1 || line.len != stack.len_of(origin.to),
         _ => false,
     }
 }

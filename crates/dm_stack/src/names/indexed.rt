@@ -5,12 +5,12 @@
 
 ghost use Rattle.std.specs.Prelude.{◌≡◌, map};
 ghost use Rattle.std.specs.List.{All};
-ghost use Rattle.dm_stack.specs.Description.{described, device_id, disk_id, lower_of};
+ghost use Rattle.dm_stack.specs.Description.{described, lower_of};
 ghost use Rattle.dm_stack.specs.checks.Soundness.{HaveSmallEnds};
 
 use crate::id::{DeviceId, DiskId, Lower};
 use crate::names::name_index::NameIndex;
-use dm_table::{DevRef, DeviceSpec, Disk, DiskName, Name};
+use dm_table::{DevRef, DeviceSpec, Disk};
 use std::marker::Model;
 
 /// The devices and the disks of a description, with indexes of their names. The ends of its
@@ -64,29 +64,19 @@ impl<'a> Indexed<'a> {
         self.devices
     }
 
-    /// The id of a device's name; one past the last where no device has it.
-    fn device_of(&self, name: &Name) -> DeviceId
-        ensures { result ≡ device_id self.now name.now }
-    {
-        let index = self.device_names.find(name.as_str());
-        DeviceId::new(index.unwrap_or(self.devices.len()))
-    }
-
-    /// The id of a disk's name; one past the last where no disk has it.
-    fn disk_of(&self, name: &DiskName) -> DiskId
-        ensures { result ≡ disk_id self.now name.now }
-    {
-        let index = self.disk_names.find(name.as_str());
-        DiskId::new(index.unwrap_or(self.disks.len()))
-    }
-
     /// What a line names, by its id; one past the last where it is not there.
     pub(crate) fn lower_of(&self, to: &DevRef) -> Lower
         ensures { result ≡ lower_of self.now to.now }
     {
         match to {
-            DevRef::Device(name) => Lower::Device(self.device_of(name)),
-            DevRef::Disk(name) => Lower::Disk(self.disk_of(name)),
+            DevRef::Device(name) => {
+                let index = self.device_names.find(name.as_str());
+                Lower::Device(DeviceId::new(index.unwrap_or(self.devices.len())))
+            }
+            DevRef::Disk(name) => {
+                let index = self.disk_names.find(name.as_str());
+                Lower::Disk(DiskId::new(index.unwrap_or(self.disks.len())))
+            }
         }
     }
 }

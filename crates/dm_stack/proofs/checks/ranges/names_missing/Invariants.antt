@@ -3,7 +3,7 @@ use Rattle.std.proofs.Common.{◌≡◌}
 use Rattle.std.specs.List.{list_any}
 use Rattle.dm_stack.specs.lines.Span.{is_missing, names_missing}
 use Rattle.dm_stack.proofs.lines.SpanLemmas.{spans_left}
-use Rattle.dm_stack.proofs.checks.references.names_missing.Given as goal
+use Rattle.dm_stack.proofs.checks.ranges.names_missing.Given as goal
 
 abbrev pub invariant-loop-span : goal.invariant-loop-span
 invariant-loop-span l = list_any (λ span. is_missing l.stack span.to) (spans_left l.span-iterator) ≡ names_missing l.stack l.line

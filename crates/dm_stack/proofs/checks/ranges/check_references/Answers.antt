@@ -3,7 +3,7 @@ use Rattle.dm_stack.specs.checks.Soundness.{is_unknown}
 use Rattle.dm_stack.specs.lines.Below.{resolved_line}
 use Rattle.dm_stack.specs.lines.Span.{names_missing}
 use Rattle.dm_stack.proofs.lines.SpanLemmas.{unknown_is}
-use Rattle.dm_stack.proofs.checks.references.check_references.Goals as goal
+use Rattle.dm_stack.proofs.checks.ranges.check_references.Goals as goal
 
 pub returns : goal.returns
 returns c =
