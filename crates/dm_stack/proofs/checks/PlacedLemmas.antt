@@ -1,5 +1,5 @@
 -- A walk over a list by what a test says of its next element.
-use Rattle.std.proofs.Common.{◌≡◌, ℕ, ◌+◌, ◌<◌, Bool, true, false, List, ◌∷◌, ◌++◌, Some, None, sym, ◌∙◌, drop, get_or, length}
+use Rattle.std.proofs.Common.{◌≡◌, ℕ, ◌+◌, ◌<◌, Bool, true, false, List, [], ◌∷◌, ◌++◌, Some, None, refl, sym, ap, ◌∙◌, drop, get_or, length}
 use Rattle.std.specs.List.{flat_map}
 use Rattle.std.proofs.lemmas.List.{drop_more}
 use Rattle.dm_table.specs.declared.load.load_fault.LoadFault.{LoadFault}
@@ -9,7 +9,9 @@ use Rattle.dm_table.specs.declared.tables.table.DeviceSpec.{DeviceSpec}
 use Rattle.dm_table.specs.declared.tables.table.Line.{Line}
 use Rattle.dm_table.specs.load.LoadFault.{fault, faults_by, first_or}
 use Rattle.dm_table.proofs.FaultLemmas.{first_or-passed, first_or-found}
-use Rattle.dm_stack.specs.checks.Soundness.{all_lines}
+use Rattle.dm_stack.specs.Description.{Description}
+use Rattle.dm_stack.specs.checks.ByIds.{device_faults}
+use Rattle.dm_stack.specs.checks.Soundness.{all_lines, line_faults}
 use Rattle.dm_stack.proofs.checks.FirstFaults.{by_append, first_append}
 
 pub next_of : {X : Type 0} (xs : List X) (i : ℕ) (x : X) → i < length xs → x ≡ get_or xs i x → drop i xs ≡ x ∷ drop (i + 1) xs
@@ -32,23 +34,19 @@ good_here kind place test xs i x within is good =
 pub next_before : {X : Type 0} (items rest : List X) (i : ℕ) (x : X) → i < length items → x ≡ get_or items i x → drop i items ++ rest ≡ x ∷ (drop (i + 1) items ++ rest)
 next_before items rest i x within is = rw (next_of items i x within is)
 
-pub bad_before : {X : Type 0} (kind : LoadKind) (place : X → Place) (test : X → Bool) (items rest : List X) (i : ℕ) (x : X) → i < length items → x ≡ get_or items i x → true ≡ test x → first_or (faults_by kind place test (drop i items ++ rest)) None ≡ Some (fault kind (place x))
-bad_before kind place test items rest i x within is bad =
-    let at = next_before items rest i x within is in
+pub bad_before : {X : Type 0} (kind : LoadKind) (place : X → Place) (test : X → Bool) (xs : List X) (i : ℕ) (x : X) (more : List LoadFault) → i < length xs → x ≡ get_or xs i x → true ≡ test x → first_or (faults_by kind place test (drop i xs) ++ more) None ≡ Some (fault kind (place x))
+bad_before kind place test xs i x more within is bad =
+    let at = next_of xs i x within is in
     let here = sym bad in
     rw (at, here)
 
-pub good_before : {X : Type 0} (kind : LoadKind) (place : X → Place) (test : X → Bool) (items rest : List X) (i : ℕ) (x : X) → i < length items → x ≡ get_or items i x → false ≡ test x → faults_by kind place test (drop (i + 1) items ++ rest) ≡ faults_by kind place test (drop i items ++ rest)
-good_before kind place test items rest i x within is good =
-    let at = next_before items rest i x within is in
-    let here = sym good in
-    rw (at, here)
+-- the faults of lines are those of one device after the other
+by_devices : (kind : LoadKind) (test : Line → Bool) (devices : List DeviceSpec) → flat_map (λ device. faults_by kind (λ line. line.at) test device.lines) devices ≡ faults_by kind (λ line. line.at) test (all_lines devices)
+by_devices kind test [] = refl
+by_devices kind test (device ∷ devices) = rw (by_append, by_devices kind test devices)
 
--- a check of each element, at the next of which it finds a fault
-pub flat_stops : {X : Type 0} (check : X → List LoadFault) (xs : List X) (i : ℕ) (x : X) (found : LoadFault) → i < length xs → x ≡ get_or xs i x → first_or (check x) None ≡ Some found → first_or (flat_map check (drop i xs)) None ≡ Some found
-flat_stops check xs i x found within is here =
-    let at = next_of xs i x within is in
-    rw (at, first_append) (first_or-found (check x) _ found here)
+pub first_devices : (kind : LoadKind) (test : Line → Bool) (stack : Description) → first_or (device_faults kind (λ count. test) stack) None ≡ first_or (line_faults kind test stack) None
+first_devices kind test stack = ap (λ (faults : List LoadFault). first_or faults None) (by_devices kind test stack.devices)
 
 device_at : (kind : LoadKind) (test : Line → Bool) (devices : List DeviceSpec) (i : ℕ) (device : DeviceSpec) → i < length devices → device ≡ get_or devices i device
     → first_or (faults_by kind (λ line. line.at) test (all_lines (drop i devices))) None ≡ first_or (faults_by kind (λ line. line.at) test device.lines) (first_or (faults_by kind (λ line. line.at) test (all_lines (drop (i + 1) devices))) None)

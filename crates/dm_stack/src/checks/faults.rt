@@ -2,14 +2,15 @@
 //!
 //! A check that tests elements one by one says only which are bad; the fault is made here.
 
-ghost use Rattle.std.specs.Prelude.{◌≡◌, Bool, IfErr, IfOk, None};
+ghost use Rattle.std.specs.Prelude.{◌≡◌, ℕ, Bool, IfErr, IfOk, None};
 ghost use Rattle.std.specs.Fn.{FnReturnsAt};
 ghost use Rattle.std.specs.Result.{result_err};
 ghost use Rattle.dm_table.specs.load.LoadFault.{IsMemoryFault, faults_by, first_or};
 ghost use Rattle.dm_table.specs.declared.load.place.Part.TheVariants.{Source};
 ghost use Rattle.dm_table.specs.declared.load.place.Place.{Place};
 ghost use Rattle.dm_table.specs.declared.tables.table.Line.{Line};
-ghost use Rattle.dm_stack.specs.checks.Soundness.{all_lines, line_faults};
+ghost use Rattle.dm_stack.specs.checks.Soundness.{all_lines};
+ghost use Rattle.dm_stack.specs.checks.ByIds.{SaysOfLine, device_faults};
 ghost use Rattle.dm_stack.specs.lines.Below.{resolved_line};
 
 use crate::lines::resolved::Resolved;
@@ -113,22 +114,26 @@ pub(crate) fn check_lines<F: Fn(&Line) -> bool>(
     Ok(())
 }
 
-/// Fails at the first line of all devices that is bad by ids, with the fault of a kind.
-pub(crate) fn check_by_ids<F: Fn(&ResolvedLine) -> bool>(
+/// Fails at the first line of all devices that is bad, by ids and among so many lines of its device, with the
+/// fault of a kind.
+pub(crate) fn check_by_ids<F: Fn(&Line, &ResolvedLine, usize) -> bool>(
     kind: LoadKind,
     stack: &Resolved,
     is_bad: F,
 ) -> Result<(), LoadFault>
     requires { F.IsAlwaysCallable is_bad }
-    ensures { (test : Line → Bool)
-        → ((line : Line) (bad : Bool) → FnReturnsAt F.Fn is_bad (resolved_line stack.now line) bad → bad ≡ test line)
-        → result_err result ≡ first_or (line_faults kind test stack.now) None }
+    ensures { (test : ℕ → Line → Bool)
+        → ((count : ℕ) (line : Line) (bad : Bool)
+            → SaysOfLine F.Fn is_bad line (resolved_line stack.now line) count bad → bad ≡ test count line)
+        → result_err result ≡ first_or (device_faults kind test stack.now) None }
 {
     let by_ids = stack.by_ids();
     for (id, device) in stack.devices().iter().enumerate() {
         let resolved = by_ids[id].table.lines();
-        for (index, line) in device.lines.as_slice().iter().enumerate() {
-            if is_bad(&resolved[index]) {
+        let lines = device.lines.as_slice();
+        let count = lines.len();
+        for (index, line) in lines.iter().enumerate() {
+            if is_bad(line, &resolved[index], count) {
                 return Err(LoadFault { kind, at: line.at });
             }
         }

@@ -4,18 +4,19 @@
 //! Each is a whole device: its line stands alone in its table and is as long as the origin that it
 //! names. Mapping relies on it, and shifts where it would divide by a chunk, so that no rule here may be let go.
 
-ghost use Rattle.std.specs.Prelude.{◌≡◌, ◌∷◌, ◌++◌, [], IfOk, None, OnOk, if◌then◌else◌, map};
+ghost use Rattle.std.specs.Prelude.{◌≡◌, ◌∷◌, ◌++◌, [], IfOk, None, OnOk, if◌then◌else◌};
 ghost use Rattle.std.specs.Result.{result_err};
 ghost use Rattle.dm_table.specs.load.LoadFault.{first_or};
 ghost use Rattle.dm_stack.specs.Description.{described};
-ghost use Rattle.dm_stack.specs.lines.Below.{resolved_line, resolved_target};
+ghost use Rattle.dm_stack.specs.lines.Below.{resolved_target};
 ghost use Rattle.dm_stack.specs.checks.Snapshots.{has_snapshot, snapshots};
-ghost use Rattle.dm_stack.specs.checks.Soundness.{is_bad_snapshot, snapshot, bad_snapshots_in};
+ghost use Rattle.dm_stack.specs.checks.Soundness.{is_bad_snapshot, snapshot};
 
+use crate::checks::faults::check_by_ids;
 use crate::id::DeviceId;
 use crate::lines::chunk_size::is_bad_chunk;
 use crate::lines::resolved::Resolved;
-use crate::lines::resolved_line::{ResolvedLine, ResolvedTarget};
+use crate::lines::resolved_line::ResolvedTarget;
 use dm_table::{DeviceSpec, Line, LoadFault, LoadKind, Target};
 use std::alloc::{AllocError, Global};
 
@@ -27,38 +28,15 @@ use std::alloc::{AllocError, Global};
 pub(crate) fn check_snapshots(stack: &Resolved) -> Result<(), LoadFault>
     ensures { result_err result ≡ first_or (snapshot stack.now) None }
 {
-    let by_ids = stack.by_ids();
-    for (id, device) in stack.devices().iter().enumerate() {
-        check_snapshots_in(stack, device.lines.as_slice(), by_ids[id].table.lines())?;
-    }
-    Ok(())
-}
-
-/// Fails at the first line of a device that is no fit snapshot, or no fit line of an origin.
-fn check_snapshots_in(
-    stack: &Resolved,
-    lines: &[Line],
-    by_ids: &[ResolvedLine],
-) -> Result<(), LoadFault>
-    requires { by_ids.now ≡ map (resolved_line stack.now) lines.now }
-    ensures { result_err result ≡ first_or (bad_snapshots_in stack.now lines.now) None }
-{
-    let count = lines.len();
-    for (index, line) in lines.iter().enumerate() {
-        if is_bad_snapshot(stack, count, line, &by_ids[index].target) {
-            return Err(LoadFault {
-                kind: LoadKind::Snapshot,
-                at: line.at,
-            });
-        }
-    }
-    Ok(())
+    check_by_ids(LoadKind::Snapshot, stack, |line, by_ids, count| {
+        is_bad_snapshot(stack, count, line, &by_ids.target)
+    })
 }
 
 /// Whether a line, among so many of its device, is such a one.
 fn is_bad_snapshot(stack: &Resolved, lines: usize, line: &Line, target: &ResolvedTarget) -> bool
-    requires { target.now ≡ resolved_target stack.now line.now.target }
-    ensures { result ≡ is_bad_snapshot stack.now lines line.now.len line.now.target }
+    ensures { target.now ≡ resolved_target stack.now line.now.target
+        → result ≡ is_bad_snapshot stack.now lines line.now.len line.now.target }
 {
     match (&line.target, target) {
         (Target::Snapshot { chunk, .. }, ResolvedTarget::Snapshot(snapshot)) => {

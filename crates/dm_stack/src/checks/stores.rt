@@ -101,7 +101,7 @@ pub(crate) fn check_stores(stack: &Resolved, depths: &[u32]) -> Result<(), LoadF
     check_by_ids(
         LoadKind::Store,
         stack,
-        |line| has_deep_store(depths, &line.target),
+        |_, by_ids, _| has_deep_store(depths, &by_ids.target),
     )
 }
 

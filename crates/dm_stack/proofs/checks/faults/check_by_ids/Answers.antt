@@ -1,24 +1,27 @@
--- What the closure returned of a line by ids is what its test says of the line.
-use Rattle.std.proofs.Common.{◌≡◌, ◌+◌, true, false, ◌∙◌, drop}
-use Rattle.dm_stack.specs.checks.Soundness.{all_lines}
+-- What the closure returned of a line and what it says by ids is what its test says of the line.
+use Rattle.std.proofs.Common.{◌≡◌, ◌+◌, List, true, false, refl, ap, ◌∙◌, drop, length}
+use Rattle.std.specs.List.{flat_map}
+use Rattle.dm_table.specs.declared.load.load_fault.LoadFault.{LoadFault}
+use Rattle.dm_table.specs.declared.tables.table.DeviceSpec.{DeviceSpec}
+use Rattle.dm_table.specs.load.LoadFault.{faults_by}
 use Rattle.dm_stack.specs.lines.Below.{resolved_line}
-use Rattle.dm_stack.proofs.checks.PlacedLemmas.{bad_before, good_before}
+use Rattle.dm_stack.proofs.checks.PlacedLemmas.{bad_before, good_here}
 use Rattle.dm_stack.proofs.lines.ByDevice.{made_at, table_is}
 use Rattle.dm_stack.proofs.checks.faults.check_by_ids.Goals as goal
 use Rattle.dm_stack.proofs.checks.faults.check_by_ids.Goals.{After-is_bad}
 
 -- the line by ids
-line_is : (g : _) (c : After-is_bad g) → c.index-resolved-index.result ≡ resolved_line c.args.stack.now c.line-item.result
+line_is : (g : _) (c : After-is_bad g) → c.index-resolved-index.result ≡ resolved_line c.args.stack.now c.index-lines-index.result
 line_is g c =
-    let table = table_is c.args.stack.now c.devices-device-items.result.now c.by_ids-by_ids.result.now c.loop-id.id c.device-item.result c.index-by_ids-id.result c.as_slice-line-items.result.now c.lines-resolved.result.now c.devices-device-items.ensures c.by_ids-by_ids.ensures c.loop-id-test.true c.device-item.is c.as_slice-line-items.ensures c.lines-resolved.ensures in
-    c.index-resolved-index.is ∙ made_at (resolved_line c.args.stack.now) c.as_slice-line-items.result.now c.lines-resolved.result.now c.loop-index.index c.line-item.result c.index-resolved-index.result table c.loop-index-test.true c.line-item.is
+    let table = table_is c.args.stack.now c.devices-device-items.result.now c.by_ids-by_ids.result.now c.loop-id.id c.device-item.result c.index-by_ids-id.result c.as_slice-lines.result.now c.lines-resolved.result.now c.devices-device-items.ensures c.by_ids-by_ids.ensures c.loop-id-test.true c.device-item.is c.as_slice-lines.ensures c.lines-resolved.ensures in
+    c.index-resolved-index.is ∙ made_at (resolved_line c.args.stack.now) c.as_slice-lines.result.now c.lines-resolved.result.now c.loop-index.index c.index-lines-index.result c.index-resolved-index.result table c.loop-index-test.true c.index-lines-index.is
 
 pub returns-then-is_bad : goal.returns-then-is_bad
 returns-then-is_bad g c test computes =
-    let bad = computes c.line-item.result true (record { shown = _; shows = line_is g (goal.at.returns-then-is_bad g c).After-is_bad; says = record { met = c.if-is_bad.ensures } }) in
-    cc (bad_before c.args.kind (λ line. line.at) test c.as_slice-line-items.result.now (all_lines (drop (c.loop-id.id + 1) c.args.stack.now.devices)) c.loop-index.index c.line-item.result c.loop-index-test.true c.line-item.is bad, c.loop-index.invariant test computes)
+    let bad = computes _ c.index-lines-index.result true (record { first = _; second = _; shows = (refl, line_is g (goal.at.returns-then-is_bad g c).After-is_bad); says = record { met = c.if-is_bad.ensures } }) in
+    cc (bad_before c.args.kind (λ line. line.at) (test (length c.as_slice-lines.result.now)) c.as_slice-lines.result.now c.loop-index.index c.index-lines-index.result _ c.loop-index-test.true c.index-lines-index.is bad, c.loop-index.invariant test computes)
 
 pub loop-index-preserved : goal.loop-index-preserved
 loop-index-preserved g c test computes =
-    let good = computes c.line-item.result false (record { shown = _; shows = line_is g (goal.at.loop-index-preserved g c).After-is_bad; says = record { met = c.if-is_bad.ensures } }) in
-    cc (good_before c.args.kind (λ line. line.at) test c.as_slice-line-items.result.now (all_lines (drop (c.loop-id.id + 1) c.args.stack.now.devices)) c.loop-index.index c.line-item.result c.loop-index-test.true c.line-item.is good, c.loop-index.invariant test computes)
+    let good = computes _ c.index-lines-index.result false (record { first = _; second = _; shows = (refl, line_is g (goal.at.loop-index-preserved g c).After-is_bad); says = record { met = c.if-is_bad.ensures } }) in
+    cc (good_here c.args.kind (λ line. line.at) (test (length c.as_slice-lines.result.now)) c.as_slice-lines.result.now c.loop-index.index c.index-lines-index.result c.loop-index-test.true c.index-lines-index.is good, c.loop-index.invariant test computes)

@@ -1,11 +1,15 @@
 use Rattle.std.proofs.Common.{◌≡◌, ◌∙◌, rules, tests}
+use Rattle.dm_table.specs.declared.load.load_fault.LoadKind.TheVariants.{Store}
 use Rattle.dm_stack.specs.checks.Soundness.{has_bad_store}
 use Rattle.dm_stack.specs.checks.Store.{has_deep_store}
 use Rattle.dm_stack.specs.lines.Below.{resolved_target}
+use Rattle.dm_stack.proofs.checks.PlacedLemmas.{first_devices}
 use Rattle.dm_stack.proofs.checks.StoreLemmas.{deep_same}
 use Rattle.dm_stack.proofs.checks.stores.check_stores.Goals as goal
 
 pub returns : goal.returns
 returns c =
     let stack = c.args.stack.now in
-    c.check_by_ids.ensures (λ line. has_bad_store stack line.target) (λ line bad called. let is : bad ≡ has_deep_store c.args.depths.now (resolved_target stack line.target) = search (rules, tests) in is ∙ deep_same stack c.args.depths.now line.target c.requires)
+    c.check_by_ids.ensures (λ count line. has_bad_store stack line.target)
+    (λ count line bad called. let is : bad ≡ has_deep_store c.args.depths.now (resolved_target stack line.target) = search (rules, tests) in is ∙ deep_same stack c.args.depths.now line.target c.requires)
+    ∙ first_devices Store (λ line. has_bad_store stack line.target) stack
