@@ -1,5 +1,5 @@
 -- Checks in a row, what is named among devices that are there, and the first ring.
-use Rattle.std.proofs.Common.{◌≡◌, ◌≢◌, ◌⊎◌, ℕ, zero, suc, ◌+◌, ◌<◌, Bool, true, false, cond, inl, inr, not, List, [], ◌∷◌, Option, Some, None, Result, Ok, Vec, Global, arith, refl, sym, ap, ◌∙◌, drop, get_or, length, map, take}
+use Rattle.std.proofs.Common.{◌≡◌, ◌≢◌, ◌⊎◌, ℕ, zero, suc, ◌+◌, ◌<◌, Bool, false, inl, inr, List, [], ◌∷◌, Option, Some, None, Result, Ok, Vec, Global, arith, refl, sym, ap, ◌∙◌, drop, get_or, length, map, take}
 use Rattle.std.specs.Prelude.{IfOk, IfSome, IfNone, find, is_none}
 use Rattle.std.specs.List.{AllByRecursion, flat_map, list_any, position_or_len}
 use Rattle.std.proofs.lemmas.Bool.{leb-false, or_parts}

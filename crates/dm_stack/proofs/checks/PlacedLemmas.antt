@@ -1,5 +1,5 @@
 -- A walk over a list by what a test says of its next element.
-use Rattle.std.proofs.Common.{◌≡◌, ℕ, ◌+◌, ◌<◌, Bool, true, false, List, [], ◌∷◌, ◌++◌, Some, None, refl, sym, ap, ◌∙◌, drop, get_or, length}
+use Rattle.std.proofs.Common.{◌≡◌, ℕ, ◌+◌, ◌<◌, Bool, true, false, List, [], ◌∷◌, ◌++◌, Some, None, refl, sym, ap, drop, get_or, length}
 use Rattle.std.specs.List.{flat_map}
 use Rattle.std.proofs.lemmas.List.{drop_more}
 use Rattle.dm_table.specs.declared.load.load_fault.LoadFault.{LoadFault}
@@ -8,11 +8,10 @@ use Rattle.dm_table.specs.declared.load.place.Place.{Place}
 use Rattle.dm_table.specs.declared.tables.table.DeviceSpec.{DeviceSpec}
 use Rattle.dm_table.specs.declared.tables.table.Line.{Line}
 use Rattle.dm_table.specs.load.LoadFault.{fault, faults_by, first_or}
-use Rattle.dm_table.proofs.FaultLemmas.{first_or-passed, first_or-found}
 use Rattle.dm_stack.specs.Description.{Description}
 use Rattle.dm_stack.specs.checks.ByIds.{device_faults}
 use Rattle.dm_stack.specs.checks.Soundness.{all_lines, line_faults}
-use Rattle.dm_stack.proofs.checks.FirstFaults.{by_append, first_append}
+use Rattle.dm_stack.proofs.checks.FirstFaults.{by_append}
 
 pub next_of : {X : Type 0} (xs : List X) (i : ℕ) (x : X) → i < length xs → x ≡ get_or xs i x → drop i xs ≡ x ∷ drop (i + 1) xs
 next_of {X} xs i x within is = rw is (drop_more xs i x within)
@@ -40,26 +39,10 @@ bad_before kind place test xs i x more within is bad =
     let here = sym bad in
     rw (at, here)
 
--- the faults of lines are those of one device after the other
+-- the faults of all lines are those of one device after the other
 by_devices : (kind : LoadKind) (test : Line → Bool) (devices : List DeviceSpec) → flat_map (λ device. faults_by kind (λ line. line.at) test device.lines) devices ≡ faults_by kind (λ line. line.at) test (all_lines devices)
 by_devices kind test [] = refl
 by_devices kind test (device ∷ devices) = rw (by_append, by_devices kind test devices)
 
 pub first_devices : (kind : LoadKind) (test : Line → Bool) (stack : Description) → first_or (device_faults kind (λ count. test) stack) None ≡ first_or (line_faults kind test stack) None
 first_devices kind test stack = ap (λ (faults : List LoadFault). first_or faults None) (by_devices kind test stack.devices)
-
-device_at : (kind : LoadKind) (test : Line → Bool) (devices : List DeviceSpec) (i : ℕ) (device : DeviceSpec) → i < length devices → device ≡ get_or devices i device
-    → first_or (faults_by kind (λ line. line.at) test (all_lines (drop i devices))) None ≡ first_or (faults_by kind (λ line. line.at) test device.lines) (first_or (faults_by kind (λ line. line.at) test (all_lines (drop (i + 1) devices))) None)
-device_at kind test devices i device within is =
-    let at = next_of devices i device within is in
-    rw (at, by_append, first_append)
-
-pub device_stops : (kind : LoadKind) (test : Line → Bool) (devices : List DeviceSpec) (i : ℕ) (device : DeviceSpec) (found : LoadFault) → i < length devices → device ≡ get_or devices i device
-    → first_or (faults_by kind (λ line. line.at) test device.lines) None ≡ Some found → first_or (faults_by kind (λ line. line.at) test (all_lines (drop i devices))) None ≡ Some found
-device_stops kind test devices i device found within is here =
-    device_at kind test devices i device within is ∙ first_or-found (faults_by kind (λ line. line.at) test device.lines) _ found here
-
-pub device_passes : (kind : LoadKind) (test : Line → Bool) (devices : List DeviceSpec) (i : ℕ) (device : DeviceSpec) → i < length devices → device ≡ get_or devices i device
-    → first_or (faults_by kind (λ line. line.at) test device.lines) None ≡ None → first_or (faults_by kind (λ line. line.at) test (all_lines (drop (i + 1) devices))) None ≡ first_or (faults_by kind (λ line. line.at) test (all_lines (drop i devices))) None
-device_passes kind test devices i device within is here =
-    sym (device_at kind test devices i device within is ∙ first_or-passed (faults_by kind (λ line. line.at) test device.lines) _ here)

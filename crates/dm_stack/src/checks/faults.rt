@@ -9,7 +9,6 @@ ghost use Rattle.dm_table.specs.load.LoadFault.{IsMemoryFault, faults_by, first_
 ghost use Rattle.dm_table.specs.declared.load.place.Part.TheVariants.{Source};
 ghost use Rattle.dm_table.specs.declared.load.place.Place.{Place};
 ghost use Rattle.dm_table.specs.declared.tables.table.Line.{Line};
-ghost use Rattle.dm_stack.specs.checks.Soundness.{all_lines};
 ghost use Rattle.dm_stack.specs.checks.ByIds.{SaysOfLine, device_faults};
 ghost use Rattle.dm_stack.specs.lines.Below.{resolved_line};
 
@@ -97,23 +96,6 @@ pub(crate) fn check_each<T: Placed, F: Fn(&T) -> bool>(
     Ok(())
 }
 
-/// Fails at the first line of all devices that is bad, with the fault of a kind.
-pub(crate) fn check_lines<F: Fn(&Line) -> bool>(
-    kind: LoadKind,
-    devices: &[DeviceSpec],
-    is_bad: F,
-) -> Result<(), LoadFault>
-    requires { F.IsAlwaysCallable is_bad }
-    ensures { (test : Line → Bool)
-        → ((line : Line) (bad : Bool) → FnReturnsAt F.Fn is_bad line bad → bad ≡ test line)
-        → result_err result ≡ first_or (faults_by kind (λ line. line.at) test (all_lines devices.now)) None }
-{
-    for device in devices {
-        check_each(kind, device.lines.as_slice(), &is_bad)?;
-    }
-    Ok(())
-}
-
 /// Fails at the first line of all devices that is bad, by ids and among so many lines of its device, with the
 /// fault of a kind.
 pub(crate) fn check_by_ids<F: Fn(&Line, &ResolvedLine, usize) -> bool>(
@@ -124,7 +106,7 @@ pub(crate) fn check_by_ids<F: Fn(&Line, &ResolvedLine, usize) -> bool>(
     requires { F.IsAlwaysCallable is_bad }
     ensures { (test : ℕ → Line → Bool)
         → ((count : ℕ) (line : Line) (bad : Bool)
-            → SaysOfLine F.Fn is_bad line (resolved_line stack.now line) count bad → bad ≡ test count line)
+        → SaysOfLine F.Fn is_bad line (resolved_line stack.now line) count bad → bad ≡ test count line)
         → result_err result ≡ first_or (device_faults kind test stack.now) None }
 {
     let by_ids = stack.by_ids();

@@ -3,16 +3,17 @@
 //! Sums of two numbers within the limits fit 64 bits, so every later check adds freely. The
 //! definitions name these constants, so a limit that changes here changes for them too.
 
-ghost use Rattle.std.specs.Prelude.{◌≡◌, None, nat_lt, option_copied, slice_get};
+ghost use Rattle.std.specs.Prelude.{◌≡◌, [], None, nat_lt, option_copied, slice_get};
 ghost use Rattle.std.specs.List.{list_any};
 ghost use Rattle.std.specs.Result.{result_err};
 ghost use Rattle.dm_table.specs.load.LoadFault.{first_or};
-ghost use Rattle.dm_stack.specs.checks.Soundness.{all_lines, is_far, is_large, past, too_large, too_many};
+ghost use Rattle.dm_table.specs.declared.load.load_fault.LoadKind.TheVariants.{Limit};
+ghost use Rattle.dm_stack.specs.checks.Soundness.{all_lines, is_far, is_large, line_faults, past, too_large, too_many};
 ghost use Rattle.dm_table.specs.tables.Span.{spans};
 ghost use Rattle.dm_stack.specs.Description.{described};
 ghost use Rattle.dm_stack.specs.declared.checks.limits.TheConstants.{MOST_LENGTH};
 
-use crate::checks::faults::{Placed, check_each, check_lines};
+use crate::checks::faults::{Placed, check_each};
 use dm_table::{Column, DeviceSpec, Disk, Line, LoadFault, LoadKind, Target};
 
 /// The most devices of a stack.
@@ -90,8 +91,18 @@ fn line_at(devices: &[DeviceSpec], index: usize) -> Option<&Line>
 pub(crate) fn check_numbers(devices: &[DeviceSpec], disks: &[Disk]) -> Result<(), LoadFault>
     ensures { result_err result ≡ first_or (too_large (described devices.now disks.now)) None }
 {
-    check_lines(LoadKind::Limit, devices, is_large)?;
+    check_line_numbers(devices)?;
     check_each(LoadKind::Limit, disks, |disk| MOST_LENGTH < disk.len)
+}
+
+/// Fails at the first line with a number above the limit.
+fn check_line_numbers(devices: &[DeviceSpec]) -> Result<(), LoadFault>
+    ensures { result_err result ≡ first_or (line_faults Limit is_large (described devices.now [])) None }
+{
+    for device in devices {
+        check_each(LoadKind::Limit, device.lines.as_slice(), is_large)?;
+    }
+    Ok(())
 }
 
 /// Whether a start, a length, an end or an offset is above the limit.

@@ -77,7 +77,7 @@ pub(crate) fn check(
     let graph = or_out_of_memory(follow(alloc, &stack))?;
     check_cycles(&stack, graph.cycle)?;
     check_depths(devices, &graph.depths)?;
-    check_stripes(devices)?;
+    check_stripes(&stack)?;
     check_ranges(&stack)?;
     check_snapshots(&stack)?;
     check_stores(&stack, &graph.store_depths)?;

@@ -22,7 +22,11 @@ use dm_table::{LoadFault, LoadKind};
 pub(crate) fn check_references(stack: &Resolved) -> Result<(), LoadFault>
     ensures { result_err result ≡ first_or (unknown stack.now) None }
 {
-    check_by_ids(LoadKind::Unknown, stack, |_, by_ids, _| names_missing(stack, by_ids))
+    check_by_ids(
+        LoadKind::Unknown,
+        stack,
+        |_, by_ids, _| names_missing(stack, by_ids),
+    )
 }
 
 /// Whether a line names a device or a disk that is not there.
@@ -43,7 +47,11 @@ fn names_missing(stack: &Resolved, line: &ResolvedLine) -> bool
 pub(crate) fn check_ranges(stack: &Resolved) -> Result<(), LoadFault>
     ensures { result_err result ≡ first_or (range stack.now) None }
 {
-    check_by_ids(LoadKind::Range, stack, |_, by_ids, _| passes_end(stack, by_ids))
+    check_by_ids(
+        LoadKind::Range,
+        stack,
+        |_, by_ids, _| passes_end(stack, by_ids),
+    )
 }
 
 /// Whether a line passes the end of something that it names.

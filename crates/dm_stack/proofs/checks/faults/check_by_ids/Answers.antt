@@ -1,9 +1,5 @@
 -- What the closure returned of a line and what it says by ids is what its test says of the line.
-use Rattle.std.proofs.Common.{◌≡◌, ◌+◌, List, true, false, refl, ap, ◌∙◌, drop, length}
-use Rattle.std.specs.List.{flat_map}
-use Rattle.dm_table.specs.declared.load.load_fault.LoadFault.{LoadFault}
-use Rattle.dm_table.specs.declared.tables.table.DeviceSpec.{DeviceSpec}
-use Rattle.dm_table.specs.load.LoadFault.{faults_by}
+use Rattle.std.proofs.Common.{◌≡◌, true, false, refl, ◌∙◌, length}
 use Rattle.dm_stack.specs.lines.Below.{resolved_line}
 use Rattle.dm_stack.proofs.checks.PlacedLemmas.{bad_before, good_here}
 use Rattle.dm_stack.proofs.lines.ByDevice.{made_at, table_is}

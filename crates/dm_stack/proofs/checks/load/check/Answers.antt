@@ -10,7 +10,7 @@ use Rattle.dm_stack.specs.checks.Graph.{IsFirstRing, depths_to, greatest}
 use Rattle.dm_stack.specs.Stack.{resolved_device}
 use Rattle.dm_stack.specs.checks.Snapshots.{snapshots}
 use Rattle.dm_stack.specs.checks.Depth.{stack_depth}
-use Rattle.dm_stack.specs.checks.Soundness.{HasNoCycle, OnCycle, checks_before, crowded, deep, faults_by_id, range, snapshot, store, too_large, unknown}
+use Rattle.dm_stack.specs.checks.Soundness.{HasNoCycle, OnCycle, checks_before, crowded, deep, faults_by_id, range, snapshot, store, stripe, too_large, unknown}
 use Rattle.dm_stack.specs.checks.Store.{store_links}
 use Rattle.dm_stack.proofs.checks.ChunkLemmas.{good_chunks}
 use Rattle.dm_stack.proofs.checks.DepthTests.{depth_each, told_deep}
@@ -125,31 +125,31 @@ pub returns-in_err-check_stripes-clause-fault : goal.returns-in_err-check_stripe
 returns-in_err-check_stripes-clause-fault c =
     let p = err_from_is_err_and c.from_residual-in_err-check_stripes.result c.from_residual-in_err-check_stripes.ensures.1 in
     let k = passed (goal.at.returns-in_err-check_stripes-clause-fault c).After-deref-2 in
-    rw (p.1, p.2) (inl (refused_late _ 1 _ k.before k.acyclic (sym k.told ∙ sym c.in_ok-check_depths.ensures, tt) (sym c.in_err-check_stripes.ensures)))
+    rw (p.1, p.2) (inl (refused_late _ 1 _ k.before k.acyclic (sym k.told ∙ sym c.in_ok-check_depths.ensures, tt) (rw (c.in_err-check_stripes.ensures, k.same))))
 
 pub returns-in_err-check_ranges-clause-fault : goal.returns-in_err-check_ranges-clause-fault
 returns-in_err-check_ranges-clause-fault c =
     let p = err_from_is_err_and c.from_residual-in_err-check_ranges.result c.from_residual-in_err-check_ranges.ensures.1 in
     let k = passed (goal.at.returns-in_err-check_ranges-clause-fault c).After-deref-2 in
-    rw (p.1, p.2) (inl (refused_late _ 2 _ k.before k.acyclic (sym k.told ∙ sym c.in_ok-check_depths.ensures, (sym c.in_ok-check_stripes.ensures, tt)) (rw (c.in_err-check_ranges.ensures, k.same))))
+    rw (p.1, p.2) (inl (refused_late _ 2 _ k.before k.acyclic (sym k.told ∙ sym c.in_ok-check_depths.ensures, (ap (λ (described : Description). first_or (stripe described) None) (sym k.same) ∙ sym c.in_ok-check_stripes.ensures, tt)) (rw (c.in_err-check_ranges.ensures, k.same))))
 
 pub returns-in_err-check_snapshots-clause-fault : goal.returns-in_err-check_snapshots-clause-fault
 returns-in_err-check_snapshots-clause-fault c =
     let p = err_from_is_err_and c.from_residual-in_err-check_snapshots.result c.from_residual-in_err-check_snapshots.ensures.1 in
     let k = passed (goal.at.returns-in_err-check_snapshots-clause-fault c).After-deref-2 in
-    rw (p.1, p.2) (inl (refused_late _ 3 _ k.before k.acyclic (sym k.told ∙ sym c.in_ok-check_depths.ensures, (sym c.in_ok-check_stripes.ensures, (ap (λ (described : Description). first_or (range described) None) (sym k.same) ∙ sym c.in_ok-check_ranges.ensures, tt))) (rw (c.in_err-check_snapshots.ensures, k.same))))
+    rw (p.1, p.2) (inl (refused_late _ 3 _ k.before k.acyclic (sym k.told ∙ sym c.in_ok-check_depths.ensures, (ap (λ (described : Description). first_or (stripe described) None) (sym k.same) ∙ sym c.in_ok-check_stripes.ensures, (ap (λ (described : Description). first_or (range described) None) (sym k.same) ∙ sym c.in_ok-check_ranges.ensures, tt))) (rw (c.in_err-check_snapshots.ensures, k.same))))
 
 pub returns-in_err-check_stores-clause-fault : goal.returns-in_err-check_stores-clause-fault
 returns-in_err-check_stores-clause-fault c =
     let p = err_from_is_err_and c.from_residual-in_err-check_stores.result c.from_residual-in_err-check_stores.ensures.1 in
     let k = passed (goal.at.returns-in_err-check_stores-clause-fault c).After-deref-2 in
-    rw (p.1, p.2) (inl (refused_late _ 4 _ k.before k.acyclic (sym k.told ∙ sym c.in_ok-check_depths.ensures, (sym c.in_ok-check_stripes.ensures, (ap (λ (described : Description). first_or (range described) None) (sym k.same) ∙ sym c.in_ok-check_ranges.ensures, (ap (λ (described : Description). first_or (snapshot described) None) (sym k.same) ∙ sym c.in_ok-check_snapshots.ensures, tt)))) (rw (c.in_err-check_stores.ensures, k.same))))
+    rw (p.1, p.2) (inl (refused_late _ 4 _ k.before k.acyclic (sym k.told ∙ sym c.in_ok-check_depths.ensures, (ap (λ (described : Description). first_or (stripe described) None) (sym k.same) ∙ sym c.in_ok-check_stripes.ensures, (ap (λ (described : Description). first_or (range described) None) (sym k.same) ∙ sym c.in_ok-check_ranges.ensures, (ap (λ (described : Description). first_or (snapshot described) None) (sym k.same) ∙ sym c.in_ok-check_snapshots.ensures, tt)))) (rw (c.in_err-check_stores.ensures, k.same))))
 
 pub returns-in_err-check_places-clause-fault : goal.returns-in_err-check_places-clause-fault
 returns-in_err-check_places-clause-fault c =
     let p = err_from_is_err_and c.from_residual-in_err-check_places.result c.from_residual-in_err-check_places.ensures.1 in
     let k = passed (goal.at.returns-in_err-check_places-clause-fault c).After-deref-2 in
-    rw (p.1, p.2) (inl (refused_late _ 5 _ k.before k.acyclic (sym k.told ∙ sym c.in_ok-check_depths.ensures, (sym c.in_ok-check_stripes.ensures, (ap (λ (described : Description). first_or (range described) None) (sym k.same) ∙ sym c.in_ok-check_ranges.ensures, (ap (λ (described : Description). first_or (snapshot described) None) (sym k.same) ∙ sym c.in_ok-check_snapshots.ensures, (ap (λ (described : Description). first_or (store described) None) (sym k.same) ∙ sym c.in_ok-check_stores.ensures, tt))))) (rw (c.in_err-check_places.ensures, k.same))))
+    rw (p.1, p.2) (inl (refused_late _ 5 _ k.before k.acyclic (sym k.told ∙ sym c.in_ok-check_depths.ensures, (ap (λ (described : Description). first_or (stripe described) None) (sym k.same) ∙ sym c.in_ok-check_stripes.ensures, (ap (λ (described : Description). first_or (range described) None) (sym k.same) ∙ sym c.in_ok-check_ranges.ensures, (ap (λ (described : Description). first_or (snapshot described) None) (sym k.same) ∙ sym c.in_ok-check_snapshots.ensures, (ap (λ (described : Description). first_or (store described) None) (sym k.same) ∙ sym c.in_ok-check_stores.ensures, tt))))) (rw (c.in_err-check_places.ensures, k.same))))
 
 pub check_starts-requires : goal.check_starts-requires
 check_starts-requires c =
@@ -179,7 +179,7 @@ returns-clause-loaded c =
     let k = passed (goal.at.returns-clause-loaded c).After-deref-2 in
     record {
       sound = are_sound _ k.before k.acyclic
-          (sym k.told ∙ sym c.in_ok-check_depths.ensures, (sym c.in_ok-check_stripes.ensures, (ap (λ (described : Description). first_or (range described) None) (sym k.same) ∙ sym c.in_ok-check_ranges.ensures, (ap (λ (described : Description). first_or (snapshot described) None) (sym k.same) ∙ sym c.in_ok-check_snapshots.ensures, (ap (λ (described : Description). first_or (store described) None) (sym k.same) ∙ sym c.in_ok-check_stores.ensures, (ap (λ (described : Description). first_or (crowded described) None) (sym k.same) ∙ sym c.in_ok-check_places.ensures, tt))))));
+          (sym k.told ∙ sym c.in_ok-check_depths.ensures, (ap (λ (described : Description). first_or (stripe described) None) (sym k.same) ∙ sym c.in_ok-check_stripes.ensures, (ap (λ (described : Description). first_or (range described) None) (sym k.same) ∙ sym c.in_ok-check_ranges.ensures, (ap (λ (described : Description). first_or (snapshot described) None) (sym k.same) ∙ sym c.in_ok-check_snapshots.ensures, (ap (λ (described : Description). first_or (store described) None) (sym k.same) ∙ sym c.in_ok-check_stores.ensures, (ap (λ (described : Description). first_or (crowded described) None) (sym k.same) ∙ sym c.in_ok-check_places.ensures, tt))))));
       device_names = c.in_ok-names.ensures.devices;
       disk_names = c.in_ok-names.ensures.disks;
       found = by_ids (goal.at.returns-clause-loaded c).In_ok-found;
