@@ -1,5 +1,4 @@
 -- What the checks of a load pass: `Soundness` has them in their order.
-pub mod ByIds
 pub mod Depth
 pub mod Graph
 pub mod Paths

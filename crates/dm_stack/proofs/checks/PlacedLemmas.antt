@@ -9,8 +9,7 @@ use Rattle.dm_table.specs.declared.tables.table.DeviceSpec.{DeviceSpec}
 use Rattle.dm_table.specs.declared.tables.table.Line.{Line}
 use Rattle.dm_table.specs.load.LoadFault.{fault, faults_by, first_or}
 use Rattle.dm_stack.specs.Description.{Description}
-use Rattle.dm_stack.specs.checks.ByIds.{device_faults}
-use Rattle.dm_stack.specs.checks.Soundness.{all_lines, line_faults}
+use Rattle.dm_stack.specs.checks.Soundness.{all_lines, device_faults, line_faults}
 use Rattle.dm_stack.proofs.checks.FirstFaults.{by_append}
 
 pub next_of : {X : Type 0} (xs : List X) (i : ℕ) (x : X) → i < length xs → x ≡ get_or xs i x → drop i xs ≡ x ∷ drop (i + 1) xs

@@ -29,6 +29,10 @@ all_lines devices = flat_map (λ device. device.lines) devices
 abbrev pub line_faults : LoadKind → (Line → Bool) → Description → List LoadFault
 line_faults kind bad stack = faults_by kind (λ line. line.at) bad (all_lines stack.devices)
 
+-- the same of lines that are bad among so many of their device
+abbrev pub device_faults : LoadKind → (ℕ → Line → Bool) → Description → List LoadFault
+device_faults kind bad stack = flat_map (λ device. faults_by kind (λ line. line.at) (bad (length device.lines)) device.lines) stack.devices
+
 -- the elements after the first most
 abbrev pub past : {X : Type 0} → ℕ → (X → Place) → List X → List LoadFault
 past most place xs = faults_by Limit place (λ x. true) (drop most xs)

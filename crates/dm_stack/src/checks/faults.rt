@@ -3,13 +3,15 @@
 //! A check that tests elements one by one says only which are bad; the fault is made here.
 
 ghost use Rattle.std.specs.Prelude.{◌≡◌, ℕ, Bool, IfErr, IfOk, None};
-ghost use Rattle.std.specs.Fn.{FnReturnsAt};
+ghost use Rattle.std.specs.Fn.{FnReturns, FnReturnsAt};
+ghost use denote.Ref.{Bor};
 ghost use Rattle.std.specs.Result.{result_err};
 ghost use Rattle.dm_table.specs.load.LoadFault.{IsMemoryFault, faults_by, first_or};
 ghost use Rattle.dm_table.specs.declared.load.place.Part.TheVariants.{Source};
 ghost use Rattle.dm_table.specs.declared.load.place.Place.{Place};
 ghost use Rattle.dm_table.specs.declared.tables.table.Line.{Line};
-ghost use Rattle.dm_stack.specs.checks.ByIds.{SaysOfLine, device_faults};
+ghost use Rattle.dm_stack.specs.checks.Soundness.{device_faults};
+ghost use Rattle.dm_stack.specs.declared.lines.resolved_line.ResolvedLine.{ResolvedLine};
 ghost use Rattle.dm_stack.specs.lines.Below.{resolved_line};
 
 use crate::lines::resolved::Resolved;
@@ -105,8 +107,9 @@ pub(crate) fn check_by_ids<F: Fn(&Line, &ResolvedLine, usize) -> bool>(
 ) -> Result<(), LoadFault>
     requires { F.IsAlwaysCallable is_bad }
     ensures { (test : ℕ → Line → Bool)
-        → ((count : ℕ) (line : Line) (bad : Bool)
-        → SaysOfLine F.Fn is_bad line (resolved_line stack.now line) count bad → bad ≡ test count line)
+        → ((line : Bor Line) (by_ids : Bor ResolvedLine) (count : ℕ) (bad : Bool)
+        → FnReturns F.Fn is_bad (line, (by_ids, (count, tt))) bad
+        → by_ids.now ≡ resolved_line stack.now line.now → bad ≡ test count line.now)
         → result_err result ≡ first_or (device_faults kind test stack.now) None }
 {
     let by_ids = stack.by_ids();

@@ -14,10 +14,10 @@ line_is g c =
 
 pub returns-then-is_bad : goal.returns-then-is_bad
 returns-then-is_bad g c test computes =
-    let bad = computes _ c.index-lines-index.result true (record { first = _; second = _; shows = (refl, line_is g (goal.at.returns-then-is_bad g c).After-is_bad); says = record { met = c.if-is_bad.ensures } }) in
+    let bad = computes _ _ _ true (record { met = c.if-is_bad.ensures }) (line_is g (goal.at.returns-then-is_bad g c).After-is_bad) in
     cc (bad_before c.args.kind (λ line. line.at) (test (length c.as_slice-lines.result.now)) c.as_slice-lines.result.now c.loop-index.index c.index-lines-index.result _ c.loop-index-test.true c.index-lines-index.is bad, c.loop-index.invariant test computes)
 
 pub loop-index-preserved : goal.loop-index-preserved
 loop-index-preserved g c test computes =
-    let good = computes _ c.index-lines-index.result false (record { first = _; second = _; shows = (refl, line_is g (goal.at.loop-index-preserved g c).After-is_bad); says = record { met = c.if-is_bad.ensures } }) in
+    let good = computes _ _ _ false (record { met = c.if-is_bad.ensures }) (line_is g (goal.at.loop-index-preserved g c).After-is_bad) in
     cc (good_here c.args.kind (λ line. line.at) (test (length c.as_slice-lines.result.now)) c.as_slice-lines.result.now c.loop-index.index c.index-lines-index.result c.loop-index-test.true c.index-lines-index.is good, c.loop-index.invariant test computes)

@@ -1,18 +1,20 @@
 -- by each test that the closure computes of lines, the rest has the first fault of all
-use Rattle.std.proofs.Common.{◌≡◌, ◌+◌, ◌++◌, ℕ, Bool, None, drop, length}
+use Rattle.std.proofs.Common.{Bor, ◌≡◌, ◌+◌, ◌++◌, ℕ, Bool, None, drop, length}
+use Rattle.std.specs.Fn.{FnReturns}
 use Rattle.std.specs.List.{flat_map}
 use Rattle.dm_table.specs.load.LoadFault.{faults_by, first_or}
 use Rattle.dm_table.specs.declared.tables.table.Line.{Line}
-use Rattle.dm_stack.specs.checks.ByIds.{SaysOfLine, device_faults}
+use Rattle.dm_stack.specs.declared.lines.resolved_line.ResolvedLine.{ResolvedLine}
+use Rattle.dm_stack.specs.checks.Soundness.{device_faults}
 use Rattle.dm_stack.specs.lines.Below.{resolved_line}
 use Rattle.dm_stack.proofs.checks.faults.check_by_ids.Given as goal
 
 abbrev pub invariant-loop-index : goal.invariant-loop-index
 invariant-loop-index g l =
-    (test : ℕ → Line → Bool) → ((count : ℕ) (line : Line) (bad : Bool) → SaysOfLine g.F.Fn l.is_bad line (resolved_line l.stack line) count bad → bad ≡ test count line)
+    (test : ℕ → Line → Bool) → ((line : Bor Line) (by_ids : Bor ResolvedLine) (count : ℕ) (bad : Bool) → FnReturns g.F.Fn l.is_bad (line, (by_ids, (count, tt))) bad → by_ids.now ≡ resolved_line l.stack line.now → bad ≡ test count line.now)
     → first_or (faults_by l.kind (λ line. line.at) (test l.count) (drop l.index l.lines) ++ flat_map (λ device. faults_by l.kind (λ line. line.at) (test (length device.lines)) device.lines) (drop (l.id + 1) l.stack.devices)) None ≡ first_or (device_faults l.kind test l.stack) None
 
 abbrev pub invariant-loop-id : goal.invariant-loop-id
 invariant-loop-id g l =
-    (test : ℕ → Line → Bool) → ((count : ℕ) (line : Line) (bad : Bool) → SaysOfLine g.F.Fn l.is_bad line (resolved_line l.stack line) count bad → bad ≡ test count line)
+    (test : ℕ → Line → Bool) → ((line : Bor Line) (by_ids : Bor ResolvedLine) (count : ℕ) (bad : Bool) → FnReturns g.F.Fn l.is_bad (line, (by_ids, (count, tt))) bad → by_ids.now ≡ resolved_line l.stack line.now → bad ≡ test count line.now)
     → first_or (flat_map (λ device. faults_by l.kind (λ line. line.at) (test (length device.lines)) device.lines) (drop l.id l.stack.devices)) None ≡ first_or (device_faults l.kind test l.stack) None

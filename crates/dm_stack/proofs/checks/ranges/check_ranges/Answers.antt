@@ -10,5 +10,5 @@ use Rattle.dm_stack.proofs.checks.ranges.check_ranges.Goals as goal
 pub returns : goal.returns
 returns c =
     let stack = c.args.stack.now in
-    c.check_by_ids.ensures (λ count. by_names.passes_end stack) (λ count line bad called. let is : bad ≡ passes_end stack (resolved_line stack line) = search (rules, tests) in is ∙ past_is stack line)
+    c.check_by_ids.ensures (λ count. by_names.passes_end stack) (λ line by_ids count bad called is_by_ids. let is : bad ≡ passes_end stack (resolved_line stack line.now) = search (rules, tests) in is ∙ past_is stack line.now)
     ∙ first_devices Range (by_names.passes_end stack) stack

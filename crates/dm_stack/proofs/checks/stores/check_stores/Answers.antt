@@ -11,5 +11,5 @@ pub returns : goal.returns
 returns c =
     let stack = c.args.stack.now in
     c.check_by_ids.ensures (λ count line. has_bad_store stack line.target)
-    (λ count line bad called. let is : bad ≡ has_deep_store c.args.depths.now (resolved_target stack line.target) = search (rules, tests) in is ∙ deep_same stack c.args.depths.now line.target c.requires)
+    (λ line by_ids count bad called is_by_ids. let is : bad ≡ has_deep_store c.args.depths.now (resolved_target stack line.now.target) = search (rules, tests) in is ∙ deep_same stack c.args.depths.now line.now.target c.requires)
     ∙ first_devices Store (λ line. has_bad_store stack line.target) stack

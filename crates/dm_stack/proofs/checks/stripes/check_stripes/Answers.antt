@@ -6,4 +6,4 @@ use Rattle.dm_stack.proofs.checks.stripes.check_stripes.Goals as goal
 
 pub returns : goal.returns
 returns c =
-    c.check_by_ids.ensures (λ count line. has_bad_stripes line line.target) (λ count line bad called. search (rules, tests)) ∙ first_devices Stripe (λ line. has_bad_stripes line line.target) c.args.stack.now
+    c.check_by_ids.ensures (λ count line. has_bad_stripes line line.target) (λ line by_ids count bad called is_by_ids. search (rules, tests)) ∙ first_devices Stripe (λ line. has_bad_stripes line line.target) c.args.stack.now
