@@ -1,5 +1,5 @@
 -- What the claims of a stack are on, and which devices none of them are on.
-use Rattle.std.proofs.Common.{◌≡◌, ℕ, zero, suc, ◌+◌, ◌<◌, ◌≤◌, Bool, true, false, cond, not, List, [], ◌∷◌, ◌++◌, Option, Some, None, refl, sym, ap, subst, ◌∙◌, arith, get_or, length, map}
+use Rattle.std.proofs.Common.{◌≡◌, ℕ, zero, suc, ◌+◌, ◌<◌, ◌≤◌, Bool, true, false, not, List, [], ◌∷◌, ◌++◌, Option, Some, None, refl, sym, ap, subst, ◌∙◌, arith, get_or, length, map}
 use Rattle.std.specs.Prelude.{◌↔◌, ◌||◌, IfOk, IfSome, IsTrue, is_none, nat_lt, slice_get}
 use Rattle.std.proofs.Common.{Result, Ok, Err}
 use Rattle.std.specs.declared.alloc.AllocError.{AllocError}
@@ -8,6 +8,7 @@ use Rattle.std.proofs.Math.Seq.{get_or-append_seam}
 use Rattle.std.proofs.lemmas.Bool.{eq-eqb, eqb-true, ltb-false, ltb-true, or_parts, true≢false}
 use Rattle.std.proofs.lemmas.List.{append_assoc, get_or_append_left, length-append}
 use Rattle.std.proofs.lemmas.List.Elements.{All-from_recursion}
+use Rattle.std.proofs.lemmas.List.Sums.{prefix_len-le-length}
 use Rattle.std.proofs.lemmas.List.Folds.{Any-from_list_any}
 use Rattle.std.proofs.lemmas.Option.{slice_get_past, slice_get_read}
 use Rattle.dm_table.specs.declared.tables.table.DevRef.{DevRef}
@@ -53,13 +54,8 @@ none_passes stack sound = All-from_recursion (λ device. All (λ line. by_id.pas
 
 -- What claims are on has an id of the stack, or the one past the last
 
-id_more : (b : Bool) (id count : ℕ) → id < count + 1 → cond (not b) (1 + id) 0 < suc count + 1
-id_more true id count within = omega arith
-id_more false id count within = omega (arith, within)
-
 id_within : {X : Type 0} (test : X → Bool) (xs : List X) → position_or_len test xs < length xs + 1
-id_within test [] = omega arith
-id_within test (x ∷ xs) = id_more (test x) (position_or_len test xs) (length xs) (id_within test xs)
+id_within test xs = omega (arith, prefix_len-le-length (λ x. not (test x)) xs)
 
 to_within : (stack : Description) (to : DevRef) → IsCounted (length stack.devices + 1) (length stack.disks + 1) (lower_of stack to)
 to_within stack (refs.Device name) = id_within (λ device. is_same device.name name) stack.devices
