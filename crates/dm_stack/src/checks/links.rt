@@ -8,7 +8,7 @@ ghost use Rattle.dm_stack.specs.checks.Graph.{links_in};
 
 use crate::id::Lower;
 use crate::lines::resolved::Resolved;
-use crate::lines::resolved_line::ResolvedLine;
+use crate::lines::resolved_line::{ResolvedLine, ResolvedTarget};
 use crate::lines::span::Spans;
 use std::alloc::{AllocError, Global};
 
@@ -32,7 +32,11 @@ fn lines_links(alloc: Global, lines: &[ResolvedLine]) -> Result<Vec<usize>, Allo
 {
     let mut links = Vec::new(alloc);
     for line in lines {
-        add_line(&mut links, line)?;
+        match line.target {
+            // They name nothing, and a look at that is cheaper than one for spans.
+            ResolvedTarget::Zero | ResolvedTarget::Error => {}
+            _ => add_line(&mut links, line)?,
+        }
     }
     Ok(links)
 }
