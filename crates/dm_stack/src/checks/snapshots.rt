@@ -38,11 +38,11 @@ fn is_bad_snapshot(stack: &Resolved, lines: usize, line: &Line, target: &Resolve
     ensures { target.now ≡ resolved_target stack.now line.now.target
         → result ≡ is_bad_snapshot stack.now lines line.now.len line.now.target }
 {
-    match (&line.target, target) {
-        (Target::Snapshot { chunk, .. }, ResolvedTarget::Snapshot(snapshot)) => {
+    match (target, &line.target) {
+        (ResolvedTarget::Snapshot(snapshot), Target::Snapshot { chunk, .. }) => {
             lines != 1 || is_bad_chunk(*chunk) || line.len != stack.len_of(snapshot.origin)
         }
-        (_, ResolvedTarget::Origin(origin)) => lines != 1 || line.len != stack.len_of(origin.to),
+        (ResolvedTarget::Origin(origin), _) => lines != 1 || line.len != stack.len_of(origin.to),
         _ => false,
     }
 }
