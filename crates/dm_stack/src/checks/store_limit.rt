@@ -26,6 +26,9 @@ pub(crate) fn check_places(stack: &Resolved) -> Result<(), LoadFault>
         let resolved = by_ids[id].table.lines();
         for (index, line) in device.lines.as_slice().iter().enumerate() {
             let places = places_of(stack, &resolved[index].target);
+            if places == 0 {
+                continue;
+            }
             if MOST_PLACES - used < places {
                 return Err(LoadFault {
                     kind: LoadKind::Limit,

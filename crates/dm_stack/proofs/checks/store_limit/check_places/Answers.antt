@@ -24,3 +24,14 @@ loop-index-preserved c = record {
       crowded_passes c.args.stack.now c.loop-index.used c.places_of-places.result c.as_slice-line-items.result.now (all_lines (drop (c.loop-id.id + 1) c.args.stack.now.devices)) c.loop-index.index c.line-item.result c.loop-index-test.true c.line-item.is (places_here (goal.at.loop-index-preserved c).After-places_of-places) (omega (arith, c.loop-index.invariant.few, c.if-used-places.false))
       ∙ c.loop-index.invariant.left;
 }
+
+pub loop-index-preserved-then-places-eq0 : goal.loop-index-preserved-then-places-eq0
+loop-index-preserved-then-places-eq0 c =
+    let same : c.loop-index.used + c.places_of-places.result ≡ c.loop-index.used = omega (arith, c.if-places-eq0.true) in
+    record {
+      few = c.loop-index.invariant.few;
+      left =
+          rw same at
+          (crowded_passes c.args.stack.now c.loop-index.used c.places_of-places.result c.as_slice-line-items.result.now (all_lines (drop (c.loop-id.id + 1) c.args.stack.now.devices)) c.loop-index.index c.line-item.result c.loop-index-test.true c.line-item.is (places_here (goal.at.loop-index-preserved-then-places-eq0 c).After-places_of-places) (omega (arith, c.loop-index.invariant.few, same)))
+          ∙ c.loop-index.invariant.left;
+    }
