@@ -9,10 +9,10 @@ use Rattle.dm_stack.specs.declared.id.Lower.TheVariants.{Disk}
 use Rattle.dm_stack.specs.declared.lines.resolved_line.ResolvedTarget.{ResolvedTarget}
 use Rattle.dm_stack.specs.declared.lines.leg.Leg.{Leg}
 use Rattle.dm_stack.specs.Description.{Description}
-use Rattle.dm_stack.specs.lines.Below.{Below, Lies, below_plain}
-use Rattle.dm_stack.specs.lines.Leg.{after_leg, AreOnDisks, GoesOn, IsLeg, LegsView}
+use Rattle.dm_stack.specs.lines.Below.{Lies, below_plain}
+use Rattle.dm_stack.specs.lines.Leg.{after_leg, AreOnDisks, LegsView}
 use Rattle.dm_stack.proofs.LegLemmas.{legs_after, IsDiskLeg}
-use Rattle.dm_map.specs.pieces.Sink.{AreHanded, IsHanded, IsLawful, OfBeginning, SinkPast}
+use Rattle.dm_map.specs.pieces.Sink.{AreHanded, IsHanded, IsLawful, SinkPast}
 use Rattle.dm_map.specs.pieces.Units.{BlockUnit, below_unit, disk_unit, legs_units, line_units, next_unit, units_in}
 
 -- Units

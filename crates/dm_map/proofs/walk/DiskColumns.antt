@@ -1,6 +1,6 @@
 -- A striped line whose columns are all on disks: a sink takes its legs in one go.
-use Rattle.std.proofs.Common.{◌≡◌, ℕ, zero, suc, ◌+◌, ◌≤◌, true, false, List, [], ◌∷◌, refl, sym, ap, subst, ◌∙◌, arith}
-use Rattle.std.specs.Prelude.{Result, Ok, Err}
+use Rattle.std.proofs.Common.{◌≡◌, ℕ, zero, suc, ◌+◌, ◌≤◌, true, false, [], ◌∷◌, refl, sym, ap, ◌∙◌, arith}
+use Rattle.std.specs.Prelude.{Result}
 use Rattle.dm_table.specs.declared.requests.request.Op.{Op}
 use Rattle.dm_table.specs.declared.requests.request.Op.TheVariants as ops
 use Rattle.dm_stack.specs.declared.id.Lower.TheVariants.{Disk}
@@ -11,8 +11,8 @@ use Rattle.dm_stack.specs.Description.{Description}
 use Rattle.dm_stack.specs.lines.Below.{Below, Lies, below_plain, has_state, IsLine}
 use Rattle.dm_stack.specs.lines.Leg.{has_disk_columns, AreOnDisks, LegsView}
 use Rattle.dm_stack.proofs.LegLemmas.{sector_on_disk, IsOnADisk}
-use Rattle.dm_map.specs.pieces.Sink.{AreHanded, OfBeginning, SinkPast}
-use Rattle.dm_map.specs.pieces.Units.{BlockUnit, below_unit, legs_units, line_units}
+use Rattle.dm_map.specs.pieces.Sink.{AreHanded, SinkPast}
+use Rattle.dm_map.specs.pieces.Units.{below_unit, legs_units, line_units}
 use Rattle.dm_map.specs.state.State.{State}
 use Rattle.dm_map.specs.state.Walker.{WalkerView}
 use Rattle.dm_map.specs.walk.Bound.{IsMapped, target_mapping}

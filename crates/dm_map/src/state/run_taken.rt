@@ -4,12 +4,12 @@
 //! neighbours. The runs lie in the order of their chunks, in which the run of a chunk is found by
 //! halving. Each says the number of its first chunk.
 
-ghost use Rattle.std.specs.Prelude.{◌≡◌, ◌<◌, ◌≤◌, ◌+◌, ◌-◌, ◌^◌, None, MatchBool, length, nat_eq};
+ghost use Rattle.std.specs.Prelude.{◌≡◌, ◌<◌, ◌≤◌, ◌+◌, ◌-◌, ◌^◌, ◌∷◌, ◌++◌, [], None, MatchBool, length, nat_eq};
 ghost use Rattle.std.specs.List.{IsDistinct};
 ghost use Rattle.std.proofs.Props.{props};
 ghost use Rattle.std.proofs.lemmas.Map.Keys.{IsDistinct-prop};
 ghost use Rattle.dm_stack.specs.lines.LineSearch.{binary_digits};
-ghost use Rattle.dm_map.specs.state.Runs.{AreBegunBy, AreRuns, GoesOn, TakesOne, chunks_in, run_at, run_count};
+ghost use Rattle.dm_map.specs.state.Runs.{AreBegunBy, AreRuns, GoesOn, run_at, run_count};
 ghost use Rattle.dm_map.specs.state.Snapshots.{number_in};
 
 mod run;
@@ -20,7 +20,7 @@ mod tests;
 use crate::state::run_taken::run::Run;
 use crate::state::run_taken::search::begun_by;
 use crate::state::taken::Taken;
-use dm_table::Reserved;
+use dm_table::{GhostList, Reserved};
 use std::alloc::{AllocError, Global};
 
 /// The chunks as runs.
@@ -30,17 +30,19 @@ use std::alloc::{AllocError, Global};
 /// memory is reserved by `with_places`.
 #[derive(Drop)]
 pub struct RunTaken {
+    /// The chunks one by one, for proofs alone.
+    chunks: GhostList<u64>,
     runs: Reserved<Run>,
     count: usize,
     places: usize,
     valid: bool,
     ghost reserved: { places ≤ runs.room },
     ghost small: { places < 2 ^ 64 },
-    ghost fits: { length (chunks_in runs.items count) ≤ places },
-    ghost once: { IsDistinct nat_eq (chunks_in runs.items count) } by { IsDistinct-prop nat_eq
-        (chunks_in runs.items count) },
-    ghost counted: { run_count (chunks_in runs.items count) ≡ length runs.items },
-    ghost kept: { AreRuns runs.items count } by { Prim.hlevel props },
+    ghost number: { count ≡ length chunks.items },
+    ghost fits: { length chunks.items ≤ places },
+    ghost once: { IsDistinct nat_eq chunks.items } by { IsDistinct-prop nat_eq chunks.items },
+    ghost counted: { run_count chunks.items ≡ length runs.items },
+    ghost kept: { AreRuns runs.items chunks.items } by { Prim.hlevel props },
 }
 
 impl RunTaken {
@@ -80,8 +82,9 @@ impl RunTaken {
 
 /// Whether the last run that begins at a chunk or before it goes on with this chunk, as that of the next
 /// number.
-fn goes_on(runs: &[Run], begun: usize, chunk: u64, number: usize) -> bool
-    requires kept { AreRuns runs.now number }
+fn goes_on(runs: &[Run], chunks: &GhostList<u64>, begun: usize, chunk: u64, number: usize) -> bool
+    requires kept { AreRuns runs.now chunks.now.items }
+    requires number { number ≡ length chunks.now.items }
     requires begun { AreBegunBy runs.now chunk begun }
     ensures { MatchBool result
         (0 < begun × GoesOn (run_at runs.now (begun - 1)) chunk number)
@@ -95,17 +98,20 @@ fn goes_on(runs: &[Run], begun: usize, chunk: u64, number: usize) -> bool
 }
 
 /// Takes a chunk as that of the next number: it lengthens a run, or is one.
-fn take_next(runs: &mut Reserved<Run>, chunk: u64, number: usize)
-    requires kept { AreRuns runs.old.items number }
-    requires once { IsDistinct nat_eq (chunks_in runs.old.items number) }
-    requires fresh { number_in chunk (chunks_in runs.old.items number) ≡ None }
+fn take_next(runs: &mut Reserved<Run>, chunks: &GhostList<u64>, chunk: u64, number: usize)
+    requires kept { AreRuns runs.old.items chunks.now.items }
+    requires number { number ≡ length chunks.now.items }
+    requires once { IsDistinct nat_eq chunks.now.items }
+    requires fresh { number_in chunk chunks.now.items ≡ None }
     requires room { length runs.old.items < runs.old.room }
     requires small { number + 1 < 2 ^ 64 }
-    ensures taken { TakesOne runs.old.items runs.new.items number chunk }
+    requires counted { run_count chunks.now.items ≡ length runs.old.items }
+    ensures kept { AreRuns runs.new.items (chunks.now.items ++ chunk ∷ []) }
+    ensures counted { run_count (chunks.now.items ++ chunk ∷ []) ≡ length runs.new.items }
     ensures room { runs.new.room ≡ runs.old.room }
 {
     let (begun, _) = begun_by(runs.as_slice(), chunk);
-    if goes_on(runs.as_slice(), begun, chunk, number) {
+    if goes_on(runs.as_slice(), chunks, begun, chunk, number) {
         runs[begun - 1].len += 1;
     } else {
         let run = Run {
@@ -118,7 +124,7 @@ fn take_next(runs: &mut Reserved<Run>, chunk: u64, number: usize)
 }
 
 impl Taken for RunTaken {
-    ghost chunks = { λ taken. chunks_in taken.runs.items taken.count };
+    ghost chunks = { λ taken. taken.chunks.items };
 
     ghost places = { λ taken. taken.places };
 
@@ -126,6 +132,7 @@ impl Taken for RunTaken {
 
     fn with_places(alloc: Global, count: usize) -> Result<RunTaken, AllocError> {
         Ok(RunTaken {
+            chunks: GhostList::new(),
             runs: Reserved::from_vec(Vec::with_capacity(alloc, count)?),
             count: 0,
             places: count,
@@ -151,7 +158,8 @@ impl Taken for RunTaken {
     }
 
     fn take(&mut self, chunk: u64) {
-        take_next(&mut self.runs, chunk, self.count);
+        take_next(&mut self.runs, &self.chunks, chunk, self.count);
+        self.chunks.note(&[chunk]);
         self.count += 1;
     }
 

@@ -1,5 +1,6 @@
-use Rattle.std.proofs.Common.{◌≡◌, ◌+◌, ◌-◌, ◌<◌, ap, length, arith}
-use Rattle.std.proofs.lemmas.List.{get_or_read}
+use Rattle.std.proofs.Common.{◌≡◌, ◌+◌, ◌-◌, ◌<◌, ap, length, arith, rules}
+use Rattle.std.proofs.lemmas.List.{get_or_read, length-set}
+use Rattle.std.proofs.lemmas.List.Edits.{length-insert}
 use Rattle.dm_map.specs.declared.state.run_taken.run.Run.{Run}
 use Rattle.dm_map.specs.state.Runs.{AreBegunBy, no_run, run_at}
 use Rattle.dm_map.proofs.state.GrowLemmas.{takes_new, takes_next}
@@ -21,19 +22,21 @@ overflow_add-index_mut c =
     let on = rw c.as_slice-2.ensures at c.if-goes_on.ensures in
     omega (arith, same, on.1.1, c.requires.small)
 
-pub returns-then-goes_on-clause-taken : goal.returns-then-goes_on-clause-taken
-returns-then-goes_on-clause-taken c =
+pub returns-then-goes_on : goal.returns-then-goes_on
+returns-then-goes_on c =
     let runs = c.args.runs.now.items in
     let begun = c.begun_by-begun.result.0 in
-    let same = longer (goal.at.returns-then-goes_on-clause-taken c).After-index_mut in
+    let same = longer (goal.at.returns-then-goes_on c).After-index_mut in
     let by : AreBegunBy runs c.args.chunk begun = rw c.as_slice.ensures at c.begun_by-begun.ensures.begun in
-    let on = rw c.as_slice-2.ensures at c.if-goes_on.ensures in
-    takes_next runs c.args.number c.args.chunk begun _ c.requires.kept by on.0 on.1 (ap (λ (run : Run). run.first) same) (ap (λ (run : Run). run.number) same) (ap (λ (run : Run). run.len + 1) same)
+    let on = rw (c.as_slice-2.ensures, c.requires.number) at c.if-goes_on.ensures in
+    let it = takes_next runs c.args.chunks.now.items c.args.chunk begun _ c.requires.kept by on.0 on.1 c.requires.counted (ap (λ (run : Run). run.first) same) (ap (λ (run : Run). run.number) same) (ap (λ (run : Run). run.len + 1) same) in
+    record { kept = it.0; counted = omega (arith, it.1, length-set {A = Run}); room = search rules }
 
-pub returns-else-goes_on-clause-taken : goal.returns-else-goes_on-clause-taken
-returns-else-goes_on-clause-taken c =
+pub returns-else-goes_on : goal.returns-else-goes_on
+returns-else-goes_on c =
     let runs = c.args.runs.now.items in
     let begun = c.begun_by-begun.result.0 in
     let by : AreBegunBy runs c.args.chunk begun = rw c.as_slice.ensures at c.begun_by-begun.ensures.begun in
-    let apart = rw c.as_slice-2.ensures at c.if-goes_on.ensures in
-    rw c.insert.ensures.items (takes_new runs c.args.number c.args.chunk begun c.requires.kept c.requires.once by c.requires.fresh apart)
+    let apart = rw (c.as_slice-2.ensures, c.requires.number) at c.if-goes_on.ensures in
+    let it = takes_new runs c.args.chunks.now.items c.args.chunk begun c.requires.kept c.requires.once by c.requires.fresh apart c.requires.counted in
+    rw (c.insert.ensures.items, c.requires.number) (record { kept = it.0; counted = omega (arith, it.1, length-insert {X = Run}, by.within); room = search rules })

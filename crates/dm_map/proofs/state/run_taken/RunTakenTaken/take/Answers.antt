@@ -1,37 +1,25 @@
-use Rattle.std.proofs.Common.{◌∙◌, ap, length, nat_eq, subst, sym, arith}
-use Rattle.std.specs.List.{IsDistinct}
+use Rattle.std.proofs.Common.{◌∙◌, None, ap, length, arith}
 use Rattle.std.proofs.lemmas.List.{length_push}
-use Rattle.dm_map.specs.state.Runs.{chunks_in}
 use Rattle.dm_map.proofs.state.Numbers.{distinct_more}
-use Rattle.dm_map.proofs.state.GrowLemmas.{runs_fit}
-use Rattle.dm_map.proofs.state.RunLemmas.{length-chunks}
+use Rattle.dm_map.proofs.state.GrowLemmas.{few_runs}
 use Rattle.dm_map.proofs.state.run_taken.RunTakenTaken.take.Goals as goal
 
 pub take_next-requires-clause-room : goal.take_next-requires-clause-room
 take_next-requires-clause-room c =
     let taken = c.args.self.now in
-    omega (arith, runs_fit taken.runs.items taken.count taken.counted, length-chunks taken.runs.items taken.count, taken.reserved, c.requires.room)
-
-pub take_next-requires-clause-small : goal.take_next-requires-clause-small
-take_next-requires-clause-small c =
-    let taken = c.args.self.now in
-    omega (arith, length-chunks taken.runs.items taken.count, taken.reserved, taken.small, c.requires.room)
-
-pub overflow_add-self : goal.overflow_add-self
-overflow_add-self c =
-    let taken = c.args.self.now in
-    omega (arith, length-chunks taken.runs.items taken.count, taken.reserved, taken.small, c.requires.room)
+    omega (arith, few_runs None taken.chunks.items, taken.counted, taken.reserved, c.requires.room)
 
 pub invariant_of-self : goal.invariant_of-self
 invariant_of-self c =
     let taken = c.args.self.now in
-    let one = c.take_next.ensures.taken in
-    let more = ap length one.chunks ∙ length_push (chunks_in taken.runs.items taken.count) c.args.chunk in
+    let items = c.note.ensures in
+    let more = ap length items ∙ length_push taken.chunks.items c.args.chunk in
     record {
       reserved = omega (arith, taken.reserved, c.take_next.ensures.room);
       small = taken.small;
+      number = omega (arith, more, taken.number);
       fits = omega (arith, more, c.requires.room);
-      once = subst (IsDistinct nat_eq) (sym one.chunks) (distinct_more c.args.chunk (chunks_in taken.runs.items taken.count) taken.once c.requires.fresh);
-      counted = one.counted taken.counted;
-      kept = one.kept;
+      once = rw items (distinct_more c.args.chunk taken.chunks.items taken.once c.requires.fresh);
+      counted = rw items c.take_next.ensures.counted;
+      kept = rw items c.take_next.ensures.kept;
     }

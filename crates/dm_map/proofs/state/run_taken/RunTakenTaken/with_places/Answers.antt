@@ -1,17 +1,15 @@
-use Rattle.std.proofs.Common.{◌≡◌, ◌∙◌, [], ap, length, sym, arith}
+use Rattle.std.proofs.Common.{◌≡◌, ◌∙◌, [], refl, arith}
 use Rattle.std.specs.List.{IsDistinct}
-use Rattle.dm_map.proofs.state.GrowLemmas.{no_runs}
 use Rattle.dm_map.proofs.state.run_taken.RunTakenTaken.with_places.Goals as goal
 
-pub invariant_of-result : goal.invariant_of-result
+pub invariant_of-result-clause-reserved : goal.invariant_of-result-clause-reserved
+invariant_of-result-clause-reserved c = omega (arith, c.from_vec.ensures.room, c.in_ok-with_capacity.ensures.capacity)
+
+pub invariant_of-result-clause-once : goal.invariant_of-result-clause-once
 unfolding IsDistinct
-invariant_of-result c =
+invariant_of-result-clause-once c = rw c.new.ensures tt
+
+pub invariant_of-result-clause-kept : goal.invariant_of-result-clause-kept
+invariant_of-result-clause-kept c =
     let none : c.from_vec.result.items ≡ [] = c.from_vec.ensures.items ∙ c.in_ok-with_capacity.ensures.items in
-    record {
-      reserved = omega (arith, c.from_vec.ensures.room, c.in_ok-with_capacity.ensures.capacity);
-      small = omega arith;
-      fits = omega arith;
-      once = tt;
-      counted = sym (ap length none);
-      kept = no_runs c.from_vec.result.items none;
-    }
+    rw (c.new.ensures, none) (record { each = λ i within. absurd (omega (arith, within)); all = λ chunk out. refl; rising = λ i j less within. absurd (omega (arith, within)) })
