@@ -10,6 +10,7 @@ use Rattle.std.proofs.lemmas.List.{get_or_append_left, get_or_push, get_or_read,
 use Rattle.std.specs.Prelude.{◌⊎◌, nat_le, nat_lt}
 use Rattle.dm_map.specs.state.Snapshots.{number_in}
 use Rattle.dm_map.proofs.state.Numbers.{number_distinct}
+use Rattle.std.proofs.lemmas.Map.Keys.{IsDistinct-cons}
 use Rattle.std.proofs.lemmas.Map.Steps.{length-le_from_distinct_below}
 use Rattle.std.proofs.lemmas.Nat.{and_le_r, xor_lt}
 use Rattle.std.proofs.lemmas.Nat.Bits.{bit_at-lt, bit_at-trailing_zeros, bit_at-zero, bit_at_xor, same_from_bits}
@@ -30,9 +31,8 @@ unfolding way
 way-suc nodes chunk start steps = refl
 
 pub next_stays : (chunk at : ℕ) (node : Node) → is_fork node ≡ false → next_at chunk at node ≡ at
-next_stays chunk at Empty not_there = refl
-next_stays chunk at (Number number) not_there = refl
 next_stays chunk at (Fork bit pair) not_there = absurd cc
+next_stays chunk at _ not_there = refl
 
 stays_for : (nodes : List Node) (chunk start steps more : ℕ) → is_fork (node_at nodes (way nodes chunk start steps)) ≡ false → way nodes chunk start (steps + more) ≡ way nodes chunk start steps
 stays_for nodes chunk start steps zero not_there = let e : steps + 0 ≡ steps = omega arith in ap (way nodes chunk start) e
@@ -54,12 +54,7 @@ all_other bit [] not_there = tt
 all_other bit (x ∷ bits) not_there = let parts = or_parts (nat_eq bit x) (list_any (nat_eq bit) bits) not_there in (parts.0, all_other bit bits parts.1)
 
 distinct_cons : (bit : ℕ) (bits : List ℕ) → list_any (nat_eq bit) bits ≡ false → IsDistinct nat_eq bits → IsDistinct nat_eq (bit ∷ bits)
-unfolding IsDistinct
-distinct_cons bit bits not_there distinct = (all_other bit bits not_there, distinct)
-
-distinct_none : IsDistinct nat_eq []
-unfolding IsDistinct
-distinct_none = tt
+distinct_cons bit bits not_there distinct = IsDistinct-cons nat_eq bit bits (all_other bit bits not_there) distinct
 
 small_cons : (first : ℕ) (bits : List ℕ) → first < 64 → ((bit : ℕ) → list_any (nat_eq bit) bits ≡ true → bit < 64) → (bit : ℕ) → list_any (nat_eq bit) (first ∷ bits) ≡ true → bit < 64
 small_cons first bits here small bit there = elim (or_cases (nat_eq bit first) (list_any (nat_eq bit) bits) there) [
@@ -89,21 +84,20 @@ pub record OnWay (nodes : List Node) (marks : Marks) (chunk at steps : ℕ) : Ty
   pub count : is_fork (node_at nodes at) ≡ true → length (marks.tested at) ≡ steps
 
 on_start : (chunks : List ℕ) (nodes : List Node) (table : Slots) (trie : HasMarks chunks nodes table) → table.mask < length nodes → (chunk : ℕ) → OnWay nodes trie.marks chunk (slot_of table chunk) 0
+unfolding IsDistinct
 on_start chunks nodes table trie slots chunk =
     let at = slot_of table chunk in
     let low : at ≤ table.mask = slot_low table chunk in
     let none : trie.marks.tested at ≡ [] = trie.start at low in
     record {
       within = omega (arith, low, slots);
-      distinct = subst (IsDistinct nat_eq) (sym none) distinct_none;
+      distinct = rw none tt;
       small = λ bit there. let not_there : false ≡ true = rw none at there in absurd cc;
       agree = λ bit there. let not_there : false ≡ true = rw none at there in absurd cc;
       count = λ _. ap length none;
     }
 
 on_next : (chunks : List ℕ) (nodes : List Node) (marks : Marks) (chunk at steps : ℕ) (node : Node) → node_at nodes at ≡ node → Fits marks chunks (length nodes) at node → OnWay nodes marks chunk at steps → OnWay nodes marks chunk (next_at chunk at node) (suc steps)
-on_next chunks nodes marks chunk at steps Empty is fits here = record { within = here.within; distinct = here.distinct; small = here.small; agree = here.agree; count = λ fork. let not_there : false ≡ true = sym (ap is_fork is) ∙ fork in absurd cc }
-on_next chunks nodes marks chunk at steps (Number number) is fits here = record { within = here.within; distinct = here.distinct; small = here.small; agree = here.agree; count = λ fork. let not_there : false ≡ true = sym (ap is_fork is) ∙ fork in absurd cc }
 on_next chunks nodes marks chunk at steps (Fork bit pair) is fits here =
     let value = bit_at chunk bit in
     let below : value < 2 = bit_at-lt chunk bit in
@@ -118,6 +112,7 @@ on_next chunks nodes marks chunk at steps (Fork bit pair) is fits here =
       agree = rw side.tested agree;
       count = λ _. ap length side.tested ∙ ap suc (here.count (ap is_fork is));
     }
+on_next chunks nodes marks chunk at steps _ is fits here = record { within = here.within; distinct = here.distinct; small = here.small; agree = here.agree; count = λ fork. let not_there : false ≡ true = sym (ap is_fork is) ∙ fork in absurd cc }
 
 pub on_way : (chunks : List ℕ) (nodes : List Node) (table : Slots) (trie : HasMarks chunks nodes table) → table.mask < length nodes → (chunk steps : ℕ) → OnWay nodes trie.marks chunk (way nodes chunk (slot_of table chunk) steps) steps
 on_way chunks nodes table trie slots chunk zero = rw (way-zero nodes chunk (slot_of table chunk)) (on_start chunks nodes table trie slots chunk)
@@ -132,27 +127,17 @@ pub record Ahead (nodes : List Node) (steps bit pair : ℕ) : Type 0 where
   pub small : bit < 64
   pub within : pair + 1 < length nodes
 
-ahead_on : (chunks : List ℕ) (nodes : List Node) (marks : Marks) (chunk at steps bit pair : ℕ) → OnWay nodes marks chunk at steps → node_at nodes at ≡ Fork bit pair → Fits marks chunks (length nodes) at (Fork bit pair) → Ahead nodes steps bit pair
-ahead_on chunks nodes marks chunk at steps bit pair here is fits =
-    let count : length (marks.tested at) ≡ steps = here.count (ap is_fork is) in
-    let most : length (bit ∷ marks.tested at) ≤ 64 = length-le_from_distinct_below (bit ∷ marks.tested at) 64 (distinct_cons bit (marks.tested at) fits.fresh here.distinct) (small_cons bit (marks.tested at) fits.small here.small) in
-    record { few = omega (arith, count, most); small = fits.small; within = fits.within }
-
 pub ahead : (chunks : List ℕ) (nodes : List Node) (table : Slots) (chunk steps bit pair : ℕ) → HasMarks chunks nodes table → table.mask < length nodes → node_at nodes (way nodes chunk (slot_of table chunk) steps) ≡ Fork bit pair → Ahead nodes steps bit pair
 ahead chunks nodes table chunk steps bit pair trie slots is =
     let at = way nodes chunk (slot_of table chunk) steps in
     let here = on_way chunks nodes table trie slots chunk steps in
-    ahead_on chunks nodes trie.marks chunk at steps bit pair here is (subst (Fits trie.marks chunks (length nodes) at) is (trie.fits at here.within))
+    let fits : IsFork trie.marks (length nodes) at bit pair = subst (Fits trie.marks chunks (length nodes) at) is (trie.fits at here.within) in
+    let most = length-le_from_distinct_below (bit ∷ trie.marks.tested at) 64 (distinct_cons bit (trie.marks.tested at) fits.fresh here.distinct) (small_cons bit (trie.marks.tested at) fits.small here.small) in
+    record { few = omega (arith, here.count (ap is_fork is), most); small = fits.small; within = fits.within }
 
--- a way has come to its end after 64 steps
 pub no_fork : (node : Node) → ((bit pair : ℕ) → node ≡ Fork bit pair → ⊥) → is_fork node ≡ false
-no_fork Empty not_there = refl
-no_fork (Number number) not_there = refl
 no_fork (Fork bit pair) not_there = absurd (not_there bit pair refl)
-
-pub end_is : (chunks : List ℕ) (nodes : List Node) (table : Slots) (chunk : ℕ) → HasMarks chunks nodes table → table.mask < length nodes → is_fork (node_at nodes (end_of nodes table chunk)) ≡ false
-end_is chunks nodes table chunk trie slots =
-    no_fork _ (λ bit pair is. let more = ahead chunks nodes table chunk 64 bit pair trie slots is in absurd (omega (arith, more.few)))
+no_fork _ not_there = refl
 
 -- a number at an end is that of a taken chunk, and no chunk that was taken has another
 number_on : (chunks : List ℕ) (nodes : List Node) (table : Slots) (trie : HasMarks chunks nodes table) → table.mask < length nodes → (chunk number : ℕ) → node_at nodes (end_of nodes table chunk) ≡ Number number → IsNumber trie.marks chunks (end_of nodes table chunk) number
@@ -170,9 +155,7 @@ number_absent chunk (first ∷ chunks) none =
 -- a chunk that isn't there is no other one
 pub fresh_apart : (xs : List ℕ) (i chunk : ℕ) → IsDistinct nat_eq xs → i < length xs → number_in chunk xs ≡ None → get_or xs i 0 ≡ chunk → ⊥
 fresh_apart xs i chunk distinct within none is =
-    let found : number_in chunk xs ≡ Some i = cc (number_distinct xs i 0 distinct within) in
-    let wrong : None ≡ Some i = sym none ∙ found in
-    absurd cc
+    let found = number_distinct xs i 0 distinct within in absurd cc
 
 -- Nothing is taken
 
@@ -227,21 +210,35 @@ put_own chunks nodes at chunk same inside own slot number within is =
           (omega (arith, old.0, length_push chunks chunk), chunk_before chunks chunk number old.0 ∙ old.1)
     ]
 
-fits_on : (marks : Marks) (chunks : List ℕ) (chunk count at : ℕ) (node : Node) → Fits marks chunks count at node → Fits marks (chunks ++ chunk ∷ []) count at node
-fits_on marks chunks chunk count at Empty fits = tt
-fits_on marks chunks chunk count at (Number number) fits =
-    record {
-      within = omega (arith, fits.within, length_push chunks chunk);
-      agree = rw (chunk_before chunks chunk number fits.within) fits.agree;
-    }
-fits_on marks chunks chunk count at (Fork bit pair) fits = fits
+agree_moved : (bits now : List ℕ) (x y z w : ℕ) → now ≡ bits → z ≡ x → w ≡ y → Agree bits x y → Agree now z w
+agree_moved bits now x y z w same left right agree bit there =
+    cc (agree bit (rw same at there))
 
-fits_last : (marks : Marks) (chunks : List ℕ) (chunk at : ℕ) → Agree (marks.tested at) chunk (marks.like at) → IsNumber marks (chunks ++ chunk ∷ []) at (length chunks)
-fits_last marks chunks chunk at agree =
+fits_more : (marks after : Marks) (chunks : List ℕ) (new count most at : ℕ) (node : Node) → ((at : ℕ) → at < count → after.tested at ≡ marks.tested at) → ((at : ℕ) → at < count → after.like at ≡ marks.like at) → count ≤ most → at < count → Fits marks chunks count at node
+    → Fits after (chunks ++ new ∷ []) most at node
+fits_more marks after chunks new count most at Empty tested like more below fits = tt
+fits_more marks after chunks new count most at (Number number) tested like more below fits =
     record {
-      within = omega (arith, length_push chunks chunk);
-      agree = rw (chunk_last chunks chunk) agree;
+      within = omega (arith, fits.within, length_push chunks new);
+      agree = agree_moved (marks.tested at) (after.tested at) (chunk_at chunks number) (marks.like at) _ _ (tested at below) (chunk_before chunks new number fits.within) (like at below) fits.agree;
     }
+fits_more marks after chunks new count most at (Fork test pair) tested like more below fits =
+    record {
+      within = omega (arith, fits.within, more);
+      small = fits.small;
+      fresh = ap (list_any (nat_eq test)) (tested at below) ∙ fits.fresh;
+      sides = λ value two.
+          let side = fits.sides value two in
+          let there : pair + value < count = omega (arith, fits.within, two) in
+          record {
+            tested = cc (tested (pair + value) there, tested at below);
+            agree = agree_moved (marks.tested at) (after.tested at) (marks.like (pair + value)) (marks.like at) _ _ (tested at below) (like (pair + value) there) (like at below) side.agree;
+            parted = cc (like (pair + value) there);
+          };
+    }
+
+new_number : (marks : Marks) (chunks : List ℕ) (at number which : ℕ) → number < length chunks → chunk_at chunks number ≡ which → Agree (marks.tested at) which (marks.like at) → IsNumber marks chunks at number
+new_number marks chunks at number which within is agree = record { within = within; agree = rw is agree }
 
 -- where the ways of all chunks end, if those that were there end as they did and the new one at its number
 ends_on : (chunks : List ℕ) (chunk : ℕ) (at : ℕ → Node) → ((number : ℕ) → number < length chunks → at (chunk_at chunks number) ≡ Number number) → at chunk ≡ Number (length chunks)
@@ -267,8 +264,8 @@ put_trie chunks nodes table chunk trie slots empty =
     let marks = trie.marked.marks in
     let fits : (at : ℕ) → at < length after → Fits marks (chunks ++ chunk ∷ []) (length after) at (node_at after at) = λ at there. let there' : at < length nodes = omega (arith, there, count) in elim (cases_eq at here) [
       | inl is ↦ subst (Fits marks (chunks ++ chunk ∷ []) (length after) at) (sym (ap (node_at after) is ∙ now))
-          (fits_last marks chunks chunk at (rw is on.agree))
-      | inr other ↦ rw count (subst (Fits marks (chunks ++ chunk ∷ []) (length nodes) at) (sym (others at other)) (fits_on marks chunks chunk (length nodes) at (node_at nodes at) (trie.marked.fits at there')))
+          (new_number marks (chunks ++ chunk ∷ []) at (length chunks) chunk (omega (arith, length_push chunks chunk)) (chunk_last chunks chunk) (rw is on.agree))
+      | inr other ↦ subst (Fits marks (chunks ++ chunk ∷ []) (length after) at) (sym (others at other)) (fits_more marks marks chunks chunk (length nodes) (length after) at (node_at nodes at) (λ _ _. refl) (λ _ _. refl) (omega (arith, count)) there' (trie.marked.fits at there'))
     ] in
     record {
       marked = record { marks = marks; start = trie.marked.start; fits = fits };
@@ -338,32 +335,6 @@ more_are marks count here bit chunk other apart =
       theirs = rw (le-ltb (count + bit_at other bit) count (omega arith), ne_eqb (count + bit_at other bit) (count + bit_at chunk bit) (λ e. apart (omega (arith, e)))) refl;
     }
 
-agree_moved : (bits now : List ℕ) (x y z w : ℕ) → now ≡ bits → z ≡ x → w ≡ y → Agree bits x y → Agree now z w
-agree_moved bits now x y z w same left right agree bit there =
-    cc (agree bit (rw same at there))
-
-fits_more : (marks after : Marks) (chunks : List ℕ) (new count here bit chunk other at : ℕ) (node : Node) → AreMore marks after count here bit chunk other → at < count → Fits marks chunks count at node → Fits after (chunks ++ new ∷ []) (count + 2) at node
-fits_more marks after chunks new count here bit chunk other at Empty more below fits = tt
-fits_more marks after chunks new count here bit chunk other at (Number number) more below fits =
-    record {
-      within = omega (arith, fits.within, length_push chunks new);
-      agree = agree_moved (marks.tested at) (after.tested at) (chunk_at chunks number) (marks.like at) _ _ (more.tested at below) (chunk_before chunks new number fits.within) (more.like at below) fits.agree;
-    }
-fits_more marks after chunks new count here bit chunk other at (Fork test pair) more below fits =
-    record {
-      within = omega (arith, fits.within);
-      small = fits.small;
-      fresh = ap (list_any (nat_eq test)) (more.tested at below) ∙ fits.fresh;
-      sides = λ value two.
-          let side = fits.sides value two in
-          let there : pair + value < count = omega (arith, fits.within, two) in
-          record {
-            tested = cc (more.tested (pair + value) there, more.tested at below);
-            agree = agree_moved (marks.tested at) (after.tested at) (marks.like (pair + value)) (marks.like at) _ _ (more.tested at below) (more.like (pair + value) there) (more.like at below) side.agree;
-            parted = cc (more.like (pair + value) there);
-          };
-    }
-
 -- what comes after the new fork for one value of its bit
 new_side : (marks after : Marks) (count here bit chunk other value which : ℕ) → AreMore marks after count here bit chunk other → here < count → value ≡ bit_at which bit → after.like (count + bit_at which bit) ≡ which → Agree (marks.tested here) which (marks.like here) → IsSide after here bit count value
 new_side marks after count here bit chunk other value which more below is like agree =
@@ -374,15 +345,9 @@ new_side marks after count here bit chunk other value which more below is like a
       parted = cc;
     }
 
-new_number : (after : Marks) (chunks : List ℕ) (at number which : ℕ) → number < length chunks → chunk_at chunks number ≡ which → after.like at ≡ which → IsNumber after chunks at number
-new_number after chunks at number which within is like = record { within = within; agree = λ bit there. cc }
-
 -- two bits that differ are all values
 one_of : (value a b : ℕ) → value < 2 → a < 2 → b < 2 → (a ≡ b → ⊥) → (value ≡ a) ⊎ (value ≡ b)
-one_of value a b two left right apart = elim (cases_eq value a) [
-  | inl is ↦ inl is
-  | inr other ↦ elim (cases_eq value b) [ inl is ↦ inr is | inr none ↦ absurd (omega (arith, two, left, right, apart, other, none)) ]
-]
+one_of value a b two left right apart = elim (cases_eq value a) [ inl is ↦ inl is | inr other ↦ inr (omega (arith, two, left, right, apart, other)) ]
 
 part_marks : (chunks : List ℕ) (nodes after : List Node) (table : Slots) (here bit chunk other number : ℕ) (trie : HasMarks chunks nodes table) → table.mask < length nodes → bit < 64 → (bit_at chunk bit ≡ bit_at other bit → ⊥)
     → OnWay nodes trie.marks chunk here 64 → IsNumber trie.marks chunks here number → chunk_at chunks number ≡ other → IsParted nodes after here bit chunk other (length chunks) number → HasMarks (chunks ++ chunk ∷ []) after table
@@ -406,12 +371,12 @@ part_marks chunks nodes after table here bit chunk other number trie slots small
       ];
     } in
     let long = length_push chunks chunk in
-    let mine : IsNumber now all (count + bit_at chunk bit) (length chunks) = new_number now all (count + bit_at chunk bit) (length chunks) chunk (omega (arith, long)) (chunk_last chunks chunk) more.mine in
-    let their : IsNumber now all (count + bit_at other bit) number = new_number now all (count + bit_at other bit) number other (omega (arith, long, at_number.within)) (chunk_before chunks chunk number at_number.within ∙ other_is) more.theirs in
+    let mine : IsNumber now all (count + bit_at chunk bit) (length chunks) = new_number now all (count + bit_at chunk bit) (length chunks) chunk (omega (arith, long)) (chunk_last chunks chunk) (λ b _. ap (λ (c : ℕ). bit_at c b) (sym more.mine)) in
+    let their : IsNumber now all (count + bit_at other bit) number = new_number now all (count + bit_at other bit) number other (omega (arith, long, at_number.within)) (chunk_before chunks chunk number at_number.within ∙ other_is) (λ b _. ap (λ (c : ℕ). bit_at c b) (sym more.theirs)) in
     let fits : (at : ℕ) → at < count + 2 → Fits now all (count + 2) at (node_at after at) = λ at there. elim (cases_lt at count) [
       | inl old ↦ elim (cases_eq at here) [
         | inl is ↦ rw is (subst (Fits now all (count + 2) here) (sym parted.fork) fork)
-        | inr another ↦ subst (Fits now all (count + 2) at) (sym (parted.others at old another)) (fits_more marks now chunks chunk count here bit chunk other at (node_at nodes at) more old (trie.fits at old))
+        | inr another ↦ subst (Fits now all (count + 2) at) (sym (parted.others at old another)) (fits_more marks now chunks chunk count (count + 2) at (node_at nodes at) more.tested more.like (omega arith) old (trie.fits at old))
       ]
       | inr past ↦
           let is : at ≡ count + (at - count) = omega (arith, past) in
@@ -465,21 +430,16 @@ part_trie chunks nodes after table bit chunk other number trie slots small apart
     }
 
 -- the lowest bit in which two numbers differ
-same_bit : (a b : ℕ) → a < 2 → b < 2 → (a + b) % 2 ≡ 0 → a ≡ b
-same_bit a b left right even = omega (arith, left, right, even)
-
 xor_some : (a b : ℕ) → (a ≡ b → ⊥) → 0 < bit_xor a b
 xor_some a b differ = elim (cases_lt 0 (bit_xor a b)) [
   | inl some ↦ some
   | inr none ↦
       let zeros : bit_xor a b ≡ 0 = omega (arith, none) in
       let bits : (i : ℕ) → bit_at a i ≡ bit_at b i = λ i.
-      same_bit (bit_at a i) (bit_at b i) (bit_at-lt a i) (bit_at-lt b i) (cc (bit_at_xor a b i, bit_at-zero i)) in
+      let even : (bit_at a i + bit_at b i) % 2 ≡ 0 = cc (bit_at_xor a b i, bit_at-zero i) in
+      omega (arith, bit_at-lt a i, bit_at-lt b i, even) in
       absurd (differ (same_from_bits a b bits))
 ]
-
-even_not_one : (a : ℕ) → (a + a) % 2 ≡ 1 → ⊥
-even_not_one a odd = omega (arith, odd)
 
 pub lowest_apart : (chunk other : ℕ) → chunk < 2 ^ 64 → other < 2 ^ 64 → (other ≡ chunk → ⊥) → (trailing_zeros w64 (bit_xor other chunk) < 64) × (bit_at chunk (trailing_zeros w64 (bit_xor other chunk)) ≡ bit_at other (trailing_zeros w64 (bit_xor other chunk)) → ⊥)
 lowest_apart chunk other low high differ =
@@ -490,7 +450,7 @@ lowest_apart chunk other low high differ =
     let lowest = bit_at-trailing_zeros w64 both some within in
     let one : bit_at both bit ≡ 1 = lowest.1 in
     let sum : bit_at both bit ≡ (bit_at other bit + bit_at chunk bit) % 2 = bit_at_xor other chunk bit in
-    (lowest.0, λ same. even_not_one (bit_at chunk bit) cc)
+    (lowest.0, λ same. let odd : (bit_at chunk bit + bit_at chunk bit) % 2 ≡ 1 = cc in omega (arith, odd))
 
 last_two : (nodes : List Node) (node : Node) (value : ℕ) → value < 2 → node_at ((nodes ++ node ∷ []) ++ node ∷ []) (length nodes + value) ≡ node
 last_two nodes node value two = elim (cases_eq value 0) [
