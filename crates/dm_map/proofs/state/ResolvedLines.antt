@@ -40,9 +40,9 @@ line_inside end sector (first ∷ []) line row is = inside_by end sector first l
 line_inside end sector (first ∷ next ∷ lines) line row is =
     inside_by end sector first line (next ∷ lines) (holds sector first) row refl (λ later. line_inside (first.start + first.len) sector (next ∷ lines) line row.1 later) is
 
-some_line : (stack : Description) (line : Option Line) (found : ResolvedLine) → option_map (resolved_line stack) line ≡ Some found → (it : Line) × (line ≡ Some it)
+pub some_line : (stack : Description) (line : Option Line) (found : ResolvedLine) → option_map (resolved_line stack) line ≡ Some found → (it : Line) × (line ≡ Some it) × (resolved_line stack it ≡ found)
 some_line stack None found is = absurd cc
-some_line stack (Some it) found is = (it, refl)
+some_line stack (Some it) found is = (it, refl, some_is _ _ is)
 
 -- what is said of the line of a sector
 pub record IsLineOf (stack : Description) (device sector : ℕ) (line : ResolvedLine) : Type 0 where

@@ -1,15 +1,18 @@
 -- The state of tables, and the places that are left in them.
-use Rattle.std.proofs.Common.{◌≡◌, ◌↔◌, ℕ, zero, suc, ◌+◌, ◌*◌, ◌<◌, ◌≤◌, Bool, true, false, cond, not, List, [], ◌∷◌, ◌++◌, Option, Some, None, length, get_or, set, drop, drop-cons, replicate, nat_eq, nat_lt, refl, sym, ap, subst, ◌∙◌, inl, inr, arith}
-use Rattle.std.specs.Prelude.{◌==◌, filter, find, is_none, option_map, slice_get, IfSome}
-use Rattle.std.specs.List.{AllByRecursion, list_any, position_or_len, range_with_len}
-use Rattle.std.proofs.lemmas.Bool.{cases_eq, eq-eqb, leb-true, le-leb, ne_eqb, lt-ltb, le-ltb, ltb-true, ltb_from_iff, or_left, or_parts, or_right}
-use Rattle.std.proofs.lemmas.List.Folds.{find_at}
-use Rattle.std.proofs.lemmas.List.{get_or-replicate, length-set, replicate-append-replicate, set-get_or}
-use Rattle.std.proofs.lemmas.Option.{slice_get_read, slice_get_within}
+use Rattle.std.proofs.Common.{◌≡◌, ◌↔◌, ℕ, zero, suc, ◌+◌, ◌*◌, ◌<◌, ◌≤◌, Bool, true, false, cond, not, List, [], ◌∷◌, ◌++◌, Option, Some, None, length, get_or, set, drop, drop-cons, replicate, nat_eq, nat_lt, refl, sym, ap, subst, ◌∙◌, arith}
+use Rattle.std.specs.Prelude.{◌==◌, find, is_none, option_map, slice_get, IfSome}
+use Rattle.std.specs.List.{All, AllByRecursion, list_any, position_or_len, range_with_len}
+use Rattle.std.proofs.lemmas.Bool.{eq-eqb, eqb-true, false_from_ne_true, leb-true, le-leb, ne_eqb, lt-ltb, le-ltb, ltb-true, ltb_from_iff, or_parts}
+use Rattle.std.proofs.lemmas.Bool.Decides.{nat_tests}
+use Rattle.std.proofs.lemmas.List.Elements.{All-filter, All-from_get_or, All-get_or}
+use Rattle.std.proofs.lemmas.List.Folds.{find_at, list_any_at}
+use Rattle.std.proofs.lemmas.List.FromFn.{get_or-range_with_len, length-range_with_len}
+use Rattle.std.proofs.lemmas.List.{get_or-replicate, length-set, map-append, map-set, set-get_or}
+use Rattle.std.proofs.lemmas.Map.Views.{any-filter_same}
+use Rattle.std.proofs.lemmas.Option.{get_or_from_slice_get, slice_get-map, slice_get_read, slice_get_within}
 use Rattle.dm_table.specs.declared.load.load_fault.LoadKind.TheVariants.{Unknown}
 use Rattle.dm_table.specs.declared.tables.table.DevRef.{DevRef}
 use Rattle.dm_table.specs.declared.tables.table.DevRef.TheVariants as refs
-use Rattle.dm_table.specs.declared.tables.table.DeviceSpec.{DeviceSpec}
 use Rattle.dm_table.specs.declared.tables.table.Line.{Line}
 use Rattle.dm_table.specs.declared.tables.table.Target.{Target}
 use Rattle.dm_table.specs.declared.tables.table.Target.TheVariants as targets
@@ -19,7 +22,7 @@ use Rattle.dm_stack.specs.declared.lines.resolved_line.ResolvedSnapshot.{Resolve
 use Rattle.dm_stack.specs.declared.lines.resolved_line.ResolvedTarget.{ResolvedTarget}
 use Rattle.dm_stack.specs.declared.lines.resolved_line.ResolvedTarget.TheVariants as founds
 use Rattle.dm_stack.specs.lines.Below.{found_at, resolved_line, resolved_target, holds, line_of}
-use Rattle.dm_stack.specs.Description.{Description, device_id, disk_id, is_same, lines_at, lines_or_none, lower_len, lower_of}
+use Rattle.dm_stack.specs.Description.{Description, device_id, disk_id, is_same, lines_at, lower_len, lower_of}
 use Rattle.dm_stack.specs.checks.Snapshots.{has_snapshot, is_snapshot, snapshots}
 use Rattle.dm_stack.specs.lines.StoreLayout.{place}
 use Rattle.dm_stack.specs.lines.Over.{resolved_snapshot}
@@ -29,19 +32,17 @@ use Rattle.dm_stack.proofs.Passes.{faults_by_none, passes_all}
 use Rattle.dm_stack.proofs.SoundLines.{device_some, disk_some, found, of_device, there}
 use Rattle.dm_map.specs.state.Snapshots.{number_in}
 use Rattle.dm_map.specs.state.State.{lost, put, with_chunk, none_taken, taken_at}
+use Rattle.dm_map.proofs.state.ResolvedLines.{line_there, some_line}
 use Rattle.dm_map.specs.state.Tables.{AreTables, has_room, snapshot_at, snapshot_of_line, snapshot_of, state_of}
 
 -- One table
 
 pub state_set : {T : Type 0} (chunks : T → List ℕ) (valid : T → Bool) (tables : List T) (device : ℕ) (table : T) → state_of chunks valid (set tables device table) ≡ put (state_of chunks valid tables) device (record { chunks = chunks table; valid = valid table })
-state_set chunks valid [] device table = refl
-state_set chunks valid (first ∷ rest) zero table = refl
-state_set chunks valid (first ∷ rest) (suc device) table = cc (state_set chunks valid rest device table)
+state_set chunks valid tables device table = map-set (λ t. record { chunks = chunks t; valid = valid t }) tables device table
 
 pub state_at : {T : Type 0} (chunks : T → List ℕ) (valid : T → Bool) (tables : List T) (device : ℕ) (table : T) → slice_get tables device ≡ Some table → taken_at (state_of chunks valid tables) device ≡ record { chunks = chunks table; valid = valid table }
-state_at chunks valid [] device table is = absurd cc
-state_at chunks valid (first ∷ rest) zero table is = let same : first ≡ table = cc in rw same refl
-state_at chunks valid (first ∷ rest) (suc device) table is = state_at chunks valid rest device table is
+state_at chunks valid tables device table is =
+    get_or_from_slice_get (state_of chunks valid tables) device _ none_taken (slice_get-map (λ t. record { chunks = chunks t; valid = valid t }) tables device ∙ rw is)
 
 -- The places of a number among those of a list that fits
 
@@ -98,18 +99,7 @@ tables_set places stack tables device index table new are same got kept = record
 -- A list of tables that grows
 
 pub state_push : {T : Type 0} (chunks : T → List ℕ) (valid : T → Bool) (tables : List T) (table : T) → chunks table ≡ [] → valid table ≡ true → state_of chunks valid (tables ++ table ∷ []) ≡ state_of chunks valid tables ++ none_taken ∷ []
-state_push chunks valid [] table nothing good = rw (nothing, good) refl
-state_push chunks valid (first ∷ rest) table nothing good = cc (state_push chunks valid rest table nothing good)
-
-pub nothing_more : (count : ℕ) → replicate count none_taken ++ none_taken ∷ [] ≡ replicate (count + 1) none_taken
-nothing_more count = replicate-append-replicate count 1 none_taken
-
-pub each_push : {T : Type 0} (P : ℕ → T → Type 0) (tables : List T) (table : T) → ((device : ℕ) (other : T) → slice_get tables device ≡ Some other → P device other) → P (length tables) table
-    → (device : ℕ) (other : T) → slice_get (tables ++ table ∷ []) device ≡ Some other → P device other
-each_push P [] table each last zero other is = let same : table ≡ other = cc in subst (P 0) same last
-each_push P [] table each last (suc device) other is = absurd cc
-each_push P (first ∷ rest) table each last zero other is = each 0 other is
-each_push P (first ∷ rest) table each last (suc device) other is = each_push (λ d t. P (suc d) t) rest table (λ d t found. each (suc d) t found) last device other is
+state_push chunks valid tables table nothing good = map-append (λ t. record { chunks = chunks t; valid = valid t }) tables (table ∷ []) ∙ rw (nothing, good)
 
 -- A table among those of a stack
 
@@ -124,10 +114,7 @@ found_room chunks places stack tables device chunk table (Some n) are fits got i
     sym (are.room device n table got) ∙ lt-ltb n (places table) (omega (arith, fits, number_within chunk (chunks table) n is))
 
 full_at : (count most : ℕ) → count ≤ most → (count == most) ≡ not (nat_lt count most)
-full_at count most le = elim (cases_eq count most) [
-  | inl same ↦ rw (eq-eqb count most same, le-ltb count most (omega (arith, same))) refl
-  | inr differ ↦ rw (ne_eqb count most differ, lt-ltb count most (omega (arith, le, differ))) refl
-]
+full_at count most le = grind (arith, nat_tests)
 
 pub full_room : {T : Type 0} (chunks : T → List ℕ) (places : T → ℕ) (stack : Description) (tables : List T) (device : ℕ) (table : T) → AreTables places stack tables → length (chunks table) ≤ places table → slice_get tables device ≡ Some table
     → (length (chunks table) == places table) ≡ not (has_room stack device (length (chunks table)))
@@ -163,38 +150,22 @@ plain_room stack device number e = rw (plain_line stack (lines_at stack device) 
 
 -- The snapshots of a stack
 
-picked : (f : ℕ → Bool) (a n x : ℕ) → a ≤ x → x < a + n → f x ≡ true → list_any (nat_eq x) (filter f (range_with_len a n)) ≡ true
-picked f a zero x from to good = absurd (omega (arith, from, to))
-picked f a (suc n) x from to good = elim (cases_eq x a) [
-  | inl same ↦ let here : f a ≡ true = rw same at good in rw here (or_left (nat_eq x a) _ (eq-eqb x a same))
-  | inr differ ↦ picked_later (f a) x a (filter f (range_with_len (a + 1) n)) (picked f (a + 1) n x (omega (arith, from, differ)) (omega (arith, to)) good)
-]
-  where
-    picked_later : (first : Bool) (x a : ℕ) (rest : List ℕ) → list_any (nat_eq x) rest ≡ true → list_any (nat_eq x) (cond first (a ∷ rest) rest) ≡ true
-    picked_later true x a rest later = or_right (nat_eq x a) _ later
-    picked_later false x a rest later = later
-
-not_picked : (f : ℕ → Bool) (n x : ℕ) (b : Bool) → x < n → f x ≡ b → list_any (nat_eq x) (filter f (range_with_len 0 n)) ≡ false → b ≡ false
-not_picked f n x true there is none = absurd (let some = picked f 0 n x (omega arith) (omega (arith, there)) is in cc)
-not_picked f n x false there is none = refl
-
 -- a device that is not among them has no place
 pub unlisted_room : (stack : Description) (device number : ℕ) → device < length stack.devices → list_any (nat_eq device) (snapshots stack) ≡ false → has_room stack device number ≡ false
 unlisted_room stack device number there none =
-    plain_room stack device number (not_picked (λ d. has_snapshot (lines_at stack d)) (length stack.devices) device (has_snapshot (lines_at stack device)) there refl none)
+    let count = length stack.devices in
+    let ids = range_with_len 0 count in
+    let here : list_any (nat_eq device) ids ≡ true = list_any_at (nat_eq device) ids device 0 (omega (arith, there, length-range_with_len 0 count)) (eq-eqb device (get_or ids device 0) (let at = get_or-range_with_len 0 count device 0 there in omega (arith, at))) in
+    let kept = any-filter_same (nat_eq device) (λ d. has_snapshot (lines_at stack d)) (has_snapshot (lines_at stack device)) (λ d is. ap (λ d. has_snapshot (lines_at stack d)) (sym (eqb-true device d is))) ids in
+    plain_room stack device number (false_from_ne_true _ (λ some. let picked = rw (some, here) at kept in absurd cc))
 
 -- they are devices of the stack
-picked_within : (f : ℕ → Bool) (a n i d : ℕ) → i < length (filter f (range_with_len a n)) → get_or (filter f (range_with_len a n)) i d < a + n
-picked_within f a zero i d within = absurd (omega (arith, within))
-picked_within f a (suc n) i d within = within_by (f a) a (a + suc n) (filter f (range_with_len (a + 1) n)) i d (omega arith) (λ j inside. let e : a + 1 + n ≡ a + suc n = omega arith in rw e at (picked_within f (a + 1) n j d inside)) within
-  where
-    within_by : (first : Bool) (a most : ℕ) (rest : List ℕ) (i d : ℕ) → a < most → ((j : ℕ) → j < length rest → get_or rest j d < most) → i < length (cond first (a ∷ rest) rest) → get_or (cond first (a ∷ rest) rest) i d < most
-    within_by true a most rest zero d here later within = here
-    within_by true a most rest (suc i) d here later within = later i (omega (arith, within))
-    within_by false a most rest i d here later within = later i within
-
 pub snapshot_there : (stack : Description) (next d : ℕ) → next < length (snapshots stack) → get_or (snapshots stack) next d < length stack.devices
-snapshot_there stack next d within = let low = picked_within (λ device. has_snapshot (lines_at stack device)) 0 (length stack.devices) next d within in omega (arith, low)
+snapshot_there stack next d within =
+    let count = length stack.devices in
+    let ids = range_with_len 0 count in
+    let all = All-from_get_or (λ id. id < count) ids 0 (λ i inside. let at = get_or-range_with_len 0 count i 0 (omega (arith, inside, length-range_with_len 0 count)) in omega (arith, at, inside, length-range_with_len 0 count)) in
+    All-get_or (λ id. id < count) (snapshots stack) next d within (All-filter (λ id. has_snapshot (lines_at stack id)) (λ id. id < count) ids all)
 
 -- one that is none of the later ones, and not this one, is none of these
 pub not_yet : (ids : List ℕ) (next d device : ℕ) → next < length ids → (device ≡ get_or ids next d → ⊥) → list_any (nat_eq device) (drop (next + 1) ids) ≡ false → list_any (nat_eq device) (drop next ids) ≡ false
@@ -206,12 +177,13 @@ not_yet ids next d device within differ later =
 
 -- The tables before the first snapshot is looked up, and after the next one
 
-pub first_rooms : {T : Type 0} (places : T → ℕ) (stack : Description) (tables : List T) → length tables ≡ length stack.devices → ((index : ℕ) (table : T) → slice_get tables index ≡ Some table → places table ≡ 0)
+pub first_rooms : {T : Type 0} (places : T → ℕ) (stack : Description) (tables : List T) → length tables ≡ length stack.devices → All (λ table. places table ≡ 0) tables
     → (device number : ℕ) (table : T) → slice_get tables device ≡ Some table → list_any (nat_eq device) (snapshots stack) ≡ false → nat_lt number (places table) ≡ has_room stack device number
 first_rooms places stack tables count none device number table got unlisted =
     let within = slice_get_within tables device table got in
     let inside : device < length stack.devices = omega (arith, within, count) in
-    rw (none device table got) (le-ltb number 0 (omega arith) ∙ sym (unlisted_room stack device number inside unlisted))
+    let empty : places table ≡ 0 = ap places (sym (get_or_from_slice_get tables device table table got)) ∙ All-get_or (λ t. places t ≡ 0) tables device table within none in
+    rw empty (le-ltb number 0 (omega arith) ∙ sym (unlisted_room stack device number inside unlisted))
 
 pub next_rooms : {T : Type 0} (places : T → ℕ) (stack : Description) (tables : List T) (next d index : ℕ) (new : T) → next < length (snapshots stack) → d ≡ get_or (snapshots stack) next d → index ≡ d → ((number : ℕ) → nat_lt number (places new) ≡ has_room stack d number)
     → ((device number : ℕ) (table : T) → slice_get tables device ≡ Some table → list_any (nat_eq device) (drop next (snapshots stack)) ≡ false → nat_lt number (places table) ≡ has_room stack device number)
@@ -242,10 +214,6 @@ other_room stack device number line is other = rw (is, none_of line.target other
 
 -- Its store is there
 
-known_at : (stack : Description) (device : ℕ) (spec : DeviceSpec) → IsSound stack → slice_get stack.devices device ≡ Some spec → AllByRecursion (λ line. is_unknown stack line ≡ false) spec.lines
-known_at stack device spec sound at =
-    of_device (λ line. is_unknown stack line ≡ false) stack.devices device spec (faults_by_none Unknown (λ line. line.at) (is_unknown stack) (all_lines stack.devices) (passes_all stack sound).known) at
-
 place_before : {X : Type 0} (test : X → Bool) (xs : List X) → is_none (find test xs) ≡ false → position_or_len test xs < length xs
 place_before {X = X} test xs some = by_found (find test xs) refl some
   where
@@ -266,16 +234,10 @@ store_at stack (targets.Snapshot origin store kind chunk_size) len snapshot soun
     rw (← same) (lower_some stack store sound parts.0)
 store_at stack _ len snapshot sound known is = absurd cc
 
-store_in : (stack : Description) (lines : List Line) (sector : ℕ) (line : Option Line) (resolved_line_is : ResolvedLine) (snapshot : ResolvedSnapshot) → IsSound stack → AllByRecursion (λ l. is_unknown stack l ≡ false) lines → line_of lines sector ≡ line → option_map (resolved_line stack) line ≡ Some resolved_line_is
-    → resolved_line_is.target ≡ founds.Snapshot snapshot → 0 < lower_len stack snapshot.store
-store_in stack lines sector None it snapshot sound known is found_is kind = absurd cc
-store_in stack lines sector (Some line) it snapshot sound known is found_is kind =
-    let same : resolved_line stack line ≡ it = cc in
-    store_at stack line.target line.len snapshot sound (found (λ l. is_unknown stack l ≡ false) (holds sector) lines line known is).1 cc
-
-store_of : (stack : Description) (device sector : ℕ) (spec : Option DeviceSpec) (line : ResolvedLine) (snapshot : ResolvedSnapshot) → IsSound stack → slice_get stack.devices device ≡ spec → option_map (resolved_line stack) (line_of (lines_or_none spec) sector) ≡ Some line → line.target ≡ founds.Snapshot snapshot → 0 < lower_len stack snapshot.store
-store_of stack device sector None line snapshot sound at is kind = absurd cc
-store_of stack device sector (Some spec) line snapshot sound at is kind = store_in stack spec.lines sector (line_of spec.lines sector) line snapshot sound (known_at stack device spec sound at) refl is kind
-
 pub store_some : (stack : Description) (device sector : ℕ) (line : ResolvedLine) (snapshot : ResolvedSnapshot) → IsSound stack → found_at stack device sector ≡ Some line → line.target ≡ founds.Snapshot snapshot → 0 < lower_len stack snapshot.store
-store_some stack device sector line snapshot sound is kind = store_of stack device sector (slice_get stack.devices device) line snapshot sound refl is kind
+store_some stack device sector line snapshot sound is kind =
+    let device_is = there stack.devices device (line_there stack device sector line is) in
+    let lines = device_is.it.lines in
+    let it = some_line stack (line_of lines sector) line cc in
+    let known = of_device (λ l. is_unknown stack l ≡ false) stack.devices device device_is.it (faults_by_none Unknown (λ l. l.at) (is_unknown stack) (all_lines stack.devices) (passes_all stack sound).known) device_is.at in
+    store_at stack it.0.target it.0.len snapshot sound (found (λ l. is_unknown stack l ≡ false) (holds sector) lines it.0 known it.1).1 (ap (λ (l : ResolvedLine). l.target) it.2 ∙ kind)

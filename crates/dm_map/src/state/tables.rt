@@ -2,7 +2,8 @@
 //!
 //! All memory for taken chunks is reserved here, before the first request.
 
-ghost use Rattle.std.specs.Prelude.{◌≡◌, ℕ, ◌+◌, ◌<◌, ◌≤◌, Some, length, nat_lt, replicate, slice_get, IfOk};
+ghost use Rattle.std.specs.Prelude.{◌≡◌, ℕ, ◌+◌, ◌<◌, ◌≤◌, length, nat_lt, replicate, IfOk};
+ghost use Rattle.std.specs.List.{All};
 ghost use Rattle.dm_stack.specs.checks.Snapshots.{snapshots};
 ghost use Rattle.dm_map.specs.state.State.{none_taken, start_state};
 ghost use Rattle.dm_map.specs.state.Tables.{AreTables, has_room, state_of};
@@ -42,8 +43,7 @@ pub(crate) fn empty_tables<T: Taken>(
 /// `count` tables, each without a place.
 fn tables_without_places<T: Taken>(alloc: Global, count: usize) -> Result<Vec<T>, AllocError>
     ensures count { IfOk result (λ tables. length tables.items ≡ count) }
-    ensures places { IfOk result (λ tables. (index : ℕ) (table : T)
-        → slice_get tables.items index ≡ Some table → T.places table ≡ 0) }
+    ensures places { IfOk result (λ tables. All (λ table. T.places table ≡ 0) tables.items) }
     ensures state { IfOk result (λ tables. state_of T.chunks T.valid tables.items
         ≡ replicate count none_taken) }
 {
