@@ -59,19 +59,16 @@ no_fault true true true e = absurd cc
 no_fault true false again e = absurd cc
 no_fault false near again e = absurd cc
 
--- a store that holds chunks is used, its list can be read, and has no fault
-words_hold : (fresh magic version chunk invalid : Bool) (used : Stored) (chunks : List ℕ)
-    → cond fresh Fresh (cond (not magic) (Refused Magic) (cond (not version) (Refused Version) (cond (not chunk) (Refused Chunk) (cond invalid Lost used)))) ≡ Holds chunks → used ≡ Holds chunks
-words_hold true m v c i used chunks e = absurd cc
-words_hold false false v c i used chunks e = absurd cc
-words_hold false true false c i used chunks e = absurd cc
-words_hold false true true false i used chunks e = absurd cc
-words_hold false true true true true used chunks e = absurd cc
-words_hold false true true true false used chunks e = e
+-- a store that holds chunks passes each check and is used, its list can be read, and has no fault
+pub words_hold : (fresh magic version chunk invalid : Bool) (used : Stored) (chunks : List ℕ)
+    → cond fresh Fresh (cond (not magic) (Refused Magic) (cond (not version) (Refused Version) (cond (not chunk) (Refused Chunk) (cond invalid Lost used)))) ≡ Holds chunks
+    → (magic ≡ true) × (version ≡ true) × (chunk ≡ true) × (invalid ≡ false) × (used ≡ Holds chunks)
+words_hold false true true true false used chunks e = (refl, refl, refl, refl, e)
+words_hold _ _ _ _ _ used chunks e = absurd cc
 
 pub header_holds : (used : Stored) (in_table : ℕ) (header : Result (List ℕ) SectorFault) (chunks : List ℕ) → by_header used in_table header ≡ Holds chunks → used ≡ Holds chunks
 header_holds used in_table (Err fault) chunks e = absurd cc
-header_holds used in_table (Ok h) chunks e = words_hold (four_at h 0 == 0) (four_at h 0 == 0x70416e53) (four_at h 8 == 1) (four_at h 12 == in_table) (four_at h 4 == 0) used chunks e
+header_holds used in_table (Ok h) chunks e = (words_hold (four_at h 0 == 0) (four_at h 0 == 0x70416e53) (four_at h 8 == 1) (four_at h 12 == in_table) (four_at h 4 == 0) used chunks e).4
 
 pub end_holds : (full : Bool) (listed : Stored) (sector : Result (List ℕ) SectorFault) (chunks : List ℕ) → cond full listed (listed_if listed sector) ≡ Holds chunks → listed ≡ Holds chunks
 end_holds true listed sector chunks e = e

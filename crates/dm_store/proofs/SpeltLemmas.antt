@@ -15,17 +15,7 @@ use Rattle.dm_stack.specs.lines.StoreLayout.{place}
 use Rattle.dm_store.specs.Layout.{pair_count, row_sector}
 use Rattle.dm_store.specs.Spelled.{IsFreeAt, IsSpelled, IsUsed}
 use Rattle.dm_store.specs.Stored.{Fresh, Holds, Lost, Refused, Stored, by_header, list_fault, fault_of, is_any_again, is_listed, is_near, is_placed, list_count, listed, listed_if, of_list}
-use Rattle.dm_store.proofs.FittingLemmas.{always_fits, and_true, end_holds, header_holds, length_old, list_holds}
-
-words_parts : (fresh magic version chunk invalid : Bool) (used : Stored) (chunks : List ℕ)
-    → cond fresh Fresh (cond (not magic) (Refused Magic) (cond (not version) (Refused Version) (cond (not chunk) (Refused Chunk) (cond invalid Lost used)))) ≡ Holds chunks
-    → (magic ≡ true) × (version ≡ true) × (chunk ≡ true) × (invalid ≡ false)
-words_parts true m v c i used chunks e = absurd cc
-words_parts false false v c i used chunks e = absurd cc
-words_parts false true false c i used chunks e = absurd cc
-words_parts false true true false i used chunks e = absurd cc
-words_parts false true true true true used chunks e = absurd cc
-words_parts false true true true false used chunks e = (refl, refl, refl, refl)
+use Rattle.dm_store.proofs.FittingLemmas.{always_fits, and_true, end_holds, header_holds, length_old, list_holds, words_hold}
 
 unequal : (n : ℕ) → (n == 0) ≡ false → n ≢ 0
 unequal n e = λ zero. absurd (let t : (n == 0) ≡ true = eq-eqb n 0 zero in cc)
@@ -38,7 +28,7 @@ record Header (in_table : ℕ) (sector : Result (List ℕ) SectorFault) : Type 0
 header_parts : (used : Stored) (in_table : ℕ) (sector : Result (List ℕ) SectorFault) (chunks : List ℕ) → by_header used in_table sector ≡ Holds chunks → Header in_table sector
 header_parts used in_table (Err fault) chunks e = absurd cc
 header_parts used in_table (Ok h) chunks e =
-    let parts = words_parts (four_at h 0 == 0) (four_at h 0 == 0x70416e53) (four_at h 8 == 1) (four_at h 12 == in_table) (four_at h 4 == 0) used chunks e in
+    let parts = words_hold (four_at h 0 == 0) (four_at h 0 == 0x70416e53) (four_at h 8 == 1) (four_at h 12 == in_table) (four_at h 4 == 0) used chunks e in
     record {
       bytes = h;
       is = refl;
