@@ -3,7 +3,7 @@ use Rattle.std.proofs.Common.{◌<◌, ◌^◌, ℕ, arith}
 use Rattle.dm_stack.specs.Description.{Description}
 use Rattle.dm_stack.specs.checks.Soundness.{IsSound}
 use Rattle.dm_stack.specs.declared.id.Lower.TheVariants as lowers
-use Rattle.dm_map.specs.pieces.Units.{BlockUnit, CopyOf, Drops, Fails, FillOf, ReadOf, WriteOf, Zeros, IsOnDisk}
+use Rattle.dm_map.specs.pieces.Units.{BlockUnit, CopyOf, FillOf, ReadOf, WriteOf, IsOnDisk}
 use Rattle.dm_stack.proofs.InStack.{lower_small}
 use Rattle.dm_stream.specs.pieces.Pending.{Fits}
 
@@ -16,8 +16,6 @@ few stack disk sector len sound lies =
 pub fits_few : (stack : Description) (unit : BlockUnit) (len : ℕ) → IsSound stack → Fits stack unit len → len < 2 ^ 64
 fits_few stack (ReadOf disk sector) len sound fits = few stack disk sector len sound fits
 fits_few stack (WriteOf disk sector) len sound fits = few stack disk sector len sound fits
-fits_few stack Zeros len sound fits = fits
-fits_few stack Drops len sound fits = fits
-fits_few stack Fails len sound fits = fits
 fits_few stack (CopyOf disk sector to to_sector) len sound fits = few stack disk sector len sound fits.0
 fits_few stack (FillOf disk sector) len sound fits = few stack disk sector len sound fits
+fits_few stack _ len sound fits = fits

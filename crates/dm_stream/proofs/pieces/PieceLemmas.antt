@@ -30,11 +30,9 @@ one_unit unit other e = absurd cc
 pub is_unit-refl : (unit : BlockUnit) → is_unit unit unit ≡ true
 is_unit-refl (ReadOf disk sector) = two_same disk sector
 is_unit-refl (WriteOf disk sector) = two_same disk sector
-is_unit-refl Zeros = refl
-is_unit-refl Drops = refl
-is_unit-refl Fails = refl
 is_unit-refl (CopyOf disk sector to to_sector) = and_from _ _ (two_same disk sector) (two_same to to_sector)
 is_unit-refl (FillOf disk sector) = two_same disk sector
+is_unit-refl _ = refl
 
 -- a unit goes on to its next one, and to no other
 pub joins-next : (unit : BlockUnit) → joins unit (next_unit unit) ≡ true
@@ -47,26 +45,22 @@ joined_next unit next e = sym (one_unit (next_unit unit) next e)
 pub further-none : (unit : BlockUnit) → further unit 0 ≡ unit
 further-none (ReadOf disk sector) = let e : sector + 0 ≡ sector = omega arith in ap (ReadOf disk) e
 further-none (WriteOf disk sector) = let e : sector + 0 ≡ sector = omega arith in ap (WriteOf disk) e
-further-none Zeros = refl
-further-none Drops = refl
-further-none Fails = refl
 further-none (CopyOf disk sector to to_sector) =
     let e : sector + 0 ≡ sector = omega arith in
     let f : to_sector + 0 ≡ to_sector = omega arith in
     cc
 further-none (FillOf disk sector) = let e : sector + 0 ≡ sector = omega arith in ap (FillOf disk) e
+further-none _ = refl
 
 pub further-more : (unit : BlockUnit) (len : ℕ) → further unit (suc len) ≡ further (next_unit unit) len
 further-more (ReadOf disk sector) len = let e : sector + suc len ≡ suc sector + len = omega arith in ap (ReadOf disk) e
 further-more (WriteOf disk sector) len = let e : sector + suc len ≡ suc sector + len = omega arith in ap (WriteOf disk) e
-further-more Zeros len = refl
-further-more Drops len = refl
-further-more Fails len = refl
 further-more (CopyOf disk sector to to_sector) len =
     let e : sector + suc len ≡ suc sector + len = omega arith in
     let f : to_sector + suc len ≡ suc to_sector + len = omega arith in
     cc
 further-more (FillOf disk sector) len = let e : sector + suc len ≡ suc sector + len = omega arith in ap (FillOf disk) e
+further-more _ len = refl
 
 -- the unit after a piece of one, and after a longer piece
 pub is_after-one : (unit after : BlockUnit) → is_after unit 1 after ≡ joins unit after

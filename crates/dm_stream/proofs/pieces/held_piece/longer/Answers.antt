@@ -10,11 +10,9 @@ use Rattle.dm_stream.proofs.pieces.held_piece.longer.Goals as goal
 fits_there : (stack : Description) (piece : Piece) → Fits stack (first_unit piece) (piece_len piece) → IsOnDisks stack piece
 fits_there stack (coded.Read disk start len) fits = fits
 fits_there stack (coded.Write disk start len) fits = fits
-fits_there stack (coded.Zero len) fits = tt
-fits_there stack (coded.Drop len) fits = tt
-fits_there stack (coded.Error len) fits = tt
 fits_there stack (coded.Copy disk start len to to_start) fits = fits
 fits_there stack (coded.Fill len disk start) fits = fits
+fits_there stack _ fits = tt
 
 pub overflow_add-len : goal.overflow_add-len
 overflow_add-len c =
