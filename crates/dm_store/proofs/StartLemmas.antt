@@ -1,5 +1,6 @@
 -- The state of all devices, from that of each; and which of them are snapshots.
 use Rattle.std.proofs.Common.{◌≡◌, inl, inr, ℕ, zero, suc, ◌+◌, ◌<◌, ◌≤◌, Bool, true, false, cond, List, ◌∷◌, Option, Some, None, Result, Ok, Err, filter, get_or, length, replicate, take, refl, sym, ap, subst, ◌∙◌, arith}
+use Rattle.std.specs.Option.{option_and_then}
 use Rattle.std.specs.List.{Contains, range_with_len}
 use Rattle.std.proofs.lemmas.Bool.{cases_lt, cases_order}
 use Rattle.std.proofs.lemmas.List.{get_or-set_other, get_or_default, get_or_past}
@@ -14,7 +15,7 @@ use Rattle.dm_stack.specs.Description.{Description, lines_at}
 use Rattle.dm_stack.specs.checks.Snapshots.{AreSnapshots, IsSnapshot, has_snapshot, snapshots}
 use Rattle.dm_stack.specs.lines.Below.{found_at}
 use Rattle.dm_map.specs.state.State.{State, Taken, none_taken, put, taken_at}
-use Rattle.dm_map.specs.state.Tables.{snapshot_of_line}
+use Rattle.dm_map.specs.state.Tables.{snapshot_of}
 use Rattle.dm_store.specs.declared.fault.StoreFault.{StoreFault}
 use Rattle.dm_store.specs.Images.{DiskContents}
 use Rattle.dm_store.specs.Start.{start_of, state_of_first, store_if, taken_if, with_next}
@@ -78,17 +79,13 @@ gap xs most next i rising before below there =
 -- ---- a device that is no snapshot has nothing
 
 pub no_snapshot_in : (stack : Description) (disks : DiskContents) (device : ℕ) (line : Option ResolvedLine)
-    → ((there : ResolvedLine) (snapshot : ResolvedSnapshot) → line ≡ Some there → there.target ≡ found.Snapshot snapshot → ⊥) → taken_if stack disks (store_if stack device (snapshot_of_line line)) ≡ Ok none_taken
+    → ((there : ResolvedLine) (snapshot : ResolvedSnapshot) → line ≡ Some there → there.target ≡ found.Snapshot snapshot → ⊥) → taken_if stack disks (store_if stack device (option_and_then (λ (l : ResolvedLine). snapshot_of l.target) line)) ≡ Ok none_taken
 no_snapshot_in stack disks device None none = refl
 no_snapshot_in stack disks device (Some line) none = by_target line.target refl
   where
-    by_target : (target : ResolvedTarget) → line.target ≡ target → taken_if stack disks (store_if stack device (snapshot_of_line (Some line))) ≡ Ok none_taken
+    by_target : (target : ResolvedTarget) → line.target ≡ target → taken_if stack disks (store_if stack device (snapshot_of line.target)) ≡ Ok none_taken
     by_target (found.Snapshot snapshot) is = absurd (none line snapshot refl is)
-    by_target (found.Linear to offset) is = rw is refl
-    by_target (found.Striped chunk columns) is = rw is refl
-    by_target found.Zero is = rw is refl
-    by_target found.Error is = rw is refl
-    by_target (found.Origin origin) is = rw is refl
+    by_target _ is = rw is refl
 
 pub no_snapshot : (stack : Description) (disks : DiskContents) (devices : List ℕ) (device : ℕ) → AreSnapshots stack devices → (Contains devices device → ⊥) → start_of stack disks device ≡ Ok none_taken
 no_snapshot stack disks devices device are none = no_snapshot_in stack disks device (found_at stack device 0) (λ line snapshot is target. none (are.among device line snapshot is target))

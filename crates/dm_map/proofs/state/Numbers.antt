@@ -4,6 +4,8 @@ use Rattle.std.specs.List.{AllByRecursion, IsDistinct}
 use Rattle.std.specs.Prelude.{◌==◌, option_map}
 use Rattle.std.proofs.lemmas.Bool.{cases_order, eq-eqb, eqb-true, ne_eqb}
 use Rattle.std.proofs.Math.Nat.{mul-le-mul_right}
+use Rattle.std.proofs.lemmas.List.{take_more}
+use Rattle.std.proofs.lemmas.Map.Keys.{apart_from_distinct}
 use Rattle.std.proofs.lemmas.Nat.{div-add-mod'}
 use Rattle.dm_stack.specs.lines.StoreLayout.{place}
 use Rattle.dm_stack.specs.declared.lines.resolved_line.ResolvedSnapshot.{ResolvedSnapshot}
@@ -22,14 +24,6 @@ number_here c (x ∷ xs) zero d none below is = rw (eq-eqb x c is) refl
 number_here c (x ∷ xs) (suc i) d none below is =
     let parts = none_parts (x == c) (number_in c (take i xs)) none in
     rw (parts.0, number_here c xs i d parts.1 (omega arith) is) refl
-
-pub number_later : (c : ℕ) (xs : List ℕ) (i d : ℕ) → number_in c (take i xs) ≡ None → i < length xs → (get_or xs i d ≡ c → ⊥) → number_in c (take (i + 1) xs) ≡ None
-number_later c [] i d none below other = absurd (omega arith)
-number_later c (x ∷ xs) zero d none below other = rw (ne_eqb x c other) refl
-number_later c (x ∷ xs) (suc i) d none below other =
-    let parts = none_parts (x == c) (number_in c (take i xs)) none in
-    let e : suc i + 1 ≡ suc (i + 1) = omega arith in
-    rw (e, parts.0, number_later c xs i d parts.1 (omega arith) other) refl
 
 all_more : (P : ℕ → Type 0) (xs : List ℕ) (c : ℕ) → AllByRecursion P xs → P c → AllByRecursion P (xs ++ c ∷ [])
 all_more P [] c all p = (p, tt)
@@ -62,28 +56,22 @@ pub number_other : (c d : ℕ) (xs : List ℕ) → number_in c xs ≡ None → (
 number_other c d [] e differ = rw (ne_eqb d c differ) refl
 number_other c d (x ∷ xs) e differ = let parts = none_parts (x == c) (number_in c xs) e in rw (parts.0, number_other c d xs parts.1 differ) refl
 
--- a number is that of one chunk
-inject_cons : (b p : Bool) (c e x i : ℕ) (o q : Option ℕ) → (b ≡ true → x ≡ c) → (p ≡ true → x ≡ e) → ((j : ℕ) → o ≡ Some j → q ≡ Some j → c ≡ e) → cond b (Some 0) (option_map suc o) ≡ Some i → cond p (Some 0) (option_map suc q) ≡ Some i → c ≡ e
-inject_cons true true c e x i o q is_c is_e later f g = sym (is_c refl) ∙ is_e refl
-inject_cons true false c e x i o None is_c is_e later f g = absurd cc
-inject_cons true false c e x i o (Some j) is_c is_e later f g = let first : 0 ≡ i = cc in let next : suc j ≡ i = cc in absurd (omega (arith, first, next))
-inject_cons false true c e x i None q is_c is_e later f g = absurd cc
-inject_cons false true c e x i (Some j) q is_c is_e later f g = let first : 0 ≡ i = cc in let next : suc j ≡ i = cc in absurd (omega (arith, first, next))
-inject_cons false false c e x i None q is_c is_e later f g = absurd cc
-inject_cons false false c e x i (Some j) None is_c is_e later f g = absurd cc
-inject_cons false false c e x i (Some j) (Some k) is_c is_e later f g =
-    let first : suc j ≡ i = cc in let second : suc k ≡ i = cc in
-    let same : k ≡ j = omega (arith, first, second) in
-    later j refl (ap Some same)
+pub number_later : (c : ℕ) (xs : List ℕ) (i d : ℕ) → number_in c (take i xs) ≡ None → i < length xs → (get_or xs i d ≡ c → ⊥) → number_in c (take (i + 1) xs) ≡ None
+number_later c xs i d none below other = rw (take_more xs i d below) (number_other c (get_or xs i d) (take i xs) none other)
 
+-- a chunk stands where its number says
+pub number_is : (c : ℕ) (xs : List ℕ) (i : ℕ) → number_in c xs ≡ Some i → (i < length xs) × (get_or xs i 0 ≡ c)
+number_is c [] i is = absurd cc
+number_is c (x ∷ xs) i is = by_first (x == c) (number_in c xs) i (λ t. eqb-true x c t) (λ j later. number_is c xs j later) is
+  where
+    by_first : (here : Bool) (later : Option ℕ) (i : ℕ) → (here ≡ true → x ≡ c) → ((j : ℕ) → later ≡ Some j → (j < length xs) × (get_or xs j 0 ≡ c)) → cond here (Some 0) (option_map suc later) ≡ Some i → (i < length (x ∷ xs)) × (get_or (x ∷ xs) i 0 ≡ c)
+    by_first true later i here_is later_is is = let first : 0 ≡ i = cc in rw (← first) (omega arith, here_is refl)
+    by_first false None i here_is later_is is = absurd cc
+    by_first false (Some j) i here_is later_is is = let next : suc j ≡ i = cc in let rest = later_is j refl in rw (← next) (omega (arith, rest.0), rest.1)
+
+-- so a number is that of one chunk
 pub number_one : (c e : ℕ) (xs : List ℕ) (i : ℕ) → number_in c xs ≡ Some i → number_in e xs ≡ Some i → c ≡ e
-number_one c e [] i f g = absurd cc
-number_one c e (x ∷ xs) i f g = inject_cons (x == c) (x == e) c e x i (number_in c xs) (number_in e xs) (λ t. eqb-true x c t) (λ t. eqb-true x e t) (λ j a b. number_one c e xs j a b) f g
-
-all_at : (P : ℕ → Type 0) (xs : List ℕ) (i d : ℕ) → AllByRecursion P xs → i < length xs → P (get_or xs i d)
-all_at P [] i d all within = absurd (omega (arith, within))
-all_at P (x ∷ xs) zero d all within = all.0
-all_at P (x ∷ xs) (suc i) d all within = all_at P xs i d all.1 (omega (arith, within))
+number_one c e xs i f g = sym (number_is c xs i f).1 ∙ (number_is e xs i g).1
 
 -- in a list without doubles, what stands at an index has that number
 pub number_distinct : (xs : List ℕ) (i d : ℕ) → IsDistinct nat_eq xs → i < length xs → number_in (get_or xs i d) xs ≡ Some i
@@ -91,7 +79,7 @@ unfolding IsDistinct
 number_distinct [] i d distinct within = absurd (omega (arith, within))
 number_distinct (x ∷ xs) zero d distinct within = rw (eq-eqb x x refl) refl
 number_distinct (x ∷ xs) (suc i) d distinct within =
-    let other : (x == get_or xs i d) ≡ false = all_at (λ y. nat_eq x y ≡ false) xs i d distinct.0 (omega (arith, within)) in
+    let other : (x == get_or xs i d) ≡ false = apart_from_distinct nat_eq (x ∷ xs) 0 (suc i) d distinct (omega arith) within in
     rw (other, number_distinct xs i d distinct.1 (omega (arith, within))) refl
 
 -- Whole parts and a rest

@@ -1,5 +1,6 @@
 -- What a sound stack says of the line that was found for a sector.
 use Rattle.std.proofs.Common.{◌≡◌, ℕ, ◌+◌, ◌<◌, ◌≤◌, inl, inr, Bool, true, false, cond, List, [], ◌∷◌, Option, Some, None, length, refl, sym, ap, ◌∙◌, arith}
+use Rattle.std.specs.Option.{option_and_then}
 use Rattle.std.specs.Prelude.{option_map, nat_le, nat_lt}
 use Rattle.std.proofs.lemmas.Bool.{and_parts, cases_lt, ltb-true}
 use Rattle.std.proofs.lemmas.Option.{slice_get_past}
@@ -15,7 +16,7 @@ use Rattle.dm_stack.specs.checks.Soundness.{IsSound}
 use Rattle.dm_stack.proofs.LayoutLemmas.{AreInRow}
 use Rattle.dm_stack.proofs.SameLine.{same_found}
 use Rattle.dm_stack.proofs.SoundLines.{HoldsSoundly, device_sound, lines_there, sector_found, there}
-use Rattle.dm_map.specs.state.Tables.{origin_at, origin_of, origin_of_line, snapshot_at, snapshot_of_line, snapshot_of}
+use Rattle.dm_map.specs.state.Tables.{origin_at, origin_of, snapshot_at, snapshot_of}
 
 -- what an option has is one value
 pub some_is : {X : Type 0} (a b : X) → Some a ≡ Some b → a ≡ b
@@ -98,7 +99,7 @@ target_snapshot : (line : ResolvedLine) (target : ResolvedTarget) (snapshot : Re
 target_snapshot line (founds.Snapshot other) snapshot is e = is ∙ ap founds.Snapshot cc
 target_snapshot line target snapshot is e = absurd cc
 
-pub first_line : (stack : Description) (device : ℕ) (snapshot : ResolvedSnapshot) (found : Option ResolvedLine) → found_at stack device 0 ≡ found → snapshot_of_line found ≡ Some snapshot → (line : ResolvedLine) × (found_at stack device 0 ≡ Some line) × (line.target ≡ founds.Snapshot snapshot)
+pub first_line : (stack : Description) (device : ℕ) (snapshot : ResolvedSnapshot) (found : Option ResolvedLine) → found_at stack device 0 ≡ found → option_and_then (λ (line : ResolvedLine). snapshot_of line.target) found ≡ Some snapshot → (line : ResolvedLine) × (found_at stack device 0 ≡ Some line) × (line.target ≡ founds.Snapshot snapshot)
 first_line stack device snapshot None is e = absurd cc
 first_line stack device snapshot (Some line) is e = (line, is, target_snapshot line line.target snapshot refl e)
 
@@ -135,7 +136,7 @@ target_origin : (line : ResolvedLine) (target : ResolvedTarget) (origin : Resolv
 target_origin line (founds.Origin other) origin is e = is ∙ ap founds.Origin cc
 target_origin line target origin is e = absurd cc
 
-pub first_origin : (stack : Description) (device : ℕ) (origin : ResolvedOrigin) (found : Option ResolvedLine) → found_at stack device 0 ≡ found → origin_of_line found ≡ Some origin → (line : ResolvedLine) × (found_at stack device 0 ≡ Some line) × (line.target ≡ founds.Origin origin)
+pub first_origin : (stack : Description) (device : ℕ) (origin : ResolvedOrigin) (found : Option ResolvedLine) → found_at stack device 0 ≡ found → option_and_then (λ (line : ResolvedLine). origin_of line.target) found ≡ Some origin → (line : ResolvedLine) × (found_at stack device 0 ≡ Some line) × (line.target ≡ founds.Origin origin)
 first_origin stack device origin None is e = absurd cc
 first_origin stack device origin (Some line) is e = (line, is, target_origin line line.target origin refl e)
 

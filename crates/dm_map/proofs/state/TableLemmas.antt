@@ -1,5 +1,6 @@
 -- The state of tables, and the places that are left in them.
 use Rattle.std.proofs.Common.{◌≡◌, ◌↔◌, ℕ, zero, suc, ◌+◌, ◌*◌, ◌<◌, ◌≤◌, Bool, true, false, cond, not, List, [], ◌∷◌, ◌++◌, Option, Some, None, length, get_or, set, drop, drop-cons, replicate, nat_eq, nat_lt, refl, sym, ap, subst, ◌∙◌, arith}
+use Rattle.std.specs.Option.{option_and_then}
 use Rattle.std.specs.Prelude.{◌==◌, find, is_none, option_map, slice_get, IfSome}
 use Rattle.std.specs.List.{All, AllByRecursion, list_any, position_or_len, range_with_len}
 use Rattle.std.proofs.lemmas.Bool.{eq-eqb, eqb-true, false_from_ne_true, leb-true, le-leb, ne_eqb, lt-ltb, le-ltb, ltb-true, ltb_from_iff, or_parts}
@@ -32,8 +33,9 @@ use Rattle.dm_stack.proofs.Passes.{faults_by_none, passes_all}
 use Rattle.dm_stack.proofs.SoundLines.{device_some, disk_some, found, of_device, there}
 use Rattle.dm_map.specs.state.Snapshots.{number_in}
 use Rattle.dm_map.specs.state.State.{lost, put, with_chunk, none_taken, taken_at}
+use Rattle.dm_map.proofs.state.Numbers.{number_is}
 use Rattle.dm_map.proofs.state.ResolvedLines.{line_there, some_line}
-use Rattle.dm_map.specs.state.Tables.{AreTables, has_room, snapshot_at, snapshot_of_line, snapshot_of, state_of}
+use Rattle.dm_map.specs.state.Tables.{AreTables, has_room, snapshot_at, snapshot_of, state_of}
 
 -- One table
 
@@ -47,13 +49,7 @@ state_at chunks valid tables device table is =
 -- The places of a number among those of a list that fits
 
 pub number_within : (chunk : ℕ) (chunks : List ℕ) (number : ℕ) → number_in chunk chunks ≡ Some number → number < length chunks
-number_within chunk [] number is = absurd cc
-number_within chunk (first ∷ rest) number is = number_after (first == chunk) (number_in chunk rest) (length rest) number (λ later found. number_within chunk rest later found) is
-  where
-    number_after : (here : Bool) (later : Option ℕ) (len number : ℕ) → ((n : ℕ) → later ≡ Some n → n < len) → cond here (Some 0) (option_map suc later) ≡ Some number → number < suc len
-    number_after true later len number within is = let first : 0 ≡ number = cc in omega (arith, first)
-    number_after false None len number within is = absurd cc
-    number_after false (Some n) len number within is = let next : suc n ≡ number = cc in omega (arith, within n refl, next)
+number_within chunk chunks number is = (number_is chunk chunks number is).0
 
 pub each_set : {T : Type 0} (P : ℕ → T → Type 0) (tables : List T) (device : ℕ) (new : T) → ((other : ℕ) (table : T) → (other ≡ device → ⊥) → slice_get tables other ≡ Some table → P other table) → P device new
     → (other : ℕ) (table : T) → slice_get (set tables device new) other ≡ Some table → P other table
@@ -141,7 +137,7 @@ each_plain : (lines : List Line) → has_snapshot lines ≡ false → AllByRecur
 each_plain [] e = tt
 each_plain (line ∷ lines) e = let parts = or_parts (is_snapshot line.target) (has_snapshot lines) e in (parts.0, each_plain lines parts.1)
 
-plain_line : (stack : Description) (lines : List Line) (sector : ℕ) (line : Option Line) → has_snapshot lines ≡ false → line_of lines sector ≡ line → snapshot_of_line (option_map (resolved_line stack) line) ≡ None
+plain_line : (stack : Description) (lines : List Line) (sector : ℕ) (line : Option Line) → has_snapshot lines ≡ false → line_of lines sector ≡ line → option_and_then (λ (l : ResolvedLine). snapshot_of l.target) (option_map (resolved_line stack) line) ≡ None
 plain_line stack lines sector None e is = refl
 plain_line stack lines sector (Some line) e is = plain_target stack line.target (found (λ l. is_snapshot l.target ≡ false) (holds sector) lines line (each_plain lines e) is).1
 

@@ -13,7 +13,7 @@ use Rattle.dm_stack.proofs.OverLemmas.{over_all, over_sound}
 use Rattle.dm_map.specs.walk.Serving.{AreSettled, IsOver}
 use Rattle.dm_map.specs.walk.SnapshotWrites.{is_settled}
 use Rattle.dm_map.specs.state.State.{State, taken_at}
-use Rattle.dm_map.specs.state.Tables.{snapshot_at, snapshot_of_line}
+use Rattle.dm_map.specs.state.Tables.{snapshot_at}
 use Rattle.dm_map.proofs.state.ResolvedLines.{first_line, snapshot_sound}
 
 all_members : {X : Type 0} (P : X → Type 0) (xs : List X) → ((x : X) → Contains xs x → P x) → AllByRecursion P xs
@@ -23,7 +23,7 @@ all_members P xs each = recursion_from_All P xs (λ k d below. each _ (All-conta
 pub over_is : (stack : Description) (to : Lower) (len : ℕ) (one : ResolvedOver) → IsSound stack → len ≤ lower_len stack to → Contains (snapshots_over stack to) one → IsOver stack len one
 over_is stack to len one sound long named =
     let of = over_sound stack to one sound named in
-    let at : snapshot_at stack one.device ≡ Some one.snapshot = ap snapshot_of_line of.0.line in
+    let at : snapshot_at stack one.device ≡ Some one.snapshot = rw of.0.line in
     let same = (snapshot_sound stack one.device one.snapshot sound at).soundly.origin in
     let origin = ap (lower_len stack) of.1 in
     record { is = at; long = omega (arith, long, same, origin) }

@@ -1,6 +1,6 @@
 -- Tables of taken chunks, one for each device of a stack, as a state.
 use Rattle.std.specs.Prelude.{ℕ, ◌≡◌, Bool, false, List, Option, Some, None, length, map, nat_lt, slice_get}
-use Rattle.dm_stack.specs.declared.lines.resolved_line.ResolvedLine.{ResolvedLine}
+use Rattle.std.specs.Option.{option_and_then}
 use Rattle.dm_stack.specs.declared.lines.resolved_line.ResolvedOrigin.{ResolvedOrigin}
 use Rattle.dm_stack.specs.declared.lines.resolved_line.ResolvedSnapshot.{ResolvedSnapshot}
 use Rattle.dm_stack.specs.declared.lines.resolved_line.ResolvedTarget.{ResolvedTarget}
@@ -19,28 +19,18 @@ abbrev pub snapshot_of : ResolvedTarget → Option ResolvedSnapshot
 snapshot_of (found.Snapshot snapshot) = Some snapshot
 snapshot_of _ = None
 
--- the snapshot of a line, if its target is one
-abbrev pub snapshot_of_line : Option ResolvedLine → Option ResolvedSnapshot
-snapshot_of_line (Some line) = snapshot_of line.target
-snapshot_of_line None = None
-
 -- the snapshot that a device is, by the line that holds its first sector
 abbrev pub snapshot_at : Description → (device : ℕ) → Option ResolvedSnapshot
-snapshot_at stack device = snapshot_of_line (found_at stack device 0)
+snapshot_at stack device = option_and_then (λ line. snapshot_of line.target) (found_at stack device 0)
 
 -- the origin that a device is the device of, by its line at sector 0
 abbrev pub origin_of : ResolvedTarget → Option ResolvedOrigin
 origin_of (found.Origin origin) = Some origin
 origin_of _ = None
 
--- the origin of a line, if its target is one
-abbrev pub origin_of_line : Option ResolvedLine → Option ResolvedOrigin
-origin_of_line (Some line) = origin_of line.target
-origin_of_line None = None
-
 -- the origin that a device is, by the line that holds its first sector
 abbrev pub origin_at : Description → (device : ℕ) → Option ResolvedOrigin
-origin_at stack device = origin_of_line (found_at stack device 0)
+origin_at stack device = option_and_then (λ line. origin_of line.target) (found_at stack device 0)
 
 -- its store has a place for the taken chunk of this number; a device that is no snapshot has none
 abbrev pub room_of : Description → Option ResolvedSnapshot → (number : ℕ) → Bool

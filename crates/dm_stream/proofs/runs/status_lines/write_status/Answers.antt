@@ -8,7 +8,7 @@ use Rattle.dm_stack.specs.checks.Snapshots.{IsSnapshot}
 use Rattle.dm_map.specs.declared.state.usage.Usage.{Usage}
 use Rattle.dm_map.specs.Mapper.{MapperView, with_looked}
 use Rattle.dm_map.specs.state.State.{taken_at}
-use Rattle.dm_map.specs.state.Tables.{snapshot_at, snapshot_of_line}
+use Rattle.dm_map.specs.state.Tables.{snapshot_at}
 use Rattle.dm_map.specs.state.Usage.{usage_of}
 use Rattle.dm_stream.specs.runs.StatusLines.{after_name, status_line}
 use Rattle.dm_stream.proofs.runs.status_lines.write_status.Goals as goal
@@ -18,7 +18,7 @@ line_of : (stack : Description) (old mapper : MapperView) (device : ℕ) (usage 
     → IfSome (snapshot_at mapper.stack device) (λ snapshot. usage ≡ usage_of mapper.stack snapshot (taken_at mapper.state device))
     → name_at stack device ++ after_name (device_len stack device) usage ≡ status_line stack old.state device
 line_of stack old mapper device usage of_stack same is used =
-    let at : snapshot_at stack device ≡ Some is.snapshot = ap snapshot_of_line is.line in
+    let at : snapshot_at stack device ≡ Some is.snapshot = rw is.line in
     let of_old = rw same at used in
     let here = rw of_stack at of_old in
     let full : usage ≡ usage_of stack is.snapshot (taken_at old.state device) =
