@@ -7,7 +7,7 @@ use Rattle.dm_table.specs.declared.tables.table.StoreKind.TheVariants.{Persisten
 use Rattle.dm_table.specs.declared.tables.table.Target.TheVariants as targets
 use Rattle.dm_stack.specs.declared.lines.resolved_line.ResolvedSnapshot.{ResolvedSnapshot}
 use Rattle.dm_stack.specs.Description.{Description}
-use Rattle.dm_stack.specs.lines.Over.{all_over, snapshots_over}
+use Rattle.dm_stack.specs.lines.Over.{all_over, copied, origin_over}
 use Rattle.dm_stack.specs.declared.id.Lower.{Lower}
 use Rattle.dm_stack.specs.declared.id.Lower.TheVariants.{Device, Disk}
 use Rattle.dm_map.specs.walk.Homes.{home_to}
@@ -148,5 +148,5 @@ served_read = refl
 
 -- the origin can't wait: what s had there is gone, and s with it
 served_lost : request_step served Write 0 8 1 (none_taken ∷ has_taken (0 ∷ []) ∷ []) ≡ keep (WriteOf 0 8 ∷ []) (none_taken ∷ has_lost (0 ∷ []) ∷ [])
-unfolding write_step serve snapshots_over all_over lib.Count.ones
+unfolding write_step serve origin_over copied all_over lib.Count.ones
 served_lost = refl

@@ -1,6 +1,6 @@
 -- What a sound stack says of its devices, of its disks, and of the line of a sector.
 use Rattle.std.proofs.Common.{◌≡◌, ℕ, zero, suc, ◌+◌, ◌*◌, ◌^◌, ◌<◌, ◌≤◌, Bool, true, false, cond, nat_lt, nat_le, List, [], ◌∷◌, length, map, Option, Some, None, refl, sym, ap, subst, ◌∙◌, arith}
-use Rattle.std.specs.Prelude.{◌/◌, ◌%◌, ◌==◌, ◌||◌, not, find, position, slice_get}
+use Rattle.std.specs.Prelude.{◌/◌, ◌%◌, ◌==◌, ◌&&◌, ◌||◌, not, find, position, slice_get}
 use Rattle.std.specs.List.{AllByRecursion, flat_map, list_any, position_or_len}
 use Rattle.std.proofs.lemmas.Bool.{and_parts, or_parts, leb-true, le-leb, ltb-true, ltb-false, lt-ltb, eqb-true, not-false}
 use Rattle.std.proofs.lemmas.List.{length-map}
@@ -15,11 +15,12 @@ use Rattle.dm_table.specs.declared.tables.table.Use.TheVariants.{Own}
 use Rattle.dm_table.specs.declared.tables.table.DeviceSpec.{DeviceSpec}
 use Rattle.dm_table.specs.declared.tables.disk.Disk.{Disk}
 use Rattle.dm_table.specs.declared.load.load_fault.LoadKind.TheVariants.{Limit, Empty, Stripe, Range, Snapshot, Store}
+use Rattle.dm_stack.specs.declared.id.Lower.{Lower}
 use Rattle.dm_stack.specs.declared.lines.resolved_line.ResolvedLine.{ResolvedLine}
 use Rattle.dm_stack.specs.Description.{Description, lines_at, lines_or_none, end_of, device_len, lower_len, lower_of}
 use Rattle.dm_stack.specs.lines.Below.{holds, line_of, resolved_line, resolved_columns, resolved_target, found_at, LiesIn, AreStripes, IsOriginSound, IsSnapshotSound, IsTargetSound}
 use Rattle.dm_stack.specs.declared.checks.limits.TheConstants.{MOST_LENGTH}
-use Rattle.dm_stack.specs.lines.Over.{resolved_snapshot, snapshots_over}
+use Rattle.dm_stack.specs.lines.Over.{copied, has_crowd, is_whole, origin_over, resolved_snapshot, snapshots_over}
 use Rattle.dm_stack.specs.checks.Soundness.{all_lines, is_large, without_lines, empty_in, misplaced_in, is_bad_chunk, is_bad_snapshot, is_bad_stripe, has_bad_store, has_bad_stripes, is_past, passes_end, bad_snapshots_in, IsSound}
 use Rattle.dm_table.specs.tables.Span.{column_span, target_spans}
 use Rattle.dm_stack.proofs.checks.HandedOn.{line_within}
@@ -138,23 +139,48 @@ snapshot_sound stack id lines line origin store kind chunk whole good stored =
       store = not-false _ stored;
     }
 
-origin_sound : (stack : Description) (id lines : ℕ) (line : Line) (origin : DevRef) → (lines ≡ 1 → IsWhole stack id line) → is_bad_snapshot stack lines line.len (targets.Origin origin) ≡ false
-    → IsOriginSound stack id line.start line.len (record { to = lower_of stack origin; over = snapshots_over stack (lower_of stack origin) })
-origin_sound stack id lines line origin whole good =
+-- no line that has to be alone has another one beside it
+one_alone : (stack : Description) (count len : ℕ) (target : Target) → (count == 1) ≡ false → is_bad_snapshot stack count len target ≡ false → is_whole target ≡ false
+one_alone stack count len (targets.Snapshot origin store kind chunk) many good = absurd cc
+one_alone stack count len (targets.Origin origin) many good = absurd cc
+one_alone stack count len _ many good = refl
+
+all_alone : (stack : Description) (count : ℕ) (lines : List Line) → (count == 1) ≡ false → AllByRecursion (λ line. is_bad_snapshot stack count line.len line.target ≡ false) lines → list_any (λ line. is_whole line.target) lines ≡ false
+all_alone stack count [] many good = refl
+all_alone stack count (line ∷ lines) many good = rw (one_alone stack count line.len line.target many good.0, all_alone stack count lines many good.1)
+
+crowd_by : (stack : Description) (lines : List Line) (b : Bool) → (length lines == 1) ≡ b → AllByRecursion (λ line. is_bad_snapshot stack (length lines) line.len line.target ≡ false) lines → (not b && list_any (λ line. is_whole line.target) lines) ≡ false
+crowd_by stack lines true is good = refl
+crowd_by stack lines false is good = all_alone stack (length lines) lines is good
+
+no_crowd : (stack : Description) (devices : List DeviceSpec) → flat_map (λ d. bad_snapshots_in stack d.lines) devices ≡ [] → list_any has_crowd devices ≡ false
+no_crowd stack [] e = refl
+no_crowd stack (device ∷ devices) e =
+    let parts = append_none (bad_snapshots_in stack device.lines) _ e in
+    let good = faults_by_none Snapshot (λ line. line.at) (λ line. is_bad_snapshot stack (length device.lines) line.len line.target) device.lines parts.0 in
+    rw (crowd_by stack device.lines (length device.lines == 1) refl good, no_crowd stack devices parts.1)
+
+over_is : (stack : Description) (to : Lower) → IsSound stack → origin_over stack to ≡ snapshots_over stack to
+unfolding origin_over copied snapshots_over
+over_is stack to sound = rw (no_crowd stack stack.devices (passes_all stack sound).fitting) refl
+
+origin_sound : (stack : Description) (id lines : ℕ) (line : Line) (origin : DevRef) → IsSound stack → (lines ≡ 1 → IsWhole stack id line) → is_bad_snapshot stack lines line.len (targets.Origin origin) ≡ false
+    → IsOriginSound stack id line.start line.len (record { to = lower_of stack origin; over = origin_over stack (lower_of stack origin) })
+origin_sound stack id lines line origin sound whole good =
     let a = or_parts (not (lines == 1)) (not (line.len == lower_len stack (lower_of stack origin))) good in
     let alone = whole (eqb-true _ _ (not-false _ a.0)) in
-    record { from = alone.from; whole = alone.len; same = sym (eqb-true _ _ (not-false _ a.1)); over = refl }
+    record { from = alone.from; whole = alone.len; same = sym (eqb-true _ _ (not-false _ a.1)); over = over_is stack (lower_of stack origin) sound }
 
 -- a line of one row of sectors: they are there
 row_sound : (stack : Description) (to : DevRef) (offset len : ℕ) → list_any (is_past stack) (record { to = to; offset = offset; len = Some len; kind = Own } ∷ []) ≡ false → offset + len ≤ lower_len stack (lower_of stack to)
 row_sound stack to offset len inside = ltb-false _ _ (or_parts (is_past stack (record { to = to; offset = offset; len = Some len; kind = Own })) false inside).0
 
-target_sound : (stack : Description) (id lines : ℕ) (line : Line) (target : Target) → (lines ≡ 1 → IsWhole stack id line) → has_bad_stripes line target ≡ false → list_any (is_past stack) (target_spans line.len target) ≡ false → is_bad_snapshot stack lines line.len target ≡ false → has_bad_store stack target ≡ false
+target_sound : (stack : Description) (id lines : ℕ) (line : Line) (target : Target) → IsSound stack → (lines ≡ 1 → IsWhole stack id line) → has_bad_stripes line target ≡ false → list_any (is_past stack) (target_spans line.len target) ≡ false → is_bad_snapshot stack lines line.len target ≡ false → has_bad_store stack target ≡ false
     → IsTargetSound stack id line.start line.len (resolved_target stack target)
-target_sound stack id lines line (targets.Striped chunk columns) whole good inside fitting stored = stripes_sound stack line.len chunk columns good inside
-target_sound stack id lines line (targets.Snapshot origin store kind chunk) whole good inside fitting stored = snapshot_sound stack id lines line origin store kind chunk whole fitting stored
-target_sound stack id lines line (targets.Origin origin) whole good inside fitting stored = origin_sound stack id lines line origin whole fitting
-target_sound stack id lines line _ whole good inside fitting stored = search row_sound
+target_sound stack id lines line (targets.Striped chunk columns) sound whole good inside fitting stored = stripes_sound stack line.len chunk columns good inside
+target_sound stack id lines line (targets.Snapshot origin store kind chunk) sound whole good inside fitting stored = snapshot_sound stack id lines line origin store kind chunk whole fitting stored
+target_sound stack id lines line (targets.Origin origin) sound whole good inside fitting stored = origin_sound stack id lines line origin sound whole fitting
+target_sound stack id lines line _ sound whole good inside fitting stored = search row_sound
 
 -- The line of a sector of a sound stack
 
@@ -249,7 +275,7 @@ sector_found stack id sector sound within inside =
         from = leb-true _ _ parts.0;
         before = ltb-true _ _ parts.1;
         small = line_within h.line a.1;
-        target = target_sound stack id (length d.it.lines) h.line h.line.target (whole_line stack id (holds sector) d.it.lines h.line lines s.placed h.is) b.1 c.1 f.1 g.1;
+        target = target_sound stack id (length d.it.lines) h.line h.line.target sound (whole_line stack id (holds sector) d.it.lines h.line lines s.placed h.is) b.1 c.1 f.1 g.1;
       };
     }
 

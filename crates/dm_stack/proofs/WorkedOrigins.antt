@@ -17,7 +17,7 @@ use Rattle.dm_stack.specs.declared.id.Lower.TheVariants.{Device, Disk}
 use Rattle.dm_stack.specs.lines.Below.{IsError, Lies, below, found_at}
 use Rattle.dm_stack.specs.claims.Claims.{claims}
 use Rattle.dm_stack.specs.Description.{Description}
-use Rattle.dm_stack.specs.lines.Over.{all_over, snapshots_over}
+use Rattle.dm_stack.specs.lines.Over.{all_over, copied, origin_over}
 use Rattle.dm_stack.specs.checks.Soundness.{is_bad_snapshot}
 use Rattle.dm_stack.specs.checks.Store.{is_store_to}
 use Rattle.dm_stack.specs.claims.Sweep.{clash_with}
@@ -46,7 +46,7 @@ abbrev served : List ResolvedOver
 served = record { device = 1; snapshot = record { origin = Disk 0; store = Disk 1; kind = Persistent; chunk = 8 } } ∷ record { device = 3; snapshot = record { origin = Disk 0; store = Disk 2; kind = Persistent; chunk = 4 } } ∷ []
 
 origin_line : found_at sample 0 3 ≡ Some (record { start = 0; len = 16; target = found.Origin (record { to = Disk 0; over = served }) })
-unfolding snapshots_over all_over lib.Count.ones
+unfolding origin_over copied all_over lib.Count.ones
 origin_line = refl
 
 origin_below : below (λ snapshot sector. IsError) sample 0 3 ≡ Lies (Disk 0) 3

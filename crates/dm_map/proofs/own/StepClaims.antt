@@ -14,7 +14,7 @@ use Rattle.dm_stack.specs.declared.lines.resolved_line.ResolvedTarget.TheVariant
 use Rattle.dm_stack.specs.declared.id.Lower.{Lower}
 use Rattle.dm_stack.specs.lines.Below.{IsTargetSound, Lies, below_plain, found_at, resolved_line, resolved_target, holds, line_of}
 use Rattle.dm_stack.specs.Description.{Description, lines_at, lower_len, lower_of}
-use Rattle.dm_stack.specs.lines.Over.{resolved_snapshot, snapshots_over}
+use Rattle.dm_stack.specs.lines.Over.{origin_over, resolved_snapshot}
 use Rattle.dm_stack.specs.checks.Soundness.{IsSound}
 use Rattle.dm_table.specs.tables.Span.{target_spans, whole_span}
 use Rattle.dm_stack.proofs.Apart.{IsNamed, IsVia}
@@ -140,7 +140,7 @@ pub record IsOriginVia (stack : Description) (device : ℕ) (origin : ResolvedOr
   pub via : (at : ℕ) → at < lower_len stack origin.to → IsVia stack device index 0 it origin.to at Serving
 
 origin_spans : (stack : Description) (len : ℕ) (target : Target) (origin : ResolvedOrigin) → resolved_target stack target ≡ founds.Origin origin → (to : DevRef) × (target_spans len target ≡ whole_span to Serving ∷ []) × (lower_of stack to ≡ origin.to)
-origin_spans stack len (targets.Origin to) origin is = (to, refl, cc (origin_is (record { to = lower_of stack to; over = snapshots_over stack (lower_of stack to) }) origin is))
+origin_spans stack len (targets.Origin to) origin is = (to, refl, cc (origin_is (record { to = lower_of stack to; over = origin_over stack (lower_of stack to) }) origin is))
   where
     origin_is : (a b : ResolvedOrigin) → founds.Origin a ≡ founds.Origin b → a ≡ b
     origin_is a b e = cc

@@ -8,7 +8,7 @@ use Rattle.dm_table.specs.declared.tables.table.Target.TheVariants as targets
 use Rattle.dm_stack.specs.declared.id.Lower.TheVariants.{Device, Disk}
 use Rattle.dm_stack.specs.declared.lines.resolved_line.ResolvedSnapshot.{ResolvedSnapshot}
 use Rattle.dm_stack.specs.Description.{Description}
-use Rattle.dm_stack.specs.lines.Over.{all_over, snapshots_over}
+use Rattle.dm_stack.specs.lines.Over.{all_over, copied, origin_over}
 use Rattle.dm_map.specs.own.Ample.{IsAmple, chunk_count}
 use Rattle.dm_map.specs.own.Losses.{Due, IsLosing, due, due_in}
 use Rattle.dm_map.specs.state.State.{State, none_taken}
@@ -67,7 +67,7 @@ refused = refl
 
 -- but not that of its origin
 served_due : due (sample Keeping 24 targets.Zero) full (Device 0) 8 ≡ chunk_1 Keeping ∷ []
-unfolding due_in serve snapshots_over all_over lib.Count.ones
+unfolding due_in serve origin_over copied all_over lib.Count.ones
 served_due = refl
 
 -- which finds no place

@@ -1,7 +1,7 @@
 -- The snapshots of an origin: each of them is all of its device, and has that origin; and each such snapshot is among them.
 use Rattle.std.proofs.Common.{◌≡◌, ℕ, ◌<◌, Bool, true, false, cond, inl, inr, ◌⊎◌, List, [], ◌∷◌, Some, refl, ◌∙◌, length}
 use Rattle.std.specs.Prelude.{filter, find, option_map}
-use Rattle.std.specs.List.{Contains, flat_map, range_with_len}
+use Rattle.std.specs.List.{Contains, flat_map, list_any, range_with_len}
 use Rattle.std.proofs.lemmas.Bool.{or_left, or_right}
 use Rattle.std.proofs.lemmas.List.{append-nil}
 use Rattle.std.proofs.lemmas.List.Elements.{Contains-append_cases, Contains-append_left, Contains-append_right}
@@ -17,7 +17,7 @@ use Rattle.dm_stack.specs.declared.id.Lower.{Lower}
 use Rattle.dm_stack.specs.lines.Below.{found_at, resolved_line, resolved_target, holds}
 use Rattle.dm_stack.specs.Description.{Description, device_len, is_same_lower, lines_at, lower_of}
 use Rattle.dm_stack.specs.checks.Snapshots.{has_snapshot, is_snapshot}
-use Rattle.dm_stack.specs.lines.Over.{all_over, device_over, resolved_snapshot, over_of, snapshots_over}
+use Rattle.dm_stack.specs.lines.Over.{all_over, copied, device_over, has_crowd, origin_over, over_of, resolved_snapshot, snapshots_over}
 use Rattle.dm_stack.specs.checks.Soundness.{IsSound}
 use Rattle.dm_stack.proofs.claims.MeetLemmas.{same_is, self_same}
 use Rattle.dm_stack.proofs.lines.Members.{flat_part, flat_there, in_range, kept, kept_parts, none_there, only, only_there, range_within}
@@ -33,12 +33,20 @@ pub all_is : (stack : Description) → flat_map (device_over stack) (range_with_
 unfolding all_over
 all_is stack = refl
 
+origin_by : (stack : Description) (to : Lower) → filter (λ one. is_same_lower one.snapshot.origin to) (copied stack) ≡ origin_over stack to
+unfolding origin_over
+origin_by stack to = refl
+
+pub copied_is : (stack : Description) (some : Bool) → some ≡ list_any has_crowd stack.devices → cond some [] (all_over stack) ≡ copied stack
+unfolding copied
+copied_is stack some is = rw is refl
+
 -- the line of an origin, by ids
-pub origin_is : (stack : Description) (origin : DevRef) (to : Lower) (all over : List ResolvedOver) → to ≡ lower_of stack origin → all ≡ all_over stack → over ≡ filter (λ one. is_same_lower one.snapshot.origin to) all
+pub origin_is : (stack : Description) (origin : DevRef) (to : Lower) (all over : List ResolvedOver) → to ≡ lower_of stack origin → all ≡ copied stack → over ≡ filter (λ one. is_same_lower one.snapshot.origin to) all
     → found.Origin (record { to = to; over = over }) ≡ resolved_target stack (targets.Origin origin)
 origin_is stack origin to all over at are is =
-    let served : over ≡ snapshots_over stack to = cc (is, are, over_is stack to) in
-    rw (served, at)
+    let over_is : over ≡ origin_over stack to = cc (is, are, origin_by stack to) in
+    rw (over_is, at)
 
 -- From the list to the devices
 

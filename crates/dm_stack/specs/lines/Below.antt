@@ -14,7 +14,7 @@ use Rattle.dm_stack.specs.declared.lines.resolved_line.ResolvedTarget.TheVariant
 use Rattle.dm_stack.specs.declared.lines.resolved_line.ResolvedLine.{ResolvedLine}
 use Rattle.dm_stack.specs.declared.checks.limits.TheConstants.{MOST_CHUNK, MOST_LENGTH, MOST_SNAPSHOT_CHUNK, MOST_STRIPES}
 use Rattle.dm_stack.specs.Description.{Description, device_len, lower_of, lower_len, lines_at}
-use Rattle.dm_stack.specs.lines.Over.{resolved_snapshot, snapshots_over}
+use Rattle.dm_stack.specs.lines.Over.{origin_over, resolved_snapshot, snapshots_over}
 use Rattle.dm_stack.specs.checks.Store.{IsStore}
 
 -- a line has the sectors from its start to before its end
@@ -36,7 +36,7 @@ resolved_target stack (targets.Striped chunk columns) = found.Striped chunk (res
 resolved_target stack targets.Zero = found.Zero
 resolved_target stack targets.Error = found.Error
 resolved_target stack (targets.Snapshot origin store kind chunk) = found.Snapshot (resolved_snapshot stack origin store kind chunk)
-resolved_target stack (targets.Origin origin) = found.Origin (record { to = lower_of stack origin; over = snapshots_over stack (lower_of stack origin) })
+resolved_target stack (targets.Origin origin) = found.Origin (record { to = lower_of stack origin; over = origin_over stack (lower_of stack origin) })
 
 -- a line, with what it names by ids
 abbrev pub resolved_line : Description → Line → ResolvedLine

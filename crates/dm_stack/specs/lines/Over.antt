@@ -1,7 +1,8 @@
 -- The snapshots of an origin (the kernel's admin guide, device-mapper/snapshot).
-use Rattle.std.specs.Prelude.{ℕ, List, [], ◌∷◌, filter, length, if◌then◌else◌}
-use Rattle.std.specs.List.{flat_map, range_with_len}
+use Rattle.std.specs.Prelude.{ℕ, ◌==◌, ◌&&◌, Bool, true, false, List, [], ◌∷◌, filter, length, not, if◌then◌else◌}
+use Rattle.std.specs.List.{flat_map, list_any, range_with_len}
 use Rattle.dm_table.specs.declared.tables.table.DevRef.{DevRef}
+use Rattle.dm_table.specs.declared.tables.table.DeviceSpec.{DeviceSpec}
 use Rattle.dm_table.specs.declared.tables.table.StoreKind.{StoreKind}
 use Rattle.dm_table.specs.declared.tables.table.Target.{Target}
 use Rattle.dm_table.specs.declared.tables.table.Target.TheVariants as targets
@@ -35,3 +36,21 @@ all_over stack = flat_map (device_over stack) (range_with_len 0 (length stack.de
 -- those whose origin is this device or disk
 unfoldable pub snapshots_over : Description → Lower → List ResolvedOver
 snapshots_over stack to = filter (λ one. is_same_lower one.snapshot.origin to) (all_over stack)
+
+-- a target whose line has to be alone in its table
+abbrev pub is_whole : Target → Bool
+is_whole (targets.Snapshot origin store kind chunk) = true
+is_whole (targets.Origin origin) = true
+is_whole _ = false
+
+-- a device in which such a line isn't alone
+abbrev pub has_crowd : DeviceSpec → Bool
+has_crowd device = not (length device.lines == 1) && list_any (λ line. is_whole line.target) device.lines
+
+-- the snapshots that lines of origins have copies of: none where a load refuses such lines, so that the copies are no more than devices need
+unfoldable pub copied : Description → List ResolvedOver
+copied stack = if list_any has_crowd stack.devices then [] else all_over stack
+
+-- those of an origin
+unfoldable pub origin_over : Description → Lower → List ResolvedOver
+origin_over stack to = filter (λ one. is_same_lower one.snapshot.origin to) (copied stack)

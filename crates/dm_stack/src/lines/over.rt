@@ -4,21 +4,21 @@
 //! own, so that a write to one neither goes over the devices nor searches their lines.
 
 ghost use Rattle.std.specs.Prelude.{◌≡◌, ◌++◌, IfOk, OnOk, filter};
-ghost use Rattle.std.specs.List.{flat_map};
+ghost use Rattle.std.specs.List.{flat_map, list_any};
 ghost use Rattle.dm_stack.specs.Description.{is_same_lower};
-ghost use Rattle.dm_stack.specs.lines.Over.{all_over, resolved_snapshot, over_of};
+ghost use Rattle.dm_stack.specs.lines.Over.{all_over, copied, has_crowd, is_whole, over_of, resolved_snapshot};
 
 use crate::id::{DeviceId, Lower};
 use crate::lines::chunk_size::ChunkSize;
 use crate::lines::resolved_line::{ResolvedOver, ResolvedSnapshot};
 use crate::names::indexed::Indexed;
-use dm_table::{DevRef, Line, Listed, StoreKind, Target};
+use dm_table::{DevRef, DeviceSpec, Line, Listed, StoreKind, Target};
 use std::alloc::{AllocError, Global};
 
 /// All snapshots of a stack, in the order of their devices.
 ///
 /// Fails only when out of memory. Cost: a walk over the lines, with memory for each snapshot.
-pub(crate) fn all_over(alloc: Global, stack: &Indexed) -> Result<Vec<ResolvedOver>, AllocError>
+fn all_over(alloc: Global, stack: &Indexed) -> Result<Vec<ResolvedOver>, AllocError>
     ensures { IfOk result (λ over. over.items ≡ all_over stack.now) }
 {
     let mut over = Vec::new(alloc);
@@ -26,6 +26,48 @@ pub(crate) fn all_over(alloc: Global, stack: &Indexed) -> Result<Vec<ResolvedOve
         add_lines(&mut over, stack, DeviceId::new(id), device.lines.as_slice())?;
     }
     Ok(over)
+}
+
+/// The snapshots that lines of origins have copies of: none where a line of either kind isn't alone in its table, as a
+/// load refuses it. Else copies could be as many as the square of the lines.
+///
+/// Fails only when out of memory. Cost: two walks over the lines, with memory for each snapshot.
+pub(crate) fn copied(alloc: Global, stack: &Indexed) -> Result<Vec<ResolvedOver>, AllocError>
+    ensures { IfOk result (λ over. over.items ≡ copied stack.now) }
+{
+    if has_crowds(stack.devices()) {
+        return Ok(Vec::new(alloc));
+    }
+    all_over(alloc, stack)
+}
+
+/// Whether that is so in one of these devices.
+fn has_crowds(devices: &[DeviceSpec]) -> bool
+    ensures { result ≡ list_any has_crowd devices.now }
+{
+    devices.iter().any(has_crowd)
+}
+
+/// Whether a line that has to be alone in its table isn't.
+fn has_crowd(device: &DeviceSpec) -> bool
+    ensures { result ≡ has_crowd device.now }
+{
+    let lines = device.lines.as_slice();
+    lines.len() != 1 && has_whole(lines)
+}
+
+/// Whether one of these lines has to be alone in its table.
+fn has_whole(lines: &[Line]) -> bool
+    ensures { result ≡ list_any (λ line. is_whole line.target) lines.now }
+{
+    lines.iter().any(|line| is_whole(&line.target))
+}
+
+/// Whether a line with this target has to be alone in its table.
+fn is_whole(target: &Target) -> bool
+    ensures { result ≡ is_whole target.now }
+{
+    matches!(target, Target::Snapshot { .. } | Target::Origin { .. })
 }
 
 /// Adds the snapshots among the lines of a device.

@@ -7,11 +7,11 @@
 ghost use Rattle.std.specs.Prelude.{◌≡◌, IfOk, map};
 ghost use Rattle.dm_stack.specs.lines.Below.{resolved_columns, resolved_line, resolved_target};
 ghost use Rattle.dm_stack.specs.Stack.{resolved_device};
-ghost use Rattle.dm_stack.specs.lines.Over.{all_over};
+ghost use Rattle.dm_stack.specs.lines.Over.{copied};
 
 use crate::checks::layout::end_of;
 use crate::lines::divisor::Divisor;
-use crate::lines::over::{all_over, resolved_snapshot, snapshots_over};
+use crate::lines::over::{copied, resolved_snapshot, snapshots_over};
 use crate::lines::resolved_columns::{ResolvedColumn, ResolvedColumns};
 use crate::lines::resolved_line::{ResolvedLine, ResolvedOrigin, ResolvedOver, ResolvedTarget};
 use crate::lines::resolved_table::{ResolvedDevice, ResolvedTable};
@@ -29,7 +29,7 @@ pub(crate) fn resolved_devices(
 ) -> Result<Vec<ResolvedDevice>, AllocError>
     ensures { IfOk result (λ found. found.items ≡ map (resolved_device stack.now) stack.now.devices) }
 {
-    let over = all_over(alloc, stack)?;
+    let over = copied(alloc, stack)?;
     let devices = stack.devices();
     let mut found = Vec::with_capacity(alloc, devices.len())?;
     for device in devices {
@@ -50,7 +50,7 @@ fn table(
     over: &[ResolvedOver],
     lines: &[Line],
 ) -> Result<ResolvedTable, AllocError>
-    requires { over.now ≡ all_over stack.now }
+    requires { over.now ≡ copied stack.now }
     ensures { IfOk result (λ table. table ≡ map (resolved_line stack.now) lines.now) }
 {
     let mut by_ids = Vec::with_capacity(alloc, lines.len())?;
@@ -72,7 +72,7 @@ fn target(
     over: &[ResolvedOver],
     target: &Target,
 ) -> Result<ResolvedTarget, AllocError>
-    requires { over.now ≡ all_over stack.now }
+    requires { over.now ≡ copied stack.now }
     ensures { IfOk result (λ by_ids. by_ids ≡ resolved_target stack.now target.now) }
 {
     match target {
