@@ -1,4 +1,4 @@
-use Rattle.std.proofs.Common.{◌≢◌, ◌∙◌, ap, inl, inr, refl, sym}
+use Rattle.std.proofs.Common.{◌≢◌, ◌∙◌, ap, inr, refl, sym}
 use Rattle.dm_table.specs.declared.load.load_fault.LoadKind.TheVariants as kinds
 use Rattle.dm_table.specs.laws.Progress.{since-same}
 use Rattle.dm_stream.specs.runs.Messages.{ending_message}
@@ -149,55 +149,25 @@ returns-in-Err-play_if-clause-one g c = one_from
 
 -- ---- what was asked for
 
-pub returns-in-Err-clause-paths : goal.returns-in-Err-clause-paths
-returns-in-Err-clause-paths g c = inl refl
-
-pub returns-in-Err-clause-images_read : goal.returns-in-Err-clause-images_read
-returns-in-Err-clause-images_read g c = inl refl
-
 pub returns-in-Err-clause-earlier : goal.returns-in-Err-clause-earlier
 returns-in-Err-clause-earlier g c = λ held seen. unasked_if _ _ _ _ _ c.args.earlier.now
-
-pub returns-in-Err-load_images-clause-paths : goal.returns-in-Err-load_images-clause-paths
-returns-in-Err-load_images-clause-paths g c = inr (c.in-Ok.stack, c.in-Ok.ensures.gives.sound)
-
-pub returns-in-Err-load_images-clause-images_read : goal.returns-in-Err-load_images-clause-images_read
-returns-in-Err-load_images-clause-images_read g c = inl refl
 
 pub returns-in-Err-load_images-clause-earlier : goal.returns-in-Err-load_images-clause-earlier
 returns-in-Err-load_images-clause-earlier g c = λ held seen. unasked_if _ _ _ _ _ c.args.earlier.now
 
-pub returns-in-Err-prepare-clause-paths : goal.returns-in-Err-prepare-clause-paths
-returns-in-Err-prepare-clause-paths g c = inr (c.in-Ok.stack, c.in-Ok.ensures.gives.sound)
-
-pub returns-in-Err-prepare-clause-images_read : goal.returns-in-Err-prepare-clause-images_read
-returns-in-Err-prepare-clause-images_read g c = inl refl
-
 pub returns-in-Err-prepare-clause-earlier : goal.returns-in-Err-prepare-clause-earlier
 returns-in-Err-prepare-clause-earlier g c = λ held seen. unasked_if _ _ _ _ _ c.args.earlier.now
-
-pub returns-in-Err-read_stores-clause-paths : goal.returns-in-Err-read_stores-clause-paths
-returns-in-Err-read_stores-clause-paths g c = inr (c.in-Ok.stack, c.in-Ok.ensures.gives.sound)
-
-pub returns-in-Err-read_stores-clause-images_read : goal.returns-in-Err-read_stores-clause-images_read
-returns-in-Err-read_stores-clause-images_read g c = inr (c.in-Ok.stack, c.in-Ok.ensures.gives.sound, (_, c.in-Ok-load_images.ensures.given))
 
 pub returns-in-Err-read_stores-clause-earlier : goal.returns-in-Err-read_stores-clause-earlier
 returns-in-Err-read_stores-clause-earlier g c = λ held seen. unasked_if _ _ _ _ _ c.args.earlier.now
 
-pub returns-in-Ok-play_if-clause-paths : goal.returns-in-Ok-play_if-clause-paths
-returns-in-Ok-play_if-clause-paths g c = inr (c.in-Ok.stack, c.in-Ok.ensures.gives.sound)
-
-pub returns-in-Ok-play_if-clause-images_read : goal.returns-in-Ok-play_if-clause-images_read
-returns-in-Ok-play_if-clause-images_read g c = inr (c.in-Ok.stack, c.in-Ok.ensures.gives.sound, (_, c.in-Ok-load_images.ensures.given))
+pub returns-in-Err-read_stores-clause-images_read : goal.returns-in-Err-read_stores-clause-images_read
+returns-in-Err-read_stores-clause-images_read g c = inr (c.in-Ok.stack, c.in-Ok.ensures.gives.sound, (_, c.in-Ok-load_images.ensures.given))
 
 pub returns-in-Ok-play_if-clause-earlier : goal.returns-in-Ok-play_if-clause-earlier
 returns-in-Ok-play_if-clause-earlier g c = λ held seen.
     let begins = ap (start_over held c.in-Ok.stack) c.in-Ok-load_images.ensures.given ∙ ap (start_at c.in-Ok.stack) (sym (c.in_default.ensures.stored held seen)) in
     played_if _ _ _ _ _ c.in-Ok.stack c.read_stores.new.mapper.state _ _ c.in-Ok.ensures.gives.sound begins c.play_if.ensures.asked
-
-pub returns-in-Err-play_if-clause-paths : goal.returns-in-Err-play_if-clause-paths
-returns-in-Err-play_if-clause-paths g c = inr (c.in-Ok.stack, c.in-Ok.ensures.gives.sound)
 
 pub returns-in-Err-play_if-clause-images_read : goal.returns-in-Err-play_if-clause-images_read
 returns-in-Err-play_if-clause-images_read g c = inr (c.in-Ok.stack, c.in-Ok.ensures.gives.sound, (_, c.in-Ok-load_images.ensures.given))
