@@ -1,5 +1,5 @@
 -- The snapshots of an origin: each of them is all of its device, and has that origin; and each such snapshot is among them.
-use Rattle.std.proofs.Common.{◌≡◌, ℕ, ◌<◌, Bool, true, false, cond, inl, inr, ◌⊎◌, List, [], ◌∷◌, Some, refl, ◌∙◌, length}
+use Rattle.std.proofs.Common.{◌≡◌, ℕ, ◌<◌, Bool, true, false, cond, inl, inr, ◌⊎◌, List, [], ◌∷◌, Some, refl, sym, ◌∙◌, length}
 use Rattle.std.specs.Prelude.{filter, find, option_map}
 use Rattle.std.specs.List.{Contains, flat_map, list_any, range_with_len}
 use Rattle.std.proofs.lemmas.Bool.{or_left, or_right}
@@ -40,6 +40,10 @@ origin_by stack to = refl
 pub copied_is : (stack : Description) (some : Bool) → some ≡ list_any has_crowd stack.devices → cond some [] (all_over stack) ≡ copied stack
 unfolding copied
 copied_is stack some is = rw is refl
+
+pub none_copied : (stack : Description) (some : Bool) → all_over stack ≡ [] → some ≡ list_any has_crowd stack.devices → [] ≡ copied stack
+none_copied stack true none is = copied_is stack true is
+none_copied stack false none is = sym none ∙ copied_is stack false is
 
 -- the line of an origin, by ids
 pub origin_is : (stack : Description) (origin : DevRef) (to : Lower) (all over : List ResolvedOver) → to ≡ lower_of stack origin → all ≡ copied stack → over ≡ filter (λ one. is_same_lower one.snapshot.origin to) all

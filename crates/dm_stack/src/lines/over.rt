@@ -35,10 +35,11 @@ fn all_over(alloc: Global, stack: &Indexed) -> Result<Vec<ResolvedOver>, AllocEr
 pub(crate) fn copied(alloc: Global, stack: &Indexed) -> Result<Vec<ResolvedOver>, AllocError>
     ensures { IfOk result (λ over. over.items ≡ copied stack.now) }
 {
-    if has_crowds(stack.devices()) {
+    let over = all_over(alloc, stack)?;
+    if !over.is_empty() && has_crowds(stack.devices()) {
         return Ok(Vec::new(alloc));
     }
-    all_over(alloc, stack)
+    Ok(over)
 }
 
 /// Whether that is so in one of these devices.
