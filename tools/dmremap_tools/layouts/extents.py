@@ -18,7 +18,6 @@ EXAMPLE = "dmremap-tools extents home table t d"
 
 
 def add_words(parser: argparse.ArgumentParser) -> None:
-    """Adds VOLUME and what it is a device of."""
     parser.add_argument("volume", metavar="VOLUME", help="the device, by its name or path")
     given.add_words(parser)
     names.add_words(parser)
@@ -26,7 +25,6 @@ def add_words(parser: argparse.ArgumentParser) -> None:
 
 
 def run(words: argparse.Namespace) -> None:
-    """Prints the extents."""
     source = given.given_in(words, "VOLUME FORMAT FILE [DISKS]")
     name = names.Names(words.ls).device(words.volume, names.Word("VOLUME"))
     with tempfile.TemporaryDirectory(prefix="dmremap-tools-") as room:
@@ -45,15 +43,11 @@ def write(answers: pieces.Answers) -> None:
     """Prints the extents of a device that is read from its first sector to its last."""
     at, last = 0, None
     for piece in itertools.chain(answers, [None]):
-        if last and piece and goes_on(last, piece):
+        follows = last and (last.what, last.disk, last.start + last.count if last.disk else 0)
+        if piece and (piece.what, piece.disk, piece.start) == follows:
             last = last._replace(count=last.count + piece.count)
             continue
         if last:
             streams.out.write("%d %d %s\n" % (at, last.count, "%s %d" % (last.disk, last.start) if last.what == "R" else last.what))
             at += last.count
         last = piece
-
-
-def goes_on(last: pieces.Piece, piece: pieces.Piece) -> bool:
-    """Whether a piece goes on where the last one ends."""
-    return (piece.what, piece.disk) == (last.what, last.disk) and (piece.what != "R" or piece.start == last.start + last.count)

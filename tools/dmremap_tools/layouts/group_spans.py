@@ -6,31 +6,20 @@ from typing import Collection, Dict, Iterator, List, NamedTuple, Optional
 from dmremap_tools.base import config_text, quoting, streams
 from dmremap_tools.base.config_text import Node
 from dmremap_tools.base.refusal import Refusal
+from dmremap_tools.layouts.span_lines import Span
 from dmremap_tools.metadata.volume_group import Group, Segment
 
 # The kind of what is taken though no line names it; `device` says what it is.
 ALLOCATED = "allocated"
 
 
-class Taken(NamedTuple):
-    """A range of a physical volume, of the device and with the kind of a span, and which sector of the device it begins with. Of
-    several stripes that is said of all of them."""
-
-    first: int
-    end: int
-    device: str
-    start: str
-    kind: str
-    is_striped: bool = False
-
-
 class PhysicalVolume(NamedTuple):
-    """A physical volume: its key, path and id in the metadata, and what is taken of it."""
+    """A physical volume: its key, path and id in the metadata, and what is taken of it, wherever it is."""
 
     key: str
     path: str
     identity: Optional[bytes]
-    taken: List[Taken]
+    taken: List[Span]
 
 
 def physical_volumes(path: str, named: Collection[str]) -> Iterator[PhysicalVolume]:
@@ -51,15 +40,15 @@ def physical_volumes(path: str, named: Collection[str]) -> Iterator[PhysicalVolu
         yield from found.values()
 
 
-def own(path: str, group: Group, node: Node) -> List[Taken]:
+def own(path: str, group: Group, node: Node) -> List[Span]:
     """What a physical volume has for itself: before its extents, and after them, where a second area may lie."""
     start, count, size = (node.value(it, int) for it in (b"pe_start", b"pe_count", b"dev_size"))
     if start is None or start < 0:
         raise Refusal(streams.name_of(path), "no pe_start of %s: take an older text, of /etc/lvm/archive" % config_text.shown(node.key))
     name = word_of(group.name)
-    found = [Taken(0, start, name, "-", "label+metadata")]
+    found = [Span("", 0, start, name, "-", "label+metadata")]
     if count is not None and count >= 0 and size is not None and group.extent_size:
-        found.append(Taken(start + count * group.extent_size, size, "end-of-" + name, "-", ALLOCATED))
+        found.append(Span("", start + count * group.extent_size, size, "end-of-" + name, "-", ALLOCATED))
     return [it for it in found if it.first < it.end]
 
 
@@ -74,7 +63,7 @@ def add_segment(group: Group, segment: Segment, device: str, found: Dict[bytes, 
         start = group.physicals[key].value(b"pe_start", int) if key in group.physicals else None
         if start is not None and isinstance(place, int) and place >= 0:
             first = start + place * group.extent_size
-            found[key].taken.append(Taken(first, first + length, device, str(begin * group.extent_size), ALLOCATED, len(stripes) > 1))
+            found[key].taken.append(Span("", first, first + length, device, str(begin * group.extent_size), ALLOCATED))
 
 
 def word_of(content: bytes) -> str:

@@ -1,15 +1,16 @@
 """What a disk, a partition or a device says is taken of it, though no line names it: superblocks of md, a partition table, a header
 of LUKS, a label of LVM."""
 
-from typing import Iterator, NamedTuple
+from typing import Iterator, List, NamedTuple, Optional
 
 from dmremap_tools.base import luks_header, partition_table
 from dmremap_tools.base.disk_image import Image
 from dmremap_tools.base.numbers import SECTOR
 from dmremap_tools.base.refusal import Refusal
 from dmremap_tools.metadata.chosen_part import found_table, volume_label
-from dmremap_tools.model import md_superblock, physical_volume
+from dmremap_tools.model import md_superblock
 from dmremap_tools.model.md_superblock import Superblock
+from dmremap_tools.model.physical_volume import Label, label_of
 
 OF_LVM, OF_LUKS, OF_MD = "-of-LVM", "-of-LUKS", "-of-md"
 # What holds something else: a partition, the data of a member of an array, and that of a container.
@@ -30,27 +31,22 @@ class Head(NamedTuple):
         """Whether it holds something else, which may be named as well."""
         return self.what.startswith((PARTITION, MEMBER, CONTAINER))
 
+
 def heads_of(image: Image) -> Iterator[Head]:
     """What is taken of an image. What is damaged is told as that."""
-    found = list(contents_of(image)) or list(table_heads(image))
-    # What would begin after the end of an image that is cut isn't there.
-    yield from (it for it in found if it.first < it.end)
-
-
-def contents_of(image: Image) -> Iterator[Head]:
-    """The same without a partition table, and nothing where there may be one."""
     members = md_superblock.superblocks(image)
-    for member in members:
-        yield from member_heads(image, member)
+    found = [head for member in members for head in member_heads(image, member)]
     for at in md_superblock.damaged(image):
-        yield Head(at // SECTOR, at // SECTOR + SUPERBLOCK_SECTORS, DAMAGED + "superblock" + OF_MD)
-    if any(it.start == 0 for it in members):
-        return
-    label = volume_label(image)
-    if label:
-        yield from label_heads(label)
-    else:
-        yield from container_heads(image, image.size)
+        found.append(Head(at // SECTOR, at // SECTOR + SUPERBLOCK_SECTORS, DAMAGED + "superblock" + OF_MD))
+    if all(it.start for it in members):
+        found += contents_of(image, volume_label(image), image.size)
+    # What would begin after the end of an image that is cut isn't there.
+    yield from (it for it in found or table_heads(image) if it.first < it.end)
+
+
+def contents_of(image: Image, label: Optional[Label], size: int) -> List[Head]:
+    """What begins an image of so many bytes, unless it is a partition table."""
+    return list(label_heads(label) if label else container_heads(image, size))
 
 
 def member_heads(image: Image, member: Superblock) -> Iterator[Head]:
@@ -63,12 +59,10 @@ def member_heads(image: Image, member: Superblock) -> Iterator[Head]:
     yield Head(member.start, end, MEMBER + md_superblock.level_name(member).replace(" ", "-"))
     if md_superblock.has_all(member) and not member.start:
         data = image.part(0, member.length * SECTOR)
-        label = physical_volume.label_of(data)[0]
-        within = label_heads(label) if label else container_heads(data, member.length * SECTOR)
-        yield from list(within) or table_heads(data)
+        yield from contents_of(data, label_of(data)[0], member.length * SECTOR) or table_heads(data)
 
 
-def label_heads(label: physical_volume.Label) -> Iterator[Head]:
+def label_heads(label: Label) -> Iterator[Head]:
     """A label of LVM, and the metadata areas that it lists."""
     yield Head(label.sector, label.sector + 1, "label" + OF_LVM)
     for start, size in label.areas:

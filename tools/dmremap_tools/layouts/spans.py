@@ -24,18 +24,18 @@ from dmremap_tools.base import disks, names, numbers, paths, quoting, streams, t
 from dmremap_tools.base.disk_image import Image
 from dmremap_tools.base.refusal import Refusal, WrongWords
 from dmremap_tools.layouts import stacked
-from dmremap_tools.layouts.beginnings import Beginnings
+from dmremap_tools.layouts.beginnings import images_of
 from dmremap_tools.layouts.clashes import clashes_in
-from dmremap_tools.layouts.group_spans import ALLOCATED, PhysicalVolume, physical_volumes
+from dmremap_tools.layouts.group_spans import ALLOCATED, physical_volumes
 from dmremap_tools.layouts.heads import OF_LVM, heads_of
 from dmremap_tools.layouts.span_lines import END, Span
+from dmremap_tools.metadata.chosen_part import volume_label
 
 EXAMPLE = "dmremap-tools spans stack.disks stack.table > spans"
 MEBIBYTE = 2048
 
 
 def add_words(parser: ArgumentParser) -> None:
-    """Adds DISKS, FILE, METADATA and --paths."""
     parser.add_argument("disks", metavar="DISKS")
     parser.add_argument("file", metavar="FILE")
     parser.add_argument("metadata", metavar="METADATA", nargs="*")
@@ -49,18 +49,17 @@ def add_words(parser: ArgumentParser) -> None:
 
 
 def run(words: Namespace) -> None:
-    """Prints the ranges, or what is asked of them."""
     if words.to == 0:
         raise WrongWords("--to: give one sector or more")
     devices = stacked.devices_in(words.file)
-    spans = Spans(disks.read(words.disks), devices)
-    if not devices and not spans.disks:
+    sizes = disks.read(words.disks)
+    spans = Spans(sizes, devices)
+    if not devices and not sizes:
         streams.tell("no disk and no device came")
-    beginnings = Beginnings(paths.places(words.paths), spans.disks, devices)
-    for path in words.metadata:
-        for physical in physical_volumes(path, {it.name for it in devices}):
-            spans.add_physical(physical, beginnings)
-    for on, image in beginnings.images.items():
+    images = images_of(paths.places(words.paths), sizes, devices)
+    labels = {on: label.identity for on, image in images.items() for label in [volume_label(image)] if label}
+    spans.add_physicals(words.metadata, labels)
+    for on, image in images.items():
         spans.add_heads(on, image)
     if words.clashes:
         lines = clashes_in(spans.sorted(), streams.name_of(words.file))
@@ -96,8 +95,8 @@ class Spans:
     """The ranges, and how long each disk and each device is."""
 
     def __init__(self, sizes: Dict[str, int], devices: Sequence[tables.Device]) -> None:
-        self.disks, self._sizes = list(sizes), dict(sizes)
-        self._sizes.update((names.MAPPER + it.name, it.end()) for it in devices)
+        self._sizes = {**sizes, **{names.MAPPER + it.name: it.end() for it in devices}}
+        self._devices = {it.name for it in devices}
         self._spans: List[Span] = []
         self._ended = dict.fromkeys(sizes)
         # Physical volumes of which metadata says what is taken.
@@ -110,16 +109,21 @@ class Spans:
         ends = [Span(on, self._sizes[on], self._sizes[on], "-", "-", END) for on in self._ended]
         return sorted(self._spans + ends)
 
-    def add_physical(self, physical: PhysicalVolume, beginnings: Beginnings) -> None:
-        """Adds what is taken of a physical volume, if it is a disk or a device here."""
-        on = beginnings.place_of(physical, self._sizes)
-        if on is None:
-            streams.tell("left out: the physical volume %s (%s), which is neither a disk nor a device here"
-                         % (quoting.shown(physical.key), quoting.shown(physical.path)))
-            return
-        self._described.add(on)
-        for taken in physical.taken:
-            self._add(Span(on, *taken[:5]))
+    def add_physicals(self, texts: Sequence[str], labels: Dict[str, bytes]) -> None:
+        """Adds what metadata says is taken of physical volumes that are disks or devices here: by their labels, or else by
+        their paths or their keys, unless the label there is that of another one."""
+        labelled = {identity: on for on, identity in labels.items()}
+        for physical in (physical for path in texts for physical in physical_volumes(path, self._devices)):
+            words = [*tables.names_in(physical.path), physical.key]
+            named = next((it for it in words if it in self._sizes and it not in labels), None)
+            on = labelled.get(physical.identity, named)
+            if on is None:
+                streams.tell("left out: the physical volume %s (%s), which is neither a disk nor a device here"
+                             % (quoting.shown(physical.key), quoting.shown(physical.path)))
+                continue
+            self._described.add(on)
+            for taken in physical.taken:
+                self._add(taken._replace(on=on))
 
     def add_heads(self, on: str, image: Image) -> None:
         """Adds what the beginning of a disk or a device says is taken, and those partitions in which nothing lies."""

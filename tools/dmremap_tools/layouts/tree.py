@@ -6,73 +6,52 @@ themselves, or lie on each other more than 32 deep; dmremap loads neither.
 """
 
 import argparse
-from typing import Dict, Iterator, List, Optional, Set, Tuple
+from typing import Dict, List, Set
 
 from dmremap_tools.base import names, streams, tables
 from dmremap_tools.layouts import stacked
 
 EXAMPLE = "dmremap-tools tree stack.table"
-# A line of the tree, and the device that is shown below it.
-Row = Tuple[str, Optional[str]]
 
 
 def add_words(parser: argparse.ArgumentParser) -> None:
-    """Adds FILE and --dot."""
     parser.add_argument("file", metavar="FILE")
     parser.add_argument("--dot", action="store_true", help="a graph for Graphviz in place of the tree")
 
 
 def run(words: argparse.Namespace) -> None:
-    """Prints the tree, or the graph."""
     devices = stacked.devices_in(words.file)
     if not devices:
         streams.tell("no device came")
     if words.dot:
         draw(devices)
-    else:
-        show_all(devices)
-
-
-def show_all(devices: List[tables.Device]) -> None:
-    """Prints the tree."""
+        return
     lines: Dict[str, List[tables.Line]] = {}
     for device in devices:
         lines.setdefault(device.name, []).extend(device.lines)
-    under = {lower for some in lines.values() for line in some for lower in line.lowers()}
+    under = {lower for device in devices for lower in device.lowers()}
     shown: Set[str] = set()
     for name in lines:
         if names.MAPPER + name not in under:
-            show(name, lines, shown)
+            streams.out.write(name + "\n")
+            show(name, "", lines, shown)
 
 
-def show(top: str, lines: Dict[str, List[tables.Line]], shown: Set[str]) -> None:
-    """Prints a device that nothing lies on, and all that is below it."""
-    streams.out.write(top + "\n")
-    levels = [rows(top, "", lines, shown)]
-    while levels:
-        text, lower = next(levels[-1], ("", None))
-        if not text:
-            levels.pop()
-            continue
-        streams.out.write(text + "\n")
-        if lower is not None:
-            levels.append(rows(lower, "|    " * len(levels), lines, shown))
-
-
-def rows(name: str, indent: str, lines: Dict[str, List[tables.Line]], shown: Set[str]) -> Iterator[Row]:
-    """The lines of a device in the tree, with the devices that they name, each once."""
+def show(name: str, indent: str, lines: Dict[str, List[tables.Line]], shown: Set[str]) -> None:
+    """Prints the lines of a device, and below each the devices that it is the first to name."""
     if name in shown:
-        yield indent + "(as above)", None
+        streams.out.write(indent + "(as above)\n")
         return
     shown.add(name)
-    told = set()
+    told: Set[str] = set()
     for line in lines.get(name, []):
-        yield "%s+- %s" % (indent, line), None
+        streams.out.write(f"{indent}+- {line}\n")
         for lower in line.lowers():
             if lower.startswith(names.MAPPER) and lower not in told:
                 told.add(lower)
                 device = lower[len(names.MAPPER):]
-                yield "%s|    %s" % (indent, device), device
+                streams.out.write(f"{indent}|    {device}\n")
+                show(device, indent + "|    ", lines, shown)
 
 
 def draw(devices: List[tables.Device]) -> None:
