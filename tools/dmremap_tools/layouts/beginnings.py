@@ -14,15 +14,16 @@ def images_of(places: Dict[str, Place], disks: Iterable[str], devices: Sequence[
     check_places(places)
     images = {disk: disk_image.image_at(places[disk]) for disk in disks if disk in places}
     known = {names.MAPPER + it.name: it for it in devices}
-    found = [(it.name, _part(it.lines[0], 0, it.lines[0].length, images, known)) for it in devices]
+    found = [(it.name, _part(it.lines[0], 0, it.lines[0].length, known, images)) for it in devices]
     return {**images, **{names.MAPPER + name: image for name, image in found if image}}
 
 
-def _part(line: tables.Line, first: int, count: int, images: Dict[str, Image], devices: Dict[str, tables.Device]) -> Optional[Image]:
+def _part(line: tables.Line, first: int, count: int, devices: Dict[str, tables.Device], images: Dict[str, Image]
+          ) -> Optional[Image]:
     """Some sectors of a first line, if it is linear and they lie on an image, perhaps through other such lines."""
     if line.target != "linear" or first + count > line.length:
         return None
     lower, start = line.words[0], int(line.words[1]) + first
     if lower in images:
         return images[lower].part(start * SECTOR, count * SECTOR)
-    return _part(devices[lower].lines[0], start, count, images, devices) if lower in devices else None
+    return _part(devices[lower].lines[0], start, count, devices, images) if lower in devices else None

@@ -21,8 +21,9 @@ def kind_of(span: Span) -> str:
 
 
 def clashes_in(spans: Iterable[Span], name: str) -> Iterator[str]:
-    """A line for each clash among sorted spans of a text that is called so: on what, the first and the last sector that two lines
-    have in common, and their devices. Of spans that don't meet one none is looked at, so the time is that of what is printed."""
+    """A line for each clash among sorted spans of a text that is called so: on what, the first and the last sector that two
+    lines have in common, and their devices. Spans that don't meet one aren't looked at, so the time is that of what is printed.
+    """
     opened: Dict[str, List[Span]] = {}
     on, count = "", 0
     for span in spans:

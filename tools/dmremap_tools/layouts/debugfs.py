@@ -1,10 +1,11 @@
-"""Questions to debugfs of e2fsprogs, which reads ext2, ext3 and ext4, and writes nothing here."""
+"""Questions to programs that read file systems, and write nothing here: debugfs of e2fsprogs, for ext2, ext3 and ext4."""
 
 import itertools
 import tempfile
 from typing import Iterable, Iterator, List, Sequence, Tuple
 
 from dmremap_tools.base import program, quoting, streams
+from dmremap_tools.base.refusal import Refusal
 
 # Bytes of one request, of which the system takes 131,071, and debugfs 8,191 where it reads many.
 LONGEST, LONGEST_OF_MANY, MOST_AT_ONCE = 100000, 8000, 4096
@@ -21,7 +22,7 @@ class Debugfs:
 
     def ask(self, request: str) -> Tuple[str, List[str]]:
         """What it answers, and what it complains of."""
-        return self._asked(["-R", request], None)
+        return self._asked(["-R", request])
 
     def ask_for(self, command: str, wanted: Sequence[int]) -> Iterator[Tuple[Sequence[int], str, List[str]]]:
         """The same for a command about numbers, of which as many as there is room for are asked for at once."""
@@ -38,25 +39,35 @@ class Debugfs:
         it complains of is not told. No answer may have a line that looks like a request."""
         rest = iter(requests)
         for some in iter(lambda: list(itertools.islice(rest, MOST_AT_ONCE)), []):
-            with tempfile.TemporaryFile() as file:
-                for request in some:
-                    content = request.encode("utf-8", "surrogateescape")
-                    file.write((content if len(content) <= LONGEST_OF_MANY else NO_ANSWER) + b"\n")
-                file.seek(0)
-                printed, _ = self._asked(["-f", "-"], file.fileno())
+            encoded = (request.encode("utf-8", "surrogateescape") for request in some)
+            printed, _ = self._asked(["-f", "-"], [it if len(it) <= LONGEST_OF_MANY else NO_ANSWER for it in encoded])
             yield from ("\n" + printed).split("\n" + ECHO)[1:]
 
-    def _asked(self, request: List[str], given: "int | None") -> Tuple[str, List[str]]:
-        words = [program.found("debugfs"), *self.options, *request, "--", self.image]
-        printed, said = program.ask_quietly(words, given=given)
-        complaints = [it[len(ECHO):] if it.startswith(ECHO) else it for it in said.splitlines()]
+    def _asked(self, request: List[str], lines: Iterable[bytes] = ()) -> Tuple[str, List[str]]:
+        printed, said = asked([program.found("debugfs"), *self.options, *request, "--", self.image], lines)
+        complaints = [it[len(ECHO):] if it.startswith(ECHO) else it for it in said]
         return printed, [it for it in complaints if not it.startswith("debugfs ") and not it.endswith(NOT_OPEN)]
 
 
-def tell(complaints: Sequence[str]) -> None:
-    """Says what it complains of, as far as that is not too much."""
+def asked(words: Sequence[str], lines: Iterable[bytes]) -> Tuple[str, List[str]]:
+    """What a program prints that gets these lines, and what it complains of."""
+    with tempfile.TemporaryFile() as file:
+        file.writelines(line + b"\n" for line in lines)
+        file.seek(0)
+        printed, said = program.ask_quietly(words, given=file.fileno())
+    return printed, said.splitlines()
+
+
+def tell(complaints: Sequence[str], name: str = "debugfs") -> None:
+    """Says what a program complains of, as far as that is not too much."""
     for complaint in complaints[:MOST_COMPLAINTS]:
-        streams.tell("debugfs: " + quoting.shown(complaint))
+        streams.tell(f"{name}: {quoting.shown(complaint)}")
+
+
+def refusal(image: str, name: str, complaints: Sequence[str], check: str) -> Refusal:
+    """The refusal of an image that a program can't read, with the command that checks it."""
+    reason = "; ".join(map(quoting.shown, complaints[:MOST_COMPLAINTS])) or "not enough"
+    return Refusal(quoting.shown(image), f"{name} says: {reason}; see `{check}`")
 
 
 def quoted(path: str) -> str:

@@ -8,27 +8,33 @@ from dmremap_tools.base import numbers
 
 FIGURE = re.compile(r"^([A-Z][A-Za-z ]+):\s+(.*)$", re.M)
 GROUP = re.compile(r"^ Group +([0-9]{1,10}): block bitmap at ([0-9]{1,20}), inode bitmap at ([0-9]{1,20}), inode table at ([0-9]{1,20})$", re.M)
-NEEDED = ("Block count", "First block", "Block size", "Blocks per group", "Inodes per group")
+WHOLE = re.compile(r"[0-9]{1,20}")
+NOT_ZERO = {"Block size", "Blocks per group", "Inodes per group"}
+NEEDED = {"Block count", "First block", *NOT_ZERO}
 # With these, blocks may be in use that are neither an inode's nor in places that are known here.
 UNSURE = {"bigalloc", "meta_bg"}
+# With one of these only some groups have a superblock: with the first these are, and the second says which.
+SPARSE_FEATURES = {"sparse_super", "sparse_super2"}
+SPARSE = {0, *(base ** power for base in (3, 5, 7) for power in range(41))}
 
 
 class ExtLayout:
     """What `stats` of debugfs prints. `sectors` has each block; `end` is the block after the last."""
 
-    def __init__(self, figures: Dict[str, str], groups: List["tuple[int, ...]"]) -> None:
-        figure = {name: int(value) for name, value in figures.items() if value.isdigit() and len(value) <= 20}
+    def __init__(self, said: Dict[str, str], figure: Dict[str, int], groups: List["tuple[int, ...]"]) -> None:
         self.size = figure["Block size"]
         self.sectors, self.first, self.end = self.size // numbers.SECTOR, figure["First block"], figure["Block count"]
         self._per_group, self._inodes = figure["Blocks per group"], figure["Inodes per group"]
         self._inode_size, self._first_inode = figure.get("Inode size") or 128, figure.get("First inode", 11)
-        self._features = set(figures.get("Filesystem features", "").split())
+        self._features = set(said.get("Filesystem features", "").split())
         self._table_blocks = -(-self._inodes * self._inode_size // self.size)
         self._tables = sorted((table, number) for number, _, _, table in groups)
         self._bitmaps = {it for _, blocks, inodes, _ in groups for it in (blocks, inodes)}
         descriptors = -(-len(groups) * figure.get("Group descriptor size", 32) // self.size)
         self._head = 1 + descriptors + figure.get("Reserved GDT blocks", 0)
-        self._backups = {0, *map(int, re.findall(r"[0-9]{1,10}", figures.get("Backup block groups", "")))}
+        self._backups = SPARSE
+        if "sparse_super2" in self._features:
+            self._backups = {0, *map(int, re.findall(r"[0-9]{1,10}", said.get("Backup block groups", "")))}
 
     def is_sure(self) -> bool:
         """Whether each block in use is an inode's or one of the system's own that are known here."""
@@ -39,7 +45,7 @@ class ExtLayout:
         if block < self.first or block in self._bitmaps or self._table_of(block) is not None:
             return True
         group, place = divmod(block - self.first, self._per_group)
-        return place < self._head and self._has_superblock(group)
+        return place < self._head and (group in self._backups or not SPARSE_FEATURES & self._features)
 
     def inodes_at(self, block: int, first: int, end: int) -> Optional[range]:
         """The inodes that lie in these sectors, if the block is one of a table of inodes, without those that no file has."""
@@ -61,26 +67,13 @@ class ExtLayout:
         place = bisect.bisect_right(self._tables, (block, len(self._tables))) - 1
         return self._tables[place] if place >= 0 and block < self._tables[place][0] + self._table_blocks else None
 
-    def _has_superblock(self, group: int) -> bool:
-        if "sparse_super2" in self._features:
-            return group in self._backups
-        return "sparse_super" not in self._features or group < 2 or any(is_power(group, it) for it in (3, 5, 7))
-
-
-def is_power(number: int, base: int) -> bool:
-    """Whether a number is a power of another."""
-    while number % base == 0:
-        number //= base
-    return number == 1
-
 
 def layout_in(printed: str) -> Optional[ExtLayout]:
     """What `stats` says, if it says all of it, and each group has its table of inodes."""
-    figures = dict(FIGURE.findall(printed))
+    said = dict(FIGURE.findall(printed))
+    figure = {name: int(value) for name, value in said.items() if WHOLE.fullmatch(value)}
     groups = [tuple(map(int, it)) for it in GROUP.findall(printed)]
-    if not groups or not all(figures.get(it, "").isdigit() and len(figures[it]) <= 20 for it in NEEDED):
+    if not groups or not all(table for _, _, _, table in groups) or not NEEDED <= figure.keys():
         return None
-    size, per_group, inodes = (int(figures[it]) for it in ("Block size", "Blocks per group", "Inodes per group"))
-    if not size or size % numbers.SECTOR or not per_group or not inodes or not all(it[3] for it in groups):
-        return None
-    return ExtLayout(figures, groups)
+    is_sound = all(figure[it] for it in NOT_ZERO) and figure["Block size"] % numbers.SECTOR == 0
+    return ExtLayout(said, figure, groups) if is_sound else None

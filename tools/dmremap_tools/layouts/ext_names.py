@@ -4,8 +4,9 @@ debugfs prints a name as it stands on the disk, so one with a line feed may look
 told here is only what was asked for, and leads to its inode where it is looked up.
 """
 
+import itertools
 import re
-from typing import Dict, List, Optional, Sequence, Set
+from typing import Dict, List, Optional, Sequence
 
 from dmremap_tools.layouts.debugfs import Debugfs, quoted, tell
 
@@ -25,18 +26,13 @@ def names_of(debugfs: Debugfs, inodes: Sequence[int]) -> Dict[int, List[str]]:
         for match in map(NAMED.fullmatch, printed.split("\n")):
             if match and int(match[1]) in found:
                 found[int(match[1])].append(with_one_slash(match[2]))
-    for inode in unsure(debugfs, found):
+    asked = [(inode, path) for inode, paths in found.items() for path in paths]
+    answers = itertools.chain(debugfs.ask_many("imap " + quoted(path) for _, path in asked), itertools.repeat(""))
+    for inode in {inode for (inode, _), answer in zip(asked, answers) if inode_in(answer) != inode}:
         found[inode] = names_alone(debugfs, inode)
     if ROOT in found:
         found[ROOT] = ["/"]
     return found
-
-
-def unsure(debugfs: Debugfs, found: Dict[int, List[str]]) -> Set[int]:
-    """The inodes with a path that doesn't lead to them."""
-    asked = [(inode, path) for inode, paths in found.items() for path in paths]
-    led = dict(zip(asked, debugfs.ask_many("imap " + quoted(path) for _, path in asked)))
-    return {inode for inode, path in asked if inode_in(led.get((inode, path), "")) != inode}
 
 
 def names_alone(debugfs: Debugfs, inode: int) -> List[str]:

@@ -5,13 +5,13 @@ superblock. What it answers is taken.
 """
 
 import re
-from typing import Dict, Iterator, List, Optional, Pattern, Sequence, Set, Tuple
+from typing import Dict, List, Optional, Pattern, Sequence, Set, Tuple
 
 from dmremap_tools.base import quoting, streams
 from dmremap_tools.base.refusal import Refusal
 from dmremap_tools.layouts import ext_names
 from dmremap_tools.layouts.asked_runs import AskedRuns
-from dmremap_tools.layouts.debugfs import MOST_COMPLAINTS, Debugfs, tell
+from dmremap_tools.layouts.debugfs import MOST_COMPLAINTS, Debugfs, refusal, tell
 from dmremap_tools.layouts.ext_layout import ExtLayout, layout_in
 
 OWNED = re.compile(r"([0-9]{1,20})\t([1-9][0-9]{0,9}|<block not found>)")
@@ -20,15 +20,17 @@ USED_INODE = re.compile(r"^Inode ([0-9]{1,10}) is marked in use$", re.M)
 DAMAGED = ["-c", "-n"]
 # Where copies of the superblock are, by the size of a block.
 COPIES = ((4096, 32768), (4096, 98304), (1024, 8193), (1024, 24577), (2048, 16384), (2048, 49152), (65536, 65528))
+# The options that debugfs is tried with: without any, and without bitmaps and sums, with the copies of the superblock.
+TRIES: List[List[str]] = [[], DAMAGED, *([*DAMAGED, "-s", str(copy), "-b", str(size)] for size, copy in COPIES)]
 MOST_INODES = 1000000
 
 
 class ExtSystem:
     """The files that have the sectors that are asked for. `sectors` has each block; `end` is the block after the last."""
 
-    def __init__(self, image: str, asked: AskedRuns, tries: Sequence[List[str]]) -> None:
+    def __init__(self, image: str, asked: AskedRuns) -> None:
         self._inodes: Dict[int, int] = {}
-        self._debugfs, self._layout = self._opened(image, asked, tries)
+        self._debugfs, self._layout = self._opened(image, asked)
         self.sectors, self.end = self._layout.sectors, self._layout.end
         tabled = self._tabled(asked)
         self._names = ext_names.names_of(self._debugfs, sorted({*self._inodes.values(), *tabled}))
@@ -55,11 +57,11 @@ class ExtSystem:
     def _paths(self, inode: int) -> List[str]:
         return list(map(quoting.printable, self._names.get(inode, []))) or ["inode %d" % inode]
 
-    def _opened(self, image: str, asked: AskedRuns, tries: Sequence[List[str]]) -> Tuple[Debugfs, ExtLayout]:
+    def _opened(self, image: str, asked: AskedRuns) -> Tuple[Debugfs, ExtLayout]:
         """debugfs with the first options by which it answers for all blocks."""
         complaints: List[str] = []
         failed: Optional[streams.OutputFailed] = None
-        for options in tries:
+        for options in TRIES:
             debugfs = Debugfs(image, options)
             try:
                 printed, said = debugfs.ask("stats")
@@ -71,13 +73,12 @@ class ExtSystem:
             complaints = complaints or said
             if layout and is_answered:
                 tell([str(failed)] * bool(failed) + complaints)
-                if options != tries[0]:
+                if options:
                     streams.tell("read by debugfs with " + " ".join(options))
                 return debugfs, layout
         if failed:
             raise failed
-        reason = "; ".join(map(quoting.shown, complaints[:MOST_COMPLAINTS])) or "not enough"
-        raise Refusal(quoting.shown(image), "debugfs says: %s; see `e2fsck -n`" % reason)
+        raise refusal(image, "debugfs", complaints, "e2fsck -n")
 
     def _find_inodes(self, debugfs: Debugfs, blocks: List[int], complaints: List[str]) -> bool:
         """Finds the inode of each of these blocks that has one, unless there is no answer about some. Adds what debugfs
@@ -107,10 +108,3 @@ class ExtSystem:
         """Those of these blocks or inodes that the bitmaps have as in use."""
         answers = [] if self._debugfs.options or not numbers else self._debugfs.ask_many(request % it for it in numbers)
         return {int(it) for each in answers for it in answer.findall(each)}
-
-
-def tries() -> Iterator[List[str]]:
-    """The options that debugfs is tried with: without any, and without bitmaps and sums, with the copies of the superblock."""
-    yield from ([], DAMAGED)
-    for size, copy in COPIES:
-        yield [*DAMAGED, "-s", str(copy), "-b", str(size)]

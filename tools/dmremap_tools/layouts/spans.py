@@ -110,8 +110,8 @@ class Spans:
         return sorted(self._spans + ends)
 
     def add_physicals(self, texts: Sequence[str], labels: Dict[str, bytes]) -> None:
-        """Adds what metadata says is taken of physical volumes that are disks or devices here: by their labels, or else by
-        their paths or their keys, unless the label there is that of another one."""
+        """Adds what metadata says is taken of physical volumes that are disks or devices here: by their labels, or else
+        by their paths or their keys, unless the label there is that of another one."""
         labelled = {identity: on for on, identity in labels.items()}
         for physical in (physical for path in texts for physical in physical_volumes(path, self._devices)):
             words = [*tables.names_in(physical.path), physical.key]

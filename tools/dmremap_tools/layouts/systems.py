@@ -5,15 +5,15 @@ import os
 from dmremap_tools.answers.sources import opened
 from dmremap_tools.base import paths, program, quoting
 from dmremap_tools.base.refusal import Refusal
-from dmremap_tools.layouts import ext_system
 from dmremap_tools.layouts.asked_runs import AskedRuns
+from dmremap_tools.layouts.ext_system import ExtSystem
 from dmremap_tools.layouts.xfs_system import XfsSystem
 
 XFS_DB = "xfs_db"
 XFS, BTRFS, BTRFS_AT = b"XFSB", b"_BHRfS_M", 65536 + 64
 
 
-def system_in(image: str, asked: AskedRuns) -> "ext_system.ExtSystem | XfsSystem":
+def system_in(image: str, asked: AskedRuns) -> "ExtSystem | XfsSystem":
     """The file system in an image, with what is asked for looked up."""
     place = paths.place_of(image)
     descriptor, at = opened(place.path), place.start
@@ -22,7 +22,7 @@ def system_in(image: str, asked: AskedRuns) -> "ext_system.ExtSystem | XfsSystem
     if is_btrfs:
         raise Refusal(quoting.shown(image), "it is btrfs, whose files have no places: see `btrfs inspect-internal logical-resolve`")
     if not is_xfs:
-        return ext_system.ExtSystem(image, asked, list(ext_system.tries()))
+        return ExtSystem(image, asked)
     if program.found(XFS_DB) == XFS_DB:
         raise Refusal(quoting.shown(image), "it is XFS, which xfs_db reads, and that isn't here: install xfsprogs")
     if at:

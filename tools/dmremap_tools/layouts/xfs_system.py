@@ -1,18 +1,18 @@
 """An XFS file system: which files have its blocks, as xfs_db of xfsprogs says it, which only reads here."""
 
+import itertools
 import os
 import re
-import stat
-import tempfile
-from typing import Dict, Iterable, List, NamedTuple, NoReturn, Sequence, Tuple
+from typing import Dict, List, NamedTuple, Sequence, Tuple
 
 from dmremap_tools.base import numbers, program, quoting, streams
 from dmremap_tools.base.refusal import Refusal
+from dmremap_tools.layouts import debugfs
 from dmremap_tools.layouts.asked_runs import MOST_BLOCKS, AskedRuns
 
 FIGURE = re.compile(r"^(blocksize|dblocks|agblocks|agblklog|inopblog|inodesize) = ([0-9]{1,20})$", re.M)
 USE = re.compile(r"^block [0-9]{1,20} \(([0-9]{1,10})/([0-9]{1,10})\) type ([a-z0-9]+)(?: inode ([0-9]{1,20}))?$", re.M)
-MOST_COMPLAINTS, MOST_BLOCK = 3, 1 << 16
+MOST_BLOCK = 1 << 16
 
 
 class Geometry(NamedTuple):
@@ -63,29 +63,26 @@ class XfsSystem:
         printed, complaints = self._ask(["sb 0", "print " + " ".join(Geometry._fields)])
         figures = {name: int(figure) for name, figure in FIGURE.findall(printed)}
         if len(figures) < len(Geometry._fields) or not Geometry(**figures).is_sound():
-            self._refuse(complaints)
+            raise self._refusal(complaints)
         return Geometry(**figures)
 
     def _read_uses(self, blocks: Sequence[int]) -> Dict[int, Tuple[str, int]]:
         """As what each of these blocks is used, and its inode, or 0."""
-        runs: List[List[int]] = []
-        for block in blocks:
-            if runs and runs[-1][1] == block and block % self._geometry.agblocks:
-                runs[-1][1] += 1
-            else:
-                runs.append([block, block + 1])
-        streams.show_progress("reading all of %s" % self._image)
-        commands = ["daddr %d\nblockuse -c %d" % (first * self.sectors, end - first) for first, end in runs]
-        printed, complaints = self._ask(["blockget"] + commands if blocks else [])
         per_group = self._geometry.agblocks
+        commands = ["blockget"] * bool(blocks)
+        # Runs of blocks of one group, of which each is as far from its place in the list.
+        for _, run in itertools.groupby(enumerate(blocks), lambda it: (it[1] // per_group, it[1] - it[0])):
+            (_, first), *others = run
+            commands.append("daddr %d\nblockuse -c %d" % (first * self.sectors, 1 + len(others)))
+        streams.show_progress("reading all of %s" % self._image)
+        printed, complaints = self._ask(commands)
         found = {int(group) * per_group + int(place): (kind, int(inode or 0)) for group, place, kind, inode in USE.findall(printed)}
         if not all(it in found for it in blocks):
-            self._refuse(complaints or printed.splitlines())
-        for complaint in complaints[:MOST_COMPLAINTS]:
-            streams.tell("xfs_db: " + quoting.shown(complaint))
+            raise self._refusal(complaints or printed.splitlines())
+        debugfs.tell(complaints, "xfs_db")
         return found
 
-    def _inodes_at(self, block: int, first: int, end: int) -> Iterable[int]:
+    def _inodes_at(self, block: int, first: int, end: int) -> range:
         """The inodes that lie in these sectors of a block."""
         geometry = self._geometry
         group, place = divmod(block, geometry.agblocks)
@@ -113,22 +110,8 @@ class XfsSystem:
 
     def _ask(self, commands: Sequence[str]) -> "tuple[str, List[str]]":
         """What it answers to some commands, and what it complains of."""
-        is_file = stat.S_ISREG(status(self._image).st_mode)
-        with tempfile.TemporaryFile() as file:
-            file.write("".join(it + "\n" for it in commands).encode())
-            file.seek(0)
-            words = [program.found("xfs_db"), "-r", *(["-f"] if is_file else []), "-c", "source /dev/stdin", "--", self._image]
-            printed, said = program.ask_quietly(words, given=file.fileno())
-        return printed, said.splitlines()
+        options = ["-r", *(["-f"] if os.path.isfile(self._image) else []), "-c", "source /dev/stdin"]
+        return debugfs.asked([program.found("xfs_db"), *options, "--", self._image], map(str.encode, commands))
 
-    def _refuse(self, complaints: Sequence[str]) -> NoReturn:
-        reason = "; ".join(map(quoting.shown, complaints[:MOST_COMPLAINTS])) or "not enough"
-        raise Refusal(quoting.shown(self._image), "xfs_db says: %s; see `xfs_repair -n`" % reason)
-
-
-def status(image: str) -> os.stat_result:
-    """What the system knows of a file."""
-    try:
-        return os.stat(image)
-    except OSError as fault:
-        raise Refusal(quoting.shown(image), streams.why(fault))
+    def _refusal(self, complaints: Sequence[str]) -> Refusal:
+        return debugfs.refusal(self._image, "xfs_db", complaints, "xfs_repair -n")
