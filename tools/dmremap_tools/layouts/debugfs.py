@@ -1,4 +1,4 @@
-"""Questions to programs that read file systems, and write nothing here: debugfs of e2fsprogs, for ext2, ext3 and ext4."""
+"""Questions to programs that read file systems, and write nothing here: debugfs of e2fsprogs for ext2, ext3, ext4."""
 
 import itertools
 import tempfile

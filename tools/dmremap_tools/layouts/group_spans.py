@@ -60,9 +60,8 @@ def add_segment(group: Group, segment: Segment, device: str, found: Dict[bytes, 
     stripes, legs = segment.stripes, segment.node.values(b"mirrors")
     for key, place in [*stripes, *zip(legs[::2], legs[1::2])]:
         length = (-(-segment.count // len(stripes)) if stripes else segment.count) * group.extent_size
-        start = group.physicals[key].value(b"pe_start", int) if key in group.physicals else None
-        if start is not None and isinstance(place, int) and place >= 0:
-            first = start + place * group.extent_size
+        if key in found and isinstance(place, int) and place >= 0:
+            first = group.physicals[key].value(b"pe_start", int) + place * group.extent_size
             found[key].taken.append(Span("", first, first + length, device, str(begin * group.extent_size), ALLOCATED))
 
 

@@ -8,12 +8,13 @@ past an end.
 """
 
 import heapq
+import itertools
 from argparse import ArgumentParser, Namespace
-from typing import Dict, List, Tuple
+from typing import Dict, List, Set, Tuple
 
 from dmremap_tools.base import quoting, streams
 from dmremap_tools.base.refusal import Refusal
-from dmremap_tools.layouts import clashes, span_lines, svg
+from dmremap_tools.layouts import span_lines, svg
 from dmremap_tools.layouts.span_lines import Span
 
 EXAMPLE = "dmremap-tools spans stack.disks stack.table | dmremap-tools picture > disks.svg"
@@ -22,67 +23,56 @@ GAP = ('<defs><pattern id="gap" width="6" height="6" patternUnits="userSpaceOnUs
        "</defs>\n")
 
 
-class Drawn:
-    """A range in the lane of a bar that it stands in."""
-
-    def __init__(self, span: Span, lane: int) -> None:
-        self.span, self.lane, self.is_clashing = span, lane, False
-
-
 class Bar:
-    """A disk or a device with its ranges, which are added in the order of their first sectors."""
+    """A disk or a device with its ranges, which are added in the order of their first sectors. `lanes` has the lane of
+    each, and `clashing` the places of those that clash."""
 
     def __init__(self, on: str) -> None:
         self.on, self.size = on, 0
-        self.ranges: List[Drawn] = []
-        self.lanes = 0
+        self.ranges: List[Span] = []
+        self.lanes: List[int] = []
+        self.clashing: Set[int] = set()
         self._busy: List[Tuple[int, int]] = []
         self._free: List[int] = []
         # For each kind the ranges that may clash and aren't known to, and the end of all.
-        self._open: Dict[str, List[Drawn]] = {it: [] for it in clashes.MEET}
-        self._ends = dict.fromkeys(clashes.MEET, 0)
+        self._open: Dict[str, List[int]] = {it: [] for it in span_lines.MEET}
+        self._ends = dict.fromkeys(span_lines.MEET, 0)
 
     def add(self, span: Span) -> None:
         """Adds a range, in the first lane in which it meets none."""
         while self._busy and self._busy[0][0] <= span.first:
             heapq.heappush(self._free, heapq.heappop(self._busy)[1])
-        if not self._free:
-            heapq.heappush(self._free, self.lanes)
-            self.lanes += 1
-        lane = heapq.heappop(self._free)
-        heapq.heappush(self._busy, (span.end, lane))
-        drawn, kind = Drawn(span, lane), clashes.kind_of(span)
-        for other in clashes.MEET[kind]:
+        self.lanes.append(heapq.heappop(self._free) if self._free else len(self._busy))
+        heapq.heappush(self._busy, (span.end, self.lanes[-1]))
+        place, kind = len(self.ranges), span_lines.kind_of(span)
+        for other in span_lines.MEET[kind]:
             if self._ends[other] > span.first:
-                drawn.is_clashing = True
-                for it in self._open[other]:
-                    it.is_clashing = it.is_clashing or it.span.end > span.first
+                self.clashing.update([place], (it for it in self._open[other] if self.ranges[it].end > span.first))
                 self._open[other] = []
-        self._open[kind].append(drawn)
+        self._open[kind].append(place)
         self._ends[kind] = max(self._ends[kind], span.end)
-        self.ranges.append(drawn)
+        self.ranges.append(span)
+
+    def height(self) -> int:
+        return LANE * (max(self.lanes, default=0) + 1)
 
 
 def add_words(parser: ArgumentParser) -> None:
-    """Adds the arguments."""
     parser.add_argument("--scale", action="store_true", help="bars in proportion to the longest")
     parser.add_argument("spans", metavar="SPANS", nargs="?", default="-", help="what spans printed; else standard input")
 
 
 def run(words: Namespace) -> None:
-    """Draws the bars and the legend."""
     bars = list(read(words.spans).values())
-    numbers = {name: number for number, name in enumerate(dict.fromkeys(it.span.device for bar in bars for it in bar.ranges))}
+    devices = dict.fromkeys(it.device for bar in bars for it in bar.ranges)
+    numbers = {name: number for number, name in enumerate(devices)}
     legend, rows = legend_of(numbers)
     longest = max((it.size for it in bars), default=1)
-    tops, y = [], MARGIN
-    for bar in bars:
-        tops.append(y)
-        y += 30 + LANE * max(1, bar.lanes)
-    streams.out.write(svg.head(WIDTH + 2 * MARGIN, y + 18 * rows + MARGIN) + GAP)
+    *tops, end = itertools.accumulate([MARGIN, *(30 + bar.height() for bar in bars)])
+    streams.out.write(svg.head(WIDTH + 2 * MARGIN, end + 18 * rows + MARGIN) + GAP)
     for bar, top in zip(bars, tops):
         draw(bar, top, WIDTH * bar.size / longest if words.scale else WIDTH, numbers)
-    streams.out.write('<g transform="translate(0,%d)">\n%s</g>\n</svg>\n' % (y, legend))
+    streams.out.write('<g transform="translate(0,%d)">\n%s</g>\n</svg>\n' % (end, legend))
 
 
 def read(path: str) -> Dict[str, Bar]:
@@ -93,11 +83,11 @@ def read(path: str) -> Dict[str, Bar]:
         if span.kind == span_lines.END:
             bar.size = span.end
         elif span.first < span.end:
-            if bar.ranges and span.first < bar.ranges[-1].span.first:
+            if bar.ranges and span.first < bar.ranges[-1].first:
                 raise Refusal(streams.name_of(path), "the ranges of %s aren't sorted: give what `spans` prints" % quoting.shown(span.on))
             bar.add(span)
     for bar in bars.values():
-        if not bar.size or any(it.span.end > bar.size for it in bar.ranges):
+        if not bar.size or any(it.end > bar.size for it in bar.ranges):
             raise Refusal(streams.name_of(path), "%s has no end, or a range past it: give what `spans` prints" % quoting.shown(bar.on))
     return bars
 
@@ -106,15 +96,16 @@ def draw(bar: Bar, top: int, width: float, numbers: Dict[str, int]) -> None:
     """Prints a bar with its ranges."""
     streams.out.write(svg.text(MARGIN, top, "%s, %d sectors, %s" % (bar.on, bar.size, svg.size_of(bar.size))))
     streams.out.write('<rect x="%d" y="%d" width="%.2f" height="%d" fill="url(#gap)" stroke="#888"/>\n'
-                      % (MARGIN, top + 6, width, LANE * max(1, bar.lanes)))
+                      % (MARGIN, top + 6, width, bar.height()))
     # What clashes comes last, so that its edges are seen.
-    for it in sorted(bar.ranges, key=lambda it: it.is_clashing):
-        span, x, y = it.span, MARGIN + width * it.span.first / bar.size, top + 7 + LANE * it.lane
+    for place in sorted(range(len(bar.ranges)), key=bar.clashing.__contains__):
+        span = bar.ranges[place]
+        x, y = MARGIN + width * span.first / bar.size, top + 7 + LANE * bar.lanes[place]
         wide = max(0.5, width * (span.end - span.first) / bar.size)
         streams.out.write('<g><title>%s</title><rect x="%.2f" y="%d" width="%.2f" height="24" fill="%s" stroke="%s"/>\n' % (
             svg.escaped("%s (%s): sectors %d to %d, %s" % (
                 span.device, span.kind, span.first, span.end - 1, svg.size_of(span.end - span.first))),
-            x, y, wide, svg.colour(numbers[span.device]), "red" if it.is_clashing else "#555"))
+            x, y, wide, svg.colour(numbers[span.device]), "red" if place in bar.clashing else "#555"))
         if wide > svg.LETTER * len(span.device) + 8:
             streams.out.write(svg.text(x + 4, y + 16, span.device))
         streams.out.write("</g>\n")

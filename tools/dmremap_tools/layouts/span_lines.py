@@ -1,11 +1,18 @@
-"""The lines that the command `spans` prints, and others read."""
+"""The lines that the command `spans` prints, and others read, and which of them have sectors in common. Snapshots may
+share an origin, also with the line `snapshot-origin` that serves them."""
 
-from typing import Iterator, NamedTuple
+import heapq
+from typing import Dict, Iterable, Iterator, List, NamedTuple
 
 from dmremap_tools.base import quoting, streams
+from dmremap_tools.base.refusal import Refusal
 
-# The kind of a line that says where a disk or a device ends.
-END = "end"
+# The kind of a line that says where a disk or a device ends, and those that may share sectors.
+END, ORIGIN, SERVES, OTHER = "end", "origin", "snapshot-origin", "other"
+# The kinds that have no sector in common with one of these.
+MEET = {ORIGIN: (OTHER,), SERVES: (SERVES, OTHER), OTHER: (ORIGIN, SERVES, OTHER)}
+# How many clashes are printed: nested ranges have as many as their number squared.
+MOST = 1000000
 
 
 class Span(NamedTuple):
@@ -35,3 +42,31 @@ def spans_in(path: str) -> Iterator[Span]:
             source.refuse("not a line of spans, give what `spans` prints: " + quoting.shown(row))
         yield span
     source.tell_if_none()
+
+
+def kind_of(span: Span) -> str:
+    """What counts of a span's kind."""
+    return span.kind if span.kind in (ORIGIN, SERVES) else OTHER
+
+
+def clashes_in(spans: Iterable[Span], name: str) -> Iterator[str]:
+    """A line for each clash among sorted spans of a text that is called so: on what, the first and the last sector that
+    two lines have in common, and their devices. Of spans that don't meet one none is looked at, so the time is that of
+    what is printed."""
+    opened: Dict[str, List[Span]] = {}
+    on, count = "", 0
+    for span in spans:
+        if span.kind == END or span.first == span.end:
+            continue
+        if span.on != on:
+            on, opened = span.on, {kind: [] for kind in MEET}
+        kinds = MEET[kind_of(span)]
+        for kind in kinds:
+            opened[kind] = [it for it in opened[kind] if it.end > span.first]
+        for other in heapq.merge(*(opened[kind] for kind in kinds)):
+            count += 1
+            if count > MOST:
+                raise Refusal(name, f"there are more than {MOST} clashes: take the lines of one disk, or of fewer "
+                              "devices")
+            yield f"{on} {span.first} {min(other.end, span.end) - 1} {other.device} {span.device}\n"
+        opened[kind_of(span)].append(span)

@@ -18,18 +18,18 @@ multiple of 2048 sectors, which is 1 MiB, or of --to SECTORS.
 """
 
 from argparse import ArgumentParser, Namespace
-from typing import Dict, Iterator, List, Sequence, Set
+from typing import Dict, Iterable, Iterator, List, Optional, Sequence, Set
 
-from dmremap_tools.base import disks, names, numbers, paths, quoting, streams, tables
+from dmremap_tools.base import disk_image, disks, names, numbers, paths, quoting, streams, tables
 from dmremap_tools.base.disk_image import Image
+from dmremap_tools.base.numbers import SECTOR
+from dmremap_tools.base.paths import Place
 from dmremap_tools.base.refusal import Refusal, WrongWords
 from dmremap_tools.layouts import stacked
-from dmremap_tools.layouts.beginnings import images_of
-from dmremap_tools.layouts.clashes import clashes_in
-from dmremap_tools.layouts.group_spans import ALLOCATED, physical_volumes
+from dmremap_tools.layouts.group_spans import ALLOCATED, PhysicalVolume, physical_volumes
 from dmremap_tools.layouts.heads import OF_LVM, heads_of
-from dmremap_tools.layouts.span_lines import END, Span
-from dmremap_tools.metadata.chosen_part import volume_label
+from dmremap_tools.layouts.span_lines import END, Span, clashes_in
+from dmremap_tools.metadata.chosen_part import check_places, volume_label
 
 EXAMPLE = "dmremap-tools spans stack.disks stack.table > spans"
 MEBIBYTE = 2048
@@ -58,13 +58,15 @@ def run(words: Namespace) -> None:
         streams.tell("no disk and no device came")
     images = images_of(paths.places(words.paths), sizes, devices)
     labels = {on: label.identity for on, image in images.items() for label in [volume_label(image)] if label}
-    spans.add_physicals(words.metadata, labels)
+    for path in words.metadata:
+        spans.add_physicals(physical_volumes(path, {it.name for it in devices}), labels)
     for on, image in images.items():
         spans.add_heads(on, image)
     if words.clashes:
         lines = clashes_in(spans.sorted(), streams.name_of(words.file))
     elif words.align:
-        lines = unaligned(spans.sorted(), words.to)
+        begun = (it for it in spans.sorted() if it.kind != END and it.first % words.to)
+        lines = (f"{it.device} begins at sector {it.first} of {it.on}\n" for it in begun)
     else:
         lines = map(str, with_free(spans.sorted()) if words.free else spans.sorted())
     for line in lines:
@@ -84,21 +86,32 @@ def with_free(spans: List[Span]) -> Iterator[str]:
             yield str(span)
 
 
-def unaligned(spans: List[Span], unit: int) -> Iterator[str]:
-    """A line for each span that begins at no multiple of so many sectors."""
-    for span in spans:
-        if span.kind != END and span.first % unit:
-            yield f"{span.device} begins at sector {span.first} of {span.on}\n"
+def images_of(places: Dict[str, Place], disks: Iterable[str], devices: Sequence[tables.Device]) -> Dict[str, Image]:
+    """The images of disks, each by its name, and those of the first lines of devices on them by their paths."""
+    check_places(places)
+    images = {disk: disk_image.image_at(places[disk]) for disk in disks if disk in places}
+    known = {names.MAPPER + it.name: it for it in devices}
+    found = [(it.name, part_of(it.lines[0], 0, it.lines[0].length, known, images)) for it in devices]
+    return {**images, **{names.MAPPER + name: image for name, image in found if image}}
+
+
+def part_of(line: tables.Line, first: int, count: int, devices: Dict[str, tables.Device], images: Dict[str, Image]
+            ) -> Optional[Image]:
+    """Some sectors of a first line, if it is linear and they lie on an image, perhaps through other such lines."""
+    if line.target != "linear" or first + count > line.length:
+        return None
+    lower, start = line.words[0], int(line.words[1]) + first
+    if lower in images:
+        return images[lower].part(start * SECTOR, count * SECTOR)
+    return part_of(devices[lower].lines[0], start, count, devices, images) if lower in devices else None
 
 
 class Spans:
     """The ranges, and how long each disk and each device is."""
 
     def __init__(self, sizes: Dict[str, int], devices: Sequence[tables.Device]) -> None:
-        self._sizes = {**sizes, **{names.MAPPER + it.name: it.end() for it in devices}}
-        self._devices = {it.name for it in devices}
+        self._disks, self._sizes = sizes, {**sizes, **{names.MAPPER + it.name: it.end() for it in devices}}
         self._spans: List[Span] = []
-        self._ended = dict.fromkeys(sizes)
         # Physical volumes of which metadata says what is taken.
         self._described: Set[str] = set()
         for device in devices:
@@ -106,14 +119,14 @@ class Spans:
 
     def sorted(self) -> List[Span]:
         """All ranges and ends, by what they are on and their first sector."""
-        ends = [Span(on, self._sizes[on], self._sizes[on], "-", "-", END) for on in self._ended]
-        return sorted(self._spans + ends)
+        ended = {*self._disks, *(it.on for it in self._spans)}
+        return sorted(self._spans + [Span(on, self._sizes[on], self._sizes[on], "-", "-", END) for on in ended])
 
-    def add_physicals(self, texts: Sequence[str], labels: Dict[str, bytes]) -> None:
+    def add_physicals(self, physicals: Iterable[PhysicalVolume], labels: Dict[str, bytes]) -> None:
         """Adds what metadata says is taken of physical volumes that are disks or devices here: by their labels, or else
         by their paths or their keys, unless the label there is that of another one."""
         labelled = {identity: on for on, identity in labels.items()}
-        for physical in (physical for path in texts for physical in physical_volumes(path, self._devices)):
+        for physical in physicals:
             words = [*tables.names_in(physical.path), physical.key]
             named = next((it for it in words if it in self._sizes and it not in labels), None)
             on = labelled.get(physical.identity, named)
@@ -122,8 +135,7 @@ class Spans:
                              % (quoting.shown(physical.key), quoting.shown(physical.path)))
                 continue
             self._described.add(on)
-            for taken in physical.taken:
-                self._add(taken._replace(on=on))
+            self._spans += [taken._replace(on=on) for taken in physical.taken]
 
     def add_heads(self, on: str, image: Image) -> None:
         """Adds what the beginning of a disk or a device says is taken, and those partitions in which nothing lies."""
@@ -132,11 +144,7 @@ class Spans:
             is_told = any(it.on == on and it.first < end and first < it.end for it in self._spans) if head.is_outer() \
                 else head.what.endswith(OF_LVM) and on in self._described
             if first < end and not is_told:
-                self._add(Span(on, first, end, head.what, "-", ALLOCATED))
-
-    def _add(self, span: Span) -> None:
-        self._spans.append(span)
-        self._ended[span.on] = None
+                self._spans.append(Span(on, first, end, head.what, "-", ALLOCATED))
 
     def _add_device(self, device: tables.Device) -> None:
         for line in device.lines:
@@ -145,4 +153,4 @@ class Spans:
                     raise Refusal(quoting.shown(lower), "neither a disk nor a device: add it to DISKS")
                 kind = line.target if line.target != "snapshot" else ("origin", "store")[place]
                 end = self._sizes[lower] if count is None else first + count
-                self._add(Span(lower, first, end, device.name, str(line.start), kind))
+                self._spans.append(Span(lower, first, end, device.name, str(line.start), kind))

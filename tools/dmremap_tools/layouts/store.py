@@ -17,21 +17,25 @@ snapshots.
 import re
 import tempfile
 from argparse import ArgumentParser, Namespace
+from collections import Counter, defaultdict
 from typing import Dict, Iterator, List, Tuple
 
 from dmremap_tools.answers.mapped import Mapped
-from dmremap_tools.base import given, numbers, program, store_places, streams
+from dmremap_tools.base import given, names, numbers, program, requests, store_places, streams
 from dmremap_tools.base.refusal import Refusal, WrongWords
 from dmremap_tools.layers import stack, started
-from dmremap_tools.layouts import store_sizes
+from dmremap_tools.layouts.asked_runs import Run
 
 EXAMPLE = "dmremap-tools store table snaps.table snaps.disks"
 STATUS = re.compile(r"^([^ \n]+): 0 [0-9]+ snapshot (.*)$", re.M)
 INVALID, CHUNK = "Invalid", 1 << 16
+REQUEST = re.compile("([RW]) (%s) (%s) (%s)" % (names.FORM.pattern, numbers.FORM.pattern, numbers.FORM.pattern))
+# Chunks are counted in pages, of a byte for each of them.
+PAGE, MOST_PAGES = 1 << 16, 1 << 12
+TOO_FAR = f"the chunks lie too far apart to be counted in {MOST_PAGES * PAGE >> 20} MiB: give a larger --chunk"
 
 
 def add_words(parser: ArgumentParser) -> None:
-    """Adds the arguments."""
     parser.add_argument("form", metavar="FORMAT", nargs="?", choices=given.FORMATS, help="table, concise or lvm")
     parser.add_argument("file", metavar="FILE", nargs="?")
     parser.add_argument("disks", metavar="DISKS", nargs="?", help="with table and concise")
@@ -44,22 +48,21 @@ def add_words(parser: ArgumentParser) -> None:
 
 
 def run(words: Namespace) -> None:
-    """Prints the lines of each snapshot, or of each device."""
     if words.size is not None:
         if words.form is not None:
             raise WrongWords("--size needs no FORMAT, FILE and DISKS")
-        store_sizes.write(words.size, words.chunk, words.kind)
+        write_sizes(words.size, words.chunk, words.kind)
         return
     if words.file is None:
         raise WrongWords("give FORMAT, FILE and DISKS, or --size REQUESTS")
-    requests = streams.plain_bytes(words.requests) if words.requests is not None else None
+    text = streams.plain_bytes(words.requests) if words.requests is not None else None
     source = given.given_in(words, "FORMAT FILE [DISKS] [--requests REQUESTS]")
     with tempfile.TemporaryDirectory(prefix="dmremap-tools-") as room:
-        if requests is None:
+        if text is None:
             loaded, ends = stack.load(program.dmremap(words.program), source, room), []
         else:
             begun = started.start(words, source, None, room)
-            loaded, ends = begun.loaded, list(ends_of(Runs(requests, [*begun.words, "--status"])))
+            loaded, ends = begun.loaded, list(ends_of(Runs(text, [*begun.words, "--status"])))
     for line in [*places_of(loaded, streams.name_of(words.file)), *ends]:
         streams.out.write(line)
 
@@ -117,11 +120,35 @@ class Runs:
         """The end of the last request after which the snapshot is valid, and that of the next one."""
         low, high = 0, self.size
         while self._text.find(b"\n", low) + 1 < high:
-            middle = self._text.rfind(b"\n", low, (low + high) // 2) + 1
-            middle = middle if middle > low else self._text.find(b"\n", low) + 1
+            middle = self._text.rfind(b"\n", low, (low + high) // 2) + 1 or self._text.find(b"\n", low) + 1
             low, high = (middle, high) if self.statuses(middle)[name] != INVALID else (low, middle)
         return low, high
 
     def requests(self, size: int) -> int:
         """How many requests there are in so many bytes."""
         return self._text.count(b"\n", 0, size)
+
+
+def write_sizes(path: str, chunk: int, kind: str) -> None:
+    """Counts the chunks of each device that is written, and prints how much of a store they fill."""
+    if chunk == 0 or chunk & (chunk - 1):
+        raise WrongWords(f"--chunk: give a power of two, and not {chunk}")
+    source = streams.Lines(path)
+    pages: Dict[Tuple[str, int], bytearray] = defaultdict(lambda: bytearray(PAGE))
+    for line in source:
+        match = REQUEST.fullmatch(line)
+        if not match:
+            source.refuse_line(requests.NO_REQUEST)
+        if match[1] == "W" and match[4] != "0":
+            chunks = Run(int(match[3]), int(match[4])).blocks(chunk)
+            for number, first, end in Run(chunks.start, chunks.stop - chunks.start).parts(PAGE):
+                pages[match[2], number][first % PAGE:first % PAGE + end - first] = b"\1" * (end - first)
+                if len(pages) > MOST_PAGES:
+                    source.refuse(TOO_FAR)
+    source.tell_if_none()
+    counts: "Counter[str]" = Counter()
+    for (name, _), page in pages.items():
+        counts[name] += page.count(1)
+    for name, count in counts.items():
+        own = (count // (32 * chunk) + 2) * chunk if kind != "N" else 0
+        streams.out.write(f"{name} {count} {count * chunk + own} {own}\n")

@@ -70,10 +70,10 @@ class XfsSystem:
         """As what each of these blocks is used, and its inode, or 0."""
         per_group = self._geometry.agblocks
         commands = ["blockget"] * bool(blocks)
-        # Runs of blocks of one group, of which each is as far from its place in the list.
+        # Runs of blocks of one group: those that follow each other differ as much from their places in the list.
         for _, run in itertools.groupby(enumerate(blocks), lambda it: (it[1] // per_group, it[1] - it[0])):
-            (_, first), *others = run
-            commands.append("daddr %d\nblockuse -c %d" % (first * self.sectors, 1 + len(others)))
+            _, first = next(run)
+            commands.append("daddr %d\nblockuse -c %d" % (first * self.sectors, 1 + sum(1 for _ in run)))
         streams.show_progress("reading all of %s" % self._image)
         printed, complaints = self._ask(commands)
         found = {int(group) * per_group + int(place): (kind, int(inode or 0)) for group, place, kind, inode in USE.findall(printed)}

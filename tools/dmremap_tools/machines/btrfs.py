@@ -63,7 +63,7 @@ class Chunk:
         copies = self.copies()
         if copy >= copies > 1:
             self.refuse(f"the chunk at {start} has {copies} copies, counted from 0: give a lower --copy")
-        columns = self.stripes[copy % copies::copies] if self.profile in ("RAID0", "RAID10") else [self.stripes[copy % copies]]
+        columns = self.stripes[copy % copies::copies]
         words: List[str] = []
         for device, offset in columns:
             if device not in disks:
@@ -103,19 +103,18 @@ def read(path: str) -> List[Chunk]:
     text without its end, or with a block that couldn't be read, is told from a whole one."""
     chunks: List[Chunk] = []
     awaited: Set[str] = set()
-    # What the last block lacks, and whether one before it lacked something.
-    lacking, was_short = 0, False
-    is_in = are_any = is_chunk = False
+    # What each block of the tree lacks.
+    lacking: List[int] = []
+    is_in = is_chunk = False
     source = streams.Lines(path)
     for row in source:
         block, pointer, item = BLOCK.fullmatch(row), POINTER.fullmatch(row), ITEM.fullmatch(row)
         is_in = block[3] in CHUNK_TREE if block else is_in
         if block and is_in:
-            was_short = was_short or lacking != 0
             awaited.discard(block[1])
-            lacking, are_any = int(block[2]), True
+            lacking.append(int(block[2]))
         elif is_in and (pointer or item):
-            lacking -= 1
+            lacking[-1] -= 1
             awaited.update(pointer.groups() if pointer else ())
         if block or pointer:
             is_chunk = False
@@ -125,7 +124,7 @@ def read(path: str) -> List[Chunk]:
                 chunks.append(Chunk(f"{source.name}:{source.number}", int(item[3])))
         elif is_chunk:
             chunks[-1].take(row)
-    if chunks and (lacking or was_short or awaited or not are_any):
+    if chunks and (any(lacking) or awaited or not lacking):
         source.refuse("the tree of chunks isn't all there: " + ANEW)
     return chunks
 

@@ -1,7 +1,7 @@
 """Where the physical volumes of a group begin in disks or images of them, as the ids in their labels say."""
 
 import os
-from typing import Dict, List, Optional, Sequence, Tuple
+from typing import Dict, List, Optional, Tuple
 
 from dmremap_tools.base import disk_image, quoting, streams
 from dmremap_tools.base.config_text import shown
@@ -15,32 +15,24 @@ from dmremap_tools.metadata.chosen_part import (
 from dmremap_tools.model.physical_volume import label_of
 
 
-def by_ids(text: Optional[str], places: Dict[str, Place], sizes: Dict[str, int],
-           images: Sequence[Place] = ()) -> Dict[str, Place]:
-    """The places of disks, of which some may be whole disks that have a physical volume on a partition, and of those
-    that these images are. Without `text`, the metadata of their group, they are what was given. `sizes` has the sectors
-    of each disk."""
+def by_ids(text: Optional[str], places: Dict[str, Place], sizes: Dict[str, int]) -> Dict[str, Place]:
+    """The places of disks, of which some may be whole disks that have a physical volume on a partition. Without `text`,
+    the metadata of their group, they are what was given. `sizes` has the sectors of each disk."""
     named = names_by_id(text) if text is not None else {}
-    found, decided, bare = dict(places), set(), {image.path for image in images}
-    check_places({**places, **{image.path: image for image in images}}, bool(named))
-    given = [*places.values(), *images]
-    for path in dict.fromkeys(place.path for place in given):
-        here = [place for place in given if place.path == path]
-        volumes = volumes_in(path, here) if named and (path in bare or os.path.exists(path)) else {}
-        wanted = {name for name, place in places.items() if place.path == path}
-        lost = [identity for identity, name in named.items() if volumes and name in wanted and identity not in volumes]
+    check_places(places, bool(named))
+    found, decided = dict(places), set()
+    for path in dict.fromkeys(place.path for place in places.values()):
+        here = {name: place for name, place in places.items() if place.path == path}
+        volumes = volumes_in(path, list(here.values())) if named and os.path.exists(path) else {}
+        lost = [identity for identity, name in named.items() if volumes and name in here and identity not in volumes]
         if lost:
             wrong = f"it isn't {quoting.shown(named[lost[0]])}, whose id is {shown(lost[0])}"
             ids = " or ".join(map(shown, volumes))
             raise Refusal(quoting.shown(path), f"{wrong}, but has the id {ids}: give the path of that")
         for identity, start in volumes.items():
-            name = named.get(identity)
-            if name in wanted or name and path in bare and name not in found:
-                found[name] = Place(path, start)
-                decided.add(name)
-        if path in bare and path not in (place.path for place in found.values()):
-            raise Refusal(quoting.shown(path), "no physical volume of the group is in it that isn't elsewhere: leave "
-                          "it out")
+            if named.get(identity) in here:
+                found[named[identity]] = Place(path, start)
+                decided.add(named[identity])
     for name, place in places.items():
         if name in sizes and name not in decided and not place.is_said:
             check_partition(name, place.path, sizes[name])

@@ -14,6 +14,7 @@ isn't whole, a device or a list that it doesn't have, and blocks past the end of
 """
 
 import array
+import itertools
 from argparse import ArgumentParser, Namespace
 from typing import Dict, Iterable, Iterator, List, Optional, Set, Tuple
 
@@ -81,46 +82,37 @@ class Runs:
             raise Refusal(element.name, f"more than {MOST_RUNS} runs of blocks: use `save` or `serve`")
 
 
-class Blocks:
-    """The blocks that a dump has, for each its number on the origin and in the cache and whether it is taken for dirty; and the sectors
-    of a block."""
+def read_cache(path: str, is_all: bool) -> Tuple[int, Iterator[Tuple[int, int, int]]]:
+    """The sectors of a block of a cache, and the runs of its dirty blocks, by their places on the origin: the first
+    block there and in the cache, and how many there are."""
+    size = most = 0
+    origins, cached, is_dirty = array.array("Q"), array.array("Q"), bytearray()
+    for element in dumps.elements(path, "cache_dump"):
+        if element.tag not in OF_CACHE:
+            element.refuse("an element that isn't known")
+        if element.tag == "superblock" and not element.is_end:
+            size, most = element.block_size("block_size"), element.number("nr_cache_blocks")
+        elif element.tag == "mapping" and not element.is_end:
+            if element.number("cache_block") >= most or len(cached) == MOST_BLOCKS:
+                element.refuse(f"past the end of the cache, of {min(most, MOST_BLOCKS)} blocks")
+            if element.said.get("dirty") not in ("true", "false"):
+                element.refuse("`dirty` is neither true nor false")
+            origins.append(element.number("origin_block"))
+            cached.append(element.number("cache_block"))
+            is_dirty.append(is_all or element.said["dirty"] == "true")
+    for where, blocks in (("origin", origins), ("cache", cached)):
+        for block, run in itertools.groupby(sorted(blocks)):
+            if len(list(run)) > 1:
+                raise Refusal(streams.name_of(path), f"block {block} of the {where} is there twice: {dumps.ANEW}")
+    dirty = sorted(filter(is_dirty.__getitem__, range(len(origins))), key=origins.__getitem__)
+    return size, runs_of((origins[it], cached[it]) for it in dirty)
 
-    def __init__(self, path: str, is_all: bool) -> None:
-        self.size = most = 0
-        self._origins, self._cached = array.array("Q"), array.array("Q")
-        self._is_dirty = bytearray()
-        for element in dumps.elements(path, "cache_dump"):
-            if element.tag not in OF_CACHE:
-                element.refuse("an element that isn't known")
-            if element.tag == "superblock" and not element.is_end:
-                self.size, most = element.block_size("block_size"), element.number("nr_cache_blocks")
-            elif element.tag == "mapping" and not element.is_end:
-                if element.number("cache_block") >= most or len(self._cached) == MOST_BLOCKS:
-                    element.refuse(f"past the end of the cache, of {min(most, MOST_BLOCKS)} blocks")
-                if element.said.get("dirty") not in ("true", "false"):
-                    element.refuse("`dirty` is neither true nor false")
-                self._origins.append(element.number("origin_block"))
-                self._cached.append(element.number("cache_block"))
-                self._is_dirty.append(is_all or element.said["dirty"] == "true")
-        for where, blocks in (("origin", self._origins), ("cache", self._cached)):
-            last = None
-            for block in sorted(blocks):
-                if block == last:
-                    raise Refusal(streams.name_of(path), f"block {block} of the {where} is there twice: {dumps.ANEW}")
-                last = block
 
-    def runs(self) -> Iterator[Tuple[int, int, int]]:
-        """The runs of dirty blocks, by their places on the origin: the first block there and in the cache, and how many there are."""
-        first = cached = count = 0
-        for place in sorted(filter(self._is_dirty.__getitem__, range(len(self._origins))), key=self._origins.__getitem__):
-            if count and (self._origins[place], self._cached[place]) == (first + count, cached + count):
-                count += 1
-                continue
-            if count:
-                yield first, cached, count
-            first, cached, count = self._origins[place], self._cached[place], 1
-        if count:
-            yield first, cached, count
+def runs_of(blocks: Iterable[Tuple[int, int]]) -> Iterator[Tuple[int, int, int]]:
+    """The runs of sorted blocks that follow each other in both of their places."""
+    for _, run in itertools.groupby(enumerate(blocks), lambda it: (it[1][0] - it[0], it[1][1] - it[0])):
+        _, (origin, cached) = next(run)
+        yield origin, cached, 1 + sum(1 for _ in run)
 
 
 def add_words(parser: ArgumentParser) -> None:
@@ -145,8 +137,8 @@ def run(words: Namespace) -> None:
     elif words.data is None and not words.device and not words.external and None not in of_cache:
         cache, origin = parts.disk_in(words.cache, "--cache"), parts.disk_in(words.origin, "--origin")
         sectors = numbers.check_length("--sectors", words.sectors)
-        blocks = Blocks(words.dump, words.all)
-        lines = dumps.lines_of(words.name, blocks.runs(), blocks.size, sectors, cache, origin)
+        size, runs = read_cache(words.dump, words.all)
+        lines = dumps.lines_of(words.name, runs, size, sectors, cache, origin)
         made = [parts.device_of(words.name, "ro", lines, parts.part_of(words))]
     else:
         raise WrongWords("give --data and --device, or --cache, --origin, --name and --sectors")
