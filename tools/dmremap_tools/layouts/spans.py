@@ -26,9 +26,8 @@ from dmremap_tools.base.numbers import SECTOR
 from dmremap_tools.base.paths import Place
 from dmremap_tools.base.refusal import Refusal, WrongWords
 from dmremap_tools.layouts import stacked
-from dmremap_tools.layouts.group_spans import ALLOCATED, PhysicalVolume, physical_volumes
-from dmremap_tools.layouts.heads import OF_LVM, heads_of
 from dmremap_tools.layouts.span_lines import END, Span, clashes_in
+from dmremap_tools.layouts.taken import OF_LVM, OUTER, PhysicalVolume, heads_of, physical_volumes
 from dmremap_tools.metadata.chosen_part import check_places, volume_label
 
 EXAMPLE = "dmremap-tools spans stack.disks stack.table > spans"
@@ -140,11 +139,13 @@ class Spans:
     def add_heads(self, on: str, image: Image) -> None:
         """Adds what the beginning of a disk or a device says is taken, and those partitions in which nothing lies."""
         for head in heads_of(image):
-            first, end = head.first, min(head.end, self._sizes[on])
-            is_told = any(it.on == on and it.first < end and first < it.end for it in self._spans) if head.is_outer() \
-                else head.what.endswith(OF_LVM) and on in self._described
-            if first < end and not is_told:
-                self._spans.append(Span(on, first, end, head.what, "-", ALLOCATED))
+            head = head._replace(on=on, end=min(head.end, self._sizes[on]))
+            if head.device.startswith(OUTER):
+                is_told = any(it.on == on and it.first < head.end and head.first < it.end for it in self._spans)
+            else:
+                is_told = head.device.endswith(OF_LVM) and on in self._described
+            if head.first < head.end and not is_told:
+                self._spans.append(head)
 
     def _add_device(self, device: tables.Device) -> None:
         for line in device.lines:

@@ -3,32 +3,19 @@
 import itertools
 import os
 import re
-from typing import Dict, List, NamedTuple, Sequence, Tuple
+from collections import namedtuple
+from typing import Dict, List, Sequence, Tuple
 
 from dmremap_tools.base import numbers, program, quoting, streams
 from dmremap_tools.base.refusal import Refusal
 from dmremap_tools.layouts import debugfs
 from dmremap_tools.layouts.asked_runs import MOST_BLOCKS, AskedRuns
 
-FIGURE = re.compile(r"^(blocksize|dblocks|agblocks|agblklog|inopblog|inodesize) = ([0-9]{1,20})$", re.M)
+# What the superblock says: sizes in bytes, numbers of blocks, and logarithms of blocks and inodes.
+Geometry = namedtuple("Geometry", "blocksize dblocks agblocks agblklog inopblog inodesize")
+FIGURE = re.compile(r"^(%s) = ([0-9]{1,20})$" % "|".join(Geometry._fields), re.M)
 USE = re.compile(r"^block [0-9]{1,20} \(([0-9]{1,10})/([0-9]{1,10})\) type ([a-z0-9]+)(?: inode ([0-9]{1,20}))?$", re.M)
 MOST_BLOCK = 1 << 16
-
-
-class Geometry(NamedTuple):
-    """What the superblock says: sizes in bytes, numbers of blocks, and logarithms of blocks and inodes."""
-
-    blocksize: int
-    dblocks: int
-    agblocks: int
-    agblklog: int
-    inopblog: int
-    inodesize: int
-
-    def is_sound(self) -> bool:
-        """Whether its figures can be computed with."""
-        is_block = numbers.SECTOR <= self.blocksize <= MOST_BLOCK and self.blocksize % numbers.SECTOR == 0
-        return is_block and self.agblocks > 0 and max(self.agblklog, self.inopblog) < 64 and 0 < self.inodesize <= self.blocksize
 
 
 class XfsSystem:
@@ -62,9 +49,12 @@ class XfsSystem:
     def _read_geometry(self) -> Geometry:
         printed, complaints = self._ask(["sb 0", "print " + " ".join(Geometry._fields)])
         figures = {name: int(figure) for name, figure in FIGURE.findall(printed)}
-        if len(figures) < len(Geometry._fields) or not Geometry(**figures).is_sound():
+        it = Geometry(*(figures.get(name, 0) for name in Geometry._fields))
+        is_block = numbers.SECTOR <= it.blocksize <= MOST_BLOCK and it.blocksize % numbers.SECTOR == 0
+        is_inode = 0 < it.inodesize <= it.blocksize and max(it.agblklog, it.inopblog) < 64
+        if len(figures) < len(it) or not is_block or not is_inode or not it.agblocks:
             raise self._refusal(complaints)
-        return Geometry(**figures)
+        return it
 
     def _read_uses(self, blocks: Sequence[int]) -> Dict[int, Tuple[str, int]]:
         """As what each of these blocks is used, and its inode, or 0."""
