@@ -24,11 +24,11 @@ class Run(NamedTuple):
         return range(self.first // sectors, (self.first + self.count - 1) // sectors + 1)
 
 
-class AskedRuns:
+class AskedRuns(NamedTuple):
     """The runs of sectors of a volume."""
 
-    def __init__(self, volume: str, runs: Sequence[Run]) -> None:
-        self.volume, self.runs = volume, list(runs)
+    volume: str
+    runs: Sequence[Run]
 
     def blocks(self, sectors: int, end: int) -> List[int]:
         """The blocks of so many sectors that they lie in, each once, up to the end of a file system."""

@@ -1,8 +1,13 @@
-"""Questions to programs that read file systems, and write nothing here: debugfs of e2fsprogs for ext2, ext3, ext4."""
+"""Questions to programs that read file systems, and write nothing here: debugfs of e2fsprogs for ext2, ext3, ext4.
+
+debugfs prints a name as it stands on the disk, so one with a line feed may look like the line of another inode. What is
+told here is only what was asked for, and leads to its inode where it is looked up.
+"""
 
 import itertools
+import re
 import tempfile
-from typing import Iterable, Iterator, List, Sequence, Tuple
+from typing import Dict, Iterable, Iterator, List, Optional, Sequence, Tuple
 
 from dmremap_tools.base import program, quoting, streams
 from dmremap_tools.base.refusal import Refusal
@@ -12,6 +17,12 @@ LONGEST, LONGEST_OF_MANY, MOST_AT_ONCE = 100000, 8000, 4096
 NO_ANSWER = b"pwd"
 MOST_COMPLAINTS = 3
 ECHO, NOT_OPEN = "debugfs: ", ": Filesystem not open"
+NAMED = re.compile(r"([1-9][0-9]{0,9})\t(/.*)")
+FOUND = re.compile(r"Inode ([1-9][0-9]{0,9}) is part of ")
+ROOT = 2
+# debugfs ends its search once it has as many names as the inodes say that they have, and one that is lost says none.
+# The root counts as one and has no name: asked for as well, and as often, it lets the search go on.
+NCHECK = "ncheck" + " %d" % ROOT * 1000
 
 
 class Debugfs:
@@ -43,6 +54,34 @@ class Debugfs:
             printed, _ = self._asked(["-f", "-"], [it if len(it) <= LONGEST_OF_MANY else NO_ANSWER for it in encoded])
             yield from ("\n" + printed).split("\n" + ECHO)[1:]
 
+    def names_of(self, inodes: Sequence[int]) -> Dict[int, List[str]]:
+        """The paths of each of these inodes, which may be none."""
+        found: Dict[int, List[str]] = {it: [] for it in inodes}
+        for _, printed, complaints in self.ask_for(NCHECK, [it for inode in inodes for it in (ROOT, inode)]):
+            tell(complaints)
+            for match in map(NAMED.fullmatch, printed.split("\n")):
+                if match and int(match[1]) in found:
+                    found[int(match[1])].append(with_one_slash(match[2]))
+        asked = [(inode, path) for inode, paths in found.items() for path in paths]
+        answers = itertools.chain(self.ask_many("imap " + quoted(path) for _, path in asked), itertools.repeat(""))
+        for inode in {inode for (inode, _), answer in zip(asked, answers) if inode_in(answer) != inode}:
+            found[inode] = self._names_alone(inode)
+        if ROOT in found:
+            found[ROOT] = ["/"]
+        return found
+
+    def _names_alone(self, inode: int) -> List[str]:
+        """The paths of an inode that is asked for alone. A path that leads elsewhere goes on the name before it."""
+        begin = "\n%d\t" % inode
+        printed = ("\n" + self.ask("%s %d" % (NCHECK, inode))[0]).partition(begin)[2]
+        paths: List[str] = []
+        for path in map(with_one_slash, printed[:-1].split(begin)):
+            if paths and inode_in(self.ask("imap " + quoted(path))[0]) != inode:
+                paths[-1] += begin + path
+            else:
+                paths.append(path)
+        return [it for it in paths if it.startswith("/")]
+
     def _asked(self, request: List[str], lines: Iterable[bytes] = ()) -> Tuple[str, List[str]]:
         printed, said = asked([program.found("debugfs"), *self.options, *request, "--", self.image], lines)
         complaints = [it[len(ECHO):] if it.startswith(ECHO) else it for it in said]
@@ -73,3 +112,14 @@ def refusal(image: str, name: str, complaints: Sequence[str], check: str) -> Ref
 def quoted(path: str) -> str:
     """A path as a word of a request."""
     return '"%s"' % path.replace('"', '""')
+
+
+def inode_in(answer: str) -> Optional[int]:
+    """The inode that a path leads to."""
+    match = FOUND.search(answer)
+    return int(match[1]) if match else None
+
+
+def with_one_slash(path: str) -> str:
+    """A path of debugfs, which begins with two."""
+    return re.sub("^/+", "/", path)

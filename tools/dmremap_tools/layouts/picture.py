@@ -14,8 +14,8 @@ from typing import Dict, List, Set, Tuple
 
 from dmremap_tools.base import quoting, streams
 from dmremap_tools.base.refusal import Refusal
-from dmremap_tools.layouts import span_lines, svg
-from dmremap_tools.layouts.span_lines import Span
+from dmremap_tools.layouts import svg
+from dmremap_tools.layouts.span_lines import END, MEET, Span, kind_of
 
 EXAMPLE = "dmremap-tools spans stack.disks stack.table | dmremap-tools picture > disks.svg"
 WIDTH, MARGIN, LANE = 900, 20, 26
@@ -35,8 +35,8 @@ class Bar:
         self._busy: List[Tuple[int, int]] = []
         self._free: List[int] = []
         # For each kind the ranges that may clash and aren't known to, and the end of all.
-        self._open: Dict[str, List[int]] = {it: [] for it in span_lines.MEET}
-        self._ends = dict.fromkeys(span_lines.MEET, 0)
+        self._open: Dict[str, List[int]] = {it: [] for it in MEET}
+        self._ends = dict.fromkeys(MEET, 0)
 
     def add(self, span: Span) -> None:
         """Adds a range, in the first lane in which it meets none."""
@@ -44,8 +44,8 @@ class Bar:
             heapq.heappush(self._free, heapq.heappop(self._busy)[1])
         self.lanes.append(heapq.heappop(self._free) if self._free else len(self._busy))
         heapq.heappush(self._busy, (span.end, self.lanes[-1]))
-        place, kind = len(self.ranges), span_lines.kind_of(span)
-        for other in span_lines.MEET[kind]:
+        place, kind = len(self.ranges), kind_of(span)
+        for other in MEET[kind]:
             if self._ends[other] > span.first:
                 self.clashing.update([place], (it for it in self._open[other] if self.ranges[it].end > span.first))
                 self._open[other] = []
@@ -78,17 +78,27 @@ def run(words: Namespace) -> None:
 def read(path: str) -> Dict[str, Bar]:
     """The bars, by what they are of."""
     bars: Dict[str, Bar] = {}
-    for span in span_lines.spans_in(path):
+    source = streams.Lines(path)
+    for row in source:
+        fields = row.split(" ")
+        is_line = len(fields) == 6 and "" not in fields
+        first, end = map(source.whole, fields[1:3]) if is_line else (1, 0)
+        if first > end:
+            source.refuse("not a line of spans, give what `spans` prints: " + quoting.shown(row))
+        span = Span(fields[0], first, end, *fields[3:])
         bar = bars.setdefault(span.on, Bar(span.on))
-        if span.kind == span_lines.END:
-            bar.size = span.end
-        elif span.first < span.end:
-            if bar.ranges and span.first < bar.ranges[-1].first:
-                raise Refusal(streams.name_of(path), "the ranges of %s aren't sorted: give what `spans` prints" % quoting.shown(span.on))
+        if span.kind == END:
+            bar.size = end
+        elif first < end:
+            if bar.ranges and first < bar.ranges[-1].first:
+                raise Refusal(source.name, f"the ranges of {quoting.shown(span.on)} aren't sorted: give what `spans` "
+                              "prints")
             bar.add(span)
+    source.tell_if_none()
     for bar in bars.values():
         if not bar.size or any(it.end > bar.size for it in bar.ranges):
-            raise Refusal(streams.name_of(path), "%s has no end, or a range past it: give what `spans` prints" % quoting.shown(bar.on))
+            raise Refusal(source.name, f"{quoting.shown(bar.on)} has no end, or a range past it: give what `spans` "
+                          "prints")
     return bars
 
 

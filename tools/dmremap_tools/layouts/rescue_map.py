@@ -12,14 +12,8 @@ FINISHED, BAD, UNTRIED = "+", "-", "?"
 NUMBER = r"(0x[0-9A-Fa-f]{1,16}|0|[1-9][0-9]{0,19})"
 CURRENT = re.compile(NUMBER + r"\s+[?*/+FG-](?:\s+[0-9]{1,9})?")
 AREA = re.compile(NUMBER + r"\s+" + NUMBER + r"\s+([?*/+-])")
-
-
-class Area(NamedTuple):
-    """The bytes from `begin` up to `end`, with a status."""
-
-    begin: int
-    end: int
-    status: str
+# The bytes from `begin` up to `end`, with a status.
+Area = NamedTuple("Area", [("begin", int), ("end", int), ("status", str)])
 
 
 def areas_in(source: streams.Lines, rows: Iterator[str]) -> Iterator[Area]:
@@ -35,7 +29,6 @@ def areas_in(source: streams.Lines, rows: Iterator[str]) -> Iterator[Area]:
 
 
 def add_words(parser: ArgumentParser) -> None:
-    """Adds --map."""
     parser.add_argument("--map", metavar="IMAGE=MAP", action="append", default=[], help="the map of ddrescue of an image")
 
 

@@ -4,7 +4,6 @@ share an origin, also with the line `snapshot-origin` that serves them."""
 import heapq
 from typing import Dict, Iterable, Iterator, List, NamedTuple
 
-from dmremap_tools.base import quoting, streams
 from dmremap_tools.base.refusal import Refusal
 
 # The kind of a line that says where a disk or a device ends, and those that may share sectors.
@@ -27,21 +26,6 @@ class Span(NamedTuple):
 
     def __str__(self) -> str:
         return "%s %d %d %s %s %s\n" % self
-
-
-def spans_in(path: str) -> Iterator[Span]:
-    """The lines of a file."""
-    source = streams.Lines(path)
-    for row in source:
-        fields = row.split(" ")
-        if len(fields) != 6 or "" in fields:
-            source.refuse("not a line of spans, give what `spans` prints: " + quoting.shown(row))
-        on, first, end, device, start, kind = fields
-        span = Span(on, source.whole(first), source.whole(end), device, start, kind)
-        if span.first > span.end:
-            source.refuse("not a line of spans, give what `spans` prints: " + quoting.shown(row))
-        yield span
-    source.tell_if_none()
 
 
 def kind_of(span: Span) -> str:

@@ -24,15 +24,9 @@ OUTER = (PARTITION, MEMBER, CONTAINER)
 # How much of a disk a GPT takes at its beginning, and a header of LUKS with its keys, as both are made, where neither
 # is sound, so that nothing says more.
 GPT_SECTORS, LUKS_SECTORS, SUPERBLOCK_SECTORS = 34, 32768, 8
-
-
-class PhysicalVolume(NamedTuple):
-    """A physical volume: its key, path and id in the metadata, and what is taken of it, wherever it is."""
-
-    key: str
-    path: str
-    identity: Optional[bytes]
-    taken: List[Span]
+# A physical volume: its key, path and id in the metadata, and what is taken of it, wherever it is.
+PhysicalVolume = NamedTuple("PhysicalVolume", [
+    ("key", str), ("path", str), ("identity", Optional[bytes]), ("taken", List[Span])])
 
 
 def physical_volumes(path: str, named: Collection[str]) -> Iterator[PhysicalVolume]:
