@@ -7,7 +7,7 @@ told here is only what was asked for, and leads to its inode where it is looked 
 import itertools
 import re
 import tempfile
-from typing import Dict, Iterable, Iterator, List, Optional, Sequence, Tuple
+from typing import Dict, Iterable, Iterator, List, Sequence, Tuple
 
 from dmremap_tools.base import program, quoting, streams
 from dmremap_tools.base.refusal import Refusal
@@ -17,7 +17,8 @@ LONGEST, LONGEST_OF_MANY, MOST_AT_ONCE = 100000, 8000, 4096
 NO_ANSWER = b"pwd"
 MOST_COMPLAINTS = 3
 ECHO, NOT_OPEN = "debugfs: ", ": Filesystem not open"
-NAMED = re.compile(r"([1-9][0-9]{0,9})\t(/.*)")
+# The line of an inode and its path, which begins with two slashes.
+NAMED = re.compile(r"([1-9][0-9]{0,9})\t/*(/.*)")
 FOUND = re.compile(r"Inode ([1-9][0-9]{0,9}) is part of ")
 ROOT = 2
 # debugfs ends its search once it has as many names as the inodes say that they have, and one that is lost says none.
@@ -61,10 +62,10 @@ class Debugfs:
             tell(complaints)
             for match in map(NAMED.fullmatch, printed.split("\n")):
                 if match and int(match[1]) in found:
-                    found[int(match[1])].append(with_one_slash(match[2]))
+                    found[int(match[1])].append(match[2])
         asked = [(inode, path) for inode, paths in found.items() for path in paths]
         answers = itertools.chain(self.ask_many("imap " + quoted(path) for _, path in asked), itertools.repeat(""))
-        for inode in {inode for (inode, _), answer in zip(asked, answers) if inode_in(answer) != inode}:
+        for inode in {inode for (inode, _), answer in zip(asked, answers) if not leads_to(inode, answer)}:
             found[inode] = self._names_alone(inode)
         if ROOT in found:
             found[ROOT] = ["/"]
@@ -75,8 +76,9 @@ class Debugfs:
         begin = "\n%d\t" % inode
         printed = ("\n" + self.ask("%s %d" % (NCHECK, inode))[0]).partition(begin)[2]
         paths: List[str] = []
-        for path in map(with_one_slash, printed[:-1].split(begin)):
-            if paths and inode_in(self.ask("imap " + quoted(path))[0]) != inode:
+        for path in printed[:-1].split(begin):
+            path = re.sub("^/+", "/", path)
+            if paths and not leads_to(inode, self.ask("imap " + quoted(path))[0]):
                 paths[-1] += begin + path
             else:
                 paths.append(path)
@@ -114,12 +116,6 @@ def quoted(path: str) -> str:
     return '"%s"' % path.replace('"', '""')
 
 
-def inode_in(answer: str) -> Optional[int]:
-    """The inode that a path leads to."""
-    match = FOUND.search(answer)
-    return int(match[1]) if match else None
-
-
-def with_one_slash(path: str) -> str:
-    """A path of debugfs, which begins with two."""
-    return re.sub("^/+", "/", path)
+def leads_to(inode: int, answer: str) -> bool:
+    """Whether a path leads to an inode, as `imap` answers."""
+    return FOUND.findall(answer)[:1] == [str(inode)]

@@ -12,24 +12,13 @@ END, ORIGIN, SERVES, OTHER = "end", "origin", "snapshot-origin", "other"
 MEET = {ORIGIN: (OTHER,), SERVES: (SERVES, OTHER), OTHER: (ORIGIN, SERVES, OTHER)}
 # How many clashes are printed: nested ranges have as many as their number squared.
 MOST = 1000000
-
-
-class Span(NamedTuple):
-    """A range of sectors of a disk or a device: whose line uses it, where that begins on its device, and as what."""
-
-    on: str
-    first: int
-    end: int
-    device: str
-    start: str
-    kind: str
-
-    def __str__(self) -> str:
-        return "%s %d %d %s %s %s\n" % self
+# A range of sectors of a disk or a device: whose line uses it, where that begins on its device, and as what.
+Span = NamedTuple("Span", [
+    ("on", str), ("first", int), ("end", int), ("device", str), ("start", str), ("kind", str)])
+LINE = "%s %d %d %s %s %s\n"
 
 
 def kind_of(span: Span) -> str:
-    """What counts of a span's kind."""
     return span.kind if span.kind in (ORIGIN, SERVES) else OTHER
 
 

@@ -26,7 +26,7 @@ from dmremap_tools.base.numbers import SECTOR
 from dmremap_tools.base.paths import Place
 from dmremap_tools.base.refusal import Refusal, WrongWords
 from dmremap_tools.layouts import stacked
-from dmremap_tools.layouts.span_lines import END, Span, clashes_in
+from dmremap_tools.layouts.span_lines import END, LINE, Span, clashes_in
 from dmremap_tools.layouts.taken import OF_LVM, OUTER, PhysicalVolume, heads_of, physical_volumes
 from dmremap_tools.metadata.chosen_part import check_places, volume_label
 
@@ -67,7 +67,7 @@ def run(words: Namespace) -> None:
         begun = (it for it in spans.sorted() if it.kind != END and it.first % words.to)
         lines = (f"{it.device} begins at sector {it.first} of {it.on}\n" for it in begun)
     else:
-        lines = map(str, with_free(spans.sorted()) if words.free else spans.sorted())
+        lines = with_free(spans.sorted()) if words.free else (LINE % it for it in spans.sorted())
     for line in lines:
         streams.out.write(line)
 
@@ -82,7 +82,7 @@ def with_free(spans: List[Span]) -> Iterator[str]:
             yield f"{on} {at} {span.first} unnamed\n"
         at = max(at, span.end)
         if span.kind != END:
-            yield str(span)
+            yield LINE % span
 
 
 def images_of(places: Dict[str, Place], disks: Iterable[str], devices: Sequence[tables.Device]) -> Dict[str, Image]:

@@ -68,7 +68,6 @@ def run(words: Namespace) -> None:
 
 
 def places_of(loaded: stack.Stack, name: str) -> Iterator[str]:
-    """Says of each snapshot whether its store can be full."""
     lengths = dict(loaded.sizes, **{path: device.end() for path, device in loaded.by_path().items()})
     served = {line.words[0] for device in loaded.devices for line in device.lines if line.target == "snapshot-origin"}
     snapshots = [(device, line.words) for device in loaded.devices for line in device.lines if line.target == "snapshot"]
@@ -89,11 +88,11 @@ def places_of(loaded: stack.Stack, name: str) -> Iterator[str]:
 
 
 def ends_of(runs: "Runs") -> Iterator[str]:
-    """Says when each snapshot becomes invalid."""
     for name, status in runs.statuses(runs.size).items():
         if status == INVALID:
             low, high = runs.last_valid(name)
-            yield f"{name}: invalid by request {runs.requests(high)}, before it {runs.statuses(low)[name]}\n"
+            number = runs.text.count(b"\n", 0, high)
+            yield f"{name}: invalid by request {number}, before it {runs.statuses(low)[name]}\n"
         else:
             yield f"{name}: valid to the end, {status}\n"
 
@@ -102,16 +101,15 @@ class Runs:
     """dmremap over the beginnings of a text of requests, in bytes. Each run is made once."""
 
     def __init__(self, text: bytes, command: List[str]) -> None:
-        self.size = len(text)
-        self._text, self._command = text, command
+        self.text, self.size, self._command = text, len(text), command
         self._known: Dict[int, Dict[str, str]] = {}
 
     def statuses(self, size: int) -> Dict[str, str]:
         """The status of each snapshot after the requests in so many bytes."""
         if size not in self._known:
             streams.show_progress(f"run {len(self._known) + 1}, over {size} of {self.size} bytes")
-            parts = (self._text[at:min(at + CHUNK, size)].decode("utf-8", "surrogateescape") for at in range(0, size, CHUNK))
-            with Mapped(self._command, parts) as mapped:
+            parts = (self.text[at:min(at + CHUNK, size)] for at in range(0, size, CHUNK))
+            with Mapped(self._command, (it.decode("utf-8", "surrogateescape") for it in parts)) as mapped:
                 found = [it for block in mapped.answers.blocks() for it in STATUS.findall(block)]
             self._known[size] = dict(found)
         return self._known[size]
@@ -119,14 +117,10 @@ class Runs:
     def last_valid(self, name: str) -> Tuple[int, int]:
         """The end of the last request after which the snapshot is valid, and that of the next one."""
         low, high = 0, self.size
-        while self._text.find(b"\n", low) + 1 < high:
-            middle = self._text.rfind(b"\n", low, (low + high) // 2) + 1 or self._text.find(b"\n", low) + 1
+        while self.text.find(b"\n", low) + 1 < high:
+            middle = self.text.rfind(b"\n", low, (low + high) // 2) + 1 or self.text.find(b"\n", low) + 1
             low, high = (middle, high) if self.statuses(middle)[name] != INVALID else (low, middle)
         return low, high
-
-    def requests(self, size: int) -> int:
-        """How many requests there are in so many bytes."""
-        return self._text.count(b"\n", 0, size)
 
 
 def write_sizes(path: str, chunk: int, kind: str) -> None:

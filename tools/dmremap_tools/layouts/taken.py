@@ -91,7 +91,7 @@ def heads_of(image: Image) -> Iterator[Span]:
         found.append(head(at // SECTOR, at // SECTOR + SUPERBLOCK_SECTORS, DAMAGED + "superblock" + OF_MD))
     if all(it.start for it in members):
         found += contents_of(image, volume_label(image), image.size)
-    # What would begin after the end of an image that is cut isn't there.
+    # What has no sectors, or would begin after the end of an image that is cut, isn't there.
     yield from (it for it in found or table_heads(image) if it.first < it.end)
 
 
@@ -103,10 +103,8 @@ def contents_of(image: Image, label: Optional[Label], size: int) -> List[Span]:
 def member_heads(image: Image, member: Superblock) -> Iterator[Span]:
     """A member of an array: its data, what that holds if it is all of the array's, and the rest, the array's own."""
     end, last = member.start + member.length, image.size // SECTOR
-    if member.start:
-        yield head(0, member.start, "superblock" + OF_MD)
-    if end < last:
-        yield head(end, last, "superblock" + OF_MD)
+    yield head(0, member.start, "superblock" + OF_MD)
+    yield head(end, last, "superblock" + OF_MD)
     yield head(member.start, end, MEMBER + md_superblock.level_name(member).replace(" ", "-"))
     if md_superblock.has_all(member) and not member.start:
         data = image.part(0, member.length * SECTOR)
@@ -150,7 +148,6 @@ def table_heads(image: Image) -> Iterator[Span]:
     if not table:
         return
     for start, end in table.taken:
-        if start < min(end, image.size):
-            yield head(start // SECTOR, min(end, image.size) // SECTOR, table.kind)
+        yield head(start // SECTOR, min(end, image.size) // SECTOR, table.kind)
     for number, start, size in table.partitions:
         yield head(start // SECTOR, (start + size) // SECTOR, "%s%d" % (PARTITION, number))

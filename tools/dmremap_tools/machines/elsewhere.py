@@ -76,24 +76,22 @@ def moved(source: str, devices: List[tables.Device], path_of: Dict[str, str], pr
             return names.MAPPER + prefix + path[len(names.MAPPER):]
         return path_of.get(path) or names.MAPPER + stand_ins[path].name
 
-    made = []
+    for disk, start, count in (span for device in devices for line in device.lines for span in line.spans()):
+        if disk.startswith(names.MAPPER) or disk in path_of:
+            continue
+        if not target:
+            raise Refusal(source, f"no path of the disk {quoting.shown(disk)}: add it to PATHS")
+        if count is None:
+            raise Refusal(source, f"a snapshot needs the disk {quoting.shown(disk)}: give its path in PATHS")
+        if disk not in stand_ins:
+            stand_ins[disk] = tables.Device(next(free), "ro")
+            streams.tell(f"missing: {quoting.shown(disk)}, which reads as {target}: {stand_ins[disk].name}")
+        end = max([start + count] + [it.length for it in stand_ins[disk].lines])
+        stand_ins[disk].lines = [tables.Line(0, end, target, [])]
     for device in devices:
-        made.append(tables.Device(prefix + device.name, "ro"))
-        for line in device.lines:
-            for disk, start, count in line.spans():
-                if disk.startswith(names.MAPPER) or disk in path_of:
-                    continue
-                if not target:
-                    raise Refusal(source, f"no path of the disk {quoting.shown(disk)}: add it to PATHS")
-                if count is None:
-                    raise Refusal(source, f"a snapshot needs the disk {quoting.shown(disk)}: give its path in PATHS")
-                if disk not in stand_ins:
-                    stand_ins[disk] = tables.Device(next(free), "ro")
-                    streams.tell(f"missing: {quoting.shown(disk)}, which reads as {target}: {stand_ins[disk].name}")
-                end = max([start + count] + [it.length for it in stand_ins[disk].lines])
-                stand_ins[disk].lines = [tables.Line(0, end, target, [])]
-            made[-1].lines.append(line.with_lowers(lower))
-    return [*stand_ins.values(), *made]
+        device.name, device.flags = prefix + device.name, "ro"
+        device.lines = [line.with_lowers(lower) for line in device.lines]
+    return [*stand_ins.values(), *devices]
 
 
 def check_store(source: str, device: tables.Device, stack: Stack, path_of: Dict[str, str], target: Optional[str]) -> None:

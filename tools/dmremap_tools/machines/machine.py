@@ -38,9 +38,8 @@ from typing import Dict, List, Optional, Tuple
 
 from dmremap_tools.base import disk_image, listings, numbers, paths, quoting, streams, tables
 from dmremap_tools.base.refusal import Refusal, WrongWords
-from dmremap_tools.machines.found import NOT_ASKED, Found, leave_others, leave_unknown, read_status, read_tables
+from dmremap_tools.machines.found import NOT_ASKED, Found, Stack, leave_others, leave_unknown, read_status, read_tables
 from dmremap_tools.machines.placed import partitioned, sectors_at
-from dmremap_tools.machines.stack import Stack
 from dmremap_tools.metadata.chosen_part import GIVE
 
 EXAMPLE = "dmremap-tools machine --disks disks ls.txt status.txt lsblk.txt concise.txt > tables"
@@ -111,7 +110,7 @@ def length_in(path: str, number: str, known: Optional[int], sector: int) -> int:
                           % (quoting.shown(number), known, length))
         return length
     kind, partitions = partitioned(disk_image.raw_image(place.path), sector)
-    if known is not None and known in (it.size // numbers.SECTOR for it in partitions):
+    if known in (it.size // numbers.SECTOR for it in partitions):
         return known
     major, _, minor = number.partition(":")
     is_of_sd = major in SD_MAJORS and minor.isdecimal()
