@@ -13,7 +13,7 @@ from dmremap_tools.base import quoting, streams
 from dmremap_tools.base.numbers import SECTOR
 from dmremap_tools.base.refusal import Refusal
 from dmremap_tools.layouts.asked_runs import AskedRuns
-from dmremap_tools.layouts.debugfs import MOST_COMPLAINTS, Debugfs, refusal, tell
+from dmremap_tools.layouts.debugfs import MOST_COMPLAINTS, ROOT, Debugfs, refusal, tell
 
 OWNED = re.compile(r"([0-9]{1,20})\t([1-9][0-9]{0,9}|<block not found>)")
 USED_BLOCK = re.compile(r"^Block ([0-9]{1,20}) marked in use$", re.M)
@@ -45,7 +45,7 @@ class ExtLayout:
         self.size = figure["Block size"]
         self.sectors, self.first, self.end = self.size // SECTOR, figure["First block"], figure["Block count"]
         self._per_group, self._inodes = figure["Blocks per group"], figure["Inodes per group"]
-        self._inode_size, self._first_inode = figure.get("Inode size") or 128, figure.get("First inode", 11)
+        self._inode_size, self.first_inode = figure.get("Inode size") or 128, figure.get("First inode", 11)
         features = set(said.get("Filesystem features", "").split())
         self.is_sure, self._is_sparse = not UNSURE & features, bool(SPARSE_FEATURES & features)
         self._table_blocks = -(-self._inodes * self._inode_size // self.size)
@@ -73,10 +73,6 @@ class ExtLayout:
         begin = (first * SECTOR - start * self.size) // self._inode_size
         stop = min(-(-(end * SECTOR - start * self.size) // self._inode_size), self._inodes)
         return range(group * self._inodes + begin + 1, group * self._inodes + stop + 1)
-
-    def is_file(self, inode: int) -> bool:
-        """Whether an inode may be one of a file with a name: but for the root, the first ones are the system's own."""
-        return inode == 2 or inode >= self._first_inode
 
 
 def layout_in(printed: str) -> Optional[ExtLayout]:
@@ -158,11 +154,13 @@ class ExtSystem:
         return True
 
     def _tabled(self, asked: AskedRuns) -> List[int]:
-        """The inodes in the sectors that are asked for, as far as tables of inodes lie there."""
+        """The inodes in the sectors that are asked for, where these lie in tables of inodes. But for the root, the first
+        ones are the system's own."""
         found: Set[int] = set()
         for run in asked.runs:
             for block, first, end in run.parts(self.sectors):
-                found.update(filter(self._layout.is_file, self._layout.inodes_at(block, first, end) or ()))
+                inodes = self._layout.inodes_at(block, first, end) or ()
+                found.update(it for it in inodes if it == ROOT or it >= self._layout.first_inode)
             if len(found) > MOST_INODES:
                 raise Refusal(asked.volume, "more than %d inodes are lost: ask for the maps of fewer images" % MOST_INODES)
         return sorted(found)

@@ -76,7 +76,6 @@ def run(words: Namespace) -> None:
 
 
 def read(path: str) -> Dict[str, Bar]:
-    """The bars, by what they are of."""
     bars: Dict[str, Bar] = {}
     source = streams.Lines(path)
     for row in source:
@@ -103,7 +102,6 @@ def read(path: str) -> Dict[str, Bar]:
 
 
 def draw(bar: Bar, top: int, width: float, numbers: Dict[str, int]) -> None:
-    """Prints a bar with its ranges."""
     streams.out.write(svg.text(MARGIN, top, "%s, %d sectors, %s" % (bar.on, bar.size, svg.size_of(bar.size))))
     streams.out.write('<rect x="%d" y="%d" width="%.2f" height="%d" fill="url(#gap)" stroke="#888"/>\n'
                       % (MARGIN, top + 6, width, bar.height()))

@@ -14,13 +14,11 @@ STYLE = 'font-family="DejaVu Sans Mono, monospace" font-size="12"'
 
 
 def head(width: int, height: int) -> str:
-    """The beginning of a picture, on white."""
     return ('<svg xmlns="http://www.w3.org/2000/svg" xmlns:xlink="http://www.w3.org/1999/xlink" width="%d" height="%d" %s>\n'
             '<rect width="100%%" height="100%%" fill="white"/>\n' % (width, height, STYLE))
 
 
 def text(x: float, y: float, content: str) -> str:
-    """A line of text."""
     return '<text x="%.2f" y="%.2f">%s</text>\n' % (x, y, escaped(content))
 
 
@@ -36,10 +34,9 @@ def colour(number: int) -> str:
 
 def size_of(sectors: int) -> str:
     """Sectors as bytes, to four digits."""
-    count, unit = float(sectors * numbers.SECTOR), 0
-    while count >= 1024 and unit < 6:
-        count, unit = count / 1024, unit + 1
-    return "%.4g %s" % (count, ("B", "KiB", "MiB", "GiB", "TiB", "PiB", "EiB")[unit])
+    count = sectors * numbers.SECTOR
+    unit = min((count.bit_length() - 1) // 10, 6)
+    return "%.4g %s" % (count / 1024 ** unit, ("B", "KiB", "MiB", "GiB", "TiB", "PiB", "EiB")[unit])
 
 
 def image(x: int, y: int, width: int, height: int, rows: Sequence[bytes]) -> str:

@@ -71,5 +71,4 @@ def draw(devices: List[tables.Device]) -> None:
 
 
 def node(text: str) -> str:
-    """A word of the graph, in quotes."""
     return '"%s"' % text.replace("\\", "\\\\").replace('"', '\\"')

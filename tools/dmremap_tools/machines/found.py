@@ -39,7 +39,6 @@ class Found(tables.Device):
         self.why = self.why or why
 
     def add(self, text: str) -> None:
-        """Takes a line of its table."""
         words = text.split()
         start, length = [numbers.read(it) for it in words[:2]] if len(words) > 2 else (None, None)
         if start is None or length is None:

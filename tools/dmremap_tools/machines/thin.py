@@ -32,31 +32,26 @@ MOST_BLOCKS = 1 << 21
 
 
 class Runs:
-    """The runs of a device or of a shared list: the first block of each, where it begins in the data, and how many blocks follow.
-    What follows each other is one. `lists` are those that a list refers to, which may be shared by many."""
+    """The runs of a device or of a shared list: the first block of each, where it begins in the data, and how many
+    blocks follow. What follows each other is one. `lists` are those that a list refers to, which many may share."""
 
     def __init__(self) -> None:
-        self.blocks = 0
         self._figures = array.array("Q")
         self.lists: List["Runs"] = []
 
     def __len__(self) -> int:
         return len(self._figures) // 3 + len(self.lists)
 
+    def blocks(self) -> int:
+        return sum(self._figures[2::3])
+
     def add(self, element: dumps.Element, first: int, place: int, count: int) -> None:
-        self.blocks += count
         figures = self._figures
         if figures and figures[-3] + figures[-1] == first and figures[-2] + figures[-1] == place:
             figures[-1] += count
         else:
             figures.extend((first, place, count))
-            self._check(element)
-
-    def add_list(self, element: dumps.Element, other: "Runs") -> None:
-        """Adds what a list has, once it is asked for."""
-        if len(other):
-            self.lists.append(other)
-            self._check(element)
+            self.check(element)
 
     def take_lists(self, element: dumps.Element) -> None:
         """Adds the runs of all lists that it refers to, by way of others as well, none of which a device can have twice."""
@@ -67,17 +62,14 @@ class Runs:
                 element.refuse("a list of blocks is in a device twice")
             seen.add(id(each))
             waiting += each.lists[::-1]
-            for run in each.runs(range(0, len(each._figures), 3)):
+            for run in zip(*[iter(each._figures)] * 3):
                 self.add(element, *run)
 
     def in_order(self) -> Iterator[Tuple[int, int, int]]:
-        return self.runs(sorted(range(0, len(self._figures), 3), key=self._figures.__getitem__))
-
-    def runs(self, places: Iterable[int]) -> Iterator[Tuple[int, int, int]]:
-        """The runs at these places."""
+        places = sorted(range(0, len(self._figures), 3), key=self._figures.__getitem__)
         return (tuple(self._figures[place:place + 3]) for place in places)  # type: ignore
 
-    def _check(self, element: dumps.Element) -> None:
+    def check(self, element: dumps.Element) -> None:
         if len(self) > MOST_RUNS:
             raise Refusal(element.name, f"more than {MOST_RUNS} runs of blocks: use `save` or `serve`")
 
@@ -199,8 +191,8 @@ class Pool:
         self._use(element, len(into))
         if element.tag == "def":
             self._lists[self._name] = into
-        elif into.blocks != self._count:
-            element.refuse(f"it has {into.blocks} blocks and not {self._count}, as it says")
+        elif into.blocks() != self._count:
+            element.refuse(f"it has {into.blocks()} blocks and not {self._count}, as it says")
 
     def _add(self, element: dumps.Element) -> None:
         """Adds blocks, or a list of them, to what has begun."""
@@ -208,8 +200,9 @@ class Pool:
             found = self._lists.get(element.said.get("name", ""))
             if found is None:
                 element.refuse("no list of this name comes before it")
-            if self._into is not None:
-                self._into.add_list(element, found)
+            if self._into is not None and len(found):
+                self._into.lists.append(found)
+                self._into.check(element)
             return
         keys = ("origin_block", "data_block", "") if element.tag == "single_mapping" else ("origin_begin", "data_begin", "length")
         first, place, count = (element.number(key) if key else 1 for key in keys)
