@@ -7,7 +7,7 @@ told here is only what was asked for, and leads to its inode where it is looked 
 import itertools
 import re
 import tempfile
-from typing import Dict, Iterable, Iterator, List, Sequence, Tuple
+from typing import Dict, Iterable, Iterator, List, NamedTuple, Sequence, Tuple
 
 from dmremap_tools.base import program, quoting, streams
 from dmremap_tools.base.refusal import Refusal
@@ -26,11 +26,11 @@ ROOT = 2
 NCHECK = "ncheck" + " %d" % ROOT * 1000
 
 
-class Debugfs:
+class Debugfs(NamedTuple):
     """debugfs on an image or a device, perhaps at FILE?offset=BYTES, with options as `-n`."""
 
-    def __init__(self, image: str, options: Sequence[str]) -> None:
-        self.image, self.options = image, list(options)
+    image: str
+    options: Sequence[str]
 
     def ask(self, request: str) -> Tuple[str, List[str]]:
         """What it answers, and what it complains of."""

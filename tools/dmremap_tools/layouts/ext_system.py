@@ -154,8 +154,8 @@ class ExtSystem:
         return True
 
     def _tabled(self, asked: AskedRuns) -> List[int]:
-        """The inodes in the sectors that are asked for, where these lie in tables of inodes. But for the root, the first
-        ones are the system's own."""
+        """The inodes in the sectors that are asked for, where these lie in tables of inodes. Those before the first are
+        the system's own, but for the root."""
         found: Set[int] = set()
         for run in asked.runs:
             for block, first, end in run.parts(self.sectors):

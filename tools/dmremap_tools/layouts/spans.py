@@ -113,8 +113,13 @@ class Spans:
         self._spans: List[Span] = []
         # Physical volumes of which metadata says what is taken.
         self._described: Set[str] = set()
-        for device in devices:
-            self._add_device(device)
+        for device, line in ((device, line) for device in devices for line in device.lines):
+            for place, (lower, first, count) in enumerate(line.spans()):
+                if lower not in self._sizes:
+                    raise Refusal(quoting.shown(lower), "neither a disk nor a device: add it to DISKS")
+                kind = line.target if line.target != "snapshot" else ("origin", "store")[place]
+                end = self._sizes[lower] if count is None else first + count
+                self._spans.append(Span(lower, first, end, device.name, str(line.start), kind))
 
     def sorted(self) -> List[Span]:
         """All ranges and ends, by what they are on and their first sector."""
@@ -146,12 +151,3 @@ class Spans:
                 is_told = head.device.endswith(OF_LVM) and on in self._described
             if head.first < head.end and not is_told:
                 self._spans.append(head)
-
-    def _add_device(self, device: tables.Device) -> None:
-        for line in device.lines:
-            for place, (lower, first, count) in enumerate(line.spans()):
-                if lower not in self._sizes:
-                    raise Refusal(quoting.shown(lower), "neither a disk nor a device: add it to DISKS")
-                kind = line.target if line.target != "snapshot" else ("origin", "store")[place]
-                end = self._sizes[lower] if count is None else first + count
-                self._spans.append(Span(lower, first, end, device.name, str(line.start), kind))

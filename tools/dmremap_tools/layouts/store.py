@@ -68,6 +68,7 @@ def run(words: Namespace) -> None:
 
 
 def places_of(loaded: stack.Stack, name: str) -> Iterator[str]:
+    """A line for each snapshot: whether its store can be full."""
     lengths = dict(loaded.sizes, **{path: device.end() for path, device in loaded.by_path().items()})
     served = {line.words[0] for device in loaded.devices for line in device.lines if line.target == "snapshot-origin"}
     snapshots = [(device, line.words) for device in loaded.devices for line in device.lines if line.target == "snapshot"]
@@ -88,6 +89,7 @@ def places_of(loaded: stack.Stack, name: str) -> Iterator[str]:
 
 
 def ends_of(runs: "Runs") -> Iterator[str]:
+    """A line for each snapshot: when it becomes invalid."""
     for name, status in runs.statuses(runs.size).items():
         if status == INVALID:
             low, high = runs.last_valid(name)

@@ -54,13 +54,12 @@ class Chunk:
             self.stripes.append((stripe[1], int(stripe[2])))
 
     def line(self, disks: Dict[str, str], copy: int) -> tables.Line:
-        start, length = self.start, self.length
+        start, length, copies = self.start, self.length, self.copies()
         if not length or not self.stripes or len(self.stripes) != self.count:
             self.refuse(f"a stripe of the chunk at {start} is missing: {ANEW}")
         if self.profile in PARITY:
             streams.tell(f"left out: the chunk at {start}, which is of {self.profile}")
             return tables.Line(self.sectors(start), self.sectors(length), "error", [])
-        copies = self.copies()
         if copy >= copies > 1:
             self.refuse(f"the chunk at {start} has {copies} copies, counted from 0: give a lower --copy")
         columns = self.stripes[copy % copies::copies]
@@ -116,10 +115,8 @@ def read(path: str) -> List[Chunk]:
         elif is_in and (pointer or item):
             lacking[-1] -= 1
             awaited.update(pointer.groups() if pointer else ())
-        if block or pointer:
-            is_chunk = False
-        elif item:
-            is_chunk = item[2] == "CHUNK_ITEM"
+        if block or pointer or item:
+            is_chunk = item is not None and item[2] == "CHUNK_ITEM"
             if is_chunk:
                 chunks.append(Chunk(f"{source.name}:{source.number}", int(item[3])))
         elif is_chunk:

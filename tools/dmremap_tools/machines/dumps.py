@@ -43,17 +43,16 @@ class Gathered:
     def __init__(self, name: str, tool: str) -> None:
         self._name, self._tool = name, tool
         self.elements: List[Element] = []
-        self.depth = 0
+        self._is_begun = False
 
     def start(self, tag: str, said: Dict[str, str]) -> None:
         """Takes the beginning of an element; the first one is the superblock."""
-        if (tag == "superblock") != (self.depth == 0):
+        if (tag == "superblock") == self._is_begun:
             self.refuse(f"<{tag}>")
-        self.depth += 1
+        self._is_begun = True
         self.elements.append(Element(self._name, False, tag, said))
 
     def end(self, tag: str) -> None:
-        self.depth -= 1
         self.elements.append(Element(self._name, True, tag, {}))
 
     def data(self, text: str) -> None:

@@ -51,7 +51,7 @@ class Runs:
             figures[-1] += count
         else:
             figures.extend((first, place, count))
-            self.check(element)
+            check(element, len(self), MOST_RUNS)
 
     def take_lists(self, element: dumps.Element) -> None:
         """Adds the runs of all lists that it refers to, by way of others as well, none of which a device can have twice."""
@@ -69,9 +69,11 @@ class Runs:
         places = sorted(range(0, len(self._figures), 3), key=self._figures.__getitem__)
         return (tuple(self._figures[place:place + 3]) for place in places)  # type: ignore
 
-    def check(self, element: dumps.Element) -> None:
-        if len(self) > MOST_RUNS:
-            raise Refusal(element.name, f"more than {MOST_RUNS} runs of blocks: use `save` or `serve`")
+
+def check(element: dumps.Element, count: int, most: int, said: str = "") -> None:
+    """Refuses more runs than fit into memory."""
+    if count > most:
+        raise Refusal(element.name, f"more than {most} runs of blocks{said}: use `save` or `serve`")
 
 
 def read_cache(path: str, is_all: bool) -> Tuple[int, Iterator[Tuple[int, int, int]]]:
@@ -185,10 +187,11 @@ class Pool:
         into, self._into = self._into, None
         if into is None:
             return
-        self._use(element, RUNS_OF_LIST)
+        check(element, self._runs + RUNS_OF_LIST, MOST_TOGETHER, " in all")
         if element.tag == "device":
             into.take_lists(element)
-        self._use(element, len(into))
+        self._runs += RUNS_OF_LIST + len(into)
+        check(element, self._runs, MOST_TOGETHER, " in all")
         if element.tag == "def":
             self._lists[self._name] = into
         elif into.blocks() != self._count:
@@ -202,7 +205,7 @@ class Pool:
                 element.refuse("no list of this name comes before it")
             if self._into is not None and len(found):
                 self._into.lists.append(found)
-                self._into.check(element)
+                check(element, len(self._into), MOST_RUNS)
             return
         keys = ("origin_block", "data_block", "") if element.tag == "single_mapping" else ("origin_begin", "data_begin", "length")
         first, place, count = (element.number(key) if key else 1 for key in keys)
@@ -210,9 +213,3 @@ class Pool:
             if place + count > self._most or not count:
                 element.refuse(f"past the end of the data, of {self._most} blocks")
             self._into.add(element, first, place, count)
-
-    def _use(self, element: dumps.Element, count: int) -> None:
-        """Refuses more runs than fit into memory."""
-        self._runs += count
-        if self._runs > MOST_TOGETHER:
-            raise Refusal(element.name, f"more than {MOST_TOGETHER} runs of blocks in all: use `save` or `serve`")
