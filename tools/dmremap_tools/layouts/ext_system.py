@@ -140,8 +140,7 @@ class ExtSystem:
         raise failed or refusal(image, "debugfs", complaints, "e2fsck -n")
 
     def _find_inodes(self, debugfs: Debugfs, blocks: List[int], complaints: List[str]) -> bool:
-        """Finds the inode of each of these blocks that has one, unless there is no answer about some. Adds what debugfs
-        complains of."""
+        """Finds the inodes of blocks, and says whether there is an answer about all. Adds what debugfs complains of."""
         self._inodes, done = {}, 0
         for some, printed, said in debugfs.ask_for("icheck", blocks):
             rows = dict(match.groups() for match in map(OWNED.fullmatch, printed.split("\n")) if match)

@@ -182,7 +182,6 @@ class Stack:
         device.is_store = device.flags != "ro" and device.has("linear", "striped") and all(it.is_store for it in lowers)
 
     def _fault(self, device: Found) -> Optional[str]:
-        """What is wrong with a device, or None."""
         if device.end() != self._sizes.get(device.number, device.end()):
             return "lsblk and its table differ in its length"
         for lower, start, count in (span for line in device.lines for span in line.spans()):
