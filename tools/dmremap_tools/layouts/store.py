@@ -63,8 +63,7 @@ def run(words: Namespace) -> None:
         else:
             begun = started.start(words, source, None, room)
             loaded, ends = begun.loaded, list(ends_of(Runs(text, [*begun.words, "--status"])))
-    for line in [*places_of(loaded, streams.name_of(words.file)), *ends]:
-        streams.out.write(line)
+    streams.out.write("".join([*places_of(loaded, streams.name_of(words.file)), *ends]))
 
 
 def places_of(loaded: stack.Stack, name: str) -> Iterator[str]:

@@ -1,6 +1,7 @@
 """The file system in an image, by what stands at its beginning: one of the kinds of ext, or XFS, of which xfs_db of
 xfsprogs says which files have its blocks. It only reads here."""
 
+import contextlib
 import itertools
 import os
 import re
@@ -27,7 +28,12 @@ def system_in(image: str, asked: AskedRuns) -> "ExtSystem | XfsSystem":
     """The file system in an image, with what is asked for looked up."""
     place = paths.place_of(image)
     descriptor, at = opened(place.path), place.start
-    is_btrfs, is_xfs = read_at(descriptor, at + BTRFS_AT, len(BTRFS)) == BTRFS, read_at(descriptor, at, len(XFS)) == XFS
+    is_btrfs = is_xfs = False
+    # What can't be read there is another system, as far as this is known.
+    with contextlib.suppress(OSError):
+        is_btrfs = os.pread(descriptor, len(BTRFS), at + BTRFS_AT) == BTRFS
+    with contextlib.suppress(OSError):
+        is_xfs = os.pread(descriptor, len(XFS), at) == XFS
     os.close(descriptor)
     if is_btrfs:
         raise Refusal(quoting.shown(image), "it is btrfs, whose files have no places: see `btrfs inspect-internal logical-resolve`")
@@ -38,14 +44,6 @@ def system_in(image: str, asked: AskedRuns) -> "ExtSystem | XfsSystem":
     if at:
         raise Refusal(quoting.shown(image), "it is XFS, and xfs_db reads no file system within a file: `losetup -r -o %d`" % at)
     return XfsSystem(place.path, asked)
-
-
-def read_at(descriptor: int, at: int, count: int) -> bytes:
-    """Some bytes of a file, as far as they are there and can be read."""
-    try:
-        return os.pread(descriptor, count, at)
-    except (OSError, OverflowError):
-        return b""
 
 
 class XfsSystem:
@@ -83,7 +81,7 @@ class XfsSystem:
         is_block = numbers.SECTOR <= it.blocksize <= MOST_BLOCK and it.blocksize % numbers.SECTOR == 0
         is_inode = 0 < it.inodesize <= it.blocksize and max(it.agblklog, it.inopblog) < 64
         if len(figures) < len(it) or not is_block or not is_inode or not it.agblocks:
-            raise self._refusal(complaints)
+            raise debugfs.refusal(self._image, XFS_DB, complaints, "xfs_repair -n")
         return it
 
     def _read_uses(self, blocks: Sequence[int]) -> Dict[int, Tuple[str, int]]:
@@ -99,7 +97,7 @@ class XfsSystem:
         found = {int(group) * per_group + int(place): (kind, int(inode or 0))
                  for group, place, kind, inode in USE.findall(printed)}
         if not all(it in found for it in blocks):
-            raise self._refusal(complaints or printed.splitlines())
+            raise debugfs.refusal(self._image, XFS_DB, complaints or printed.splitlines(), "xfs_repair -n")
         debugfs.tell(complaints, XFS_DB)
         return found
 
@@ -134,6 +132,3 @@ class XfsSystem:
     def _ask(self, commands: Sequence[str]) -> "tuple[str, List[str]]":
         options = ["-r", *(["-f"] if os.path.isfile(self._image) else []), "-c", "source /dev/stdin"]
         return debugfs.asked([program.found(XFS_DB), *options, "--", self._image], map(str.encode, commands))
-
-    def _refusal(self, complaints: Sequence[str]) -> Refusal:
-        return debugfs.refusal(self._image, XFS_DB, complaints, "xfs_repair -n")
