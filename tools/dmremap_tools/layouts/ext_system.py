@@ -7,7 +7,7 @@ superblock. What it answers is taken.
 
 import bisect
 import re
-from typing import Dict, List, Optional, Pattern, Sequence, Set, Tuple
+from typing import Dict, List, Optional, Sequence, Set, Tuple
 
 from dmremap_tools.base import quoting, streams
 from dmremap_tools.base.numbers import SECTOR
@@ -16,13 +16,11 @@ from dmremap_tools.layouts.asked_runs import AskedRuns
 from dmremap_tools.layouts.debugfs import MOST_COMPLAINTS, ROOT, Debugfs, refusal, tell
 
 OWNED = re.compile(r"([0-9]{1,20})\t([1-9][0-9]{0,9}|<block not found>)")
-USED_BLOCK = re.compile(r"^Block ([0-9]{1,20}) marked in use$", re.M)
-USED_INODE = re.compile(r"^Inode ([0-9]{1,10}) is marked in use$", re.M)
-DAMAGED = ["-c", "-n"]
+USED = re.compile(r"^(?:Block|Inode) ([0-9]{1,20}) (?:is )?marked in use$", re.M)
 # Where copies of the superblock are, by the size of a block.
 COPIES = ((4096, 32768), (4096, 98304), (1024, 8193), (1024, 24577), (2048, 16384), (2048, 49152), (65536, 65528))
 # The options that debugfs is tried with: without any, and without bitmaps and sums, with the copies of the superblock.
-TRIES: List[List[str]] = [[], DAMAGED, *([*DAMAGED, "-s", str(copy), "-b", str(size)] for size, copy in COPIES)]
+TRIES = [[], ["-c", "-n"], *(["-c", "-n", "-s", str(copy), "-b", str(size)] for size, copy in COPIES)]
 MOST_INODES = 1000000
 FIGURE = re.compile(r"^([A-Z][A-Za-z ]+):\s+(.*)$", re.M)
 GROUP = re.compile(r"^ Group +([0-9]{1,10}): block bitmap at {0}, inode bitmap at {0}, inode table at {0}$"
@@ -95,9 +93,9 @@ class ExtSystem:
         self.sectors, self.end = self._layout.sectors, self._layout.end
         tabled = self._tabled(asked)
         self._names = self._debugfs.names_of(sorted({*self._inodes.values(), *tabled}))
-        self._used_inodes = self._used("testi <%d>", USED_INODE, tabled)
+        self._used_inodes = self._used("testi <%d>", tabled)
         others = [it for it in asked.blocks(self.sectors, self.end) if it not in self._inodes]
-        self._used_blocks = self._used("testb %d", USED_BLOCK, others)
+        self._used_blocks = self._used("testb %d", others)
 
     def users(self, block: int, first: int, end: int) -> List[str]:
         """The files that have these sectors of a block, or words for what has it else."""
@@ -164,7 +162,7 @@ class ExtSystem:
                 raise Refusal(asked.volume, "more than %d inodes are lost: ask for the maps of fewer images" % MOST_INODES)
         return sorted(found)
 
-    def _used(self, request: str, answer: Pattern[str], numbers: Sequence[int]) -> Set[int]:
+    def _used(self, request: str, numbers: Sequence[int]) -> Set[int]:
         """Those of these blocks or inodes that the bitmaps have as in use."""
         answers = [] if self._debugfs.options or not numbers else self._debugfs.ask_many(request % it for it in numbers)
-        return {int(it) for each in answers for it in answer.findall(each)}
+        return {int(it) for each in answers for it in USED.findall(each)}

@@ -25,9 +25,9 @@ from dmremap_tools.base.disk_image import Image
 from dmremap_tools.base.numbers import SECTOR
 from dmremap_tools.base.paths import Place
 from dmremap_tools.base.refusal import Refusal, WrongWords
-from dmremap_tools.layouts import stacked
 from dmremap_tools.layouts.span_lines import END, LINE, Span, clashes_in
 from dmremap_tools.layouts.taken import OF_LVM, OUTER, PhysicalVolume, heads_of, physical_volumes
+from dmremap_tools.layouts.tree import devices_in
 from dmremap_tools.metadata.chosen_part import check_places, volume_label
 
 EXAMPLE = "dmremap-tools spans stack.disks stack.table > spans"
@@ -50,7 +50,7 @@ def add_words(parser: ArgumentParser) -> None:
 def run(words: Namespace) -> None:
     if words.to == 0:
         raise WrongWords("--to: give one sector or more")
-    devices = stacked.devices_in(words.file)
+    devices = devices_in(words.file)
     sizes = disks.read(words.disks)
     spans = Spans(sizes, devices)
     if not devices and not sizes:

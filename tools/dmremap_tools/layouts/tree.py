@@ -8,10 +8,12 @@ themselves, or lie on each other more than 32 deep; dmremap loads neither.
 import argparse
 from typing import Dict, List, Set
 
-from dmremap_tools.base import names, streams, tables
-from dmremap_tools.layouts import stacked
+from dmremap_tools.base import names, quoting, streams, tables
+from dmremap_tools.base.refusal import Refusal
 
 EXAMPLE = "dmremap-tools tree stack.table"
+DEEPEST = 32
+TOO_DEEP = "devices stand on themselves, or on too many others, see `dmremap-tools explain`: %s"
 
 
 def add_words(parser: argparse.ArgumentParser) -> None:
@@ -20,7 +22,7 @@ def add_words(parser: argparse.ArgumentParser) -> None:
 
 
 def run(words: argparse.Namespace) -> None:
-    devices = stacked.devices_in(words.file)
+    devices = devices_in(words.file)
     if not devices:
         streams.tell("no device came")
     if words.dot:
@@ -35,6 +37,20 @@ def run(words: argparse.Namespace) -> None:
         if names.MAPPER + name not in under:
             streams.out.write(name + "\n")
             show(name, "", lines, shown)
+
+
+def devices_in(path: str) -> List[tables.Device]:
+    """The devices of a stack, of which none stands on itself, or on more others than dmremap loads."""
+    devices = tables.read(path)[0]
+    left: Dict[str, Set[str]] = {names.MAPPER + it.name: set() for it in devices}
+    for device in devices:
+        left[names.MAPPER + device.name].update(device.lowers())
+    # Those that stand on none of the others that are left go, one level after the other.
+    for _ in range(DEEPEST):
+        left = {name: lowers for name, lowers in left.items() if not left.keys().isdisjoint(lowers)}
+    if left:
+        raise Refusal(streams.name_of(path), TOO_DEEP % quoting.shown(next(iter(left))[len(names.MAPPER):]))
+    return devices
 
 
 def show(name: str, indent: str, lines: Dict[str, List[tables.Line]], shown: Set[str]) -> None:

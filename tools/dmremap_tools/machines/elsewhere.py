@@ -67,8 +67,8 @@ def moved(source: str, devices: List[tables.Device], path_of: Dict[str, str], pr
     `source` is the text that names the disks."""
     taken = {prefix + device.name for device in devices}
     free = (name for name in (f"{prefix}missing{number}" for number in itertools.count()) if name not in taken)
-    for device in devices:
-        check_store(source, device, Stack(devices, {}), path_of, target)
+    if target == "zero":
+        check_stores(source, Stack(devices, {}), path_of)
     stand_ins: Dict[str, tables.Device] = {}
 
     def lower(path: str) -> str:
@@ -94,14 +94,15 @@ def moved(source: str, devices: List[tables.Device], path_of: Dict[str, str], pr
     return [*stand_ins.values(), *devices]
 
 
-def check_store(source: str, device: tables.Device, stack: Stack, path_of: Dict[str, str], target: Optional[str]) -> None:
+def check_stores(source: str, stack: Stack, path_of: Dict[str, str]) -> None:
     """Refuses a snapshot whose store would read as zeros: a kernel takes one that begins so for new."""
-    line = device.lines[0]
-    if line.target == "snapshot" and target == "zero" and line.words[1].startswith(names.MAPPER):
-        lost = sorted(stack.below([line.words[1]])[1] - path_of.keys())
-        if lost:
-            raise Refusal(source, f"the store of {device.name} lies on {quoting.shown(lost[0])}, and would read as one that has nothing "
-                          "in it: give --missing error")
+    for device in stack.devices:
+        line = device.lines[0]
+        if line.target == "snapshot" and line.words[1].startswith(names.MAPPER):
+            lost = sorted(stack.below([line.words[1]])[1] - path_of.keys())
+            if lost:
+                raise Refusal(source, f"the store of {device.name} lies on {quoting.shown(lost[0])}, and would read as "
+                              "one that has nothing in it: give --missing error")
 
 
 def losetup(source: str, device: tables.Device, path_of: Optional[Dict[str, str]]) -> str:
