@@ -17,9 +17,9 @@ LONGEST, LONGEST_OF_MANY, MOST_AT_ONCE = 100000, 8000, 4096
 NO_ANSWER = b"pwd"
 MOST_COMPLAINTS = 3
 ECHO, NOT_OPEN = "debugfs: ", ": Filesystem not open"
-# The line of an inode and its path, which begins with two slashes.
 NAMED = re.compile(r"([1-9][0-9]{0,9})\t/*(/.*)")
-FOUND = re.compile(r"Inode ([1-9][0-9]{0,9}) is part of ")
+# The inode that a path leads to, as `imap` answers.
+LEADS_TO = re.compile(r"Inode ([1-9][0-9]{0,9}) is part of ")
 ROOT = 2
 # debugfs ends its search once it has as many names as the inodes say that they have, and one that is lost says none.
 # The root counts as one and has no name: asked for as well, and as often, it lets the search go on.
@@ -32,9 +32,11 @@ class Debugfs(NamedTuple):
     image: str
     options: Sequence[str]
 
-    def ask(self, request: str) -> Tuple[str, List[str]]:
-        """What it answers, and what it complains of."""
-        return self._asked(["-R", request])
+    def ask(self, *request: str, lines: Iterable[bytes] = ()) -> Tuple[str, List[str]]:
+        """What it answers to -R and a request, or to -f and lines of requests, and what it complains of."""
+        printed, said = asked([program.found("debugfs"), *self.options, *request, "--", self.image], lines)
+        complaints = [it[len(ECHO):] if it.startswith(ECHO) else it for it in said]
+        return printed, [it for it in complaints if not it.startswith("debugfs ") and not it.endswith(NOT_OPEN)]
 
     def ask_for(self, command: str, wanted: Sequence[int]) -> Iterator[Tuple[Sequence[int], str, List[str]]]:
         """The same for a command about numbers, of which as many as there is room for are asked for at once."""
@@ -43,7 +45,7 @@ class Debugfs(NamedTuple):
             size += len(str(number)) + 1
             if size > LONGEST or place + 1 == len(wanted):
                 some = wanted[first:place + 1]
-                yield (some, *self.ask("%s %s" % (command, " ".join(map(str, some)))))
+                yield (some, *self.ask("-R", "%s %s" % (command, " ".join(map(str, some)))))
                 first, size = place + 1, 0
 
     def ask_many(self, requests: Iterable[str]) -> Iterator[str]:
@@ -51,8 +53,8 @@ class Debugfs(NamedTuple):
         it complains of is not told. No answer may have a line that looks like a request."""
         rest = iter(requests)
         for some in iter(lambda: list(itertools.islice(rest, MOST_AT_ONCE)), []):
-            encoded = (request.encode("utf-8", "surrogateescape") for request in some)
-            printed, _ = self._asked(["-f", "-"], [it if len(it) <= LONGEST_OF_MANY else NO_ANSWER for it in encoded])
+            lines = (request.encode("utf-8", "surrogateescape") for request in some)
+            printed, _ = self.ask("-f", "-", lines=(it if len(it) <= LONGEST_OF_MANY else NO_ANSWER for it in lines))
             yield from ("\n" + printed).split("\n" + ECHO)[1:]
 
     def names_of(self, inodes: Sequence[int]) -> Dict[int, List[str]]:
@@ -65,7 +67,7 @@ class Debugfs(NamedTuple):
                     found[int(match[1])].append(match[2])
         asked = [(inode, path) for inode, paths in found.items() for path in paths]
         answers = itertools.chain(self.ask_many("imap " + quoted(path) for _, path in asked), itertools.repeat(""))
-        for inode in {inode for (inode, _), answer in zip(asked, answers) if not leads_to(inode, answer)}:
+        for inode in {it for (it, _), answer in zip(asked, answers) if LEADS_TO.findall(answer)[:1] != [str(it)]}:
             found[inode] = self._names_alone(inode)
         if ROOT in found:
             found[ROOT] = ["/"]
@@ -74,20 +76,14 @@ class Debugfs(NamedTuple):
     def _names_alone(self, inode: int) -> List[str]:
         """The paths of an inode that is asked for alone. A path that leads elsewhere goes on the name before it."""
         begin = "\n%d\t" % inode
-        printed = ("\n" + self.ask("%s %d" % (NCHECK, inode))[0]).partition(begin)[2]
+        printed = ("\n" + self.ask("-R", "%s %d" % (NCHECK, inode))[0]).partition(begin)[2]
         paths: List[str] = []
-        for path in printed[:-1].split(begin):
-            path = re.sub("^/+", "/", path)
-            if paths and not leads_to(inode, self.ask("imap " + quoted(path))[0]):
+        for path in (re.sub("^/+", "/", it) for it in printed[:-1].split(begin)):
+            if paths and LEADS_TO.findall(self.ask("-R", "imap " + quoted(path))[0])[:1] != [str(inode)]:
                 paths[-1] += begin + path
             else:
                 paths.append(path)
         return [it for it in paths if it.startswith("/")]
-
-    def _asked(self, request: List[str], lines: Iterable[bytes] = ()) -> Tuple[str, List[str]]:
-        printed, said = asked([program.found("debugfs"), *self.options, *request, "--", self.image], lines)
-        complaints = [it[len(ECHO):] if it.startswith(ECHO) else it for it in said]
-        return printed, [it for it in complaints if not it.startswith("debugfs ") and not it.endswith(NOT_OPEN)]
 
 
 def asked(words: Sequence[str], lines: Iterable[bytes]) -> Tuple[str, List[str]]:
@@ -114,8 +110,3 @@ def refusal(image: str, name: str, complaints: Sequence[str], check: str) -> Ref
 def quoted(path: str) -> str:
     """A path as a word of a request."""
     return '"%s"' % path.replace('"', '""')
-
-
-def leads_to(inode: int, answer: str) -> bool:
-    """Whether a path leads to an inode, as `imap` answers."""
-    return FOUND.findall(answer)[:1] == [str(inode)]

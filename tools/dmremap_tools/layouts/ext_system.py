@@ -57,10 +57,9 @@ class ExtLayout:
 
     def is_own(self, block: int) -> bool:
         """Whether the system has a block for itself, if that is in no table of inodes."""
-        if block < self.first or block in self._bitmaps:
-            return True
         group, place = divmod(block - self.first, self._per_group)
-        return place < self._head and (group in self._backups or not self._is_sparse)
+        is_head = place < self._head and (group in self._backups or not self._is_sparse)
+        return is_head or block < self.first or block in self._bitmaps
 
     def inodes_at(self, block: int, first: int, end: int) -> Optional[range]:
         """The inodes in these sectors of a block, if it is one of a table of inodes, without those that no file has."""
@@ -78,10 +77,8 @@ def layout_in(printed: str) -> Optional[ExtLayout]:
     said = dict(FIGURE.findall(printed))
     figure = {name: int(value) for name, value in said.items() if WHOLE.fullmatch(value)}
     groups = [tuple(map(int, it)) for it in GROUP.findall(printed)]
-    if not groups or not all(table for _, _, _, table in groups) or not NEEDED <= figure.keys():
-        return None
-    is_sound = all(figure[it] for it in NOT_ZERO) and figure["Block size"] % SECTOR == 0
-    return ExtLayout(said, figure, groups) if is_sound else None
+    is_said = groups and all(it[3] for it in groups) and NEEDED <= figure.keys() and all(map(figure.get, NOT_ZERO))
+    return ExtLayout(said, figure, groups) if is_said and figure["Block size"] % SECTOR == 0 else None
 
 
 class ExtSystem:
@@ -123,7 +120,7 @@ class ExtSystem:
         for options in TRIES:
             debugfs = Debugfs(image, options)
             try:
-                printed, said = debugfs.ask("stats")
+                printed, said = debugfs.ask("-R", "stats")
                 layout = layout_in(printed)
                 is_answered = layout is not None and self._find_inodes(debugfs, asked.blocks(layout.sectors, layout.end), said)
             except streams.OutputFailed as fault:
@@ -151,8 +148,7 @@ class ExtSystem:
         return True
 
     def _tabled(self, asked: AskedRuns) -> List[int]:
-        """The inodes in the sectors that are asked for, where these lie in tables of inodes. Those before the first are
-        the system's own, but for the root."""
+        """The inodes in the sectors that are asked for. But for the root, those before the first aren't of files."""
         found: Set[int] = set()
         for run in asked.runs:
             for block, first, end in run.parts(self.sectors):

@@ -64,8 +64,7 @@ def add_words(parser: ArgumentParser) -> None:
 
 def run(words: Namespace) -> None:
     bars = list(read(words.spans).values())
-    devices = dict.fromkeys(it.device for bar in bars for it in bar.ranges)
-    numbers = {name: number for number, name in enumerate(devices)}
+    numbers = {name: place for place, name in enumerate(dict.fromkeys(it.device for bar in bars for it in bar.ranges))}
     legend, rows = legend_of(numbers)
     longest = max((it.size for it in bars), default=1)
     *tops, end = itertools.accumulate([MARGIN, *(30 + bar.height() for bar in bars)])

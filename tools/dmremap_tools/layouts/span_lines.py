@@ -13,8 +13,7 @@ MEET = {ORIGIN: (OTHER,), SERVES: (SERVES, OTHER), OTHER: (ORIGIN, SERVES, OTHER
 # How many clashes are printed: nested ranges have as many as their number squared.
 MOST = 1000000
 # A range of sectors of a disk or a device: whose line uses it, where that begins on its device, and as what.
-Span = NamedTuple("Span", [
-    ("on", str), ("first", int), ("end", int), ("device", str), ("start", str), ("kind", str)])
+Span = NamedTuple("Span", [("on", str), ("first", int), ("end", int), ("device", str), ("start", str), ("kind", str)])
 LINE = "%s %d %d %s %s %s\n"
 
 
@@ -24,8 +23,7 @@ def kind_of(span: Span) -> str:
 
 def clashes_in(spans: Iterable[Span], name: str) -> Iterator[str]:
     """A line for each clash among sorted spans of a text that is called so: on what, the first and the last sector that
-    two lines have in common, and their devices. Of spans that don't meet one none is looked at, so the time is that of
-    what is printed."""
+    two lines have in common, and their devices. It takes the time of what is printed."""
     opened: Dict[str, List[Span]] = {}
     on, count = "", 0
     for span in spans:

@@ -31,7 +31,6 @@ from dmremap_tools.layouts.tree import devices_in
 from dmremap_tools.metadata.chosen_part import check_places, volume_label
 
 EXAMPLE = "dmremap-tools spans stack.disks stack.table > spans"
-MEBIBYTE = 2048
 
 
 def add_words(parser: ArgumentParser) -> None:
@@ -42,7 +41,7 @@ def add_words(parser: ArgumentParser) -> None:
     shown.add_argument("--free", action="store_true", help="what no line names, too")
     shown.add_argument("--clashes", action="store_true", help="every two lines that have sectors in common")
     shown.add_argument("--align", action="store_true", help="what begins at no multiple of 1 MiB, or of --to")
-    parser.add_argument("--to", type=numbers.word, default=MEBIBYTE, metavar="SECTORS",
+    parser.add_argument("--to", type=numbers.word, default=2048, metavar="SECTORS",
                         help="with --align: the number whose multiples are meant")
     paths.add_words(parser)
 

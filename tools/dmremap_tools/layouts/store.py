@@ -80,10 +80,9 @@ def places_of(loaded: stack.Stack, name: str) -> Iterator[str]:
             said = "it is never full" + ", unless a kernel has one place less" * (places == chunks and kind != "N")
         elif kind != "K":
             said = "it can be full, which makes the snapshot invalid"
-        elif origin in served:
-            said = "it can be full; writes to the snapshot fail then, and only one to the origin makes it invalid"
         else:
-            said = "it can be full; writes to the snapshot fail then"
+            also = ", and only one to the origin makes it invalid" * (origin in served)
+            said = "it can be full; writes to the snapshot fail then" + also
         yield f"{device.name}: {chunks} chunks, {places} places in its store: {said}\n"
 
 

@@ -23,7 +23,6 @@ def text(x: float, y: float, content: str) -> str:
 
 
 def escaped(content: str) -> str:
-    """Text that may stand in a picture."""
     return quoting.escaped(content).replace("&", "&amp;").replace("<", "&lt;").replace(">", "&gt;").replace('"', "&quot;")
 
 
@@ -46,6 +45,5 @@ def image(x: int, y: int, width: int, height: int, rows: Sequence[bytes]) -> str
     shape = struct.pack(">IIBBBBB", len(rows[0]) // 4, len(rows), 8, 6, 0, 0, 0)
     content = zlib.compress(b"".join(b"\0" + row for row in rows), 9)
     png = b"\x89PNG\r\n\x1a\n" + part(b"IHDR", shape) + part(b"IDAT", content) + part(b"IEND", b"")
-    link = "data:image/png;base64," + base64.b64encode(png).decode()
     return ('<image x="%d" y="%d" width="%d" height="%d" preserveAspectRatio="none" style="image-rendering:pixelated" '
-            'xlink:href="%s"/>\n' % (x, y, width, height, link))
+            'xlink:href="data:image/png;base64,%s"/>\n' % (x, y, width, height, base64.b64encode(png).decode()))

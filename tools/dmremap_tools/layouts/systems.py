@@ -21,7 +21,6 @@ XFS, BTRFS, BTRFS_AT = b"XFSB", b"_BHRfS_M", 65536 + 64
 Geometry = namedtuple("Geometry", "blocksize dblocks agblocks agblklog inopblog inodesize")
 FIGURE = re.compile(r"^(%s) = ([0-9]{1,20})$" % "|".join(Geometry._fields), re.M)
 USE = re.compile(r"^block [0-9]{1,20} \(([0-9]{1,10})/([0-9]{1,10})\) type ([a-z0-9]+)(?: inode ([0-9]{1,20}))?$", re.M)
-MOST_BLOCK = 1 << 16
 
 
 def system_in(image: str, asked: AskedRuns) -> "ExtSystem | XfsSystem":
@@ -29,7 +28,6 @@ def system_in(image: str, asked: AskedRuns) -> "ExtSystem | XfsSystem":
     place = paths.place_of(image)
     descriptor, at = opened(place.path), place.start
     is_btrfs = is_xfs = False
-    # What can't be read there is another system, as far as this is known.
     with contextlib.suppress(OSError):
         is_btrfs = os.pread(descriptor, len(BTRFS), at + BTRFS_AT) == BTRFS
     with contextlib.suppress(OSError):
@@ -78,7 +76,7 @@ class XfsSystem:
         printed, complaints = self._ask(["sb 0", "print " + " ".join(Geometry._fields)])
         figures = {name: int(figure) for name, figure in FIGURE.findall(printed)}
         it = Geometry(*(figures.get(name, 0) for name in Geometry._fields))
-        is_block = numbers.SECTOR <= it.blocksize <= MOST_BLOCK and it.blocksize % numbers.SECTOR == 0
+        is_block = numbers.SECTOR <= it.blocksize <= 1 << 16 and it.blocksize % numbers.SECTOR == 0
         is_inode = 0 < it.inodesize <= it.blocksize and max(it.agblklog, it.inopblog) < 64
         if len(figures) < len(it) or not is_block or not is_inode or not it.agblocks:
             raise debugfs.refusal(self._image, XFS_DB, complaints, "xfs_repair -n")

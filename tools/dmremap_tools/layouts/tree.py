@@ -71,7 +71,6 @@ def show(name: str, indent: str, lines: Dict[str, List[tables.Line]], shown: Set
 
 
 def draw(devices: List[tables.Device]) -> None:
-    """Prints the graph, each step once."""
     steps: Dict[str, None] = {}
     for device in devices:
         name = node(device.name)

@@ -127,7 +127,6 @@ def read(path: str) -> List[Chunk]:
 
 
 def lines_of(chunks: List[Chunk], disks: Dict[str, str], copy: int) -> Iterator[tables.Line]:
-    """A line for each chunk, and for what lies between them."""
     end = 0
     for chunk in chunks:
         line = chunk.line(disks, copy)

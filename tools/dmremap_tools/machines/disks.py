@@ -20,12 +20,11 @@ def of_group(path: str) -> Iterator[Tuple[str, int]]:
 
 def names_by_id(text: str) -> Dict[bytes, str]:
     """The name of each physical volume that has an id, by that."""
-    ids = [(node.value(b"id", bytes), name) for name, node in _read(text)[1]]
-    return {identity: name for identity, name in ids if isinstance(identity, bytes)}
+    ids = {node.value(b"id", bytes): name for name, node in _read(text)[1]}
+    return {identity: name for identity, name in ids.items() if identity is not None}
 
 
 def _read(path: str) -> Tuple[Document, List[Tuple[str, Node]]]:
-    """A text, and the physical volumes of its group by their names."""
     document = Document(streams.name_of(path), streams.read_bytes(path))
     group = next(iter(document.top.sections()), None)
     physicals = sections_in(group, b"physical_volumes") if group else []

@@ -9,7 +9,6 @@ from dmremap_tools.base.refusal import Refusal
 
 # How many bytes the text has at most from the beginning of an element to the next one.
 MOST_BETWEEN = 1 << 20
-# What to do about any of its faults.
 ANEW = "make the dump anew of repaired metadata"
 
 

@@ -15,15 +15,13 @@ IS_CONCISE = re.compile(r",\d+,r[ow](?:[,;]|$)")
 MAJOR_MINOR = re.compile(r"\d+:\d+")
 # Why a device is left out that isn't asked for, which is not told.
 NOT_ASKED = "not asked for"
-# How many devices stand on each other at most.
 DEEPEST = 32
 TOO_DEEP = "it stands on itself, or on too many others"
 
 
 class Found(tables.Device):
-    """A device that `dmsetup ls` has, with its number, and why it is left out, if it is. `origins` has the numbers of the
-    devices that it is a snapshot of, whether dmremap can follow it or not. Once it is judged, `level` says how many
-    devices stand on each other up to this one, and `is_store` whether it can be a store."""
+    """A device that `dmsetup ls` has, and why it is left out, if it is. `origins` has what it is a snapshot of, whether
+    dmremap can follow it or not, and `level`, once it is judged, how many devices stand on each other up to it."""
 
     def __init__(self, name: str, number: str) -> None:
         super().__init__(name)

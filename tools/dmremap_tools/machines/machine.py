@@ -46,7 +46,6 @@ EXAMPLE = "dmremap-tools machine --disks disks ls.txt status.txt lsblk.txt conci
 
 # The numbers of disks called sd: each has a minor that is a multiple of 16, and its partitions have those after it.
 SD_MAJORS = [str(it) for it in (8, *range(65, 72), *range(128, 136))]
-SD_MINORS = 16
 # What a kernel or udev calls partitions.
 PARTITION = re.compile(r"(?:.*/)?(?:(?:s|v|xv|h)d[a-z]+|.*[0-9]p|.*-part)[0-9]{1,10}")
 
@@ -113,7 +112,7 @@ def length_in(path: str, number: str, known: Optional[int], sector: int) -> int:
         return known
     major, _, minor = number.partition(":")
     is_of_sd = major in SD_MAJORS and minor.isdecimal()
-    is_disk = is_of_sd and int(minor) % SD_MINORS == 0
+    is_disk = is_of_sd and int(minor) % 16 == 0
     is_partition = is_of_sd and not is_disk or bool(PARTITION.fullmatch(number))
     if kind and (is_partition or known is None and not is_disk):
         raise Refusal(quoting.shown(path), f"the image of a whole disk ({kind}), and {quoting.shown(number)} "

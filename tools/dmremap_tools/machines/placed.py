@@ -59,11 +59,9 @@ def partitioned(image: disk_image.Image, sector: int = SECTOR) -> Tuple[str, Lis
     """What the partition table of an image is called, or nothing, and its partitions, as far as they can be read."""
     try:
         table = table_in(image, sector)
-    except disk_image.Unreadable:
-        return "", []
-    except Refusal:
-        # It is damaged, or goes on after the end of the image.
-        return "GPT", []
+    except Refusal as fault:
+        # It can't be read, or else it is damaged, or goes on after the end of the image.
+        return "" if isinstance(fault, disk_image.Unreadable) else "GPT", []
     return (table.kind, table.partitions) if table else ("", [])
 
 

@@ -36,17 +36,14 @@ class Runs:
     blocks follow. What follows each other is one. `lists` are those that a list refers to, which many may share."""
 
     def __init__(self) -> None:
-        self._figures = array.array("Q")
+        self.figures = array.array("Q")
         self.lists: List["Runs"] = []
 
     def __len__(self) -> int:
-        return len(self._figures) // 3 + len(self.lists)
-
-    def blocks(self) -> int:
-        return sum(self._figures[2::3])
+        return len(self.figures) // 3 + len(self.lists)
 
     def add(self, element: dumps.Element, first: int, place: int, count: int) -> None:
-        figures = self._figures
+        figures = self.figures
         if figures and figures[-3] + figures[-1] == first and figures[-2] + figures[-1] == place:
             figures[-1] += count
         else:
@@ -62,12 +59,12 @@ class Runs:
                 element.refuse("a list of blocks is in a device twice")
             seen.add(id(each))
             waiting += each.lists[::-1]
-            for run in zip(*[iter(each._figures)] * 3):
+            for run in zip(*[iter(each.figures)] * 3):
                 self.add(element, *run)
 
     def in_order(self) -> Iterator[Tuple[int, int, int]]:
-        places = sorted(range(0, len(self._figures), 3), key=self._figures.__getitem__)
-        return (tuple(self._figures[place:place + 3]) for place in places)  # type: ignore
+        places = sorted(range(0, len(self.figures), 3), key=self.figures.__getitem__)
+        return (tuple(self.figures[place:place + 3]) for place in places)  # type: ignore
 
 
 def check(element: dumps.Element, count: int, most: int, said: str = "") -> None:
@@ -77,8 +74,7 @@ def check(element: dumps.Element, count: int, most: int, said: str = "") -> None
 
 
 def read_cache(path: str, is_all: bool) -> Tuple[int, Iterator[Tuple[int, int, int]]]:
-    """The sectors of a block of a cache, and the runs of its dirty blocks, by their places on the origin: the first
-    block there and in the cache, and how many there are."""
+    """The sectors of a block, and the runs of dirty blocks: the first on the origin and in the cache, and how many."""
     size = most = 0
     origins, cached, is_dirty = array.array("Q"), array.array("Q"), bytearray()
     for element in dumps.elements(path, "cache_dump"):
@@ -192,10 +188,11 @@ class Pool:
             into.take_lists(element)
         self._runs += RUNS_OF_LIST + len(into)
         check(element, self._runs, MOST_TOGETHER, " in all")
+        blocks = sum(into.figures[2::3])
         if element.tag == "def":
             self._lists[self._name] = into
-        elif into.blocks() != self._count:
-            element.refuse(f"it has {into.blocks()} blocks and not {self._count}, as it says")
+        elif blocks != self._count:
+            element.refuse(f"it has {blocks} blocks and not {self._count}, as it says")
 
     def _add(self, element: dumps.Element) -> None:
         """Adds blocks, or a list of them, to what has begun."""
