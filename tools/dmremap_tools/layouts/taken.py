@@ -21,8 +21,7 @@ OF_LVM, OF_LUKS, OF_MD = "-of-LVM", "-of-LUKS", "-of-md"
 PARTITION, MEMBER, CONTAINER, DAMAGED = "partition-", "member-of-", "container" + OF_LUKS, "damaged-"
 # What holds something else, which may be named as well.
 OUTER = (PARTITION, MEMBER, CONTAINER)
-# How much of a disk a GPT takes at its beginning, and a header of LUKS with its keys, as both are made, where neither
-# is sound, so that nothing says more.
+# What a GPT takes at the beginning of a disk, and a header of LUKS with its keys, as they are made, if none is sound.
 GPT_SECTORS, LUKS_SECTORS, SUPERBLOCK_SECTORS = 34, 32768, 8
 # A physical volume: its key, path and id in the metadata, and what is taken of it, wherever it is.
 PhysicalVolume = NamedTuple("PhysicalVolume", [

@@ -71,6 +71,7 @@ def run(words: argparse.Namespace) -> None:
     is_concise = read_tables(words.table, devices)
     for name in stored:
         if not any(it.origins and it.name == name for it in devices.values()):
+            # That which was meant would be left out.
             raise Refusal("--store", f"no snapshot {quoting.shown(name)}: give a name that LS has")
     leave_unknown(devices, is_known)
     if words.only:
