@@ -42,6 +42,7 @@ ELSEWHERE = [
          "losetup -r -o 1024 --sizelimit 4096 -f --show '/it'\\''s' # a: /dev/sda1\n"),
     good("elsewhere", ["--losetup", "--paths", "1"], ["/dev/sda1 /sda.img?offset=1048576\n", "a,,,rw,0 8 linear /dev/sda1 2\n"],
          "losetup -r -o 1049600 --sizelimit 4096 -f --show '/sda.img' # a: /dev/sda1\n"),
+    moved("a,,,rw,0 8 linear /dev/sda1 2\n", "a,,,ro,0 8 linear /sda.img 2\n", "/dev/sda1 /sda.img?offset=0\n"),
     unmoved("a,,,rw,0 8 linear /dev/sda1 2\n", "1: a device needs a path of its own: make one by losetup -r -o 1048576 /sda.img",
             "/dev/sda1 /sda.img?offset=1048576\n"),
     bad("elsewhere", ["--losetup", "--paths", "1"], [PATHS, "a: 0 8 linear /dev/sdb 2\n"], "2:1: no path of the disk /dev/sdb: add it to PATHS"),

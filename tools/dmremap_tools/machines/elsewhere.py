@@ -58,7 +58,8 @@ def run(words: argparse.Namespace) -> None:
         if place.start:
             raise Refusal(streams.name_of(words.paths), "a device needs a path of its own: make one by losetup -r -o "
                           f"{place.start} {quoting.shown(place.path)}")
-    streams.out.write(tables.text_of(moved(name + ":1", devices, path_of or {}, words.prefix, words.missing), True))
+    path_of = {disk: place.path for disk, place in places.items()}
+    streams.out.write(tables.text_of(moved(name + ":1", devices, path_of, words.prefix, words.missing), True))
 
 
 def moved(source: str, devices: List[tables.Device], path_of: Dict[str, str], prefix: str, target: Optional[str]
