@@ -20,13 +20,15 @@ import argparse
 import json
 import os
 import tempfile
-from typing import Any, Dict, List
+from typing import Iterable, Iterator, List
 
 from dmremap_tools.base import paths, program, streams
-from dmremap_tools.base.given import put
 from dmremap_tools.base.refusal import Refusal
-from dmremap_tools.explaining import asked, drawn, finding, levels, name_words, refusals, texts
-from dmremap_tools.explaining.finding import Finding
+from dmremap_tools.explaining import asked, name_words, texts
+from dmremap_tools.explaining.finding import Finding, shell
+from dmremap_tools.explaining.levels import Levels
+from dmremap_tools.explaining.refusals import Told
+from dmremap_tools.explaining.steps import Way
 from dmremap_tools.explaining.store_copies import StoreCopies
 from dmremap_tools.layers import stack
 from dmremap_tools.model import mapping
@@ -47,76 +49,54 @@ def add_words(parser: argparse.ArgumentParser) -> None:
 
 def run(words: argparse.Namespace) -> None:
     """Explains a refusal or an answer."""
+    with tempfile.TemporaryDirectory(prefix="dmremap-tools-") as room:
+        for number, found in enumerate(_explained(words, room)):
+            streams.out.write(json.dumps(found.record()) + "\n" if words.json else "\n" * bool(number) + str(found))
+
+
+def _explained(words: argparse.Namespace, room: str) -> "Iterable[Finding | Way]":
+    one = program.dmremap(words.program)
     if words.words[0] in name_words.COMMANDS:
-        _show(words, *name_words.why(program.dmremap(words.program), words.words))
-        return
+        return [name_words.why(one, words.words)]
     typed = asked.typed(words.words)
     if isinstance(typed, Finding):
-        _show(words, "", typed)
-        return
-    with tempfile.TemporaryDirectory(prefix="dmremap-tools-") as room:
-        _explain(words, typed, room)
-
-
-def _explain(words: argparse.Namespace, typed: asked.Typed, room: str) -> None:
-    one = program.dmremap(words.program)
+        return [typed]
     mapping.use(words.program)
-    told = refusals.Told(typed, words.before, words.paths, room)
+    told = Told(one, typed, words.before, words.paths, room)
     # What is loaded is looked at first, so that no request is waited for where it is refused.
-    message, requests = told.ask(one, b""), b""
+    message, requests = told.ask(b""), b""
     if not message:
         requests = _requests(typed)
-        message = told.ask(one, requests) if requests else ""
+        message = told.ask(requests) if requests else ""
     if message:
-        _show(words, message, told.why(one, message, requests))
-    elif requests and typed.command == "map":
-        _show_ways(words, told, requests.decode("ascii").splitlines(), room)
-    else:
-        _show_loaded(words, one, told, room)
+        return [told.why(message, requests)]
+    if requests and typed.command == "map":
+        return _ways(told, requests.decode("ascii").splitlines(), room)
+    return [_nothing(told, room)]
 
 
 def _requests(typed: asked.Typed) -> bytes:
     """The requests, to the byte."""
     if typed.requests:
         return "".join(it + "\n" for it in typed.requests).encode("utf-8", "surrogateescape")
-    if typed.command not in asked.ASKED or os.isatty(0):
-        return b""
-    return texts.standard_input()
+    return texts.standard_input() if typed.command in asked.ASKED and not os.isatty(0) else b""
 
 
-def _show_ways(words: argparse.Namespace, told: refusals.Told, requests: List[str], room: str) -> None:
-    """Shows the way of each request."""
+def _ways(told: Told, requests: List[str], room: str) -> Iterator[Way]:
+    """The way of each request."""
     if len(requests) > MOST_REQUESTS:
-        raise Refusal("the requests", "there are %d: give at most %d, and those before them by --before" % (len(requests), MOST_REQUESTS))
-    one = program.dmremap(words.program)
-    loaded, listed, earlier = stack.load(one, told.copies(), room), told.copy_of("paths"), told.copy_of("before")
-    copies, before = StoreCopies(loaded, listed, room) if listed else None, os.path.join(room, "earlier")
+        raise Refusal("the requests", "there are %d: give at most %d, and those before them by --before" % (
+            len(requests), MOST_REQUESTS))
+    loaded = stack.load(told.asked, told.given, room)
+    copies = StoreCopies(loaded, told.listed, room) if told.listed else None
+    earlier, levels = streams.rows(told.earlier) if told.earlier else [], Levels(told, loaded, copies, room)
     for number, request in enumerate(requests):
-        put(before, (it + "\n" for it in [*(streams.rows(earlier) if earlier else []), *requests[:number]]))
-        operation, name, start, count = request.split(" ")
-        levels_of = levels.Levels(one, told.words(), loaded, before, copies, room)
-        top, answer = levels_of.way(operation, name, int(start), int(count))
-        if words.json:
-            _show_object(drawn.record(top, answer))
-        else:
-            streams.out.write("\n" * bool(number) + drawn.tree(top, answer))
+        yield levels.way(request, [*earlier, *requests[:number]])
 
 
-def _show_loaded(words: argparse.Namespace, one: str, told: refusals.Told, room: str) -> None:
-    """Says that nothing is refused."""
-    devices = [it.name for it in stack.load(one, told.copies(), room).devices]
-    example = "R %s 0 8" % devices[0] if devices else "R NAME 0 8"
-    _show(words, "", Finding("nothing is refused: dmremap loads %d device%s" % (len(devices), "s" * (len(devices) != 1)),
-                             ["for the way of a request, add it:", finding.command("dmremap-tools explain %s '%s'" % (" ".join(
-                                 ["map", *map(finding.shell, told.typed.given.words())]), example))]))
-
-
-def _show(words: argparse.Namespace, message: str, found: Finding) -> None:
-    if words.json:
-        _show_object(finding.record(message, found))
-    else:
-        streams.out.write(finding.text_of(message, found))
-
-
-def _show_object(made: Dict[str, Any]) -> None:
-    streams.out.write(json.dumps(made) + "\n")
+def _nothing(told: Told, room: str) -> Finding:
+    """That nothing is refused."""
+    devices = [it.name for it in stack.load(told.asked, told.given, room).devices]
+    command = " ".join(["dmremap-tools explain map", *map(shell, told.typed.given.words())])
+    return Finding("nothing is refused: dmremap loads %d device%s" % (len(devices), "s" * (len(devices) != 1)),
+                   ["for the way of a request, add it:", "  %s 'R %s 0 8'" % (command, (devices or ["NAME"])[0])])

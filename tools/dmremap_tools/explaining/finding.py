@@ -1,17 +1,19 @@
 """What is found of a refusal: the place, why, and what mends it."""
 
-from typing import Any, Dict, List, NamedTuple, Optional
+import re
+from typing import Any, Dict, List, NamedTuple, Optional, Sequence
 
-from dmremap_tools.base import quoting, streams
+from dmremap_tools.base import quoting
 
 # What of a long line is shown, and how much of that stands before the place.
 WIDTH, BEFORE = 90, 30
-TAB = "\t"
+# A path that a shell takes as it stands.
+PLAIN = re.compile(r"(?!-)[/._-]*[A-Za-z0-9][\w/.-]*", re.A)
 
 
 class Place(NamedTuple):
-    """A place in a text: its name, the line, what stands there, and from where to where it is meant. In concise text it is a
-    device in place of a line."""
+    """Characters of a line, from `first` to `end`: the name of the text, the number of the line, and what stands in it.
+    In concise text it is a device in place of a line."""
 
     name: str
     number: int
@@ -20,10 +22,15 @@ class Place(NamedTuple):
     end: int
     is_device: bool = False
 
+    def of_words(self, words: Sequence[str], at: int, count: int = 1, begin: int = 0) -> "Place":
+        """Some of the words that begin at a character of the line, with a space between two; behind them its end."""
+        first = begin + sum(len(it) + 1 for it in words[:at]) if at < len(words) else len(self.text)
+        return self._replace(first=first, end=first + max(1, len(" ".join(words[at:at + count]))))
+
     def rows(self) -> List[str]:
         """The place as a compiler shows it: the part of the line around it, underlined."""
         begun = max(0, min(self.first - BEFORE, len(self.text) - WIDTH))
-        part = self.text[begun:begun + WIDTH].replace(TAB, " ")
+        part = self.text[begun:begun + WIDTH].replace("\t", " ")
         before, marked = part[:self.first - begun], part[self.first - begun:self.end - begun]
         lead = "  " + ".." * (begun > 0)
         shown = lead + quoting.escaped(part) + ".." * (begun + WIDTH < len(self.text))
@@ -31,49 +38,31 @@ class Place(NamedTuple):
         return ["%s%s%d" % (self.name, ", device " if self.is_device else ":", self.number), shown, mark]
 
     def record(self) -> Dict[str, Any]:
-        """The same as an object."""
-        return {"file": self.name, "device" if self.is_device else "line": self.number, "text": self.text, "from": self.first, "to": self.end}
+        number = {"device" if self.is_device else "line": self.number}
+        return {"file": self.name, **number, "text": self.text, "from": self.first, "to": self.end}
 
 
 class Finding(NamedTuple):
     """Why something is refused, in a sentence; what mends it, in lines, which are commands where they begin with two
-    spaces; the place, if it has one."""
+    spaces; the place, if it has one; and what dmremap says."""
 
     why: str
     do: List[str]
     place: Optional[Place] = None
+    message: str = ""
 
-    def at(self, name: str, number: int, text: str, first: int = 0, end: Optional[int] = None) -> "Finding":
-        """The same at a place."""
-        return self._replace(place=Place(name, number, text, first, len(text) if end is None else end))
+    def __str__(self) -> str:
+        rows = [self.message] * bool(self.message) + (self.place.rows() if self.place else [])
+        for lead, said in (("why: ", self.why.split("\n")), ("do:  ", self.do)):
+            rows += [(" " * len(lead) if place else lead) + it for place, it in enumerate(said)]
+        return "".join(quoting.escaped(it) + "\n" for it in rows)
 
-
-def command(text: str) -> str:
-    """A line that is to be typed."""
-    return "  " + text
-
-
-def text_of(message: str, found: Finding) -> str:
-    """A finding in lines."""
-    rows = [message] if message else []
-    rows += found.place.rows() if found.place else []
-    for lead, said in (("why: ", found.why.split("\n")), ("do:  ", found.do)):
-        rows += [(lead if place == 0 else " " * len(lead)) + it for place, it in enumerate(said)]
-    return "".join(quoting.escaped(it) + "\n" for it in rows)
-
-
-def record(message: str, found: Finding) -> Dict[str, Any]:
-    """The same as an object of JSON."""
-    made: Dict[str, Any] = {"message": message or None, "why": found.why, "do": [it.strip() for it in found.do]}
-    return {**made, "place": found.place.record() if found.place else None}
+    def record(self) -> Dict[str, Any]:
+        """It as an object of JSON."""
+        return {"message": self.message or None, "why": self.why, "do": [it.strip() for it in self.do],
+                "place": self.place.record() if self.place else None}
 
 
 def shell(path: str) -> str:
     """A path as a word of a command."""
-    plain = path.replace("/", "").replace(".", "").replace("-", "").replace("_", "")
-    return path if plain.isalnum() and plain.isascii() and not path.startswith("-") else quoting.for_shell(path)
-
-
-def name_of(path: str) -> str:
-    """A path in a message."""
-    return streams.name_of(path) if path != "-" else "-"
+    return path if PLAIN.fullmatch(path) else quoting.for_shell(path)

@@ -1,20 +1,19 @@
 """Why dmremap refuses the metadata of a group: the field that is meant, and which volumes of the group could be mapped."""
 
 import re
-from typing import Callable, Dict, List, Tuple
+from typing import Callable, List
 
 from dmremap_tools.base.config_text import Document, shown
 from dmremap_tools.base.refusal import Refusal
-from dmremap_tools.explaining.finding import Finding, command, shell
-from dmremap_tools.explaining.table_texts import copy_of
+from dmremap_tools.explaining.finding import Finding
 from dmremap_tools.explaining.texts import Text
 from dmremap_tools.metadata import lvm2_text
 from dmremap_tools.metadata.followed import judge
 from dmremap_tools.metadata.mending import Mending
 from dmremap_tools.metadata.volume_group import TYPES, Group
 
-OLDER = ["the text is damaged, or was changed by hand: take it anew, or an older one from /etc/lvm/archive,", "or that of another physical volume:",
-         command("dmremap-tools metadata DISK > vg.backup")]
+OLDER = ["the text is damaged, or was changed by hand: take it anew, or an older one from /etc/lvm/archive,",
+         "or that of another physical volume:", "  dmremap-tools metadata DISK > vg.backup"]
 MOST = 12
 # What is wrong by the word, where the field itself doesn't say more.
 SAID = {
@@ -30,22 +29,20 @@ SAID = {
 
 def why(word: str, number: int, file: Text, is_loaded: Callable[[bytes], bool]) -> Finding:
     """Why the metadata is refused at a line. A copy without what is refused is only offered if dmremap loads it."""
-    row = file.line(number)
-    first = len(row) - len(row.lstrip())
-    fault, end = SAID.get(word, "dmremap refuses what stands here"), len(row)
+    place, fault = file.place(number), SAID.get(word, "dmremap refuses what stands here")
     try:
         document = Document(file.name, file.content)
     except Refusal as refused:
-        last = min(number, len(file.lines()))
-        return Finding("%s; here the text breaks off, or isn't that of lvm2" % refused.why, OLDER).at(file.name, last, file.line(last))
-    kind = re.match(r'\s*type\s*=\s*("([^"]*)")', row)
-    owner = _owner(document, number)
+        last = file.place(min(number, len(file.places())))
+        return Finding("%s; here the text breaks off, or isn't that of lvm2" % refused.why, OLDER, last)
+    kind = re.match(r'\s*type\s*=\s*("([^"]*)")', place.text)
+    place, owner = place._replace(first=len(place.text) - len(place.text.lstrip())), _owner(document, number)
     if word == "field" and kind and kind[2].encode("utf-8", "surrogateescape") not in TYPES:
-        first, end = kind.span(1)
+        place = place._replace(first=kind.start(1), end=kind.end(1))
         fault = "%s has a segment of the type %s, which dmremap doesn't follow" % (owner or "a volume", kind[2])
     elif owner:
         fault = "%s, in %s" % (fault, owner)
-    return Finding(fault, _remedy(file, is_loaded)).at(file.name, number, row, first, end)
+    return Finding(fault, _remedy(file, document, is_loaded), place)
 
 
 def _owner(document: Document, number: int) -> str:
@@ -58,35 +55,28 @@ def _owner(document: Document, number: int) -> str:
     return ""
 
 
-def _remedy(file: Text, is_loaded: Callable[[bytes], bool]) -> List[str]:
+def _remedy(file: Text, document: Document, is_loaded: Callable[[bytes], bool]) -> List[str]:
     """What mends it, and what can be mapped then."""
+    copy = Mending(document)
     try:
-        copy, kept, left = copied(file)
+        lvm2_text.drop_twice(copy)
+        group = Group(lvm2_text.group_of(copy))
+        judge(group)
+        records = {it.volume.name for it in group.records}
+        volumes = [it for it in group.volumes.values() if it.name not in records]
+        kept = [shown(it.name) for it in volumes if not it.why]
+        left = ["  %s: %s" % it for it in {shown(it.name): it.why for it in volumes if it.why}.items()]
+        if kept:
+            lvm2_text.drop_volumes(copy, group)
+            lvm2_text.mend_group(copy, group)
+        made = lvm2_text.mended(copy, file.content)
     except Refusal as refused:
         return ["lvm2-text can't mend it: %s" % refused.why, *OLDER]
-    if not kept and left:
-        return ["none of its volumes can be mapped:", *_reasons(left)]
-    if not is_loaded(copy):
-        return list(OLDER)
-    rows = [command("dmremap-tools lvm2-text %s > %s" % (shell(file.path), copy_of(file.path))),
-            "makes a copy, of which these can be mapped: " + ", ".join(kept[:MOST]) + ", .." * (len(kept) > MOST)]
-    return rows + (["and these can't:", *_reasons(left)] if left else [])
-
-
-def copied(file: Text) -> Tuple[bytes, List[str], Dict[str, str]]:
-    """What lvm2-text makes of the text, the volumes that stay in it, and why others can't."""
-    copy = Mending(Document(file.name, file.content))
-    lvm2_text.drop_twice(copy)
-    group = Group(lvm2_text.group_of(copy))
-    judge(group)
-    records = {it.volume.name for it in group.records}
-    volumes = [it for it in group.volumes.values() if it.name not in records]
-    kept, left = [shown(it.name) for it in volumes if not it.why], {shown(it.name): it.why for it in volumes if it.why}
-    if kept:
-        lvm2_text.drop_volumes(copy, group)
-        lvm2_text.mend_group(copy, group)
-    return lvm2_text.mended(copy, file.content), kept, left
-
-
-def _reasons(left: Dict[str, str]) -> List[str]:
-    return ["  %s: %s" % it for it in list(left.items())[:MOST]] + ["  .."] * (len(left) > MOST)
+    reasons = left[:MOST] + ["  .."] * (len(left) > MOST)
+    if left and not kept:
+        return ["none of its volumes can be mapped:", *reasons]
+    if not is_loaded(made):
+        return OLDER
+    mapped = ", ".join(kept[:MOST]) + ", .." * (len(kept) > MOST)
+    return [file.changed("dmremap-tools lvm2-text"), "makes a copy, of which these can be mapped: " + mapped,
+            *["and these can't:"] * bool(left), *reasons]

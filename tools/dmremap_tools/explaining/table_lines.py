@@ -2,228 +2,217 @@
 
 import difflib
 import re
-from typing import Dict, List, NamedTuple, Optional, Tuple
+from typing import Dict, Iterator, List, Optional, Tuple
 
 from dmremap_tools.base import names, tables
 from dmremap_tools.base.quoting import for_shell
-from dmremap_tools.explaining.finding import Finding, command, shell
-from dmremap_tools.explaining.kinds import GET_MACHINE
-from dmremap_tools.explaining.numbers_read import HOW_MANY, why_no_device, why_no_disk, why_no_number
+from dmremap_tools.explaining.finding import Finding, Place, shell
+from dmremap_tools.explaining.kinds import GET_MACHINE, GET_TABLE
+from dmremap_tools.explaining.numbers_read import HOW_MANY, NUMBER, why_no_device, why_no_disk, why_no_number
+from dmremap_tools.explaining.texts import Text
 
 FORMS = {"linear": "DEV OFFSET", "striped": "COLUMNS CHUNK DEV OFFSET ..", "zero": "", "error": "",
          "snapshot": "ORIGIN STORE KIND CHUNK", "snapshot-origin": "DEV"}
 END = ["list the device in DISKS with its length, and name it without %s: answers end at it then;" % names.MAPPER,
        "as root, this does so for a whole machine:", *GET_MACHINE]
+OTHER_NAME = ["write another name, in all places where it stands"]
 # Names that mean nothing else to sed.
 PLAIN = re.compile(r"[\w/-]+", re.A)
 # What commands make of lines that dmremap doesn't read.
-MADE = {"thin": "dmremap-tools thin", "cache": "dmremap-tools thin", "crypt": "dmremap-tools machine", "raid": "dmremap-tools lvm2-text"}
+MADE = {"thin": "thin", "cache": "thin", "crypt": "machine", "raid": "lvm2-text"}
 
 
-class Line(NamedTuple):
-    """A line: the device, its words, where each begins in the row, and the number and the text of the row."""
+class Line(tables.Line):
+    """A line as it stands in a text, where it may make no sense: its device, and its words, which begin at a character
+    of the row at a place."""
 
-    device: str
-    words: List[str]
-    begins: List[int]
-    number: int
-    row: str
+    def __init__(self, device: str, text: str, place: Place, begin: int) -> None:
+        self.device, self.place, self._begin, self._typed = device, place, begin, text.rstrip(" \r").split(" ")
+        start, length = (int(it) if NUMBER.fullmatch(it) else 0 for it in (self._typed + [""])[:2])
+        super().__init__(start, length, "".join(self._typed[2:3]), self._typed[3:])
 
-    def found(self, name: str, at: int, why: str, do: List[str], count: int = 1) -> Finding:
-        """What is said of a word of it, or of several."""
-        if at >= len(self.words):
-            return Finding(why, do).at(name, self.number, self.row, len(self.row), len(self.row) + 1)
-        last = min(at + count, len(self.words)) - 1
-        return Finding(why, do).at(name, self.number, self.row, self.begins[at], self.begins[last] + len(self.words[last]))
+    def places(self) -> range:
+        """Where its words name a disk or a device below, as far as they go."""
+        return super().places()[:len(self.words)]
 
-    def number_at(self, at: int) -> int:
-        """A word that is a number."""
-        return int(self.words[at])
+    def found(self, at: int, why: str, do: List[str], count: int = 1) -> Finding:
+        """What is said of the words after its target, of one or several. The target is word -1."""
+        return Finding(why, do, self.place.of_words(self._typed, at + 3, count, self._begin))
 
-    @property
-    def target(self) -> str:
-        """Its target, or nothing."""
-        return "".join(self.words[2:3])
+    def why_field(self) -> Optional[Finding]:
+        """A value that doesn't fit."""
+        for at, what in ((0, "the start"), (1, "the length")):
+            why = why_no_number("".join(self._typed[at:at + 1]))
+            if why:
+                return self.found(at - 3, "%s, where %s stands" % (why, what), [HOW_MANY])
+        if self.target not in FORMS:
+            return self._why_target()
+        count, columns = tables.TARGETS[self.target], "".join(self.words[:1])
+        if self.target == "striped" and NUMBER.fullmatch(columns):
+            count = 2 + 2 * int(columns)
+        if count is not None and len(self.words) != count:
+            return self._why_count(count)
+        kind = 2 if self.target == "snapshot" else None
+        numbers = (at for at in range(len(self.words)) if at not in self.places() and at != kind)
+        wrong = ((at, why_no_number(self.words[at])) for at in numbers)
+        return next((self.found(at, why, [HOW_MANY]) for at, why in wrong if why), None)
 
+    def _why_target(self) -> Finding:
+        near = difflib.get_close_matches(self.target, FORMS, 1, 0.75)
+        if near:
+            return self.found(-1, "there is no target %s" % self.target, ["write %s" % near[0]])
+        made = MADE.get(self.target.replace("-pool", "").split("-")[0])
+        command = ["for this target there is a command:", "  dmremap-tools %s --help" % made] if made else []
+        do = [*command, "or " * bool(made) + END[0], *END[1:]]
+        return self.found(-1, "%s is a target that dmremap doesn't follow" % (self.target or "nothing"), do)
 
-def lines_of(form: str, text: str) -> List[Line]:
-    """All lines of a text."""
-    return _of_table(text) if form == "table" else _of_concise(text)
+    def _why_count(self, count: int) -> Finding:
+        if not self.words:
+            why = "the arguments of %s are missing, as in what `dmsetup status` prints" % self.target
+            return self.found(-1, why, ["take the tables:", GET_TABLE])
+        form = ("%s %s" % (self.target, FORMS[self.target])).strip()
+        why = "%s has %d words after it, and not %d: %s" % (self.target, count, len(self.words), form)
+        at, do = 0, "compare with what `dmsetup table` prints"
+        if self.target == "snapshot" and len(self.words) > count:
+            at, do = count, "a feature of a snapshot changes discards alone: let the line end after the chunk"
+        return self.found(at, why, [do], len(self.words))
 
-
-def _of_table(text: str) -> List[Line]:
-    found = []
-    for number, row in enumerate(text.split("\n"), 1):
-        device, colon, _ = row.partition(":") if ": " not in row else row.partition(": ")
-        begin = len(device) + 2
-        found.append(_line(device if colon else "", row[begin:], begin, number, row))
-    return found
-
-
-def _of_concise(text: str) -> List[Line]:
-    found = []
-    for number, row in enumerate(text.rstrip("\n").split(";"), 1):
-        fields = row.split(",")
-        begin = sum(len(it) + 1 for it in fields[:4])
-        for field in fields[4:]:
-            found.append(_line(fields[0], field, begin, number, row))
-            begin += len(field) + 1
-        if len(fields) < 5:
-            found.append(_line(fields[0], "", 0, number, row))
-    return found
-
-
-def _line(device: str, text: str, begin: int, number: int, row: str) -> Line:
-    words, begins = [], []
-    for word in text.rstrip(" \r").split(" "):
-        words.append(word)
-        begins.append(begin)
-        begin += len(word) + 1
-    return Line(device, words, begins, number, row)
-
-
-def why_field(line: Line, name: str) -> Optional[Finding]:
-    """A value that doesn't fit."""
-    for at in range(2):
-        why = why_no_number("".join(line.words[at:at + 1]))
+    def why_name(self) -> Optional[Finding]:
+        """A name that can't be one."""
+        why = why_no_device(self.device)
         if why:
-            return line.found(name, at, "%s, where %s stands" % (why, ("the start", "the length")[at]), [HOW_MANY])
-    if line.target not in FORMS:
-        return _why_target(line, name)
-    count = tables.TARGETS[line.target]
-    columns = line.words[3] if len(line.words) > 3 else ""
-    if line.target == "striped" and not why_no_number(columns):
-        count = 2 + 2 * int(columns)
-    if count is not None and len(line.words) - 3 != count:
-        return _why_count(line, name, count)
-    for at in _numbers(line):
-        why = why_no_number(line.words[at])
-        if why:
-            return line.found(name, at, why, [HOW_MANY])
-    return None
+            return Finding(why, OTHER_NAME, self.place._replace(end=max(1, len(self.device))))
+        for at in self.places():
+            word = self.words[at]
+            is_device = word.startswith(names.MAPPER)
+            why = why_no_device(word[len(names.MAPPER):]) if is_device else why_no_disk(word)
+            if why:
+                return self.found(at, why, OTHER_NAME)
+        return None
+
+    def why_empty(self) -> Optional[Finding]:
+        """No sectors."""
+        return self.found(-2, "the line has no sectors", ["delete it"]) if self._typed[1:2] == ["0"] else None
+
+    def why_stripe(self) -> Optional[Finding]:
+        """Stripes that don't divide it."""
+        if self.target != "striped":
+            return None
+        columns, chunk = int(self.words[0]), int(self.words[1])
+        why = "the length, %d, is no multiple of %d columns of chunks of %d sectors" % (self.length, columns, chunk)
+        at = -2
+        if not 1 <= columns <= tables.MOST_COLUMNS:
+            why, at = "there are 1 to %d columns" % tables.MOST_COLUMNS, 0
+        elif not 1 <= chunk <= tables.LONGEST_CHUNK:
+            why, at = "a chunk has 1 to %d sectors" % tables.LONGEST_CHUNK, 1
+        return self.found(at, why, ["compare with what dmsetup has:", "  dmsetup table %s" % self.device])
 
 
-def _why_target(line: Line, name: str) -> Finding:
-    near = difflib.get_close_matches(line.target, FORMS, 1, 0.75)
-    if near:
-        return line.found(name, 2, "there is no target %s" % line.target, ["write %s" % near[0]])
-    do = list(END)
-    made = MADE.get(line.target.replace("-pool", "").split("-")[0])
-    if made:
-        do = ["for this target there is a command:", command(made + " --help")] + ["or " + do[0], *do[1:]]
-    return line.found(name, 2, "%s is a target that dmremap doesn't follow" % (line.target or "nothing"), do)
+def lines_of(form: str, text: Text) -> Iterator[Line]:
+    """All lines of table text or concise text. A device of the latter without lines has an empty one."""
+    for place in text.places(form):
+        if form == "concise":
+            fields = place.text.split(",")
+            device, begin, lines = fields[0], sum(len(it) + 1 for it in fields[:4]), fields[4:] or [""]
+        else:
+            device, colon, _ = place.text.partition(": " if ": " in place.text else ":")
+            begin = len(device) + 2
+            device, lines = device if colon else "", [place.text[begin:]]
+        for line in lines:
+            yield Line(device, line, place, begin)
+            begin += len(line) + 1
 
 
-def _why_count(line: Line, name: str, count: int) -> Finding:
-    form = ("%s %s" % (line.target, FORMS[line.target])).strip()
-    if len(line.words) == 3:
-        return line.found(name, 2, "the arguments of %s are missing, as in what `dmsetup status` prints" % line.target,
-                          ["take the tables:", command("dmsetup table > tables")])
-    why = "%s has %d words after it, and not %d: %s" % (line.target, count, len(line.words) - 3, form)
-    if line.target == "snapshot" and len(line.words) - 3 > count:
-        do = ["a feature of a snapshot changes discards alone: let the line end after the chunk"]
-        return line.found(name, 3 + count, why, do, len(line.words))
-    return line.found(name, min(3, len(line.words) - 1), why, ["compare with what `dmsetup table` prints"], len(line.words))
+class Tables:
+    """The lines of a text, with the sectors of the disks of a list."""
 
+    def __init__(self, form: str, text: Text, disks: Dict[str, int]) -> None:
+        self._lines, self._disks = list(lines_of(form, text)), disks
+        self._devices = list(dict.fromkeys(it.device for it in self._lines if it.device))
 
-def _numbers(line: Line) -> List[int]:
-    if line.target == "linear":
-        return [4]
-    if line.target == "striped":
-        return [3, 4, *range(6, len(line.words), 2)]
-    return [6] if line.target == "snapshot" else []
+    def why(self, word: str, number: int) -> Optional[Finding]:
+        """Why a line, or a device of concise text, is refused by a word."""
+        check = {"field": Line.why_field, "name": Line.why_name, "empty": Line.why_empty, "stripe": Line.why_stripe,
+                 "unknown": self._why_unknown, "range": self._why_range, "twice": self._why_twice,
+                 "cycle": self._why_cycle, "gap": lambda it: self._why_place(it, True),
+                 "overlap": lambda it: self._why_place(it, False)}.get(word)
+        here = [it for it in self._lines if it.place.number == number] if check else []
+        return next(filter(None, map(check, here)), None)
 
+    def _why_unknown(self, line: Line) -> Optional[Finding]:
+        """A disk or a device that isn't there."""
+        known = {names.MAPPER + it for it in self._devices}.union(self._disks)
+        unknown = ((at, line.words[at]) for at in line.places() if line.words[at] not in known)
+        return next((line.found(at, *self._why_not_known(word)) for at, word in unknown), None)
 
-def lowers_of(line: Line) -> List[Tuple[int, str]]:
-    """Where it names disks and devices, and which."""
-    places = {"linear": [3], "snapshot-origin": [3], "snapshot": [3, 4]}.get(line.target, [])
-    if line.target == "striped":
-        places = list(range(5, len(line.words), 2))
-    return [(it, line.words[it]) for it in places if it < len(line.words)]
+    def _why_not_known(self, word: str) -> Tuple[str, List[str]]:
+        if word.replace(":", "", 1).isdigit() and ":" in word:
+            return ("%s is the kernel's number of a device, and DISKS has none of this name" % word,
+                    ["as root, this puts names in place of the numbers of a whole machine:", *GET_MACHINE])
+        name = names.of_path(word)
+        if name in self._devices:
+            why = "is a device of FILE, and no disk" if name == word else "is the device %s of FILE" % name
+            return "%s %s" % (word, why), ["write %s%s" % (names.MAPPER, name)]
+        if word.startswith(names.MAPPER):
+            near = difflib.get_close_matches(name, self._devices, 3)
+            add = "add its lines to FILE, or list it in DISKS and name it without " + names.MAPPER
+            return "FILE has no device %s" % name, ["near are: " + ", ".join(near) if near else add]
+        other = word[len("/dev/"):] if word.startswith("/dev/") else "/dev/" + word
+        if other in self._disks:
+            changed = ["  sed %s DISKS > disks.mended" % for_shell("s:^%s :%s :" % (other, word))]
+            do = ["write the same name in both", *changed * bool(PLAIN.fullmatch(other))]
+            return "DISKS calls this disk %s" % other, do
+        near = difflib.get_close_matches(word, self._disks, 3)
+        add = '  echo %s "$(blockdev --getsz %s)" >> DISKS' % (shell(word), shell(word))
+        return "DISKS has no disk %s" % word, ["near are: " + ", ".join(near)] * bool(near) + ["add it:", add]
 
+    def _why_range(self, line: Line) -> Optional[Finding]:
+        """A line that goes past the end of what it names."""
+        ends = {**self._disks, **{names.MAPPER + it.device: it.start + it.length for it in self._lines}}
+        for at, (lower, first, count) in zip(line.places(), line.spans()):
+            end = first + (count or 0)
+            if end > ends.get(lower, end):
+                why = "it goes on to sector %d of %s, which ends at %d" % (end, lower, ends[lower])
+                do = ["compare the length of %s:" % lower, "  blockdev --getsz %s" % shell(lower)]
+                return line.found(at, why, do, 2)
+        return None
 
-def why_name(line: Line, name: str) -> Optional[Finding]:
-    """A name that can't be one."""
-    why = why_no_device(line.device)
-    if why:
-        return Finding(why, ["write another name, in all places where it stands"]).at(name, line.number, line.row, 0, max(1, len(line.device)))
-    for at, word in lowers_of(line):
-        is_device = word.startswith(names.MAPPER)
-        why = why_no_device(word[len(names.MAPPER):]) if is_device else why_no_disk(word)
-        if why:
-            return line.found(name, at, why, ["write another name, in all places where it stands"])
-    return None
+    def _why_place(self, line: Line, is_gap: bool) -> Optional[Finding]:
+        """A line that doesn't begin where the one before ends."""
+        at = self._lines.index(line)
+        before = next((it for it in self._lines[at - 1:at] if it.device == line.device), None)
+        end = before.start + before.length if before else 0
+        if line.start == end or (line.start > end) != is_gap:
+            return None
+        what = "the line before ends at %d" % end if before else "the first line of a device begins at 0"
+        where = "after" if is_gap else "before"
+        do = "a line may be missing: compare" if is_gap else "a line may be there twice, or a number wrong: compare"
+        return line.found(-3, "%s, and this one begins %s that, at %d" % (what, where, line.start),
+                          [do, "  dmsetup table %s" % line.device])
 
+    def _why_twice(self, line: Line) -> Optional[Finding]:
+        first, place = next(it.place.number for it in self._lines if it.device == line.device), line.place
+        why = "the device %s is there before, at %d" % (line.device, first)
+        do = ["keep its lines together, or delete those that are there again:",
+              "  sed -n '%dp;%dp' %s" % (first, place.number, shell(place.name))]
+        return Finding(why, do, place._replace(end=len(line.device)))
 
-def why_unknown(line: Line, name: str, devices: List[str], disks: List[str]) -> Optional[Finding]:
-    """A disk or a device that isn't there."""
-    known = {names.MAPPER + it for it in devices} | set(disks)
-    for at, word in lowers_of(line):
-        if word not in known:
-            return line.found(name, at, *_why_not_known(word, devices, disks))
-    return None
-
-
-def _why_not_known(word: str, devices: List[str], disks: List[str]) -> Tuple[str, List[str]]:
-    if word.replace(":", "", 1).isdigit() and ":" in word:
-        return ("%s is the kernel's number of a device, and DISKS has none of this name" % word,
-                ["as root, this puts names in place of the numbers of a whole machine:", *GET_MACHINE])
-    if word.startswith("/dev/") and word.count("/") > 1 and names.of_path(word) in devices:
-        return ("%s is the device %s of FILE" % (word, names.of_path(word)), ["write %s%s" % (names.MAPPER, names.of_path(word))])
-    if word in devices:
-        return "%s is a device of FILE, and no disk" % word, ["write %s%s" % (names.MAPPER, word)]
-    if word.startswith(names.MAPPER):
-        name = word[len(names.MAPPER):]
-        near = difflib.get_close_matches(name, devices, 3)
-        return ("FILE has no device %s" % name,
-                ["near are: " + ", ".join(near)] if near else ["add its lines to FILE, or list it in DISKS and name it without %s" % names.MAPPER])
-    other = word[len("/dev/"):] if word.startswith("/dev/") else "/dev/" + word
-    if other in disks:
-        changed = "sed %s DISKS > disks.mended" % for_shell("s:^%s :%s :" % (other, word))
-        return "DISKS calls this disk %s" % other, ["write the same name in both", command(changed)][:1 + (PLAIN.fullmatch(other) is not None)]
-    near = difflib.get_close_matches(word, disks, 3)
-    add = ["add it:", command('echo %s "$(blockdev --getsz %s)" >> DISKS' % (shell(word), shell(word)))]
-    return "DISKS has no disk %s" % word, ["near are: " + ", ".join(near)] * bool(near) + add
-
-
-def why_places(word: str, line: Line, before: Optional[Line], name: str) -> Finding:
-    """A line that doesn't begin where the one before ends."""
-    end = before.number_at(0) + before.number_at(1) if before and before.device == line.device else 0
-    what = "the line before ends at %d" % end if before and before.device == line.device else "the first line of a device begins at 0"
-    where = "after" if word == "gap" else "before"
-    do = "a line may be missing: compare" if word == "gap" else "a line may be there twice, or a number wrong: compare"
-    return line.found(name, 0, "%s, and this one begins %s that, at %s" % (what, where, line.words[0]),
-                      [do, command("dmsetup table %s" % line.device)])
-
-
-def lengths_of(lines: List[Line]) -> Dict[str, int]:
-    """The sectors of each device, by its path, as far as its lines say so."""
-    found: Dict[str, int] = {}
-    for it in lines:
-        if len(it.words) > 2 and not why_no_number(it.words[0]) and not why_no_number(it.words[1]):
-            found[names.MAPPER + it.device] = it.number_at(0) + it.number_at(1)
-    return found
-
-
-def why_range(line: Line, name: str, lengths: Dict[str, int]) -> Optional[Finding]:
-    """A line that goes past the end of what it names."""
-    columns = len(lowers_of(line)) or 1
-    for at, word in lowers_of(line):
-        first = line.number_at(at + 1) if line.target in ("linear", "striped") else 0
-        end = first + line.number_at(1) // columns
-        if word in lengths and end > lengths[word]:
-            return line.found(name, at, "it goes on to sector %d of %s, which ends at %d" % (end, word, lengths[word]),
-                              ["compare the length of %s:" % word, command("blockdev --getsz %s" % shell(word))], 2)
-    return None
-
-
-def why_stripe(line: Line, name: str) -> Finding:
-    """Stripes that don't divide a line."""
-    columns, chunk, length = line.number_at(3), line.number_at(4), line.number_at(1)
-    if not 1 <= columns <= tables.MOST_COLUMNS:
-        why, at = "there are 1 to %d columns" % tables.MOST_COLUMNS, 3
-    elif not 1 <= chunk <= tables.LONGEST_CHUNK:
-        why, at = "a chunk has 1 to %d sectors" % tables.LONGEST_CHUNK, 4
-    else:
-        why, at = "the length, %d, is no multiple of %d columns of chunks of %d sectors" % (length, columns, chunk), 1
-    return line.found(name, at, why, ["compare with what dmsetup has:", command("dmsetup table %s" % line.device)])
+    def _why_cycle(self, line: Line) -> Optional[Finding]:
+        """The way from a device to itself."""
+        below: Dict[str, List[str]] = {}
+        for it in self._lines:
+            below.setdefault(names.MAPPER + it.device, []).extend(it.lowers())
+        start, upper = names.MAPPER + line.device, {}
+        waiting = [start]
+        for path in waiting:
+            lowers = [it for it in below.get(path, ()) if it not in upper]
+            upper.update(dict.fromkeys(lowers, path))
+            waiting += lowers
+        if start not in upper:
+            return None
+        way = [start, upper[start]]
+        while way[-1] != start:
+            way.append(upper[way[-1]])
+        shown = " lies on ".join(it[len(names.MAPPER):] for it in reversed(way))
+        do = ["a number was replaced by a wrong name: compare with what dmsetup has:", "  dmsetup ls --tree"]
+        return Finding(shown, do, line.place)

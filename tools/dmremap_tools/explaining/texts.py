@@ -3,117 +3,108 @@
 import difflib
 import errno
 import os
-from typing import List, NamedTuple, Optional
+from typing import Dict, List, NamedTuple, Optional
 
-from dmremap_tools.base import streams
+from dmremap_tools.base import quoting, streams
 from dmremap_tools.base.given import MOST_TEXT
 from dmremap_tools.base.refusal import Refusal
-from dmremap_tools.explaining.finding import Finding, command, name_of, shell
+from dmremap_tools.explaining import kinds
+from dmremap_tools.explaining.finding import Finding, Place, shell
+from dmremap_tools.explaining.numbers_read import NUMBER
 
-BLOCK, MOST_REQUESTS = 1 << 16, 1 << 24
+MOST_REQUESTS = 1 << 24
 
 
 class Text(NamedTuple):
-    """A file by the path that was typed, what it begins with, of which dmremap takes all but the last byte, and a copy."""
+    """A file by the path that was typed, and what it begins with, of which dmremap takes all but the last byte. One
+    that isn't given is empty, and so is one that can't be read, with the reason."""
 
     path: str
     content: bytes
-    copy: str
+    fault: Optional[Finding] = None
 
     @property
     def name(self) -> str:
         """What it is called."""
-        return name_of(self.path)
+        return quoting.shown(self.path)
 
-    def line(self, number: int) -> str:
-        """A line of it, from 1, or nothing after its end."""
-        rows = self.lines()
-        return rows[number - 1] if 0 < number <= len(rows) else ""
+    @property
+    def kind(self) -> str:
+        """What it really is."""
+        return kinds.kind_of(self.content)
 
-    def lines(self) -> List[str]:
-        """All of them, with the carriage returns at their ends."""
-        rows = self.content.decode("utf-8", "surrogateescape").split("\n")
-        return rows if rows[-1] else rows[:-1]
+    def decoded(self) -> str:
+        """It as text, in which bytes that are no UTF-8 stay what they are."""
+        return self.content.decode("utf-8", "surrogateescape")
+
+    def places(self, form: str = "table") -> List[Place]:
+        """Its lines, with the carriage returns at their ends, or the devices of concise text."""
+        is_concise = form == "concise"
+        rows = self.decoded().rstrip("\n").split(";") if is_concise else self.decoded().split("\n")
+        rows = rows if is_concise or rows[-1] else rows[:-1]
+        return [Place(self.name, number, row, 0, len(row), is_concise) for number, row in enumerate(rows, 1)]
+
+    def place(self, number: int, form: str = "table") -> Place:
+        """One of these, from 1. After the last one nothing stands."""
+        return next(iter(self.places(form)[number - 1:]), Place(self.name, number, "", 0, 0, form == "concise"))
+
+    def sizes(self) -> Dict[str, int]:
+        """The disks of a list, as far as it is one."""
+        rows = [it.text.split(" ") for it in self.places()]
+        return {it[0]: int(it[1]) for it in rows if len(it) == 2 and NUMBER.fullmatch(it[1])}
+
+    def changed(self, by: str) -> str:
+        """The command that makes a changed copy."""
+        is_file = not self.path.startswith(("/dev/", "/proc/"))
+        copy = os.path.basename(self.path.rstrip("/")) + ".mended" if is_file else "FILE.mended"
+        return "  %s %s > %s" % (by, shell(self.path), shell(copy))
 
 
-def copied(path: str, copy: str) -> "Text | Finding":
-    """A copy of a file, or why there is none."""
+def read(path: Optional[str]) -> Text:
+    """A file, if one is given."""
+    if path is None:
+        return Text("", b"")
     try:
-        content = _read(path)
+        with open(path, "rb") as it:
+            return Text(path, it.read(MOST_TEXT + 1))
     except OSError as fault:
-        return unread(path, fault)
-    try:
-        with open(copy, "wb") as it:
-            it.write(content)
-    except OSError as fault:
-        raise streams.OutputFailed("%s: %s" % (copy, streams.why(fault)))
-    return Text(path, content, copy)
+        code = errno.errorcode.get(fault.errno or 0, "an error")
+        why = "%s can't be read: %s (%s)" % (quoting.shown(path), streams.why(fault), code)
+        return Text(path, b"", Finding(why, _remedy(path, fault.errno)))
 
 
 def standard_input() -> bytes:
     """What standard input brings, to the byte."""
-    descriptor, parts, size = streams.take_input(), [], 0
-    while True:
-        try:
-            part = os.read(descriptor, BLOCK)
-        except OSError as fault:
-            raise Refusal("standard input", streams.why(fault))
-        if not part:
-            return b"".join(parts)
-        parts.append(part)
-        size += len(part)
-        if size > MOST_REQUESTS:
-            raise Refusal("standard input", "it has more than %d bytes: give the requests around the one that is refused" % MOST_REQUESTS)
-
-
-def beginning_of(path: str) -> bytes:
-    """What a file begins with, or nothing where it can't be read."""
-    try:
-        return _read(path)
-    except OSError:
-        return b""
-
-
-def _read(path: str) -> bytes:
-    parts: List[bytes] = []
-    with open(path, "rb", buffering=0) as it:
-        left = MOST_TEXT + 1
-        while left:
-            part = it.read(min(left, BLOCK))
-            if not part:
-                break
-            parts.append(part)
-            left -= len(part)
-    return b"".join(parts)
-
-
-def unread(path: str, fault: OSError) -> Finding:
-    """Why a file can't be read: its path, and what the system says."""
-    code = errno.errorcode.get(fault.errno or 0, "an error")
-    return Finding("%s can't be read: %s (%s)" % (name_of(path), streams.why(fault), code), _remedy(path, fault.errno))
+    content = bytearray()
+    for chunk in streams.chunks("-"):
+        content += chunk
+        if len(content) > MOST_REQUESTS:
+            why = "it has more than %d bytes: give the requests around the one that is refused" % MOST_REQUESTS
+            raise Refusal("standard input", why)
+    return bytes(content)
 
 
 def _remedy(path: str, code: Optional[int]) -> List[str]:
     if path == "-":
         return ["a lone hyphen is a file of this name: give /dev/stdin for what a pipe brings"]
     if code == errno.EISDIR:
-        inside = sorted(it for it in os.listdir(path) if os.path.isfile(os.path.join(path, it))) if os.access(path, os.R_OK) else []
-        return ["it is a folder: give a file in it"] + [command(shell(os.path.join(path, it))) for it in inside[:3]]
+        there = sorted(os.listdir(path)) if os.access(path, os.R_OK) else []
+        files = [it for it in (os.path.join(path, it) for it in there) if os.path.isfile(it)]
+        return ["it is a folder: give a file in it", *("  " + shell(it) for it in files[:3])]
     if code == errno.ENOENT:
         return _near(path)
     if code in (errno.EACCES, errno.EPERM):
-        return ["you may not read it: look who may, or make a copy as root:", command("ls -l %s" % shell(path)),
-                command("sudo cat %s > copy" % shell(path))]
-    return ["look what is wrong with it:", command("cat %s > /dev/null" % shell(path))]
+        return ["you may not read it: look who may, or make a copy as root:", "  ls -l " + shell(path),
+                "  sudo cat %s > copy" % shell(path)]
+    return ["look what is wrong with it:", "  cat %s > /dev/null" % shell(path)]
 
 
 def _near(path: str) -> List[str]:
     folder, name = os.path.split(path)
     try:
-        there = os.listdir(folder or ".")
+        near = difflib.get_close_matches(name, os.listdir(folder or "."), 3)
     except OSError:
-        return ["there is no folder %s that you may look into: mend its path" % name_of(folder)]
-    near = difflib.get_close_matches(name, there, 3)
+        return ["there is no folder %s that you may look into: mend its path" % quoting.shown(folder)]
     if near:
-        return ["there is no file of this name; near are:"] + [command(shell(os.path.join(folder, it))) for it in near]
-    return ["there is no file of this name in %s: mend the path" % name_of(folder or "this folder")]
+        return ["there is no file of this name; near are:", *("  " + shell(os.path.join(folder, it)) for it in near)]
+    return ["there is no file of this name in %s: mend the path" % quoting.shown(folder or "this folder")]
