@@ -76,14 +76,12 @@ def _explained(words: argparse.Namespace, room: str) -> "Iterable[Finding | Way]
 
 
 def _requests(typed: asked.Typed) -> bytes:
-    """The requests, to the byte."""
     if typed.requests:
         return "".join(it + "\n" for it in typed.requests).encode("utf-8", "surrogateescape")
     return texts.standard_input() if typed.command in asked.ASKED and not os.isatty(0) else b""
 
 
 def _ways(told: Told, requests: List[str], room: str) -> Iterator[Way]:
-    """The way of each request."""
     if len(requests) > MOST_REQUESTS:
         raise Refusal("the requests", "there are %d: give at most %d, and those before them by --before" % (
             len(requests), MOST_REQUESTS))
@@ -95,7 +93,6 @@ def _ways(told: Told, requests: List[str], room: str) -> Iterator[Way]:
 
 
 def _nothing(told: Told, room: str) -> Finding:
-    """That nothing is refused."""
     devices = [it.name for it in stack.load(told.asked, told.given, room).devices]
     command = " ".join(["dmremap-tools explain map", *map(shell, told.typed.given.words())])
     return Finding("nothing is refused: dmremap loads %d device%s" % (len(devices), "s" * (len(devices) != 1)),

@@ -1,9 +1,8 @@
 """The way of a request down a stack, level by level.
 
-Each level is an answer of dmremap itself, about the same stack in which what lies below the device of this level is disks:
-so earlier requests reach it as they do in the whole. It is asked for a device and those that share its snapshots' state at
-once, in the order in which the whole comes to them. The levels, one below the other, have to give what dmremap answers
-about the whole."""
+Each level is an answer of dmremap itself, about the same stack in which what lies below some devices is disks: so
+earlier requests reach it as they do in the whole. Those that share their snapshots' state are asked for at once, in the
+order in which the whole comes to them. Together the levels have to give what dmremap answers about the whole."""
 
 import functools
 import itertools
@@ -131,7 +130,6 @@ class Levels:
         return tables.Line(line.start, line.length, line.target, words)
 
     def _answers(self, words: List[str], requests: List[str]) -> List[List[Piece]]:
-        """What dmremap answers to each of some requests."""
         given, got = os.path.join(self._room, "requests"), os.path.join(self._room, "answers")
         put(given, (it + "\n" for it in requests))
         with open(given, "rb") as it:

@@ -19,8 +19,8 @@ EITHER = "%s was lost before this, or %s fails there"
 
 
 class Asked(NamedTuple):
-    """Sectors of a device that lie in one line of it, or None where they go past its end; and the path of its origin,
-    if that stays."""
+    """Sectors of a device that lie in one line of it, or None where they go past its end; the path of its origin, if
+    that stays; and whether it is a write of a snapshot, which is asked before and after."""
 
     device: tables.Device
     line: Optional[tables.Line]
@@ -28,11 +28,7 @@ class Asked(NamedTuple):
     start: int
     count: int
     kept: Optional[str] = None
-
-    @property
-    def is_watched(self) -> bool:
-        """Whether it is a write of a snapshot, which is asked before and after."""
-        return self.operation == "W" and self.line is not None and self.line.target == SNAPSHOT
+    is_watched: bool = False
 
     def requests(self) -> List[str]:
         """What dmremap is asked. The first one is the origin that stays, in the whole of the chunk that is written."""
@@ -58,7 +54,6 @@ class Asked(NamedTuple):
                 at += piece.count
 
     def _note(self, piece: Piece, at: int, got: List[List[Piece]], stores: Dict[str, str]) -> str:
-        """What is to be said of a piece at a sector."""
         if self.line is None or self.line.target not in (SNAPSHOT, ORIGIN):
             return ""
         if self.line.target == ORIGIN:
@@ -73,7 +68,6 @@ class Asked(NamedTuple):
         return "%s, %s" % (chunks, TAKEN if piece.disk in stores else NOT_TAKEN)
 
     def _cause(self, got: List[List[Piece]], origin: List[Piece]) -> str:
-        """Why a piece is an error."""
         device, line = self.device, self.line
         if line is None:
             return "it goes on to sector %d, and %s ends at %d" % (self.start + self.count, device.name, device.end())
@@ -102,9 +96,9 @@ def asked_of(step: Step, device: tables.Device, kept: Optional[str]) -> Iterator
         yield Asked(device, None, step.operation, at, step.count)
         return
     for line in device.lines:
-        until = min(end, line.start + line.length)
-        size = int(line.words[3]) if line.target == SNAPSHOT and step.operation == "W" else line.length
+        until, is_watched = min(end, line.start + line.length), line.target == SNAPSHOT and step.operation == "W"
+        size = int(line.words[3]) if is_watched else line.length
         while at < until:
             count = min(until - at, size - (at - line.start) % size)
-            yield Asked(device, line, step.operation, at, count, kept)
+            yield Asked(device, line, step.operation, at, count, kept, is_watched)
             at += count

@@ -1,4 +1,4 @@
-"""Why dmremap refuses what it is given: it is asked once more, about copies of the files, and its message says where to look."""
+"""Why dmremap refuses what it is given: it is asked about copies of the files, and its message says where to look."""
 
 import os
 import re
@@ -110,7 +110,6 @@ class Told:
         return table_texts.disks_named(file) if file.kind in (kinds.TABLE, kinds.CONCISE) else []
 
     def _is_loaded(self, copy: bytes) -> bool:
-        """Whether dmremap loads a copy of metadata."""
         path = os.path.join(self._room, "copy")
         put(path, [copy.decode("utf-8", "surrogateescape")])
         return not program.ask_quietly([self.asked, "check", "lvm", path])[1]
@@ -163,15 +162,11 @@ class Told:
 
 
 def general(asked: str, message: str, otherwise: str = "dmremap fails with this message") -> Finding:
-    """What dmremap's own help says of a message, in lines."""
+    """What dmremap's own help says of a message, in lines. Its entries begin with the messages that they are about."""
     lines: List[str] = []
     for entry in program.ask_quietly([asked, "help", message])[0].split("\n\n"):
         rows = entry.splitlines()
-        if any(_form_of(it).fullmatch(message) for it in rows if not it.startswith(" ")):
+        heads = (re.escape(it).replace("NAME", ".+") for it in rows if not it.startswith(" "))
+        if any(re.fullmatch(re.sub(r"\b(NUMBER|LINE|N)\b", "[0-9]+", it), message) for it in heads):
             lines += [it.strip() for it in rows if it.startswith(" ")]
     return Finding("\n".join(lines) or otherwise, [])
-
-
-def _form_of(head: str) -> "re.Pattern[str]":
-    """The messages that a line of the help is about."""
-    return re.compile(re.sub(r"\b(NUMBER|LINE|N)\b", "[0-9]+", re.escape(head)).replace("NAME", ".+"))

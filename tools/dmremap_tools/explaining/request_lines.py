@@ -14,6 +14,7 @@ FORM = "a request is R or W, a device, a first sector and a number of sectors, w
 # What makes a plain copy of requests.
 PLAIN = "  %s REQUESTS > plain"
 CRLF = Finding("the line ends in CR LF", [PLAIN % r"tr -d '\r' <"])
+WHOLE = [HOW_MANY + "; of bytes, this makes requests:", PLAIN % "dmremap-tools cut --bytes <"]
 NONE = Finding("a request has one sector at least", ["take it out, or give a length"])
 MANY = Finding("a request has %d sectors at most" % MOST,
                ["cut it into several:", "  dmremap-tools cut < REQUESTS > short"])
@@ -30,8 +31,9 @@ def why(word: str, place: Place, loaded: Stack) -> Finding:
         found = _why_form(place.text, words, loaded)
         at = int(words[0] in OPERATIONS) if len(words) == 4 else None
     elif word == "number":
-        at = 2 if why_no_number(words[2]) else 3
-        found = _why_number(words[at], at)
+        at, what = (2, "the first sector") if why_no_number(words[2]) else (3, "the number of sectors")
+        found = Finding("%s, where %s stands" % (why_no_number(words[at]), what), WHOLE)
+        found = CRLF if words[at].endswith("\r") else found
     elif word == "length":
         found, at = NONE if words[3] == "0" else MANY, 3
     elif word in ("unknown", "not top"):
@@ -61,14 +63,6 @@ def _why_form(row: str, words: List[str], loaded: Stack) -> Finding:
                        ["write %s:" % name, "  " + " ".join([words[0], name, *words[2:]])])
     do = ["for /dev/VG/LV, this prints the name:", "  dmremap name VG LV"] if words[1].startswith("/dev/") else [FORM]
     return Finding(why_no_device(words[1]) or "this is no name of a device", do)
-
-
-def _why_number(word: str, at: int) -> Finding:
-    if word.endswith("\r"):
-        return CRLF
-    what = "the first sector" if at == 2 else "the number of sectors"
-    return Finding("%s, where %s stands" % (why_no_number(word), what),
-                   [HOW_MANY + "; of bytes, this makes requests:", PLAIN % "dmremap-tools cut --bytes <"])
 
 
 def _why_device(words: List[str], loaded: Stack) -> Finding:

@@ -55,7 +55,6 @@ class Part:
         self.below = [it for it in self._ends if isinstance(it, Step)]
 
     def leaves(self) -> Iterator[Piece]:
-        """The same of a piece."""
         ends = [list(it.leaves()) if isinstance(it, Step) else [it] for it in self._ends]
         return _copies(*ends) if len(ends) > 1 else iter(ends[0])
 

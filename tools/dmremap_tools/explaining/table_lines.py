@@ -40,7 +40,6 @@ class Line(tables.Line):
         return Finding(why, do, self.place.of_words(self._typed, at + 3, count, self._begin))
 
     def why_field(self) -> Optional[Finding]:
-        """A value that doesn't fit."""
         for at, what in ((0, "the start"), (1, "the length")):
             why = why_no_number("".join(self._typed[at:at + 1]))
             if why:
@@ -78,7 +77,6 @@ class Line(tables.Line):
         return self.found(at, why, [do], len(self.words))
 
     def why_name(self) -> Optional[Finding]:
-        """A name that can't be one."""
         why = why_no_device(self.device)
         if why:
             return Finding(why, OTHER_NAME, self.place._replace(end=max(1, len(self.device))))
@@ -91,11 +89,9 @@ class Line(tables.Line):
         return None
 
     def why_empty(self) -> Optional[Finding]:
-        """No sectors."""
-        return self.found(-2, "the line has no sectors", ["delete it"]) if self._typed[1:2] == ["0"] else None
+        return None if self.length else self.found(-2, "the line has no sectors", ["delete it"])
 
     def why_stripe(self) -> Optional[Finding]:
-        """Stripes that don't divide it."""
         if self.target != "striped":
             return None
         columns, chunk = int(self.words[0]), int(self.words[1])
@@ -140,7 +136,6 @@ class Tables:
         return next(filter(None, map(check, here)), None)
 
     def _why_unknown(self, line: Line) -> Optional[Finding]:
-        """A disk or a device that isn't there."""
         known = {names.MAPPER + it for it in self._devices}.union(self._disks)
         unknown = ((at, line.words[at]) for at in line.places() if line.words[at] not in known)
         return next((line.found(at, *self._why_not_known(word)) for at, word in unknown), None)
@@ -167,7 +162,6 @@ class Tables:
         return "DISKS has no disk %s" % word, ["near are: " + ", ".join(near)] * bool(near) + ["add it:", add]
 
     def _why_range(self, line: Line) -> Optional[Finding]:
-        """A line that goes past the end of what it names."""
         ends = {**self._disks, **{names.MAPPER + it.device: it.start + it.length for it in self._lines}}
         for at, (lower, first, count) in zip(line.places(), line.spans()):
             end = first + (count or 0)

@@ -43,14 +43,11 @@ def why_letter(text: Text) -> Optional[Finding]:
     """A character that the text can't have."""
     for place in text.places():
         found = NOT_TEXT.search(place.text)
-        if not found:
-            continue
-        at, letter = found.start(), found[0]
-        said, by = LETTERS.get(letter, ("", ""))
-        if not by or letter == "\r" and at < len(place.text) - 1:
-            said, by = "a character that isn't in ASCII, or doesn't print", ""
-        do = text.changed(by) if by else "write another one in its place, in all places where it stands"
-        return Finding(said, [do], place._replace(first=at, end=at + 1))
+        if found:
+            letter = "" if found[0] == "\r" and found.end() < len(place.text) else found[0]
+            said, by = LETTERS.get(letter, ("a character that isn't in ASCII, or doesn't print", ""))
+            do = text.changed(by) if by else "write another one in its place, in all places where it stands"
+            return Finding(said, [do], place._replace(first=found.start(), end=found.end()))
     return None
 
 

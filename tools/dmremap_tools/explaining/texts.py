@@ -25,12 +25,10 @@ class Text(NamedTuple):
 
     @property
     def name(self) -> str:
-        """What it is called."""
         return quoting.shown(self.path)
 
     @property
     def kind(self) -> str:
-        """What it really is."""
         return kinds.kind_of(self.content)
 
     def decoded(self) -> str:
@@ -91,15 +89,11 @@ def _remedy(path: str, code: Optional[int]) -> List[str]:
         there = sorted(os.listdir(path)) if os.access(path, os.R_OK) else []
         files = [it for it in (os.path.join(path, it) for it in there) if os.path.isfile(it)]
         return ["it is a folder: give a file in it", *("  " + shell(it) for it in files[:3])]
-    if code == errno.ENOENT:
-        return _near(path)
     if code in (errno.EACCES, errno.EPERM):
         return ["you may not read it: look who may, or make a copy as root:", "  ls -l " + shell(path),
                 "  sudo cat %s > copy" % shell(path)]
-    return ["look what is wrong with it:", "  cat %s > /dev/null" % shell(path)]
-
-
-def _near(path: str) -> List[str]:
+    if code != errno.ENOENT:
+        return ["look what is wrong with it:", "  cat %s > /dev/null" % shell(path)]
     folder, name = os.path.split(path)
     try:
         near = difflib.get_close_matches(name, os.listdir(folder or "."), 3)
