@@ -29,7 +29,6 @@ from dmremap_tools.explaining.finding import Finding, shell
 from dmremap_tools.explaining.levels import Levels
 from dmremap_tools.explaining.refusals import Told
 from dmremap_tools.explaining.steps import Way
-from dmremap_tools.explaining.store_copies import StoreCopies
 from dmremap_tools.layers import stack
 from dmremap_tools.model import mapping
 
@@ -64,36 +63,25 @@ def _explained(words: argparse.Namespace, room: str) -> "Iterable[Finding | Way]
     mapping.use(words.program)
     told = Told(one, typed, words.before, words.paths, room)
     # What is loaded is looked at first, so that no request is waited for where it is refused.
-    message, requests = told.ask(b""), b""
-    if not message:
-        requests = _requests(typed)
-        message = told.ask(requests) if requests else ""
+    message, requests = told.ask(b""), "".join(it + "\n" for it in typed.requests).encode("utf-8", "surrogateescape")
+    if not message and not requests and typed.command in asked.ASKED and not os.isatty(0):
+        requests = texts.standard_input()
+    message = message or told.ask(requests)
     if message:
         return [told.why(message, requests)]
+    loaded = stack.load(one, told.given, room)
     if requests and typed.command == "map":
-        return _ways(told, requests.decode("ascii").splitlines(), room)
-    return [_nothing(told, room)]
+        return _ways(told, loaded, requests.decode("ascii").splitlines(), room)
+    names = [it.name for it in loaded.devices]
+    command = " ".join(["dmremap-tools explain map", *map(shell, typed.given.words())])
+    return [Finding("nothing is refused: dmremap loads %d device%s" % (len(names), "s" * (len(names) != 1)),
+                    ["for the way of a request, add it:", "  %s 'R %s 0 8'" % (command, (names or ["NAME"])[0])])]
 
 
-def _requests(typed: asked.Typed) -> bytes:
-    if typed.requests:
-        return "".join(it + "\n" for it in typed.requests).encode("utf-8", "surrogateescape")
-    return texts.standard_input() if typed.command in asked.ASKED and not os.isatty(0) else b""
-
-
-def _ways(told: Told, requests: List[str], room: str) -> Iterator[Way]:
+def _ways(told: Told, loaded: stack.Stack, requests: List[str], room: str) -> Iterator[Way]:
     if len(requests) > MOST_REQUESTS:
         raise Refusal("the requests", "there are %d: give at most %d, and those before them by --before" % (
             len(requests), MOST_REQUESTS))
-    loaded = stack.load(told.asked, told.given, room)
-    copies = StoreCopies(loaded, told.listed, room) if told.listed else None
-    earlier, levels = streams.rows(told.earlier) if told.earlier else [], Levels(told, loaded, copies, room)
+    earlier, levels = streams.rows(told.earlier) if told.earlier else [], Levels(told, loaded, room)
     for number, request in enumerate(requests):
         yield levels.way(request, [*earlier, *requests[:number]])
-
-
-def _nothing(told: Told, room: str) -> Finding:
-    devices = [it.name for it in stack.load(told.asked, told.given, room).devices]
-    command = " ".join(["dmremap-tools explain map", *map(shell, told.typed.given.words())])
-    return Finding("nothing is refused: dmremap loads %d device%s" % (len(devices), "s" * (len(devices) != 1)),
-                   ["for the way of a request, add it:", "  %s 'R %s 0 8'" % (command, (devices or ["NAME"])[0])])

@@ -1,14 +1,16 @@
-"""What is found of a refusal: the place, why, and what mends it."""
+"""What is found of a refusal: the place, why, and what mends it; and what is wrong with a number or a name."""
 
 import re
 from typing import Any, Dict, List, NamedTuple, Optional, Sequence
 
-from dmremap_tools.base import quoting
+from dmremap_tools.base import names, quoting
 
 # What of a long line is shown, and how much of that stands before the place.
 WIDTH, BEFORE = 90, 30
 # A path that a shell takes as it stands.
 PLAIN = re.compile(r"(?!-)[/._-]*[A-Za-z0-9][\w/.-]*", re.A)
+NUMBER = re.compile(r"0|[1-9][0-9]{0,18}")
+HOW_MANY = "write whole sectors of 512 bytes, in digits alone"
 
 
 class Place(NamedTuple):
@@ -66,3 +68,46 @@ class Finding(NamedTuple):
 def shell(path: str) -> str:
     """A path as a word of a command."""
     return path if PLAIN.fullmatch(path) else quoting.for_shell(path)
+
+
+def why_no_number(word: str) -> Optional[str]:
+    """Why a word is no number, or None where it is one."""
+    if NUMBER.fullmatch(word):
+        return None
+    if not word:
+        return "a number is missing"
+    if word.startswith(("-", "+")) and word[1:].isdigit():
+        return "a number has no sign"
+    if word.isdigit() and word.isascii():
+        return "a number has no zeros in front" if word.startswith("0") else "a number has 19 digits at most"
+    if re.fullmatch("0[xX][0-9a-fA-F]+", word):
+        return "a number is decimal: this is %d" % int(word, 16)
+    if re.fullmatch(r"[0-9]+([.,][0-9]+)?\s*([kKmMgGtTpP]i?[bB]?|[bBs])", word):
+        return "a number has no unit"
+    if re.fullmatch(r"[0-9]+([.,_'][0-9]+)+", word):
+        return "a number has digits alone, without points and commas"
+    return "this is no number"
+
+
+def why_no_device(word: str) -> Optional[str]:
+    """Why a word is no name of a device, or None."""
+    if names.FORM.fullmatch(word):
+        return None
+    if not word:
+        return "the name of the device is missing"
+    if word.startswith("/"):
+        return "the name of a device stands without a path"
+    if len(word) > 127:
+        return "the name of a device has 127 characters at most"
+    return "%r can't be in the name of a device" % next(it for it in word if not names.FORM.fullmatch(it))
+
+
+def why_no_disk(word: str) -> Optional[str]:
+    """Why a word is no name of a disk, or None."""
+    if names.DISK.fullmatch(word):
+        return None
+    if word.startswith(names.MAPPER):
+        return "a disk isn't named below %s: that is for the devices of FILE" % names.MAPPER
+    if len(word) > 255:
+        return "the name of a disk has 255 characters at most"
+    return "this can't be the name of a disk"

@@ -9,15 +9,20 @@ import itertools
 import os
 from typing import Dict, Iterable, Iterator, List, Optional, Tuple
 
-from dmremap_tools.base import names, program, tables
+from dmremap_tools.base import names, paths, program, streams, tables
 from dmremap_tools.base.given import put
+from dmremap_tools.base.numbers import SECTOR
 from dmremap_tools.base.pieces import Answers, Piece
 from dmremap_tools.base.refusal import Refusal
 from dmremap_tools.explaining import notes
 from dmremap_tools.explaining.refusals import Told
 from dmremap_tools.explaining.steps import Part, Step, Way, shown
-from dmremap_tools.explaining.store_copies import StoreCopies
 from dmremap_tools.layers.stack import Stack
+from dmremap_tools.model import snapshot
+from dmremap_tools.model.device import Missing
+from dmremap_tools.model.device import Part as Range
+from dmremap_tools.model.image import Image
+from dmremap_tools.model.mapping import Mapped, Tables
 
 # What the name of a unit begins with that is more than a device, before its origin; no name of a device has a space.
 OVER = "over "
@@ -30,10 +35,11 @@ Key = Tuple[int, ...]
 
 
 class Levels:
-    """Asks dmremap, as it is told, about a stack that it loads. With copies, snapshots begin as their stores are."""
+    """Asks dmremap, as it is told, about a stack that it loads."""
 
-    def __init__(self, told: Told, loaded: Stack, copies: Optional[StoreCopies], room: str) -> None:
-        self._told, self._stack, self._copies, self._room = told, loaded, copies, room
+    def __init__(self, told: Told, loaded: Stack, room: str) -> None:
+        self._told, self._stack, self._room = told, loaded, room
+        self._listed, self._source = streams.rows(told.listed) if told.listed else [], _source_of(loaded, told.listed)
         self._before, self._by_path = os.path.join(room, "earlier"), loaded.by_path()
         # What devices and stores are called where they are disks, and what is meant by that.
         free = (it for it in map("below%d".__mod__, itertools.count()) if it not in loaded.sizes)
@@ -104,7 +110,7 @@ class Levels:
         snapshot each store is."""
         devices, sizes = {it.name: it for it in self._stack.devices}, dict(self._stack.sizes)
         stores: Dict[str, str] = {}
-        held = {}
+        listed = list(self._listed)
         for device in self._members(unit):
             changed = devices[device.name] = tables.Device(device.name, device.flags)
             changed.lines += [self._cut_line(it, kept) for it in device.lines]
@@ -114,12 +120,20 @@ class Levels:
             if device.lines[0].target == notes.SNAPSHOT:
                 _, store, kind, chunk = changed.lines[0].words
                 stores[store] = "%s and %s" % (stores[store], device.name) if store in stores else device.name
-                if kind != "N":
-                    held[store] = self._meant[store], int(chunk)
-        folder = os.path.join(self._room, "level")
+                if self._told.listed and kind != "N":
+                    listed.append(self._copied(store, int(chunk)))
+        folder, paths_here = os.path.join(self._room, "level"), os.path.join(self._room, "PATHS")
         os.makedirs(folder, exist_ok=True)
+        put(paths_here, (it + "\n" for it in listed))
         words = Stack(list(devices.values()), sizes).write(folder)
-        return words + (["--paths", self._copies.put(held)] if self._copies else []), stores
+        return words + (["--paths", paths_here] if self._told.listed else []), stores
+
+    def _copied(self, disk: str, chunk: int) -> str:
+        """A copy of what the store says of itself that is a disk here, as a line of PATHS."""
+        path, copy = self._meant[disk], os.path.join(self._room, disk)
+        store = self._source.disks.get(path) or Mapped(path, self._source, names.of_path(path))
+        snapshot.copy(store, chunk, copy)
+        return "%s %s?offset=0" % (disk, copy)
 
     def _cut_line(self, line: tables.Line, kept: Optional[str]) -> tables.Line:
         words = list(line.words)
@@ -138,3 +152,17 @@ class Levels:
         for piece in Answers(got):
             found[piece.request - 1].append(piece)
         return found
+
+
+def _source_of(loaded: Stack, listed: Optional[str]) -> Tables:
+    """The devices of a stack, on disks that are where PATHS says. Of others nothing can be read."""
+    source, places = Tables(), paths.places(listed)
+    source.devices = {it.name: it for it in loaded.devices}
+    for disk, size in loaded.sizes.items():
+        source.disks[disk] = Missing(disk, size * SECTOR)
+        if disk in places:
+            try:
+                source.disks[disk] = Range(disk, Image(places[disk].path), places[disk].start, size * SECTOR)
+            except Refusal as refusal:
+                source.disks[disk] = Missing(str(refusal), size * SECTOR)
+    return source

@@ -6,8 +6,7 @@ from typing import List
 
 from dmremap_tools.base import names
 from dmremap_tools.base.requests import MOST
-from dmremap_tools.explaining.finding import Finding, Place
-from dmremap_tools.explaining.numbers_read import HOW_MANY, why_no_device, why_no_number
+from dmremap_tools.explaining.finding import HOW_MANY, Finding, Place, why_no_device, why_no_number
 from dmremap_tools.layers.stack import Stack
 
 FORM = "a request is R or W, a device, a first sector and a number of sectors, with single spaces"

@@ -55,8 +55,17 @@ class Part:
         self.below = [it for it in self._ends if isinstance(it, Step)]
 
     def leaves(self) -> Iterator[Piece]:
+        """The same. A copy goes from where pieces read to where others write, which are as many sectors."""
         ends = [list(it.leaves()) if isinstance(it, Step) else [it] for it in self._ends]
-        return _copies(*ends) if len(ends) > 1 else iter(ends[0])
+        if len(ends) == 1:
+            yield from ends[0]
+            return
+        for source, target in _side_by_side(*ends):
+            if source.what == "R" and target.what == "W":
+                yield Piece(0, "copy", source.count, source.disk, source.start, target.disk, target.start)
+            else:
+                what = "fill" if (source.what, target.what) == ("zero", "W") else "error"
+                yield Piece(0, what, source.count, "", 0, target.disk, target.start)
 
     def record(self) -> Dict[str, Any]:
         piece = self.piece
@@ -91,16 +100,6 @@ def shown(piece: Piece) -> str:
     """A piece without the number of its request."""
     read, written = [piece.disk, piece.start] * bool(piece.disk), [piece.to, piece.to_start] * bool(piece.to)
     return " ".join(map(str, [piece.what, *read, piece.count, *written]))
-
-
-def _copies(sources: List[Piece], targets: List[Piece]) -> Iterator[Piece]:
-    """Copies from where pieces read to where others write, which are as many sectors."""
-    for source, target in _side_by_side(sources, targets):
-        if source.what == "R" and target.what == "W":
-            yield Piece(0, "copy", source.count, source.disk, source.start, target.disk, target.start)
-        else:
-            what = "fill" if (source.what, target.what) == ("zero", "W") else "error"
-            yield Piece(0, what, source.count, "", 0, target.disk, target.start)
 
 
 def _side_by_side(first: List[Piece], second: List[Piece]) -> Iterator[Tuple[Piece, Piece]]:

@@ -6,9 +6,9 @@ from typing import Dict, Iterator, List, Optional, Tuple
 
 from dmremap_tools.base import names, tables
 from dmremap_tools.base.quoting import for_shell
-from dmremap_tools.explaining.finding import Finding, Place, shell
+from dmremap_tools.explaining.finding import (HOW_MANY, NUMBER, Finding, Place, shell, why_no_device, why_no_disk,
+                                              why_no_number)
 from dmremap_tools.explaining.kinds import GET_MACHINE, GET_TABLE
-from dmremap_tools.explaining.numbers_read import HOW_MANY, NUMBER, why_no_device, why_no_disk, why_no_number
 from dmremap_tools.explaining.texts import Text
 
 FORMS = {"linear": "DEV OFFSET", "striped": "COLUMNS CHUNK DEV OFFSET ..", "zero": "", "error": "",

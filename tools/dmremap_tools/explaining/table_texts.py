@@ -4,9 +4,8 @@ import re
 from typing import List, Optional
 
 from dmremap_tools.base import names
-from dmremap_tools.explaining.finding import Finding, shell
+from dmremap_tools.explaining.finding import HOW_MANY, Finding, shell, why_no_disk, why_no_number
 from dmremap_tools.explaining.kinds import GET_DISKS
-from dmremap_tools.explaining.numbers_read import HOW_MANY, why_no_disk, why_no_number
 from dmremap_tools.explaining.table_lines import Tables, lines_of
 from dmremap_tools.explaining.texts import Text
 

@@ -9,8 +9,7 @@ from dmremap_tools.base import quoting, streams
 from dmremap_tools.base.given import MOST_TEXT
 from dmremap_tools.base.refusal import Refusal
 from dmremap_tools.explaining import kinds
-from dmremap_tools.explaining.finding import Finding, Place, shell
-from dmremap_tools.explaining.numbers_read import NUMBER
+from dmremap_tools.explaining.finding import NUMBER, Finding, Place, shell
 
 MOST_REQUESTS = 1 << 24
 
