@@ -11,8 +11,6 @@ from dmremap_tools.explaining import kinds, texts
 from dmremap_tools.explaining.finding import Finding, shell
 
 COMMANDS = ("map", "replay", "check", "table", "concise")
-# Those that read requests.
-ASKED = ("map", "replay")
 REQUEST = re.compile(r"(?:[RWrw]|read|write) .*", re.S)
 
 

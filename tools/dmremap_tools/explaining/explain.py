@@ -20,7 +20,7 @@ import argparse
 import json
 import os
 import tempfile
-from typing import Iterable, Iterator, List
+from typing import Iterable
 
 from dmremap_tools.base import paths, program, streams
 from dmremap_tools.base.refusal import Refusal
@@ -37,7 +37,6 @@ MOST_REQUESTS = 16
 
 
 def add_words(parser: argparse.ArgumentParser) -> None:
-    """Adds the options, and the words of dmremap."""
     program.add_words(parser)
     paths.add_words(parser)
     parser.add_argument("--json", action="store_true", help="objects of JSON in place of lines")
@@ -47,7 +46,6 @@ def add_words(parser: argparse.ArgumentParser) -> None:
 
 
 def run(words: argparse.Namespace) -> None:
-    """Explains a refusal or an answer."""
     with tempfile.TemporaryDirectory(prefix="dmremap-tools-") as room:
         for number, found in enumerate(_explained(words, room)):
             streams.out.write(json.dumps(found.record()) + "\n" if words.json else "\n" * bool(number) + str(found))
@@ -64,24 +62,19 @@ def _explained(words: argparse.Namespace, room: str) -> "Iterable[Finding | Way]
     told = Told(one, typed, words.before, words.paths, room)
     # What is loaded is looked at first, so that no request is waited for where it is refused.
     message, requests = told.ask(b""), "".join(it + "\n" for it in typed.requests).encode("utf-8", "surrogateescape")
-    if not message and not requests and typed.command in asked.ASKED and not os.isatty(0):
+    if not message and not requests and typed.command in ("map", "replay") and not os.isatty(0):
         requests = texts.standard_input()
     message = message or told.ask(requests)
     if message:
         return [told.why(message, requests)]
     loaded = stack.load(one, told.given, room)
-    if requests and typed.command == "map":
-        return _ways(told, loaded, requests.decode("ascii").splitlines(), room)
+    rows = requests.decode("ascii").splitlines() if typed.command == "map" else []
+    if len(rows) > MOST_REQUESTS:
+        raise Refusal("the requests", "there are %d: give at most %d, and those before them by --before" % (
+            len(rows), MOST_REQUESTS))
+    if rows:
+        return Levels(told, loaded, room).ways(rows)
     names = [it.name for it in loaded.devices]
     command = " ".join(["dmremap-tools explain map", *map(shell, typed.given.words())])
     return [Finding("nothing is refused: dmremap loads %d device%s" % (len(names), "s" * (len(names) != 1)),
                     ["for the way of a request, add it:", "  %s 'R %s 0 8'" % (command, (names or ["NAME"])[0])])]
-
-
-def _ways(told: Told, loaded: stack.Stack, requests: List[str], room: str) -> Iterator[Way]:
-    if len(requests) > MOST_REQUESTS:
-        raise Refusal("the requests", "there are %d: give at most %d, and those before them by --before" % (
-            len(requests), MOST_REQUESTS))
-    earlier, levels = streams.rows(told.earlier) if told.earlier else [], Levels(told, loaded, room)
-    for number, request in enumerate(requests):
-        yield levels.way(request, [*earlier, *requests[:number]])

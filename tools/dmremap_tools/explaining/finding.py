@@ -108,6 +108,4 @@ def why_no_disk(word: str) -> Optional[str]:
         return None
     if word.startswith(names.MAPPER):
         return "a disk isn't named below %s: that is for the devices of FILE" % names.MAPPER
-    if len(word) > 255:
-        return "the name of a disk has 255 characters at most"
-    return "this can't be the name of a disk"
+    return "the name of a disk has 255 characters at most" if len(word) > 255 else "this can't be the name of a disk"

@@ -7,20 +7,18 @@ order in which the whole comes to them. Together the levels have to give what dm
 import functools
 import itertools
 import os
-from typing import Dict, Iterable, Iterator, List, Optional, Tuple
+from typing import Dict, Iterator, List, Optional, Tuple
 
 from dmremap_tools.base import names, paths, program, streams, tables
 from dmremap_tools.base.given import put
 from dmremap_tools.base.numbers import SECTOR
 from dmremap_tools.base.pieces import Answers, Piece
 from dmremap_tools.base.refusal import Refusal
-from dmremap_tools.explaining import notes
 from dmremap_tools.explaining.refusals import Told
-from dmremap_tools.explaining.steps import Part, Step, Way, shown
+from dmremap_tools.explaining.steps import ORIGIN, SNAPSHOT, Part, Step, Way, asked_of, shown
 from dmremap_tools.layers.stack import Stack
 from dmremap_tools.model import snapshot
-from dmremap_tools.model.device import Missing
-from dmremap_tools.model.device import Part as Range
+from dmremap_tools.model.device import Missing, Part as Range
 from dmremap_tools.model.image import Image
 from dmremap_tools.model.mapping import Mapped, Tables
 
@@ -30,8 +28,8 @@ OVER = "over "
 MOST = 4096
 TOO_MANY = "its way has more than %d pieces: ask for fewer sectors" % MOST
 OTHER = "the levels don't make dmremap's answer together, so they aren't shown; that is:\n"
-# A place of a step in the order of the whole: the numbers of those above it, and its own among all.
-Key = Tuple[int, ...]
+# A step with its place in the order of the whole: the numbers of those above it, and its own among all.
+Placed = Tuple[Tuple[int, ...], Step]
 
 
 class Levels:
@@ -40,19 +38,24 @@ class Levels:
     def __init__(self, told: Told, loaded: Stack, room: str) -> None:
         self._told, self._stack, self._room = told, loaded, room
         self._listed, self._source = streams.rows(told.listed) if told.listed else [], _source_of(loaded, told.listed)
+        self._earlier = streams.rows(told.earlier) if told.earlier else []
         self._before, self._by_path = os.path.join(room, "earlier"), loaded.by_path()
         # What devices and stores are called where they are disks, and what is meant by that.
         free = (it for it in map("below%d".__mod__, itertools.count()) if it not in loaded.sizes)
         self._disks = dict(zip([*self._by_path, *loaded.sizes], free))
         self._meant = {disk: path for path, disk in self._disks.items()}
 
-    def way(self, request: str, earlier: Iterable[str]) -> Way:
-        """The way of a request after earlier ones."""
+    def ways(self, requests: List[str]) -> Iterator[Way]:
+        """The way of each request, after those before it."""
+        for number, request in enumerate(requests):
+            put(self._before, (it + "\n" for it in [*self._earlier, *requests[:number]]))
+            yield self._way(request)
+
+    def _way(self, request: str) -> Way:
         operation, name, start, count = request.split(" ")
         top = Step(operation, name, int(start), int(count))
-        put(self._before, (it + "\n" for it in earlier))
-        way = Way(top, self._answers(self._told.words(), [request])[0])
-        waiting: Dict[str, List[Tuple[Key, Step]]] = {self._unit_of(name): [((), top)]}
+        way = Way(top, self._answers(self._told.words, [request])[0])
+        waiting: Dict[str, List[Placed]] = {self._unit_of(name): [((), top)]}
         met = 0
         while waiting:
             unit = max(waiting, key=self._height)
@@ -68,7 +71,7 @@ class Levels:
     def _unit_of(self, name: str) -> str:
         """What is asked at once: the devices over one origin, or a device alone."""
         line = self._by_path[names.MAPPER + name].lines[0]
-        return OVER + line.words[0] if line.target in (notes.SNAPSHOT, notes.ORIGIN) else name
+        return OVER + line.words[0] if line.target in (SNAPSHOT, ORIGIN) else name
 
     def _members(self, unit: str) -> List[tables.Device]:
         return [it for it in self._stack.devices if self._unit_of(it.name) == unit]
@@ -79,13 +82,12 @@ class Levels:
         lowers = {it for member in self._members(unit) for it in member.lowers() if it in self._by_path}
         return 1 + max((self._height(self._unit_of(names.of_path(it))) for it in lowers), default=0)
 
-    def _ask(self, unit: str, steps: List[Tuple[Key, Step]]) -> Iterator[Tuple[Key, Step]]:
-        """Asks for some steps, puts into each what comes of it, and has the steps below, each with the place of the one
-        above it."""
+    def _ask(self, unit: str, steps: List[Placed]) -> Iterator[Placed]:
+        """Asks for some steps, puts into each what comes of it, and has those below, with the places of these."""
         kept = self._kept_origin(unit)
         words, stores = self._cut(unit, kept)
         parts = ((key, step, part) for key, step in steps
-                 for part in notes.asked_of(step, self._by_path[names.MAPPER + step.device], kept))
+                 for part in asked_of(step, self._by_path[names.MAPPER + step.device], kept))
         asked = list(itertools.islice(parts, 4 * MOST + 1))
         requests = [request for _, _, part in asked for request in part.requests()]
         if len(requests) > 4 * MOST:
@@ -103,21 +105,20 @@ class Levels:
         path = unit[len(OVER):] if unit.startswith(OVER) else ""
         below, _ = self._stack.below([path])
         lines = (line for it in below for line in self._by_path[it].lines)
-        return path if any(it.target in ("error", notes.SNAPSHOT) for it in lines) else None
+        return path if any(it.target in ("error", SNAPSHOT) for it in lines) else None
 
     def _cut(self, unit: str, kept: Optional[str]) -> Tuple[List[str], Dict[str, str]]:
         """The words of a stack in which what is below a unit is disks, save the origin that stays; and of which
         snapshot each store is."""
         devices, sizes = {it.name: it for it in self._stack.devices}, dict(self._stack.sizes)
-        stores: Dict[str, str] = {}
-        listed = list(self._listed)
+        stores, listed = {}, list(self._listed)
         for device in self._members(unit):
             changed = devices[device.name] = tables.Device(device.name, device.flags)
             changed.lines += [self._cut_line(it, kept) for it in device.lines]
             for disk in filter(self._meant.get, changed.lowers()):
                 path = self._meant[disk]
                 sizes[disk] = self._by_path[path].end() if path in self._by_path else sizes[path]
-            if device.lines[0].target == notes.SNAPSHOT:
+            if device.lines[0].target == SNAPSHOT:
                 _, store, kind, chunk = changed.lines[0].words
                 stores[store] = "%s and %s" % (stores[store], device.name) if store in stores else device.name
                 if self._told.listed and kind != "N":
@@ -138,7 +139,7 @@ class Levels:
     def _cut_line(self, line: tables.Line, kept: Optional[str]) -> tables.Line:
         words = list(line.words)
         for at in line.places():
-            is_store = line.target == notes.SNAPSHOT and at == 1
+            is_store = line.target == SNAPSHOT and at == 1
             if is_store or words[at] in self._by_path and words[at] != kept:
                 words[at] = self._disks[words[at]]
         return tables.Line(line.start, line.length, line.target, words)

@@ -1,7 +1,7 @@
 """Why `dmremap name` and `dmremap splitname` refuse a name: which part is meant, and what is to be typed."""
 
 import re
-from typing import List, Optional
+from typing import List
 
 from dmremap_tools.base import names, program, quoting
 from dmremap_tools.explaining.finding import Finding, shell
@@ -18,10 +18,17 @@ def why(asked: str, words: List[str]) -> Finding:
     printed, said = program.ask_quietly([asked, *words])
     if not said:
         return Finding("nothing is refused: dmremap prints %s" % printed.strip(), [])
-    message = said.split("\n")[0]
-    about = ABOUT.fullmatch(message)
-    found = _why(about[1], words[1:]) if about else _why_words(words[0], words[1:])
-    return (found or general(asked, message, "dmremap doesn't take these words"))._replace(message=message)
+    message, parts = said.split("\n")[0], words[1:]
+    about, option = ABOUT.fullmatch(message), next((it for it in parts if it.startswith("-")), None)
+    if about:
+        found = _why(about[1], parts)
+    elif words[0] == "name" and len(parts) == 1:
+        found = Finding("group and volume are two words", _apart(parts[0]) if "/" in parts[0] else [NAME])
+    elif option:
+        found = Finding("%s begins with a hyphen, as no part does" % option, ["look for a word that is missing"])
+    else:
+        found = general(asked, message, "dmremap doesn't take these words")
+    return found._replace(message=message)
 
 
 def _why(word: str, parts: List[str]) -> Finding:
@@ -55,11 +62,3 @@ def _apart(part: str) -> List[str]:
         return ["  dmremap splitname %s" % pieces[2]]
     pieces = pieces[1:] if pieces[:1] == ["dev"] else pieces
     return ["  dmremap name %s %s" % tuple(pieces) if len(pieces) == 2 else "give group and volume as two words"]
-
-
-def _why_words(command: str, parts: List[str]) -> Optional[Finding]:
-    if command == "name" and len(parts) == 1:
-        return Finding("group and volume are two words", _apart(parts[0]) if "/" in parts[0] else [NAME])
-    word = next((it for it in parts if it.startswith("-")), None)
-    do = ["look for a word that is missing"]
-    return Finding("%s begins with a hyphen, as no part does" % word, do) if word else None

@@ -22,7 +22,7 @@ OF_SNAPSHOTS = ("field", "snapshot", "store", "limit")
 
 class Told:
     """A command that dmremap, which is `asked`, is told, with copies of its files: what it loads, and if map is told,
-    earlier requests and PATHS."""
+    earlier requests and PATHS. `words` are those of what it loads, and of PATHS."""
 
     def __init__(self, asked: str, typed: Typed, before: Optional[str], listed: Optional[str], room: str) -> None:
         self.asked, self.typed, self._room = asked, typed, room
@@ -31,6 +31,7 @@ class Told:
         self.given = Given(form, self._copied("source", file), self._copied("disks", disks))
         copies = self._copied("before", before), self._copied("paths", listed)
         self.earlier, self.listed = copies if typed.command == "map" else (None, None)
+        self.words = self.given.words() + (["--paths", self.listed] if self.listed else [])
 
     def _copied(self, part: str, path: Optional[str]) -> Optional[str]:
         """Reads a file, if it is given; where its copy is."""
@@ -40,24 +41,19 @@ class Told:
             put(copy, [text.decoded()])
         return None if path is None else copy
 
-    def words(self) -> List[str]:
-        """What it loads and reads the stores of, as words of dmremap."""
-        return self.given.words() + (["--paths", self.listed] if self.listed else [])
-
     def ask(self, requests: bytes) -> str:
         """What dmremap says of it and of some requests on standard error."""
         given = os.path.join(self._room, "requests")
         put(given, [requests.decode("utf-8", "surrogateescape")])
-        words = [self.asked, self.typed.command, *self.words(), *(["--before", self.earlier] if self.earlier else [])]
+        words = [self.asked, self.typed.command, *self.words, *(["--before", self.earlier] if self.earlier else [])]
         with open(given, "rb") as it:
             return program.ask_quietly(words, given=it.fileno())[1].rstrip("\n")
 
     def why(self, message: str, requests: bytes) -> Finding:
         """Why it says that, with the files by their paths in commands."""
         found, given = self._why(message, requests), self.typed.given
-        paths = {"FORMAT FILE": " ".join(map(shell, given.words())), "FILE": shell(given.file)}
-        if given.disks is not None:
-            paths["DISKS"] = shell(given.disks)
+        paths = {"FORMAT FILE": " ".join(map(shell, given.words())), "FILE": shell(given.file),
+                 "DISKS": "DISKS" if given.disks is None else shell(given.disks)}
         form = re.compile(r"(?<=[ /])(%s)(?=[ ,]|$)" % "|".join(paths))
         do = [form.sub(lambda it: paths[it[1]], row) if row.startswith("  ") else row for row in found.do]
         return found._replace(do=do, message=message)
@@ -79,9 +75,8 @@ class Told:
         found = text.fault or self._why_kind(part, text) or self._why_word(part, word, number, text, message)
         if found:
             return found
-        rows = text.decoded().split(";") if is_device else [it.text for it in text.places()]
-        row = "".join(rows[number - 1:number])
-        place = Place(text.name, number, row, 0, len(row), is_device) if 0 < number <= len(rows) else None
+        rows = dict(enumerate(text.decoded().split(";") if is_device else [it.text for it in text.places()], 1))
+        place = Place(text.name, number, rows[number], 0, len(rows[number]), is_device) if number in rows else None
         return general(self.asked, message)._replace(place=place)
 
     def _why_kind(self, part: str, text: Text) -> Optional[Finding]:

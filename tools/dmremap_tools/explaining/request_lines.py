@@ -50,12 +50,11 @@ def _why_form(row: str, words: List[str], loaded: Stack) -> Finding:
         return CRLF
     if re.search(r"  |\t|^ | $", row):
         return Finding("there are tabs, or more spaces than one", [FORM + ":", "  " + " ".join(row.split())])
-    if words[0] in ("r", "w", "read", "write", "READ", "WRITE"):
-        return Finding("%s is no operation" % words[0], ["write %s" % words[0][0].upper()])
-    if len(words) != 4:
+    is_clear = words[0] in ("r", "w", "read", "write", "READ", "WRITE")
+    if len(words) != 4 and not is_clear:
         return Finding("there are %d words, and not four" % len(words), [FORM])
     if words[0] not in OPERATIONS:
-        return Finding("%s is no operation" % words[0], [FORM])
+        return Finding("%s is no operation" % words[0], ["write %s" % words[0][0].upper() if is_clear else FORM])
     name = names.of_path(words[1])
     if name != words[1] and any(it.name == name for it in loaded.devices):
         return Finding("a device is given by its name, without a path",

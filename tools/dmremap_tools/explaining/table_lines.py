@@ -51,10 +51,11 @@ class Line(tables.Line):
             count = 2 + 2 * int(columns)
         if count is not None and len(self.words) != count:
             return self._why_count(count)
-        kind = 2 if self.target == "snapshot" else None
-        numbers = (at for at in range(len(self.words)) if at not in self.places() and at != kind)
-        wrong = ((at, why_no_number(self.words[at])) for at in numbers)
-        return next((self.found(at, why, [HOW_MANY]) for at, why in wrong if why), None)
+        for at, word in enumerate(self.words):
+            is_number = at not in self.places() and not (self.target == "snapshot" and at == 2)
+            if is_number and why_no_number(word):
+                return self.found(at, why_no_number(word), [HOW_MANY])
+        return None
 
     def _why_target(self) -> Finding:
         near = difflib.get_close_matches(self.target, FORMS, 1, 0.75)
@@ -80,8 +81,7 @@ class Line(tables.Line):
         why = why_no_device(self.device)
         if why:
             return Finding(why, OTHER_NAME, self.place._replace(end=max(1, len(self.device))))
-        for at in self.places():
-            word = self.words[at]
+        for at, word in zip(self.places(), self.lowers()):
             is_device = word.startswith(names.MAPPER)
             why = why_no_device(word[len(names.MAPPER):]) if is_device else why_no_disk(word)
             if why:
@@ -94,9 +94,8 @@ class Line(tables.Line):
     def why_stripe(self) -> Optional[Finding]:
         if self.target != "striped":
             return None
-        columns, chunk = int(self.words[0]), int(self.words[1])
+        columns, chunk, at = int(self.words[0]), int(self.words[1]), -2
         why = "the length, %d, is no multiple of %d columns of chunks of %d sectors" % (self.length, columns, chunk)
-        at = -2
         if not 1 <= columns <= tables.MOST_COLUMNS:
             why, at = "there are 1 to %d columns" % tables.MOST_COLUMNS, 0
         elif not 1 <= chunk <= tables.LONGEST_CHUNK:
@@ -137,7 +136,7 @@ class Tables:
 
     def _why_unknown(self, line: Line) -> Optional[Finding]:
         known = {names.MAPPER + it for it in self._devices}.union(self._disks)
-        unknown = ((at, line.words[at]) for at in line.places() if line.words[at] not in known)
+        unknown = (it for it in zip(line.places(), line.lowers()) if it[1] not in known)
         return next((line.found(at, *self._why_not_known(word)) for at, word in unknown), None)
 
     def _why_not_known(self, word: str) -> Tuple[str, List[str]]:

@@ -52,9 +52,8 @@ class Text(NamedTuple):
 
     def changed(self, by: str) -> str:
         """The command that makes a changed copy."""
-        is_file = not self.path.startswith(("/dev/", "/proc/"))
-        copy = os.path.basename(self.path.rstrip("/")) + ".mended" if is_file else "FILE.mended"
-        return "  %s %s > %s" % (by, shell(self.path), shell(copy))
+        name = "FILE" if self.path.startswith(("/dev/", "/proc/")) else os.path.basename(self.path.rstrip("/"))
+        return "  %s %s > %s" % (by, shell(self.path), shell(name + ".mended"))
 
 
 def read(path: Optional[str]) -> Text:
@@ -85,8 +84,7 @@ def _remedy(path: str, code: Optional[int]) -> List[str]:
     if path == "-":
         return ["a lone hyphen is a file of this name: give /dev/stdin for what a pipe brings"]
     if code == errno.EISDIR:
-        there = sorted(os.listdir(path)) if os.access(path, os.R_OK) else []
-        files = [it for it in (os.path.join(path, it) for it in there) if os.path.isfile(it)]
+        files = sorted(it.path for it in os.scandir(path) if it.is_file()) if os.access(path, os.R_OK | os.X_OK) else []
         return ["it is a folder: give a file in it", *("  " + shell(it) for it in files[:3])]
     if code in (errno.EACCES, errno.EPERM):
         return ["you may not read it: look who may, or make a copy as root:", "  ls -l " + shell(path),
