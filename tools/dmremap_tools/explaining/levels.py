@@ -18,7 +18,7 @@ from dmremap_tools.explaining.refusals import Told
 from dmremap_tools.explaining.steps import ORIGIN, SNAPSHOT, Part, Step, Way, asked_of, shown
 from dmremap_tools.layers.stack import Stack
 from dmremap_tools.model import snapshot
-from dmremap_tools.model.device import Missing, Part as Range
+from dmremap_tools.model.device import Missing, Part as DiskPart
 from dmremap_tools.model.image import Image
 from dmremap_tools.model.mapping import Mapped, Tables
 
@@ -111,7 +111,7 @@ class Levels:
         """The words of a stack in which what is below a unit is disks, save the origin that stays; and of which
         snapshot each store is."""
         devices, sizes = {it.name: it for it in self._stack.devices}, dict(self._stack.sizes)
-        stores, listed = {}, list(self._listed)
+        stores, copies = {}, {}
         for device in self._members(unit):
             changed = devices[device.name] = tables.Device(device.name, device.flags)
             changed.lines += [self._cut_line(it, kept) for it in device.lines]
@@ -122,15 +122,15 @@ class Levels:
                 _, store, kind, chunk = changed.lines[0].words
                 stores[store] = "%s and %s" % (stores[store], device.name) if store in stores else device.name
                 if self._told.listed and kind != "N":
-                    listed.append(self._copied(store, int(chunk)))
+                    copies[store] = self._copied(store, int(chunk))
         folder, paths_here = os.path.join(self._room, "level"), os.path.join(self._room, "PATHS")
         os.makedirs(folder, exist_ok=True)
-        put(paths_here, (it + "\n" for it in listed))
+        put(paths_here, (it + "\n" for it in [*self._listed, *copies.values()]))
         words = Stack(list(devices.values()), sizes).write(folder)
         return words + (["--paths", paths_here] if self._told.listed else []), stores
 
     def _copied(self, disk: str, chunk: int) -> str:
-        """A copy of what the store says of itself that is a disk here, as a line of PATHS."""
+        """Copies what the store says of itself that is a disk here, and has its line of PATHS."""
         path, copy = self._meant[disk], os.path.join(self._room, disk)
         store = self._source.disks.get(path) or Mapped(path, self._source, names.of_path(path))
         snapshot.copy(store, chunk, copy)
@@ -163,7 +163,7 @@ def _source_of(loaded: Stack, listed: Optional[str]) -> Tables:
         source.disks[disk] = Missing(disk, size * SECTOR)
         if disk in places:
             try:
-                source.disks[disk] = Range(disk, Image(places[disk].path), places[disk].start, size * SECTOR)
+                source.disks[disk] = DiskPart(disk, Image(places[disk].path), places[disk].start, size * SECTOR)
             except Refusal as refusal:
                 source.disks[disk] = Missing(str(refusal), size * SECTOR)
     return source

@@ -8,12 +8,12 @@ from typing import Any, Dict, Iterator, List, NamedTuple, Optional, Tuple
 from dmremap_tools.base import names, quoting, tables
 from dmremap_tools.base.pieces import Piece
 
-
 TAKEN, NOT_TAKEN, TAKEN_NOW = "taken", "not taken yet", "taken now"
 SNAPSHOT, ORIGIN = "snapshot", "snapshot-origin"
+SEE = "dmremap-tools store says which request fills a store"
 INVALID = ("%s was lost before this, so all of it fails: its store was full, or its origin failed to be read when it "
-           "had to be copied. dmremap-tools store says which request fills a store")
-FULL = "no place is left in the store of %s, which is lost by this: dmremap-tools store says which request fills a store"
+           "had to be copied. " + SEE)
+FULL = "no place is left in the store of %s, which is lost by this: " + SEE
 KEPT = "no place is left in the store of %s, which keeps what it has, as its kind is K"
 UNREAD = "%s can't be read in the whole of chunk %d, which had to be copied first, so that %s is lost by this"
 BELOW = "%s fails there: ask for it"

@@ -49,7 +49,7 @@ class Line(tables.Line):
         count, columns = tables.TARGETS[self.target], "".join(self.words[:1])
         if self.target == "striped" and NUMBER.fullmatch(columns):
             count = 2 + 2 * int(columns)
-        if count is not None and len(self.words) != count:
+        if len(self.words) != count and (count is not None or not self.words):
             return self._why_count(count)
         for at, word in enumerate(self.words):
             is_number = at not in self.places() and not (self.target == "snapshot" and at == 2)
