@@ -132,8 +132,7 @@ class Levels:
     def _copied(self, disk: str, chunk: int) -> str:
         """Copies what the store says of itself that is a disk here, and has its line of PATHS."""
         path, copy = self._meant[disk], os.path.join(self._room, disk)
-        store = self._source.disks.get(path) or Mapped(path, self._source, names.of_path(path))
-        snapshot.copy(store, chunk, copy)
+        snapshot.copy(self._source.disks.get(path) or Mapped(path, self._source, names.of_path(path)), chunk, copy)
         return "%s %s?offset=0" % (disk, copy)
 
     def _cut_line(self, line: tables.Line, kept: Optional[str]) -> tables.Line:
