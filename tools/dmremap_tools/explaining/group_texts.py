@@ -33,7 +33,7 @@ def why(word: str, number: int, file: Text, is_loaded: Callable[[bytes], bool]) 
     try:
         document = Document(file.name, file.content)
     except Refusal as refused:
-        last = file.place(min(number, len(file.places())))
+        last = file.place(min(number, len(list(file.places()))))
         return Finding("%s; here the text breaks off, or isn't that of lvm2" % refused.why, OLDER, last)
     kind = re.match(r'\s*type\s*=\s*("([^"]*)")', place.text)
     place, owner = place._replace(first=len(place.text) - len(place.text.lstrip())), _owner(document, number)

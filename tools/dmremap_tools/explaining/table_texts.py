@@ -72,7 +72,7 @@ def _why_row(text: Text, number: int) -> Finding:
 def _why_concise(text: Text, number: int) -> Finding:
     place = text.place(number, "concise")
     row = place.text
-    if not row.strip() and number == len(text.places("concise")):
+    if not row.strip() and number == len(list(text.places("concise"))):
         return Finding("a semicolon stands at the end, and no device after it", ["delete it"], place)
     if "\n" in row:
         return Finding("a newline stands within the text", ["take newlines out:", text.changed(r"tr -d '\n' <")], place)

@@ -3,7 +3,7 @@
 import difflib
 import errno
 import os
-from typing import Dict, List, NamedTuple, Optional
+from typing import Dict, Iterator, List, NamedTuple, Optional
 
 from dmremap_tools.base import quoting, streams
 from dmremap_tools.base.given import MOST_TEXT
@@ -34,16 +34,17 @@ class Text(NamedTuple):
         """It as text, in which bytes that are no UTF-8 stay what they are."""
         return self.content.decode("utf-8", "surrogateescape")
 
-    def places(self, form: str = "table") -> List[Place]:
+    def places(self, form: str = "table") -> Iterator[Place]:
         """Its lines, with the carriage returns at their ends, or the devices of concise text."""
         is_concise = form == "concise"
         rows = self.decoded().rstrip("\n").split(";") if is_concise else self.decoded().split("\n")
-        rows = rows if is_concise or rows[-1] else rows[:-1]
-        return [Place(self.name, number, row, 0, len(row), is_concise) for number, row in enumerate(rows, 1)]
+        for number, row in enumerate(rows if is_concise or rows[-1] else rows[:-1], 1):
+            yield Place(self.name, number, row, 0, len(row), is_concise)
 
     def place(self, number: int, form: str = "table") -> Place:
         """One of these, from 1. After the last one nothing stands."""
-        return next(iter(self.places(form)[number - 1:]), Place(self.name, number, "", 0, 0, form == "concise"))
+        after = Place(self.name, number, "", 0, 0, form == "concise")
+        return next((it for it in self.places(form) if it.number == number), after)
 
     def sizes(self) -> Dict[str, int]:
         """The disks of a list, as far as it is one."""
