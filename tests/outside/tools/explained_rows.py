@@ -9,6 +9,7 @@ DEEP = "".join("d%d: 0 8 linear %s 0\n" % (it, "/dev/mapper/d%d" % (it + 1) if i
 FILES = {
     "tables": TABLE, "disks": "/dev/sda1 100\n", "one": "0 8 linear /dev/sda1 0\n", "dos": TABLE.replace("\n", "\r\n"),
     "numbers": "vg0-lv0: 0 8 linear 8:1 2048\n", "short": "sda1 100\n", "status": "a: 0 8 linear \n", "report": '{\n  "report": [\n',
+    "stripes": "a: 0 8 striped\n",
     "image": bytes(4096), "empty": "", "none": "No devices found\n", "ls": "vg0-lv0\t(253:0)\n", "lvs": "  LV   VG  Attr       LSize\n  lv0  vg0 -wi-a----- 1g\n",
     "requests": "R a 0 8\n", "raid.table": "a: 0 8 raid raid1 1 8 1 - -\n", "raid.concise": "a,,0,rw,0 8 raid raid1 1\n", "long": "#" * (1 << 20) + "\n\n",
     "long.table": TABLE, "tab": "a:\t0 8 zero\n", "letter": "\u00e4: 0 8 zero\n", "comment": "# mine\n" + TABLE, "blank": TABLE + "\n" + TABLE,
@@ -101,6 +102,8 @@ CAUSES = [
     ("source: field at 1", [*TAKE, "unit", "disks"], b"", ["no unit", "unit:1\n  a: 0 8G zero\n       ^^\n"]),
     ("source: field at 1", [*TAKE, "sign", "disks"], b"", ["no sign"]),
     ("source: field at 1", [*TAKE, "zeros", "disks"], b"", ["no zeros in front"]),
+    ("source: field at 1", [*TAKE, "stripes", "disks"], b"",
+     ["the arguments of striped are missing", "         ^^^^^^^\n"]),
     ("source: field at 1", [*TAKE, "typing", "disks"], b"", ["there is no target liner", "write linear"]),
     ("source: field at 1", [*TAKE, "raid.table", "disks"], b"", ["raid is a target that dmremap doesn't follow", "raid.table:1", "       ^^^^\n"]),
     ("source: field at 1", ["map", "concise", "raid.concise", "disks"], b"", ["raid is a target", "raid.concise, device 1\n", "           ^^^^\n"]),

@@ -83,7 +83,7 @@ class Levels:
         return 1 + max((self._height(self._unit_of(names.of_path(it))) for it in lowers), default=0)
 
     def _ask(self, unit: str, steps: List[Placed]) -> Iterator[Placed]:
-        """Asks for some steps, puts into each what comes of it, and has those below, with the places of these."""
+        """Asks for some steps and puts into each what comes of it; yields those below, with the place of the upper."""
         kept = self._kept_origin(unit)
         words, stores = self._cut(unit, kept)
         parts = ((key, step, part) for key, step in steps
