@@ -6,18 +6,24 @@ import importlib
 import os
 import signal
 from types import ModuleType
-from typing import Callable, List, NoReturn
+from typing import Callable, Dict, List, NoReturn, Tuple, Type
 
 from dmremap_tools import commands
 from dmremap_tools.base import quoting, streams, written
 from dmremap_tools.base.refusal import Refusal, WrongWords
 
 TOOL = "dmremap-tools"
-REFUSED, WRONG_WORDS, OUTPUT_FAILED, OWN_FAULT, READER_GONE = 1, 2, 5, 70, 141
+OUTPUT_FAILED = 5
+# The status of each way to end, and what is said then: {0} is the text of the exception, {1} this itself.
+ENDINGS: Dict[Type[Exception], Tuple[int, str]] = {
+    WrongWords: (2, "{0}"), Refusal: (1, "{0}"), MemoryError: (1, "out of memory"),
+    streams.OutputFailed: (OUTPUT_FAILED, "{0}"), streams.ReaderGone: (141, ""),
+    # Of a file for what is kept meanwhile: those that are named are told where they are opened.
+    OSError: (OUTPUT_FAILED, "a temporary file: {0}"), Exception: (70, "a fault of this tool: {1!r}"),
+}
 # What tells a command to end; its status is then this number and that of the signal, as a shell has it.
 ENDS = (signal.SIGINT, signal.SIGTERM, signal.SIGHUP)
 BY_SIGNAL = 128
-
 
 _heard: List[int] = []
 
@@ -33,9 +39,6 @@ class Parser(argparse.ArgumentParser):
 
     def print_help(self, file: object = None) -> None:
         streams.out.write(self.format_help())
-
-    def exit(self, status: int = 0, message: "str | None" = None) -> NoReturn:
-        raise SystemExit(status)
 
     def error(self, message: str) -> NoReturn:
         """Refuses words. What is quoted of them is cut where it is long."""
@@ -55,29 +58,18 @@ def main(words: List[str]) -> NoReturn:
 def run(words: List[str]) -> int:
     """Runs the tool with the words after its name, and returns its status."""
     command = commands.find(words[0]) if words else None
-    name = TOOL + " " + command.name if command else TOOL
+    name = f"{TOOL} {command.name}" if command else TOOL
     is_fed = command is not None and command.is_fed
     try:
         status = _run(command, name, words)
         streams.finish()
         return status
-    except WrongWords as wrong:
-        return _end(WRONG_WORDS, "%s: %s" % (name, wrong), is_fed, wrong.usage)
-    except Refusal as refusal:
-        return _end(REFUSED, "%s: %s" % (name, refusal), is_fed)
-    except MemoryError:
-        return _end(REFUSED, "%s: out of memory" % name, is_fed)
-    except streams.OutputFailed as failed:
-        return _end(OUTPUT_FAILED, "%s: %s" % (name, failed), is_fed)
-    except streams.ReaderGone:
-        return _end(READER_GONE, "", is_fed)
-    except OSError as fault:
-        # Of a file for what is kept meanwhile: those that are named are told where they are opened.
-        return _end(OUTPUT_FAILED, "%s: a temporary file: %s" % (name, streams.why(fault)), is_fed)
     except ToldToEnd as told:
         return _end(BY_SIGNAL + told.args[0], "", is_fed)
     except Exception as fault:
-        return _end(OWN_FAULT, "%s: a fault of this tool: %r" % (name, fault), is_fed)
+        status, said = next(end for kind, end in ENDINGS.items() if isinstance(fault, kind))
+        why = said.format(getattr(fault, "strerror", None) or fault, fault)
+        return _end(status, f"{name}: {why}" if why else "", is_fed, getattr(fault, "usage", ""))
 
 
 def _run(command: "commands.Command | None", name: str, words: List[str]) -> int:
@@ -135,19 +127,8 @@ def _end(status: int, message: str, is_fed: bool, usage: str = "") -> int:
     _answer_signals(signal.SIG_IGN)
     written.discard()
     _answer_signals(signal.SIG_DFL)
-    unsaid = _failure_of(lambda: [streams.tell(line) for line in usage.split("\n") + [message] if line])
-    failed = _failure_of(lambda: streams.spoil(is_fed))
+    unsaid = message and streams.failure_of(streams.tell, *usage.splitlines(), message)
+    failed = streams.spoil(is_fed)
     if failed and status != OUTPUT_FAILED:
-        _failure_of(lambda: streams.tell("%s: %s" % (message.split(":")[0] or TOOL, failed)))
+        streams.failure_of(streams.tell, f"{message.split(':')[0] or TOOL}: {failed}")
     return OUTPUT_FAILED if failed or unsaid else status
-
-
-def _failure_of(action: Callable[[], object]) -> str:
-    """How an output failed in what is done here, or nothing."""
-    try:
-        action()
-    except streams.OutputFailed as failed:
-        return str(failed)
-    except streams.ReaderGone:
-        pass
-    return ""

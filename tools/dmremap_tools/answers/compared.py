@@ -3,7 +3,7 @@
 from collections import defaultdict
 from typing import Dict, Iterator, List, Sequence, Tuple
 
-from dmremap_tools.base import names, requests, streams
+from dmremap_tools.base import requests, streams
 from dmremap_tools.base.refusal import Refusal
 
 # At how many sectors the two may differ at once.
@@ -15,7 +15,8 @@ class Compared:
 
     def __init__(self, path: str) -> None:
         self._source = streams.Lines(path)
-        self._rows = requests.read(self._source, AsTheyAre(), "give R or W, a disk, a sector and how many, and not")
+        # The names of disks stay what they are.
+        self._rows = requests.read(self._source, lambda path, _: path, "give R or W, a disk, a sector and how many, and not")
         # By R or W and the disk: how many more times a sector was answered than the one before it, where that differs.
         self._steps: Dict[str, Dict[int, int]] = defaultdict(dict)
         # How many sectors were answered that LOWER didn't have yet.
@@ -44,13 +45,13 @@ class Compared:
 
     def _take(self) -> bool:
         """Takes the next line of LOWER, and says whether there is one."""
-        what, disk, start, count = next(self._rows, ("", "", 0, 0))
-        if what:
+        for what, disk, start, count in self._rows:
             if not count:
                 self._source.refuse_line("no sectors, leave such lines out")
             self._add(f"{what} {disk}", start, start + count, -1)
             self._ahead -= count
-        return bool(what)
+            return True
+        return False
 
     def _add(self, use: str, start: int, end: int, times: int) -> None:
         steps = self._steps[use]
@@ -63,13 +64,6 @@ class Compared:
         if self._places > MOST_PLACES:
             raise Refusal(self._source.name, f"it differs from the answers at more than {MOST_PLACES} places at once: compare "
                           "traces of the same minutes, or shorter ones")
-
-
-class AsTheyAre(names.Names):
-    """Takes names of disks for what they are."""
-
-    def device(self, path: str, place: names.Place) -> str:
-        return path
 
 
 def runs(steps: Dict[int, int]) -> Iterator[Tuple[int, int, int]]:

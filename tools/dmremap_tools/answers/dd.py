@@ -9,9 +9,9 @@ there is nothing to read or write, writes without --image, and an IMAGE that is 
 The lines count in sectors, so any `dd` will do. They write to disks only where the answers do: look at them first.
 """
 
+import contextlib
 import functools
 import os
-import stat
 import tempfile
 from argparse import ArgumentParser, Namespace
 from typing import Iterator, Optional, Set, Tuple
@@ -38,7 +38,8 @@ def run(words: Namespace) -> None:
     operations: Set[str] = set()
 
     def asked() -> Iterator[str]:
-        for operation, name, first, count in requests.read(streams.Lines(words.requests), names.Names(), requests.NO_REQUEST):
+        lines = streams.Lines(words.requests)
+        for operation, name, first, count in requests.read(lines, names.Names().device, requests.NO_REQUEST):
             devices.add(name)
             operations.add(operation)
             yield f"{operation} {name} {first} {count}\n"
@@ -68,14 +69,11 @@ class Writer:
         if piece.what == "error" or (piece.what in ("W", "drop") and self.image is None):
             self.source.refuse_line("no sectors of a disk, leave them out" if piece.what == "error" else "a write, give --image")
         in_image = self.image, self.at
+        origin: Tuple[Optional[str], int] = in_image if piece.what == "W" else ("/dev/zero", 0)
         if piece.what in ("copy", "R"):
-            origin: Tuple[Optional[str], int] = self._read(piece.disk, piece.start, piece.count)
-        else:
-            origin = in_image if piece.what == "W" else ("/dev/zero", 0)
-        if piece.what == "W":
-            target: Tuple[Optional[str], int] = self._place(piece.disk, piece.start)
-        else:
-            target = self._place(piece.to, piece.to_start) if piece.to else in_image
+            origin = self._read(piece.disk, piece.start, piece.count)
+        name, start = (piece.disk, piece.start) if piece.what == "W" else (piece.to, piece.to_start)
+        target = self._place(name, start) if name else in_image
         self.at += 0 if piece.to else piece.count
         if piece.what != "drop":
             line = f"dd if={quoting.for_shell(origin[0] or '')} bs=512 skip={origin[1]} count={piece.count} status=none"
@@ -103,11 +101,8 @@ class Writer:
 @functools.lru_cache(maxsize=None)
 def _end_of(path: str) -> Optional[int]:
     """The length in bytes; None where there is no such file or disk here, which `dd` tells itself."""
-    try:
-        kind = os.stat(path).st_mode
-        if not (stat.S_ISREG(kind) or stat.S_ISBLK(kind)):
-            return None
-        with open(path, "rb") as file:
-            return disk_image.length_of(file, path)
-    except OSError:
-        return None
+    with contextlib.suppress(OSError):
+        if written.identity_at(path):
+            with open(path, "rb") as file:
+                return disk_image.length_of(file, path)
+    return None

@@ -5,14 +5,13 @@ import os
 import select
 import subprocess
 import threading
-from types import TracebackType
 from typing import Iterable, List, Optional, Sequence, Type
 
 from dmremap_tools.base import pieces, program, quoting, streams
 from dmremap_tools.base.refusal import Refusal
 
 
-class Mapped:
+class Mapped(contextlib.AbstractContextManager):
     """dmremap while it answers: `answers` has the pieces as they come. How it fails is told at the end."""
 
     def __init__(self, command: Sequence[str], requests: Iterable[str]) -> None:
@@ -28,10 +27,7 @@ class Mapped:
         self.answers = pieces.Answers(f"/dev/fd/{self._child.stdout.fileno()}")
         self.answers.name = self._name
 
-    def __enter__(self) -> "Mapped":
-        return self
-
-    def __exit__(self, kind: "Optional[Type[BaseException]]", fault: Optional[BaseException], trace: Optional[TracebackType]) -> None:
+    def __exit__(self, kind: Optional[Type[BaseException]], *_: object) -> None:
         answers = self._child.stdout
         # Nothing comes any more if dmremap ended.
         is_ended = kind is None or bool(select.select([answers], [], [], 0)[0]) and not os.read(answers.fileno(), 1)
@@ -53,7 +49,6 @@ class Mapped:
             with contextlib.suppress(BrokenPipeError):
                 for request in requests:
                     pipe.write(request.encode("utf-8", "surrogateescape"))
-                pipe.flush()
         except Exception as fault:
             self._faults.append(fault)
         finally:

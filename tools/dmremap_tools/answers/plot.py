@@ -3,7 +3,6 @@
 import bisect
 import functools
 import re
-from array import array
 from collections import Counter, defaultdict
 from operator import add, gt
 from typing import Dict, Iterator, List, Optional, Sequence, Tuple
@@ -15,8 +14,8 @@ from dmremap_tools.layouts import svg
 COLUMNS, ROWS, CELL, MARGIN = 450, 150, 2, 20
 DARKEST = 16
 CLAMPED = bytes(min(it, DARKEST) for it in range(256))
-# The cells of a column, of what is read and of what is written.
-BOTH = 2 * ROWS
+# The counts of a column, of what is read and of what is written.
+BOTH = bytes(2 * ROWS)
 COLOURS = ((31, 95, 191), (192, 48, 32))
 STEP = 1e-6
 # More take more memory than a picture is worth.
@@ -40,7 +39,8 @@ class Moments:
         if self._times is None:
             self.last = requests[-1] if requests else self.last
             return
-        self._of = {number: moment for number, moment in self._of.items() if number in requests[:1]}
+        # The first of them may be the last of the block before, whose moment is the last one.
+        self._of = {}
         for number in dict.fromkeys(requests):
             while self._times.number < number:
                 row = next(self._rows, "")
@@ -55,47 +55,35 @@ class Moments:
 
 
 class Field:
-    """How often each cell of a disk's field was read and written, up to the darkest. Columns in which something was take memory."""
+    """How often each cell of a disk's field was read and written, up to the darkest."""
 
     def __init__(self, size: int) -> None:
         self.size = size
         # Where the cell above each begins.
         self.edges = [-(-(row + 1) * size // ROWS) for row in range(ROWS)]
-        # For each column how many were there when it began, counted from 1, or 0; and the counts of what is read in them, and of
-        # what is written.
-        self._index, self._counts = array("H", bytes(2 * COLUMNS)), bytearray()
+        # For each column the counts of what is read in its cells, and of what is written; none where nothing was.
+        self._columns = [b""] * COLUMNS
 
-    def cells(self, column: int) -> Tuple[bytearray, int]:
-        """The counts, and where those of a column begin."""
-        if not self._index[column]:
-            self._counts += bytes(BOTH)
-            self._index[column] = len(self._counts) // BOTH
-        return self._counts, (self._index[column] - 1) * BOTH
+    def add(self, column: int, first: int, touched: Dict[int, int]) -> None:
+        """Counts how often cells were touched, which are counted from `first` on."""
+        counts = bytearray(self._columns[column] or BOTH)
+        for cell, times in touched.items():
+            counts[first + cell] = min(DARKEST, counts[first + cell] + times)
+        self._columns[column] = bytes(counts)
 
     def halve(self) -> None:
-        index, counts = array("H", bytes(2 * COLUMNS)), bytearray()
-        for column in range(0, COLUMNS, 2):
-            both = [self._column(it) for it in (column, column + 1) if self._index[it]]
-            if both:
-                counts += bytes(map(add, both[0], both[1])).translate(CLAMPED) if len(both) == 2 else both[0]
-                index[column // 2] = len(counts) // BOTH
-        self._index, self._counts = index, counts
+        halves = [bytes(map(add, *both)).translate(CLAMPED) if all(both) else both[0] or both[1]
+                  for both in zip(self._columns[::2], self._columns[1::2])]
+        self._columns = halves + [b""] * (COLUMNS - len(halves))
 
     def pixels(self, columns: int) -> List[bytes]:
         """The rows of the picture, the last sectors above."""
         rows = [bytearray(4 * columns) for _ in range(ROWS)]
-        for column in range(columns):
-            if self._index[column]:
-                found = self._column(column)
-                for row, both in zip(reversed(rows), zip(found[:ROWS], found[ROWS:])):
-                    if both != (0, 0):
-                        row[4 * column:4 * column + 4] = _pixel(*both)
+        for column, counts in enumerate(self._columns[:columns]):
+            for row, both in zip(reversed(rows), zip(counts[:ROWS], counts[ROWS:])):
+                if both != (0, 0):
+                    row[4 * column:4 * column + 4] = _pixel(*both)
         return [bytes(it) for it in rows]
-
-    def _column(self, column: int) -> bytearray:
-        """The counts of a column that has some."""
-        begin = (self._index[column] - 1) * BOTH
-        return self._counts[begin:begin + BOTH]
 
 
 @functools.lru_cache(maxsize=None)
@@ -155,10 +143,7 @@ class Fields:
     def _settle(self, column: int) -> None:
         """Marks what was touched in the column so far, and goes on with another one."""
         for (disk, what), touched in self._touched.items():
-            counts, begin = self._fields[disk].cells(self._column)
-            for cell, times in touched.items():
-                place = begin + cell + (ROWS if what == "W" else 0)
-                counts[place] = min(DARKEST, counts[place] + times)
+            self._fields[disk].add(self._column, ROWS if what == "W" else 0, touched)
         self._touched.clear()
         self._column = column
 

@@ -44,7 +44,8 @@ Use = Tuple[str, str, List[int], List[int]]
 
 
 def add_words(parser: ArgumentParser) -> None:
-    pieces.add_words(parser)
+    parser.add_argument("file", metavar="PIECES", nargs="?", default="-",
+                        help="what dmremap map printed; else standard input")
     parser.add_argument("--disks", metavar="DISKS", help="the disks with their lengths, for the order")
     parser.add_argument("--plot", metavar="OUT.svg", help="a picture to write; it needs --disks")
     parser.add_argument("--times", metavar="TIMES", help="what trace --times wrote: line N is the time of request N, in seconds")
@@ -79,7 +80,8 @@ class Report:
     def __init__(self, sizes: Optional[Dict[str, int]], fields: Optional[Fields], compared: Optional[Compared]) -> None:
         self._sizes, self._fields, self._compared = sizes, fields, compared
         # By disk and what is done, the pieces and the sectors; and of lengths with so many binary digits, the pieces.
-        self._totals: Dict[Tuple[str, str], List[int]] = defaultdict(lambda: [0, 0])
+        self._counts: Dict[Tuple[str, str], int] = Counter()
+        self._sectors: Dict[Tuple[str, str], int] = Counter()
         self._lengths: Dict[Tuple[str, str], Dict[int, int]] = defaultdict(Counter)
         # By disk: the end of the last piece, how far all moves were together, and how many there were.
         self._heads: Dict[str, List[int]] = {}
@@ -94,14 +96,15 @@ class Report:
         if block.copied.requests:
             self._take_moves(source, block.copied, False)
         for (what, length), times in Counter(block.others).items():
-            self._add("-", what, times, times * int(length))
+            self._counts["-", what] += times
+            self._sectors["-", what] += times * int(length)
 
     def write(self) -> None:
         rank = {disk: place for place, disk in enumerate(self._sizes or ())}
-        uses = sorted(self._totals, key=lambda use: (rank.get(use[0], -1), use))
+        uses = sorted(self._counts, key=lambda use: (rank.get(use[0], -1), use))
         for disk, what in uses:
-            count, sectors = self._totals[disk, what]
-            streams.out.write(f"total {disk} {what} {count} {sectors} {sectors * numbers.SECTOR}\n")
+            sectors = self._sectors[disk, what]
+            streams.out.write(f"total {disk} {what} {self._counts[disk, what]} {sectors} {sectors * numbers.SECTOR}\n")
         greatest = max((count for lengths in self._lengths.values() for count in lengths.values()), default=0)
         for disk, what in uses:
             for digits, count in sorted(self._lengths[disk, what].items()):
@@ -133,19 +136,15 @@ class Report:
                 check_disks(source, self._sizes, uses)
             for disk, what, firsts, lasts in uses:
                 counts = list(map(sub, lasts, firsts))
-                self._add(disk, what, len(counts), sum(counts))
+                self._counts[disk, what] += len(counts)
+                self._sectors[disk, what] += sum(counts)
                 self._lengths[disk, what].update(map(int.bit_length, counts))
                 if self._fields:
                     self._fields.mark(source, place, disk, what, firsts, lasts)
             if self._compared:
                 self._compared.answer(list(map(" ".join, zip(whats, disks))), starts, ends)
-        if len(self._totals) > MOST_TOTALS:
+        if len(self._counts) > MOST_TOTALS:
             raise Refusal(source.name, f"pieces on more than {MOST_TOTALS // 2} disks: give those of fewer")
-
-    def _add(self, disk: str, what: str, count: int, sectors: int) -> None:
-        total = self._totals[disk, what]
-        total[0] += count
-        total[1] += sectors
 
 
 def grouped(heads: Dict[str, List[int]], whats: Sequence[str], disks: Sequence[str], starts: List[int],

@@ -3,9 +3,9 @@
 import functools
 import re
 from argparse import ArgumentParser
-from typing import Dict, NoReturn, Optional, Protocol
+from typing import Dict, NoReturn, Optional, Union
 
-from dmremap_tools.base import quoting
+from dmremap_tools.base import quoting, streams
 from dmremap_tools.base.refusal import Refusal
 
 FORM = re.compile(r"[-A-Za-z0-9#+.:=@_]{1,127}")
@@ -13,13 +13,6 @@ DISK = re.compile(r"(?!/dev/mapper/)(?!.*[,;\\])[!-~]{1,255}")
 MINOR = re.compile(r"/dev/dm-([0-9]{1,10})")
 MAPPER = "/dev/mapper/"
 MOST_KEPT = 4096
-
-
-class Place(Protocol):
-    """Where a name stands."""
-
-    def refuse(self, reason: str) -> NoReturn:
-        """Refuses what stands there."""
 
 
 class Word:
@@ -31,6 +24,9 @@ class Word:
     def refuse(self, reason: str) -> NoReturn:
         raise Refusal(self._name, reason)
 
+
+# Where a name stands.
+Place = Union[streams.Lines, Word]
 
 def of_path(path: str) -> str:
     """The name of a device that is given by /dev/mapper/NAME or /dev/VG/LV. Anything else stays."""
@@ -45,7 +41,6 @@ class Names:
 
     def __init__(self, ls: Optional[str] = None) -> None:
         self._ls = ls
-        self._found: Dict[str, str] = {}
 
     @functools.cached_property
     def _of_minor(self) -> Dict[str, str]:
@@ -59,15 +54,11 @@ class Names:
             place.refuse(f"which device is {path}? Give --ls LS")
         return self._of_minor.get(minor[1], "") if minor else of_path(path)
 
+    @functools.lru_cache(MOST_KEPT)
     def device(self, path: str, place: Place) -> str:
-        name = self._found.get(path)
-        if name is None:
-            name = self.known(path, place)
-            if not FORM.fullmatch(name):
-                place.refuse(f"no name of a device, give it as dmsetup ls prints it: '{quoting.shown(path)}'")
-            if len(self._found) == MOST_KEPT:
-                self._found.clear()
-            self._found[path] = name
+        name = self.known(path, place)
+        if not FORM.fullmatch(name):
+            place.refuse(f"no name of a device, give it as dmsetup ls prints it: '{quoting.shown(path)}'")
         return name
 
 

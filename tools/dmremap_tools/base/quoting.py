@@ -7,9 +7,10 @@ MOST_SHOWN = 100
 MOST_NAMED = 16
 
 
-def escaped(text: str) -> str:
-    """The text with an escape for each character that isn't printable, so that a terminal obeys none of them."""
-    return text if text.isprintable() else "".join(map(_escape, text))
+def escaped(text: str, kept: str = "") -> str:
+    """The text with an escape for each character that isn't printable, so that a terminal obeys none of them, but for
+    those that are kept."""
+    return text if text.isprintable() else "".join(it if it in kept else _escape(it) for it in text)
 
 
 def _escape(letter: str) -> str:
@@ -26,13 +27,6 @@ def shown(text: str) -> str:
 
 def some(words: List[str], between: str = ", ") -> str:
     return between.join(words[:MOST_NAMED] + [".."] * (len(words) > MOST_NAMED))
-
-
-def on_terminal(text: str) -> str:
-    """Lines for a terminal: line feeds and tabs stay."""
-    if text.replace("\n", "").replace("\t", "").isprintable():
-        return text
-    return "".join(it if it in "\n\t" else _escape(it) for it in text)
 
 
 def printable(text: str) -> str:

@@ -1,7 +1,7 @@
 """Requests, as dmremap reads them."""
 
 import re
-from typing import Iterator, Tuple
+from typing import Callable, Iterator, Tuple
 
 from dmremap_tools.base import names, numbers, streams
 
@@ -12,20 +12,23 @@ TOO_LONG = "longer than 2 PiB"
 NO_REQUEST = "not a request, give R or W, a device, a sector and how many"
 _write = streams.out.write
 # What to do, a device, and two numbers, as they mostly are.
-_MOST_LINES = re.compile(fr"^([RW]) (\S+) {numbers.SHORT} {numbers.SHORT}$", re.M)
+_MOST_LINES = re.compile(fr"([RW]) (\S+) {numbers.SHORT} {numbers.SHORT}")
 
 
-def read(source: streams.Lines, known: names.Names, form: str) -> Iterator[Tuple[str, str, int, int]]:
-    """The lines that say R or W, a device, and two numbers. Others are refused as not of this form, in words."""
-    for fields in source.rows(_MOST_LINES):
-        if isinstance(fields, tuple):
-            operation, name, first, count = fields
-            yield operation, known.device(name, source), int(first), int(count)
-        else:
-            words = fields.split()
-            if len(words) != 4 or words[0] not in ("R", "W"):
-                source.refuse_line(form)
-            yield words[0], known.device(words[1], source), source.whole(words[2]), source.whole(words[3])
+def read(source: streams.Lines, device: Callable[[str, names.Place], str], form: str
+         ) -> Iterator[Tuple[str, str, int, int]]:
+    """The lines that say R or W, a device, whose name a function gives, and two numbers. Others are refused as not of
+    this form, in words."""
+    for line in source:
+        match = _MOST_LINES.fullmatch(line)
+        if match:
+            operation, name, first, count = match.groups()
+            yield operation, device(name, source), int(first), int(count)
+            continue
+        words = line.split()
+        if len(words) != 4 or words[0] not in ("R", "W"):
+            source.refuse_line(form)
+        yield words[0], device(words[1], source), source.whole(words[2]), source.whole(words[3])
 
 
 def parts(first: int, count: int) -> Iterator[Tuple[int, int]]:

@@ -8,7 +8,7 @@ import contextlib
 import os
 import select
 import stat
-from typing import Iterator, List, NoReturn, Optional, Pattern, Tuple, Union
+from typing import Callable, Iterator, List, NoReturn, Optional
 
 from dmremap_tools.base import numbers, plain_text, quoting, written
 from dmremap_tools.base.refusal import OutputFailed, Refusal, WrongWords
@@ -22,8 +22,6 @@ SPOILED = "refused\n"
 UNENDED = "the text ends within a line, give all of it: "
 # What takes the line of progress away on a terminal.
 CLEARED = "\r\033[K"
-# What the groups of a form have of a line, or the line itself.
-Fields = Union[Tuple[str, ...], str]
 
 
 class ReaderGone(Exception):
@@ -49,7 +47,7 @@ class Output:
             return
         text, self._parts = "".join(self._parts), []
         if os.isatty(self._descriptor):
-            text = quoting.on_terminal(text)
+            text = quoting.escaped(text, "\n\t")
         left = memoryview(text.encode("utf-8", "surrogateescape"))
         while left:
             try:
@@ -83,66 +81,40 @@ class Output:
 
 class Lines:
     """The lines of a file, or of standard input for `-`, as they come, without a byte order mark and carriage returns.
-    A text that ends within a line is refused. `number` is that of the line that was read last, from 1. `is_written`
-    says that the file is written, too, once it is read."""
+    A text that ends within a line is refused. `line` is the one that was read last, and `number` its number, from 1.
+    `is_written` says that the file is written, too, once it is read."""
 
     def __init__(self, path: str, is_written: bool = False) -> None:
         self.name = name_of(path)
-        self.number = 0
-        self._chunks = _chunks_of(_open(path, is_written), self.name)
-        # The lines of the block, once one of them is asked for.
-        self._block, self._before, self._lines = "", 0, [""]
+        self.number, self.line = 0, ""
+        self._chunks = chunks(path, is_written)
+        self._block, self._before = "", 0
 
     def __iter__(self) -> Iterator[str]:
-        for block in self.blocks():
-            for self.number, line in enumerate(block[:-1].split("\n"), self._before + 1):
-                yield line
+        for _ in self.blocks():
+            yield from self.again()
+
+    def again(self) -> Iterator[str]:
+        """The lines of the block that came last."""
+        for self.number, self.line in enumerate(self._block[:-1].split("\n"), self._before + 1):
+            yield self.line
 
     def blocks(self) -> Iterator[str]:
         """Many whole lines at once. `number` is that of the line before them, and afterwards that of their last."""
-        rest, is_begun = b"", False
-        for chunk in self._chunks:
-            if not is_begun:
-                chunk, is_begun = plain_text.begun(self.name, chunk), True
-            before, end, after = chunk.rpartition(b"\n")
-            rest += before + end
+        rest = b""
+        for place, chunk in enumerate(self._chunks):
+            chunk = chunk if place else plain_text.begun(self.name, chunk)
+            lines, end, rest = (rest + chunk).rpartition(b"\n")
             if end:
-                self._block, self._before, self._lines = _decoded(plain_text.with_plain_ends(rest)), self.number, []
+                self._block, self._before = _decoded(plain_text.with_plain_ends(lines + end)), self.number
                 yield self._block
                 self.number = self._before + self._block.count("\n")
-                rest = b""
-            rest += after
             if len(rest) > LONGEST_LINE:
                 self.number += 1
                 self.refuse(f"a line of more than {LONGEST_LINE} bytes: give a text with shorter ones")
         if rest:
             self.number += 1
             self.refuse(UNENDED + quoting.shown(_decoded(rest)))
-
-    def each(self, form: Pattern[str]) -> Iterator[Fields]:
-        """For each line of the block what the groups of a form have, or the line itself where it is of another form."""
-        for self.number, line in enumerate(self._block[:-1].split("\n"), self._before + 1):
-            match = form.match(line)
-            yield match.groups("") if match else line
-
-    def rows(self, *forms: Pattern[str]) -> Iterator[Fields]:
-        """For each line the groups of one of some forms (re.M, ^ and $), the first mostly, or else the line."""
-        form = forms[0]
-        for block in self.blocks():
-            # That of the lines before is tried first.
-            for form in dict.fromkeys((form, *forms)):
-                rows = form.findall(block)
-                if len(rows) == block.count("\n"):
-                    for self.number, fields in enumerate(rows, self._before + 1):
-                        yield fields
-                    break
-            else:
-                yield from self.each(forms[0])
-
-    @property
-    def line(self) -> str:
-        self._lines = self._lines or self._block.split("\n")
-        return self._lines[self.number - self._before - 1]
 
     def tell_if_none(self) -> None:
         if not self.number:
@@ -175,8 +147,16 @@ def whole(option: str, text: str) -> int:
     return value
 
 
-def chunks(path: str) -> Iterator[bytes]:
-    return _chunks_of(_open(path), name_of(path))
+def chunks(path: str, is_written: bool = False) -> Iterator[bytes]:
+    """What a file has, as it comes; it is opened at once."""
+    name = name_of(path)
+    try:
+        descriptor = take_input() if path == "-" else os.open(path, os.O_RDONLY)
+    except OSError as fault:
+        raise Refusal(name, why(fault))
+    if not is_written:
+        written.note_input(descriptor)
+    return _chunks_of(descriptor, name)
 
 
 def read_bytes(path: str, most: int = MOST_TEXT) -> bytes:
@@ -239,7 +219,8 @@ def finish() -> None:
     flush()
     for output in _besides:
         output.close()
-    written.put_all([it.place for it in _besides])
+    for output in _besides:
+        output.place.put()
     out.close()
 
 
@@ -249,18 +230,22 @@ def flush() -> None:
         output.flush()
 
 
-def spoil(is_fed: bool) -> None:
-    """Spoils what stands beside standard output, and that itself if dmremap reads it; each, whatever the others do."""
-    failed = None
-    for output in [*_besides, out]:
-        try:
-            output.spoil() if is_fed or output is not out else output.flush()
-        except ReaderGone:
-            pass
-        except OutputFailed as fault:
-            failed = fault
-    if failed:
-        raise failed
+def spoil(is_fed: bool) -> str:
+    """Spoils what stands beside standard output, and that itself if dmremap reads it; each, whatever the others do.
+    Returns how the last one failed that did."""
+    failures = [failure_of(it.spoil if is_fed or it is not out else it.flush) for it in [*_besides, out]]
+    return next(filter(None, reversed(failures)), "")
+
+
+def failure_of(action: Callable[..., object], *words: str) -> str:
+    """How an output failed in what is done here, or nothing."""
+    try:
+        action(*words)
+    except OutputFailed as failed:
+        return str(failed)
+    except ReaderGone:
+        pass
+    return ""
 
 
 def why(fault: OSError) -> str:
@@ -287,16 +272,6 @@ def take_input() -> int:
 
 def _decoded(content: bytes) -> str:
     return content.decode("utf-8", "surrogateescape")
-
-
-def _open(path: str, is_written: bool = False) -> int:
-    try:
-        descriptor = take_input() if path == "-" else os.open(path, os.O_RDONLY)
-    except OSError as fault:
-        raise Refusal(name_of(path), why(fault))
-    if not is_written:
-        written.note_input(descriptor)
-    return descriptor
 
 
 def _chunks_of(descriptor: int, name: str) -> Iterator[bytes]:

@@ -8,7 +8,7 @@ import contextlib
 import errno
 import os
 import stat
-from typing import Iterator, List, NoReturn, Optional, Set, Tuple
+from typing import Iterator, List, NoReturn, Optional, Set, Tuple, Union
 
 from dmremap_tools.base import quoting
 from dmremap_tools.base.refusal import OutputFailed, Refusal, WrongWords
@@ -29,23 +29,16 @@ def identity(status: os.stat_result) -> Optional[Identity]:
     return ("file", status.st_dev, status.st_ino) if stat.S_ISREG(status.st_mode) else None
 
 
-def identity_at(path: str) -> Optional[Identity]:
-    """Which file or disk is there; none where there is nothing."""
+def identity_at(file: Union[int, str]) -> Optional[Identity]:
+    """Which file or disk a descriptor or path is; none where there is nothing."""
     with contextlib.suppress(OSError, ValueError):
-        return identity(os.stat(path))
+        return identity(os.stat(file))
     return None
 
 
-def note_input(descriptor: int) -> None:
-    """Notes a file that is read, and refuses one that is written, too."""
-    _note(identity(os.fstat(descriptor)))
-
-
-def note_path(path: str) -> None:
-    _note(identity_at(path))
-
-
-def _note(known: Optional[Identity]) -> None:
+def note_input(file: Union[int, str]) -> None:
+    """Notes a file that is read, by its descriptor or path, and refuses one that is written, too."""
+    known = identity_at(file)
     if known:
         _inputs.add(known)
         for place in _places:
@@ -53,17 +46,14 @@ def _note(known: Optional[Identity]) -> None:
                 place.refuse()
 
 
+def note_path(path: str) -> None:
+    note_input(path)
+
+
 def discard() -> None:
     """Removes what was begun and isn't in its place."""
     for place in _places:
         place.discard()
-
-
-def put_all(places: "List[Place]") -> None:
-    for place in places:
-        place.close()
-    for place in places:
-        place.put()
 
 
 def file_of(path: str) -> str:
@@ -90,7 +80,13 @@ class Place:
                 folder, name = os.path.split(self.path)
                 status = os.stat(folder or ".")
                 self._key = status.st_dev, status.st_ino, name
-        self._check()
+        if self.known in _inputs:
+            self.refuse()
+        if any(it._key == self._key or it.known == self.known is not None for it in _places if self._key is not None):
+            raise WrongWords(f"{self.shown}: two outputs can't be one file: give another name")
+        for descriptor, name in (1, "output"), (2, "error"):
+            if self.known is not None and identity_at(descriptor) == self.known:
+                raise WrongWords(f"{self.shown}: standard {name} goes there, too: give another file")
         _places.append(self)
 
     def begin(self) -> int:
@@ -192,13 +188,3 @@ class Place:
         if stat.S_ISBLK(there.st_mode):
             raise Refusal(self.shown, "it is a disk: give a file to write")
         return None if stat.S_ISLNK(there.st_mode) else there
-
-    def _check(self) -> None:
-        if self.known is not None and self.known in _inputs:
-            self.refuse()
-        if any(it._key == self._key or it.known == self.known is not None for it in _places if self._key is not None):
-            raise WrongWords(f"{self.shown}: two outputs can't be one file: give another name")
-        for descriptor, name in (1, "output"), (2, "error"):
-            with contextlib.suppress(OSError):
-                if self.known is not None and identity(os.fstat(descriptor)) == self.known:
-                    raise WrongWords(f"{self.shown}: standard {name} goes there, too: give another file")

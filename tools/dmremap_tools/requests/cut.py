@@ -21,6 +21,6 @@ def add_words(parser: ArgumentParser) -> None:
 def run(words: Namespace) -> None:
     source = streams.Lines(words.file)
     form = "give R or W, a device, an offset and a length, and not" if words.bytes else requests.NO_REQUEST
-    for asked in requests.read(source, names.Names(words.ls), form):
+    for asked in requests.read(source, names.Names(words.ls).device, form):
         (requests.write_bytes if words.bytes else requests.write)(source, *asked)
     source.tell_if_none()

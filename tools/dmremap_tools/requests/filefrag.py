@@ -34,7 +34,7 @@ TYPE = re.compile(r"Filesystem type is: ([^ :.]*).*")
 GROUPS = re.compile(r"Filesystem cylinder groups approximately [0-9]+")
 SIZE = re.compile(r"File size of .* is ([0-9]+) \(([0-9]+) blocks? of ([0-9]+) bytes\)")
 HEAD = re.compile(r" ext: +logical_offset: +physical_offset: length: +expected: flags:")
-EXTENT = re.compile(r"^ *{0}: +{0}\.\. *{0}: +{0}\.\. *{0}: +{0}:(?: +[0-9]+:)? *([a-z_0-9,]*)$".format(r"([0-9]{1,18})"), re.M)
+EXTENT = re.compile(r" *{0}: +{0}\.\. *{0}: +{0}\.\. *{0}: +{0}:(?: +[0-9]+:)? *([a-z_0-9,]*)".format(r"([0-9]{1,18})"))
 FOUND = re.compile(r": [0-9]+ extents? found")
 NONE_FOUND = re.compile(r": 0 extents found")
 KNOWN = {"ef53", "58465342"}
@@ -102,11 +102,12 @@ class Reader:
 
     def extents(self) -> Iterator[Extent]:
         """The extents as they come: the sector of the file, that of the device, and how many there are."""
-        for fields in self.source.rows(EXTENT):
-            if isinstance(fields, tuple) and self._opened:
-                yield from self._take_extent(*map(int, fields[:6]), fields[6].split(","))
+        for line in self.source:
+            extent = EXTENT.fullmatch(line) if self._opened else None
+            if extent:
+                yield from self._take_extent(*map(int, extent.groups()[:6]), extent[7].split(","))
             else:
-                self._take_other(self.source.line)
+                self._take_other(line)
         if self._opened:
             self.source.refuse(f"the end is missing, {ANEW}: {quoting.shown(self._opened)}")
         if not self.files:

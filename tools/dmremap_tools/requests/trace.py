@@ -18,34 +18,31 @@ import re
 from argparse import ArgumentParser, Namespace
 from typing import Dict, Optional
 
-from dmremap_tools.base import disks, listings, names, numbers, quoting, requests, streams, tables
+from dmremap_tools.base import disks, listings, names, quoting, requests, streams, tables
 from dmremap_tools.base.refusal import Refusal, WrongWords
 
 EXAMPLE = "btrace /dev/dm-0 | dmremap-tools trace ls.txt vg0.table | dmremap map lvm vg0.backup | dmremap-tools report"
 
-EVENT = "block_bio_queue:"
-# A line of blkparse, up to the action. Those of the action Q, a request that comes, are read whole where they are of the
-# usual form; of other actions there is nothing to read. A process may have a name that looks like such a line.
+# A line of blkparse, up to the action: the device and the time. The action Q is a request that comes; of others there is
+# nothing to read. A process may have a name that looks like such a line.
 PARSED = r" *([0-9]+,[0-9]+) +[0-9]+ +[0-9]+ +([0-9.]+) +[0-9]+ +"
-# What names no event: each colon in it ends something else.
-NO_EVENT = r"[^:\n]*(?::(?<!%s)[^:\n]*)*" % EVENT
-LINE = re.compile(r"^%s(?:Q +(\S+) %s \+ %s .*|[A-PR-Za-z][A-Za-z]* %s)$" % (PARSED, numbers.SHORT, numbers.SHORT, NO_EVENT), re.M)
-# An event as ftrace and perf mostly print it, after a processor in brackets.
-EVENTS = re.compile(r"^(?! *[0-9]+,|CPU| *Skips:)[^:\]\n]*(?::(?<!{0})[0-9][^:\]\n]*)*\](?: [^ :\n]+)? +([0-9.]+): (?:block:)?{0}"
-                    r" ([0-9]+,[0-9]+) ([A-Z]+) {1} \+ {1}(?: .*)?$".format(EVENT, numbers.SHORT), re.M)
-ANY_QUEUED = re.compile(PARSED + r"Q (.*)")
+# What is done, the first sector, and how many there are.
+ASKED = r"\s*(\S+)\s+(\S+)\s+\+\s+(\S+)(?:\s.*)?"
+QUEUED = re.compile(f"{PARSED}Q {ASKED}")
+ACTION = re.compile(fr"{PARSED}(?:(Q )(\s*\S+\s+\[)?|[A-PR-Za-z][A-Za-z]* )")
+# An event, as ftrace and perf print it: the time before its name, where perf has another word, and the device behind it.
+EVENT = "block_bio_queue:"
+BEFORE = re.compile(r"(?:.*\s)?([0-9.]+):?(?:\s+\S*:)?\s*")
+AFTER = re.compile(fr"\s*([0-9]+,[0-9]+)\s{ASKED}")
 LOST = re.compile(r"CPU:? ?[0-9]+ \[.*(?:LOST|DROPPED).*| *Skips: +0*[1-9].*")
-TIME = re.compile(r"[0-9.]+:?")
 # What stands beside the lines of a trace: empty lines, comments, and the sums of blkparse.
 BESIDE = re.compile(r"\s*(?:#.*)?|(?:CPU|Total \(|Throughput|Events \(|Skips:|Input file|cpus=).*| +[A-Z][A-Za-z ]*: +[0-9].*")
-DEVICE = re.compile(r"[0-9]+,[0-9]+")
 # Discards and flushes alone, and reads and writes, with what else a kernel says of them.
 NEITHER = re.compile(r"F?[DN][A-Z]*")
 EITHER = re.compile(r"F?[RW][FASM]*")
 NO_FORM = "not a form of the event, trace with `blkparse`"
-# The first line of a log of fio, and a request in it: version 3 has a time first in each line.
+# The first line of a log of fio. In version 3 each line has a time first.
 LOG_FIRST = re.compile(r"fio version ([23]) iolog")
-LOG_LINE = re.compile(rf"^([0-9]+ )?(\S+) (read|write) {numbers.SHORT} {numbers.SHORT}$", re.M)
 LOG_OPERATIONS = {"read": "R", "write": "W"}
 # What makes no request, and how many words a line of it has, without the time.
 LOG_OTHERS = {"add": (2,), "open": (2,), "close": (2,), "sync": (2, 4), "datasync": (2, 4), "wait": (2, 4), "trim": (4,)}
@@ -98,17 +95,16 @@ class Kept:
 def read_log(source: streams.Lines, kept: Kept, known: names.Names) -> None:
     """Prints the requests of a log as they come, and tells what was left out."""
     version = trims = made = 0
-    for row in source.rows(LOG_LINE):
+    for line in source:
         if not version:
-            first = LOG_FIRST.fullmatch(source.line)
+            first = LOG_FIRST.fullmatch(line)
             if not first:
                 source.refuse_line("not the first line of a log, give what fio wrote")
             version = int(first[1])
             continue
-        words = row.split()[version - 2:] if isinstance(row, str) else list(row[1:])
+        words = line.split()[version - 2:]
         what = words[1] if len(words) > 1 else ""
-        is_timed = version == 3 if isinstance(row, str) else bool(row[0])
-        if what in LOG_OPERATIONS and len(words) == 4 and is_timed == (version == 3):
+        if what in LOG_OPERATIONS and len(words) == 4:
             name = known.known(words[0], source)
             if name in kept.names:
                 made += 1
@@ -137,17 +133,8 @@ class Reader:
 
     def read(self) -> None:
         """Takes all lines, and tells what was left out."""
-        for fields in self._source.rows(LINE, EVENTS):
-            if isinstance(fields, str):
-                self._take_other(fields)
-                continue
-            self._events += 1
-            number, time, what, first, count = fields
-            if "," not in number:
-                # An event has its time first; one of no sectors is none.
-                number, time, what = time, number, what if count != "0" else ""
-            if what:
-                self._take(number, what, int(first), int(count), time)
+        for line in self._source:
+            self._take_line(line)
         if not self._events:
             self._source.refuse("no request in the trace: give what `blkparse` prints of the devices")
         if self._passed:
@@ -158,6 +145,32 @@ class Reader:
         if not self._made:
             streams.tell("no request came to a disk of DISKS" if self._kept.are_disks else
                          "no request came to a device of the tables: a trace of the disks below them takes --lower")
+
+    def _take_line(self, line: str) -> None:
+        """Takes an event, or a request that blkparse tells of, and counts other lines."""
+        source, queued = self._source, QUEUED.fullmatch(line)
+        if LOST.fullmatch(line):
+            source.refuse_line("events were lost, trace again with larger buffers")
+        if EVENT in line and not queued:
+            head, _, rest = line.partition(EVENT)
+            before, after = BEFORE.fullmatch(head), AFTER.fullmatch(rest)
+            if not before or not after:
+                source.refuse_line(NO_FORM)
+            time, (number, what, first, count) = before[1], after.groups()
+            # One of no sectors is none.
+            what = "" if count == "0" else what
+        elif queued:
+            number, time, what, first, count = queued.groups()
+        else:
+            action = ACTION.match(line)
+            if action and action[3] and not action[4]:
+                source.refuse_line(NO_FORM)
+            self._events += bool(action)
+            self._passed += not action and not BESIDE.fullmatch(line)
+            return
+        self._events += 1
+        if what:
+            self._take(number, what, source.whole(first), source.whole(count), time)
 
     def _take(self, number: str, what: str, first: int, count: int, time: str) -> None:
         """Prints a request, or leaves it out: the device's number, what is done, and with which sectors."""
@@ -173,34 +186,3 @@ class Reader:
             self._dropped += 1
         else:
             self._source.refuse_line("neither a read nor a write, leave it out")
-
-    def _take_other(self, line: str) -> None:
-        """Takes a line that isn't of the usual form of blkparse."""
-        source = self._source
-        if LOST.fullmatch(line):
-            source.refuse_line("events were lost, trace again with larger buffers")
-        if EVENT in line:
-            self._take_event(*line.split(EVENT, 1))
-            return
-        queued = ANY_QUEUED.fullmatch(line)
-        if not queued:
-            self._passed += not BESIDE.fullmatch(line)
-            return
-        self._events += 1
-        fields = queued[3].split()
-        if len(fields) > 3 and fields[2] == "+":
-            self._take(queued[1], fields[0], source.whole(fields[1]), source.whole(fields[3]), queued[2])
-        elif len(fields) < 2 or not fields[1].startswith("["):
-            source.refuse_line(NO_FORM)
-
-    def _take_event(self, head: str, rest: str) -> None:
-        self._events += 1
-        before, fields = head.split(), rest.split()
-        if before and before[-1].endswith(":") and not TIME.fullmatch(before[-1]):
-            del before[-1]
-        is_whole = len(fields) > 4 and DEVICE.fullmatch(fields[0]) and fields[3] == "+"
-        if not is_whole or not before or not TIME.fullmatch(before[-1]):
-            self._source.refuse_line(NO_FORM)
-        if fields[4] != "0":
-            first, count = self._source.whole(fields[2]), self._source.whole(fields[4])
-            self._take(fields[0], fields[1], first, count, before[-1].rstrip(":"))
