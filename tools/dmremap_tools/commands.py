@@ -2,11 +2,10 @@
 
 from typing import List, NamedTuple, Optional
 
-IMAGES = "images of disks"
-REQUESTS, MACHINES, METADATA, ANSWERS, LAYOUTS = "requests", "FILE and DISKS", "metadata", "answers", "layouts"
-LAYERS, REASONS = "arrays", "refusals and answers, explained"
-FOLDERS = {IMAGES: "images", REQUESTS: "requests", MACHINES: "machines", METADATA: "metadata", ANSWERS: "answers", LAYOUTS: "layouts",
-           LAYERS: "layers", REASONS: "explaining"}
+# The folders of the commands, and how `--help` calls what is in them.
+GROUPS = {"images": "images of disks", "requests": "requests", "machines": "FILE and DISKS", "metadata": "metadata",
+          "answers": "answers", "layouts": "layouts", "layers": "arrays",
+          "explaining": "refusals and answers, explained"}
 
 
 class Command(NamedTuple):
@@ -19,34 +18,35 @@ class Command(NamedTuple):
 
     @property
     def module(self) -> str:
-        return "%s.%s" % (FOLDERS[self.group], self.name.replace("-", "_"))
+        return f"{self.group}.{self.name.replace('-', '_')}"
 
 
 COMMANDS: List[Command] = [
-    Command("scan", IMAGES, "what a pile of images holds"),
-    Command("save", IMAGES, "a volume, or a file of one, out of images or disks"),
-    Command("serve", IMAGES, "a volume as a disk, by nbdkit"),
-    Command("lost", IMAGES, "the files that missing or unreadable sectors cost"),
-    Command("owner", IMAGES, "who has sectors of an image, and whether somebody has"),
-    Command("tables", IMAGES, "FILE, DISKS and PATHS of a group, for dmremap itself"),
-    Command("filefrag", REQUESTS, "from the extents of files, as filefrag or debugfs prints them", True),
-    Command("trace", REQUESTS, "from a trace of blkparse, btrace, ftrace or perf, or a log of fio", True),
-    Command("cut", REQUESTS, "from requests that are longer than dmremap takes, or count in bytes", True),
-    Command("machine", MACHINES, "of a machine with device-mapper devices", True),
-    Command("elsewhere", MACHINES, "for dmsetup, where disks have other paths, with all devices read-only", True),
-    Command("thin", MACHINES, "thin or cached devices, from what thin_dump or cache_dump prints", True),
-    Command("btrfs", MACHINES, "the addresses of a btrfs file system as a device", True),
-    Command("metadata", METADATA, "the text of a group, from the head of a physical volume"),
-    Command("lvm2-text", METADATA, "a copy of lvm2's metadata that dmremap reads"),
-    Command("report", ANSWERS, "what is done on each disk, how requests were split, and a picture"),
-    Command("dd", ANSWERS, "a line for dd for each piece", True),
-    Command("spans", LAYOUTS, "which line uses which sectors of disks and devices, what is free, and what clashes", True),
-    Command("tree", LAYOUTS, "the stack as a tree, or as a graph for Graphviz"),
-    Command("extents", LAYOUTS, "where a whole device lies"),
-    Command("store", LAYOUTS, "whether the stores of snapshots can be full, and what fills them"),
-    Command("picture", LAYOUTS, "the disks and what lies on them, as a picture"),
-    Command("md", LAYERS, "the table of an md array, or answers followed on through one", True),
-    Command("explain", REASONS, "why dmremap refuses something, or how an answer comes about"),
+    Command("scan", "images", "what a pile of images holds"),
+    Command("save", "images", "a volume, or a file of one, out of images or disks"),
+    Command("serve", "images", "a volume as a disk, by nbdkit"),
+    Command("lost", "images", "the files that missing or unreadable sectors cost"),
+    Command("owner", "images", "who has sectors of an image, and whether somebody has"),
+    Command("tables", "images", "FILE, DISKS and PATHS of a group, for dmremap itself"),
+    Command("filefrag", "requests", "from the extents of files, as filefrag or debugfs prints them", True),
+    Command("trace", "requests", "from a trace of blkparse, btrace, ftrace or perf, or a log of fio", True),
+    Command("cut", "requests", "from requests that are longer than dmremap takes, or count in bytes", True),
+    Command("machine", "machines", "of a machine with device-mapper devices", True),
+    Command("elsewhere", "machines", "for dmsetup, where disks have other paths, with all devices read-only", True),
+    Command("thin", "machines", "thin or cached devices, from what thin_dump or cache_dump prints", True),
+    Command("btrfs", "machines", "the addresses of a btrfs file system as a device", True),
+    Command("metadata", "metadata", "the text of a group, from the head of a physical volume"),
+    Command("lvm2-text", "metadata", "a copy of lvm2's metadata that dmremap reads"),
+    Command("report", "answers", "what is done on each disk, how requests were split, and a picture"),
+    Command("dd", "answers", "a line for dd for each piece", True),
+    Command("spans", "layouts", "which line uses which sectors of disks and devices, what is free, and what clashes",
+            True),
+    Command("tree", "layouts", "the stack as a tree, or as a graph for Graphviz"),
+    Command("extents", "layouts", "where a whole device lies"),
+    Command("store", "layouts", "whether the stores of snapshots can be full, and what fills them"),
+    Command("picture", "layouts", "the disks and what lies on them, as a picture"),
+    Command("md", "layers", "the table of an md array, or answers followed on through one", True),
+    Command("explain", "explaining", "why dmremap refuses something, or how an answer comes about"),
 ]
 
 
@@ -58,6 +58,6 @@ def overview() -> str:
     """What `dmremap-tools --help` prints."""
     lines = ["usage: dmremap-tools COMMAND ..", "", "Connects dmremap with other tools, and makes something of its answers.",
              "`dmremap-tools COMMAND --help` says more of a command, with an example."]
-    for group in FOLDERS:
-        lines += ["", group + ":"] + ["  %-12s %s" % (it.name, it.summary) for it in COMMANDS if it.group == group]
+    for group, title in GROUPS.items():
+        lines += ["", title + ":"] + ["  %-12s %s" % (it.name, it.summary) for it in COMMANDS if it.group == group]
     return "\n".join(lines) + "\n"

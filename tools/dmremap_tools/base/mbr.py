@@ -1,7 +1,7 @@
 """The partitions of an MBR, and of the tables inside its extended partitions, numbered as Linux does."""
 
 import struct
-from typing import List, NamedTuple, Set, Tuple
+from typing import List, NamedTuple, Optional, Set, Tuple
 
 from dmremap_tools.base.disk_image import Image
 from dmremap_tools.base.numbers import SECTOR
@@ -56,8 +56,9 @@ def partitions_of(image: Image, entries: List[Entry], size: int) -> Tuple[List[P
     starts, following = [0], FIRST_LOGICAL
     seen: Set[int] = set()
     for outer in filter(Entry.is_extended, entries):
-        table, empty = outer, 0
-        while table.start not in seen and empty < MOST_EMPTY:
+        table: Optional[Entry] = outer
+        empty = 0
+        while table and table.start not in seen and empty < MOST_EMPTY:
             seen.add(table.start)
             inside = _entries_in(image.read(table.start * size, SECTOR))
             if inside:
@@ -70,9 +71,6 @@ def partitions_of(image: Image, entries: List[Entry], size: int) -> Tuple[List[P
                     runs.append((following, start, entry.size))
                     following += 1
             empty = empty + 1 if following == first else 0
-            more = next(filter(Entry.is_extended, inside), None)
-            if not more:
-                break
-            table = more._replace(start=outer.start + more.start)
+            table = next((it._replace(start=outer.start + it.start) for it in inside if it.is_extended()), None)
     partitions = [Partition(number, start * size, count * size) for number, start, count in runs]
     return partitions, [it * size for it in starts]

@@ -18,6 +18,8 @@ MOST_ENTRIES = 1 << 20
 # How long the header is and its sum, where it is, the first and the last usable sector, and of the entries: where they
 # begin, how many there are, how long each is, and their sum.
 HEADER = struct.Struct("<12xLL4xQ8xQQ16xQLLL")
+# The type of a partition, its first sector and its last.
+ENTRY = struct.Struct("<16s16xQQ")
 
 
 class Table(NamedTuple):
@@ -42,27 +44,21 @@ def table_of(image: Image, sector: int = SECTOR) -> Optional[Table]:
     if entries and not is_protective:
         partitions, starts = mbr.partitions_of(image, entries, sector)
         return Table("MBR", sector, partitions, [(it, it + SECTOR) for it in starts])
-    for size in GPT_SECTORS:
-        table = _gpt_at(image, size, size)
-        if table:
-            return table
-    if not is_protective and all(image.read(it, len(GPT)) != GPT for it in GPT_SECTORS):
+    table = next(filter(None, (_gpt_at(image, it, it) for it in GPT_SECTORS)), None)
+    if not table and not is_protective and all(image.read(it, len(GPT)) != GPT for it in GPT_SECTORS):
         return None
-    backup = backup_of(image)
-    if backup is None:
+    table = table or backup_of(image)
+    if not table:
         raise DamagedTable(image.path, "both copies of its partition table (GPT) are damaged: "
                            "repair it in a copy with gdisk, or cut the partition out with dd")
-    return backup
+    return table
 
 
 def backup_of(image: Image) -> Optional[Table]:
     """The second copy of a GPT, which lies in the last sectors of a disk, or None where it isn't sound."""
-    for sector in GPT_SECTORS:
-        place = image.size // sector * sector - sector
-        table = _gpt_at(image, place, sector) if place > sector else None
-        if table:
-            return table._replace(is_backup=True)
-    return None
+    places = ((image.size // it * it - it, it) for it in GPT_SECTORS)
+    table = next(filter(None, (_gpt_at(image, place, it) for place, it in places if place > it)), None)
+    return table and table._replace(is_backup=True)
 
 
 def _gpt_at(image: Image, place: int, sector: int) -> Optional[Table]:
@@ -82,11 +78,9 @@ def _gpt_at(image: Image, place: int, sector: int) -> Optional[Table]:
         raise _cut_off(image)
     if zlib.crc32(entries) != entries_sum:
         return None
-    partitions = []
-    for number in range(count):
-        first, last = struct.unpack_from("<QQ", entries, number * length + 32)
-        if any(entries[number * length:number * length + 16]) and first <= last:
-            partitions.append(Partition(number + 1, first * sector, (last - first + 1) * sector))
+    found = (ENTRY.unpack_from(entries, place * length) for place in range(count))
+    partitions = [Partition(number, first * sector, (last - first + 1) * sector)
+                  for number, (kind, first, last) in enumerate(found, 1) if any(kind) and first <= last]
     return Table("GPT", sector, partitions, [(0, first_usable * sector), ((last_usable + 1) * sector, image.size)])
 
 
