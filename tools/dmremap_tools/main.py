@@ -35,14 +35,23 @@ class ToldToEnd(BaseException):
 class Parser(argparse.ArgumentParser):
     """Reads the words of a command. Help goes to standard output, as everything else that is asked for."""
 
-    words: List[str] = []
-
     def print_help(self, file: object = None) -> None:
         streams.out.write(self.format_help())
 
+    def parsed(self, words: List[str]) -> argparse.Namespace:
+        """The words of a command, with options in any place, unless they end in those of another program."""
+        self._words = words
+        try:
+            typed, others = self.parse_known_intermixed_args(words)
+        except TypeError:
+            typed, others = self.parse_known_args(words)
+        if others:
+            self.error("unrecognized arguments: " + quoting.some([quoting.shown(it) for it in others], " "))
+        return typed
+
     def error(self, message: str) -> NoReturn:
         """Refuses words. What is quoted of them is cut where it is long."""
-        for each in self.words:
+        for each in self._words:
             for quoted in (each, each.partition("=")[2]):
                 message = message.replace(repr(quoted), "'%s'" % quoting.shown(quoted))
         raise WrongWords(message, self.format_usage().rstrip())
@@ -75,9 +84,8 @@ def run(words: List[str]) -> int:
 def _run(command: "commands.Command | None", name: str, words: List[str]) -> int:
     if command:
         module = importlib.import_module("dmremap_tools." + command.module)
-        parser = parser_of(command, module, name)
         try:
-            typed = _parsed(parser, words[1:])
+            typed = parser_of(command, module, name).parsed(words[1:])
         except SystemExit:
             # After its help.
             return 0
@@ -101,18 +109,6 @@ def _told_to_end(number: int, _: object) -> NoReturn:
 def _answer_signals(action: "signal.Handlers | Callable[[int, object], object]") -> None:
     for number in _heard:
         signal.signal(number, action)
-
-
-def _parsed(parser: Parser, words: List[str]) -> argparse.Namespace:
-    """The words of a command, with options in any place, unless they end in those of another program."""
-    parser.words = words
-    try:
-        typed, others = parser.parse_known_intermixed_args(words)
-    except TypeError:
-        typed, others = parser.parse_known_args(words)
-    if others:
-        parser.error("unrecognized arguments: " + quoting.some([quoting.shown(it) for it in others], " "))
-    return typed
 
 
 def parser_of(command: "commands.Command", module: ModuleType, name: str) -> Parser:

@@ -26,13 +26,11 @@ class Compared:
         for use, start, end in zip(uses, starts, ends):
             self._add(use, start, end, 1)
             self._ahead += end - start
-        while self._ahead > 0 and self._take():
-            pass
+        self._take()
 
     def check(self) -> None:
         """Takes the rest of LOWER, prints where the two differ, and refuses them if they do."""
-        while self._take():
-            pass
+        self._take(is_all=True)
         sectors = {"untraced": 0, "unanswered": 0}
         for use in sorted(self._steps, key=lambda it: (it[2:], it)):
             for start, end, times in runs(self._steps[use]):
@@ -43,15 +41,16 @@ class Compared:
             raise Refusal(self._source.name, "it isn't what was answered: {untraced} sectors were answered only, and {unanswered} are only "
                           "in it; the lines that are printed say which".format(**sectors))
 
-    def _take(self) -> bool:
-        """Takes the next line of LOWER, and says whether there is one."""
-        for what, disk, start, count in self._rows:
+    def _take(self, is_all: bool = False) -> None:
+        """Takes the next lines of LOWER, as far as the answers are, or all."""
+        while is_all or self._ahead > 0:
+            what, disk, start, count = next(self._rows, ("", "", 0, 0))
+            if not what:
+                break
             if not count:
                 self._source.refuse_line("no sectors, leave such lines out")
             self._add(f"{what} {disk}", start, start + count, -1)
             self._ahead -= count
-            return True
-        return False
 
     def _add(self, use: str, start: int, end: int, times: int) -> None:
         steps = self._steps[use]

@@ -63,7 +63,6 @@ class Writer:
         self.source, self.image, self.here = source, image, here
         self.at = 0
         self._known = written.identity_at(image) if image is not None else None
-        self._checked: Set[str] = set()
 
     def take(self, piece: pieces.Piece) -> None:
         if piece.what == "error" or (piece.what in ("W", "drop") and self.image is None):
@@ -71,7 +70,7 @@ class Writer:
         in_image = self.image, self.at
         origin: Tuple[Optional[str], int] = in_image if piece.what == "W" else ("/dev/zero", 0)
         if piece.what in ("copy", "R"):
-            origin = self._read(piece.disk, piece.start, piece.count)
+            origin = self._place(piece.disk, piece.start, piece.count)
         name, start = (piece.disk, piece.start) if piece.what == "W" else (piece.to, piece.to_start)
         target = self._place(name, start) if name else in_image
         self.at += 0 if piece.to else piece.count
@@ -80,29 +79,26 @@ class Writer:
             seek = f" of={quoting.for_shell(target[0])} seek={target[1]} conv=notrunc" if target[0] is not None else ""
             streams.out.write(f"{line}{seek}\n")
 
-    def _read(self, name: str, start: int, count: int) -> Tuple[str, int]:
-        """Where sectors are read. `dd` says nothing of a file that ends before them, and what follows would move up."""
-        path, place = self._place(name, start)
-        end = _end_of(path) if name in self.here else None
-        if end is not None and end < (place + count) * numbers.SECTOR:
-            raise Refusal(path, f"it ends at byte {end}, before sector {place + count}: give an image of the whole disk")
-        return path, place
+    def _place(self, name: str, start: int, read: int = 0) -> Tuple[str, int]:
+        """Where sectors are, of which some are read. `dd` says nothing of a file that ends before them, and what follows
+        would move up."""
+        path, first, end = self._disk(name)
+        if read and end is not None and end < (first + start + read) * numbers.SECTOR:
+            why = f"it ends at byte {end}, before sector {first + start + read}: give an image of the whole disk"
+            raise Refusal(path, why)
+        return path, first + start
 
-    def _place(self, name: str, start: int) -> Tuple[str, int]:
-        place = self.here.get(name) or paths.Place(name)
-        if name not in self._checked:
-            self._checked.add(name)
-            if self._known and written.identity_at(place.path) == self._known:
-                raise WrongWords(f"--image: {quoting.shown(self.image or '')} is the disk {quoting.shown(name)}, too: give another file")
+    @functools.lru_cache(maxsize=None)
+    def _disk(self, name: str) -> Tuple[str, int, Optional[int]]:
+        """The path of a disk, the sector at which it begins there, and at which byte the file or disk of --paths ends.
+        That none is there `dd` tells itself."""
+        place, end = self.here.get(name) or paths.Place(name), None
+        if self._known and written.identity_at(place.path) == self._known:
+            shown = f"{quoting.shown(self.image or '')} is the disk {quoting.shown(name)}"
+            raise WrongWords(f"--image: {shown}, too: give another file")
         place.check_sectors(name)
-        return place.path, place.start // numbers.SECTOR + start
-
-
-@functools.lru_cache(maxsize=None)
-def _end_of(path: str) -> Optional[int]:
-    """The length in bytes; None where there is no such file or disk here, which `dd` tells itself."""
-    with contextlib.suppress(OSError):
-        if written.identity_at(path):
-            with open(path, "rb") as file:
-                return disk_image.length_of(file, path)
-    return None
+        with contextlib.suppress(OSError):
+            if name in self.here and written.identity_at(place.path):
+                with open(place.path, "rb") as file:
+                    end = disk_image.length_of(file, place.path)
+        return place.path, place.start // numbers.SECTOR, end

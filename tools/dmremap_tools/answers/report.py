@@ -61,9 +61,9 @@ def run(words: Namespace) -> None:
     fields = Fields(sizes, moments) if picture and sizes is not None else None
     compared = Compared(words.compare) if words.compare is not None else None
     report, source = Report(sizes, fields, compared), pieces.Answers(words.file)
-    for block in source.by_blocks():
-        moments.take(source, block.requests)
-        report.take(source, block)
+    for requests, *done in source.by_blocks():
+        moments.take(source, requests)
+        report.take(source, *done)
     source.tell_if_none()
     report.write()
     if words.times is not None:
@@ -89,13 +89,14 @@ class Report:
         # The last request, and its pieces so far.
         self._request = self._pieces = 0
 
-    def take(self, source: pieces.Answers, block: pieces.Block) -> None:
-        if block.moves.requests:
-            self._count_splits(block.moves.requests)
-            self._take_moves(source, block.moves, True)
-        if block.copied.requests:
-            self._take_moves(source, block.copied, False)
-        for (what, length), times in Counter(block.others).items():
+    def take(self, source: pieces.Answers, moves: pieces.Moves, copied: pieces.Moves, others: List[Tuple[str, str]]
+             ) -> None:
+        if moves.requests:
+            self._count_splits(moves.requests)
+            self._take_moves(source, moves, True)
+        if copied.requests:
+            self._take_moves(source, copied, False)
+        for (what, length), times in Counter(others).items():
             self._counts["-", what] += times
             self._sectors["-", what] += times * int(length)
 

@@ -78,10 +78,7 @@ class Node:
         return self._document.content[self.value_at:self.value_at + 1] == b"["
 
     def own_values(self) -> List[Value]:
-        if not self.is_plain or self.children is not None or self.is_list:
-            return [it.value for it in self.items]
-        text = self._document.content[self.value_at:self.end]
-        return [text[1:-1] if text.startswith(b'"') else int(text)]
+        return [it.value for it in self.items]
 
     def child(self, key: bytes) -> Optional["Node"]:
         return next((it for it in self.children or () if it.key == key), None)

@@ -19,11 +19,6 @@ class Given(NamedTuple):
     file: str
     disks: Optional[str]
 
-    def fault(self) -> Optional[str]:
-        if self.form not in FORMATS:
-            return "give table, concise or lvm as the format"
-        return "give DISKS, or leave it out with lvm" if (self.form == "lvm") == (self.disks is not None) else None
-
     def words(self) -> List[str]:
         return [self.form, self.file] + ([] if self.disks is None else [self.disks])
 
@@ -51,8 +46,8 @@ def put(path: str, parts: Iterable[str]) -> None:
 
 
 def given_in(words: Namespace, usage: str) -> Given:
-    given = Given(words.form, words.file, words.disks)
-    fault = given.fault()
-    if fault:
-        raise WrongWords(fault, "usage: " + usage)
-    return given
+    if words.form not in FORMATS:
+        raise WrongWords("give table, concise or lvm as the format", "usage: " + usage)
+    if (words.form == "lvm") == (words.disks is not None):
+        raise WrongWords("give DISKS, or leave it out with lvm", "usage: " + usage)
+    return Given(words.form, words.file, words.disks)

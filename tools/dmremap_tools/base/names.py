@@ -3,7 +3,7 @@
 import functools
 import re
 from argparse import ArgumentParser
-from typing import Dict, NoReturn, Optional, Union
+from typing import Dict, NamedTuple, NoReturn, Optional, Union
 
 from dmremap_tools.base import quoting, streams
 from dmremap_tools.base.refusal import Refusal
@@ -15,14 +15,13 @@ MAPPER = "/dev/mapper/"
 MOST_KEPT = 4096
 
 
-class Word:
+class Word(NamedTuple):
     """A word of the command line as a place, by what it is called in the usage."""
 
-    def __init__(self, name: str) -> None:
-        self._name = name
+    name: str
 
     def refuse(self, reason: str) -> NoReturn:
-        raise Refusal(self._name, reason)
+        raise Refusal(self.name, reason)
 
 
 # Where a name stands.

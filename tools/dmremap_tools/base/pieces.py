@@ -45,14 +45,9 @@ class Moves(NamedTuple):
     counts: List[int]
 
 
-class Block(NamedTuple):
-    """Many pieces at once: the requests of all, those that are R or W, what copies and fills do as such, and what else
-    is done, with how many sectors."""
-
-    requests: List[int]
-    moves: Moves
-    copied: Moves
-    others: List[Tuple[str, str]]
+# Many pieces at once: the requests of all, those that are R or W, what copies and fills do as such, and what else is
+# done, with how many sectors.
+Block = Tuple[List[int], Moves, Moves, List[Tuple[str, str]]]
 
 
 class Answers(streams.Lines):
@@ -70,10 +65,10 @@ class Answers(streams.Lines):
             if _MOVES.fullmatch(text):
                 words = text.split()
                 moves = _columns(words[column::5] for column in range(5))
-                block = Block(moves.requests, moves, _rows([]), [])
+                block: Block = moves.requests, moves, _rows([]), []
             else:
                 block = self._mixed(text)
-            requests = [last, *block.requests]
+            requests = [last, *block[0]]
             if requests != sorted(requests):
                 before = iter(requests)
                 self.refuse_where("out of order, give the answers as `dmremap map` prints them",
@@ -106,7 +101,7 @@ class Answers(streams.Lines):
                 moves.append((request, what, disk, start, count))
             else:
                 others.append((other, count))
-        return Block([int(it[0]) for it in rows], _rows(moves), _rows(copied), others)
+        return [int(it[0]) for it in rows], _rows(moves), _rows(copied), others
 
     def _fields(self, line: str) -> Optional[Fields]:
         """What the groups of a line have, or None for a status."""

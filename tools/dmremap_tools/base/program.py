@@ -29,10 +29,9 @@ def dmremap(given: Optional[str]) -> str:
     return next((it for it in beside if os.access(it, os.X_OK)), None) or shutil.which("dmremap") or "dmremap"
 
 
-def ask(words: Sequence[str], most: int = streams.MOST_TEXT, given: Optional[int] = None,
-        said: Optional[IO[bytes]] = None) -> str:
-    """What a program prints, at most so many bytes; its messages are passed on, or go into the file `said`."""
-    printed, status = _asked(words, most, given, said)
+def ask(words: Sequence[str], given: Optional[int] = None, said: Optional[IO[bytes]] = None) -> str:
+    """What a program prints, at most 64 MiB; its messages are passed on, or go into the file `said`."""
+    printed, status = _asked(words, given, said)
     if status:
         fail(words[0], status)
     return printed
@@ -45,15 +44,15 @@ def found(name: str) -> str:
     return shutil.which(name) or shutil.which(name, path=os.pathsep.join(beside)) or name
 
 
-def ask_quietly(words: Sequence[str], most: int = streams.MOST_TEXT, given: Optional[int] = None) -> Tuple[str, str]:
+def ask_quietly(words: Sequence[str], given: Optional[int] = None) -> Tuple[str, str]:
     """What a program prints on its two outputs, whatever its status is, in English, unless it is killed."""
     import tempfile
     with tempfile.TemporaryFile() as said:
-        printed, status = _asked(words, most, given, said)
+        printed, status = _asked(words, given, said)
         if status < 0:
             fail(words[0], status)
         said.seek(0)
-        return printed, said.read(most).decode("utf-8", "surrogateescape")
+        return printed, said.read(streams.MOST_TEXT).decode("utf-8", "surrogateescape")
 
 
 def start(words: Sequence[str], **how: Any) -> "subprocess.Popen[bytes]":
@@ -62,7 +61,7 @@ def start(words: Sequence[str], **how: Any) -> "subprocess.Popen[bytes]":
     return subprocess.Popen([words[0].encode("utf-8", "replace"), *others], executable=path, **how)
 
 
-def _asked(words: Sequence[str], most: int, given: Optional[int], said: Optional[IO[bytes]]) -> Tuple[str, int]:
+def _asked(words: Sequence[str], given: Optional[int], said: Optional[IO[bytes]]) -> Tuple[str, int]:
     streams.flush()
     try:
         child = start(words, stdout=subprocess.PIPE, stderr=said, stdin=subprocess.DEVNULL if given is None else given,
@@ -70,9 +69,10 @@ def _asked(words: Sequence[str], most: int, given: Optional[int], said: Optional
     except OSError as fault:
         raise Refusal(quoting.shown(words[0]), streams.why(fault))
     try:
-        printed = child.stdout.read(most + 1)
-        if len(printed) > most:
-            raise Refusal(quoting.shown(words[0]), f"it printed more than {most} bytes: ask for less at once")
+        printed = child.stdout.read(streams.MOST_TEXT + 1)
+        if len(printed) > streams.MOST_TEXT:
+            why = f"it printed more than {streams.MOST_TEXT} bytes: ask for less at once"
+            raise Refusal(quoting.shown(words[0]), why)
         return printed.decode("utf-8", "surrogateescape"), child.wait()
     finally:
         # One that wasn't awaited.
