@@ -4,7 +4,7 @@ import bisect
 import functools
 import re
 from collections import Counter, defaultdict
-from operator import add, gt
+from operator import add
 from typing import Dict, Iterator, List, Optional, Sequence, Tuple
 
 from dmremap_tools.base import pieces, streams
@@ -59,8 +59,6 @@ class Field:
 
     def __init__(self, size: int) -> None:
         self.size = size
-        # Where the cell above each begins.
-        self.edges = [-(-(row + 1) * size // ROWS) for row in range(ROWS)]
         # For each column the counts of what is read in its cells, and of what is written; none where nothing was.
         self._columns = [b""] * COLUMNS
 
@@ -132,13 +130,13 @@ class Fields:
         if column != self._column:
             self._settle(column)
         field, touched = self._fields[disk], self._touched[disk, what]
-        size, edges = field.size, field.edges
-        cells = [start * ROWS // size for start in starts]
+        size = field.size
+        cells, lasts = [start * ROWS // size for start in starts], [(end - 1) * ROWS // size for end in ends]
         touched.update(cells)
-        if any(map(gt, ends, map(edges.__getitem__, cells))):
-            for cell, end in zip(cells, ends):
-                if end > edges[cell]:
-                    touched.update(range(cell + 1, (end - 1) * ROWS // size + 1))
+        if cells != lasts:
+            for cell, last in zip(cells, lasts):
+                if last > cell:
+                    touched.update(range(cell + 1, last + 1))
 
     def _settle(self, column: int) -> None:
         """Marks what was touched in the column so far, and goes on with another one."""

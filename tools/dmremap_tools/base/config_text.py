@@ -1,5 +1,4 @@
 """The configuration language of lvm2 (lvm.conf(5)), read as lvm2 reads it, with the place of each part, in linear time.
-
 It is wider than what dmremap reads: single quotes and words without quotes, signs and fractions, octal numbers, commas
 that are missing or left over, keys in quotes, other white space. Nearly all of a text has none of that, and is read a
 field at a time (`STEP`); the rest is read token by token."""
@@ -98,9 +97,8 @@ class Node:
 
 
 class Document:
-    """A text and the tree that it says. Text after a NUL isn't there for lvm2.
-
-    `tight` has the places where a word begins right after a number."""
+    """A text and the tree that it says, without what is after a NUL, as for lvm2. `tight` has the places where a word
+    begins right after a number."""
 
     def __init__(self, path: str, content: bytes) -> None:
         self.path, self.content = path, content.split(b"\0", 1)[0] if b"\0" in content else content
@@ -185,9 +183,8 @@ class Document:
             raise self.refused(match.start(kind), "a string without an end: " + ANEW)
         return match[kind].decode() if kind == "sign" else kind, match.start(kind), match.end(kind)
 
-    def tokens(self) -> Iterator[Token]:
-        """All tokens, and one more for the end."""
-        kind, end = "", 0
+    def tokens(self, end: int = 0, kind: str = "") -> Iterator[Token]:
+        """All tokens from a byte on, before which one of a kind ends, and one more for the end of the text."""
         while kind != END:
             kind, start, end = self._token(end, kind in BEFORE_VALUE)
             yield kind, start, end
@@ -198,14 +195,14 @@ class Document:
         if kind != "[":
             return [self._item(kind, start, end)], end
         items: List[Item] = []
-        kind, start, end = self._token(end, True)
-        while kind != "]":
-            self._count_part(start)
-            items.append(self._item(kind, start, end))
-            kind, start, end = self._token(end, False)
-            if kind == ",":
+        for kind, start, end in self.tokens(end, kind):
+            if kind == "]":
+                break
+            if kind == "," and items and items[-1].comma < 0:
                 items[-1] = items[-1]._replace(comma=start)
-                kind, start, end = self._token(end, True)
+            else:
+                self._count_part(start)
+                items.append(self._item(kind, start, end))
         return items, end
 
     def _item(self, kind: str, start: int, end: int) -> Item:

@@ -104,8 +104,8 @@ def _container_of(image: Image, header: Header) -> Container:
     is_odd = segments[0][2] != "dynamic" if length is None else length == 0 or length % SECTOR
     if start is None or start % SECTOR or is_odd:
         raise unsaid
-    length = None if length is None else length // SECTOR
-    return Container(header.uuid, start // SECTOR, length, -(-(2 * header.size + keys) // SECTOR))
+    header_sectors = -(-(2 * header.size + keys) // SECTOR)
+    return Container(header.uuid, start // SECTOR, length and length // SECTOR, header_sectors)
 
 
 def _text(content: bytes) -> str:

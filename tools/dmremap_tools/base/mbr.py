@@ -47,11 +47,9 @@ def _entries_in(sector: bytes) -> List[Entry]:
 
 def partitions_of(image: Image, entries: List[Entry], size: int) -> Tuple[List[Partition], List[int]]:
     """The partitions of an MBR, whatever their type, and those inside all of its extended ones, as far as the image
-    goes; and where its tables begin, in bytes. All of them count in sectors of so many bytes.
-
-    What a table inside says of partitions counts from itself, and what it says of the next table from the first of
-    them. As with Linux, its third and fourth entry count only inside of the extended partition, as they may be
-    garbage."""
+    goes; and where its tables begin, in bytes. All of them count in sectors of so many bytes. What a table inside says
+    of partitions counts from itself, and what it says of the next table from the first. As with Linux, its third and
+    fourth entry count only inside of the extended partition, as they may be garbage."""
     runs = [(number, it.start, it.size) for number, it in enumerate(entries, 1) if it.size and not it.is_extended()]
     starts, following = [0], FIRST_LOGICAL
     seen: Set[int] = set()

@@ -5,12 +5,13 @@ from typing import Callable, Iterable, Iterator, List, NamedTuple, Optional, Pat
 
 from dmremap_tools.base import numbers, streams
 
-# The groups of a piece: the request, what is done, its disk and start, or what else is done, the count, TO and its start.
+# The groups of a piece: the request, whether TO comes, what is done, the disk and the start, or what else is done, how
+# many sectors, TO and where it begins.
 Fields = Tuple[str, ...]
 
 
 def _form(digits: int) -> Pattern[str]:
-    """A piece with numbers of so many digits. That a copy and a fill, and only they, end in TO, a group of its own says first."""
+    """A piece with numbers of so many digits."""
     count, start = f"([1-9][0-9]{{0,{digits - 1}}})", f"(0|[1-9][0-9]{{0,{digits - 1}}})"
     done = fr"(?:(R|W|copy) (\S+) {start}|(fill|zero|drop|error))"
     return re.compile(fr"^{count} (?=(copy|fill)?){done} {count}(?(2) (\S+) {start})$", re.M)

@@ -1,8 +1,5 @@
-"""Inputs, outputs and messages.
-
-Outputs are gathered, and flushed before an input is waited for, so that a pipe of commands runs while its input
-grows. Whatever an output doesn't take ends the command: see `main.py`.
-"""
+"""Inputs, outputs and messages. Outputs are gathered, and flushed before an input is waited for, so that a pipe of
+commands runs while its input grows. Whatever an output doesn't take ends the command: see `main.py`."""
 
 import contextlib
 import os
@@ -81,8 +78,7 @@ class Output:
 
 class Lines:
     """The lines of a file, or of standard input for `-`, as they come, without a byte order mark and carriage returns.
-    A text that ends within a line is refused. `line` is the one that was read last, and `number` its number, from 1.
-    `is_written` says that the file is written, too, once it is read."""
+    A text that ends within a line is refused. `line` is the one that was read last, `number` its number, from 1."""
 
     def __init__(self, path: str, is_written: bool = False) -> None:
         self.name = name_of(path)
@@ -148,7 +144,7 @@ def whole(option: str, text: str) -> int:
 
 
 def chunks(path: str, is_written: bool = False) -> Iterator[bytes]:
-    """What a file has, as it comes; it is opened at once."""
+    """What a file has, as it comes; it is opened at once. `is_written`: it is written, too, once it was read."""
     name = name_of(path)
     try:
         descriptor = take_input() if path == "-" else os.open(path, os.O_RDONLY)

@@ -1,8 +1,6 @@
-"""What commands write: every file of theirs goes this way.
-
-A file is made beside its place, and put there once it is whole. It is never a file that is read, by whatever name, and
-a link is followed only where it is the very word that was given. Where a command is refused or told to end, what it
-began is removed."""
+"""Every file that commands write. It is made beside its place, and put there once it is whole. It is never a file that
+is read, by whatever name, and a link is followed only where it is the very word that was given. Where a command is
+refused or told to end, what it began is removed."""
 
 import contextlib
 import errno
@@ -115,10 +113,8 @@ class Place:
 
     def write(self, content: bytes) -> None:
         """Writes the whole of it, and puts it in its place."""
-        descriptor, left = self.begin(), memoryview(content)
-        with self._failing():
-            while left:
-                left = left[os.write(descriptor, left):]
+        with self._failing(), open(self.begin(), "wb", closefd=False) as file:
+            file.write(content)
         self.close()
         self.put()
 

@@ -16,6 +16,7 @@ bytes touch. The files of the log are devices; LS is read only if they are given
 
 import re
 from argparse import ArgumentParser, Namespace
+from collections import Counter
 from typing import Dict, Optional
 
 from dmremap_tools.base import disks, listings, names, quoting, requests, streams, tables
@@ -76,7 +77,7 @@ class Kept:
     def __init__(self, path: str, are_disks: bool = False) -> None:
         self.are_disks = are_disks
         self.names = set(disks.read(path)) if are_disks else {it.name for it in tables.read(path)[0]}
-        self._left: Dict[str, int] = {}
+        self._left: Dict[str, int] = Counter()
         if not self.names:
             why = "no disk in it: give lines NAME SECTORS" if are_disks else "no device in it: give what `dmremap table` prints"
             raise Refusal(streams.name_of(path), why)
@@ -84,25 +85,27 @@ class Kept:
     def leave(self, to: str, is_known: bool = True) -> None:
         """Counts a request that is left out, as the list of numbers or else the tables lack what it goes to."""
         lacking = ("DISKS has" if is_known else "lsblk has") if self.are_disks else "the tables have" if is_known else "dmsetup ls has"
-        text = f"{to}, which {lacking} not"
-        self._left[text] = self._left.get(text, 0) + 1
+        self._left[f"{to}, which {lacking} not"] += 1
 
-    def tell(self) -> None:
-        for to, count in self._left.items():
-            streams.tell(f"left out: {count} requests to {quoting.shown(to)}")
+    def tell(self, made: int, others: str, count: int, hint: str = "") -> None:
+        """Tells what was left out, these others, too, and if no request was made."""
+        left = [(times, f"requests to {quoting.shown(to)}") for to, times in self._left.items()]
+        streams.tell(*(f"left out: {times} {what}" for times, what in [*left, (count, others)] if times))
+        if not made:
+            streams.tell("no request came to a " + ("disk of DISKS" if self.are_disks else f"device of the tables{hint}"))
 
 
 def read_log(source: streams.Lines, kept: Kept, known: names.Names) -> None:
     """Prints the requests of a log as they come, and tells what was left out."""
-    version = trims = made = 0
-    for line in source:
-        if not version:
-            first = LOG_FIRST.fullmatch(line)
-            if not first:
-                source.refuse_line("not the first line of a log, give what fio wrote")
-            version = int(first[1])
-            continue
-        words = line.split()[version - 2:]
+    trims = made = 0
+    lines = iter(source)
+    first = LOG_FIRST.fullmatch(next(lines, ""))
+    if not source.number:
+        source.refuse("the log is empty: give what fio wrote")
+    if not first:
+        source.refuse_line("not the first line of a log, give what fio wrote")
+    for line in lines:
+        words = line.split()[int(first[1]) - 2:]
         what = words[1] if len(words) > 1 else ""
         if what in LOG_OPERATIONS and len(words) == 4:
             name = known.known(words[0], source)
@@ -115,13 +118,7 @@ def read_log(source: streams.Lines, kept: Kept, known: names.Names) -> None:
             trims += what == "trim"
         else:
             source.refuse_line("not a line of a log, leave it out")
-    if not version:
-        source.refuse("the log is empty: give what fio wrote")
-    kept.tell()
-    if trims:
-        streams.tell(f"left out: {trims} trims")
-    if not made:
-        streams.tell("no request came to a device of the tables")
+    kept.tell(made, "trims", trims)
 
 
 class Reader:
@@ -139,19 +136,17 @@ class Reader:
             self._source.refuse("no request in the trace: give what `blkparse` prints of the devices")
         if self._passed:
             streams.tell(f"left out: {self._passed} lines that tell of no request")
-        self._kept.tell()
-        if self._dropped:
-            streams.tell(f"left out: {self._dropped} requests that are neither reads nor writes")
-        if not self._made:
-            streams.tell("no request came to a disk of DISKS" if self._kept.are_disks else
-                         "no request came to a device of the tables: a trace of the disks below them takes --lower")
+        self._kept.tell(self._made, "requests that are neither reads nor writes", self._dropped,
+                        ": a trace of the disks below them takes --lower")
 
     def _take_line(self, line: str) -> None:
         """Takes an event, or a request that blkparse tells of, and counts other lines."""
         source, queued = self._source, QUEUED.fullmatch(line)
-        if LOST.fullmatch(line):
+        if queued:
+            number, time, what, first, count = queued.groups()
+        elif LOST.fullmatch(line):
             source.refuse_line("events were lost, trace again with larger buffers")
-        if EVENT in line and not queued:
+        elif EVENT in line:
             head, _, rest = line.partition(EVENT)
             before, after = BEFORE.fullmatch(head), AFTER.fullmatch(rest)
             if not before or not after:
@@ -159,8 +154,6 @@ class Reader:
             time, (number, what, first, count) = before[1], after.groups()
             # One of no sectors is none.
             what = "" if count == "0" else what
-        elif queued:
-            number, time, what, first, count = queued.groups()
         else:
             action = ACTION.match(line)
             if action and action[3] and not action[4]:
