@@ -66,8 +66,8 @@ def open_image(path: str) -> Image:
     name = streams.name_of(path)
     try:
         # One who writes to a pipe of this name isn't waited for.
-        file = open(streams.take_input() if path == "-" else path, "rb", buffering=0, closefd=path != "-",
-                    opener=lambda named, flags: os.open(named, flags | os.O_NONBLOCK))
+        descriptor = streams.take_input() if path == "-" else os.open(path, os.O_RDONLY | os.O_NONBLOCK)
+        file = open(descriptor, "rb", buffering=0, closefd=path != "-")
     except OSError as fault:
         raise Unreadable(name, streams.why(fault))
     written.note_input(file.fileno())

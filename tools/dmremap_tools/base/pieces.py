@@ -1,7 +1,7 @@
 """Pieces, as `dmremap map` answers."""
 
 import re
-from typing import Callable, Iterable, Iterator, List, NamedTuple, Optional, Pattern, Sequence, Tuple
+from typing import Callable, Iterator, List, NamedTuple, Optional, Pattern, Sequence, Tuple
 
 from dmremap_tools.base import numbers, streams
 
@@ -65,8 +65,8 @@ class Answers(streams.Lines):
         for text in self.blocks():
             if _MOVES.fullmatch(text):
                 words = text.split()
-                moves = _columns(words[column::5] for column in range(5))
-                block: Block = moves.requests, moves, _rows([]), []
+                moves = _moves(*(words[column::5] for column in range(5)))
+                block: Block = moves.requests, moves, _moves(), []
             else:
                 block = self._mixed(text)
             requests = [last, *block[0]]
@@ -102,7 +102,7 @@ class Answers(streams.Lines):
                 moves.append((request, what, disk, start, count))
             else:
                 others.append((other, count))
-        return [int(it[0]) for it in rows], _rows(moves), _rows(copied), others
+        return [int(it[0]) for it in rows], _moves(*zip(*moves)), _moves(*zip(*copied)), others
 
     def _fields(self, line: str) -> Optional[Fields]:
         """What the groups of a line have, or None for a status."""
@@ -120,11 +120,7 @@ def _piece(fields: Fields) -> Piece:
     return Piece(int(request), what or other, int(count), disk, int(start or 0), to, int(to_start or 0))
 
 
-def _rows(moves: Sequence[Sequence[str]]) -> Moves:
-    """Moves that are given in rows."""
-    return _columns(zip(*moves) if moves else [()] * 5)
-
-
-def _columns(columns: Iterable[Sequence[str]]) -> Moves:
-    requests, whats, disks, starts, counts = columns
+def _moves(requests: Sequence[str] = (), whats: Sequence[str] = (), disks: Sequence[str] = (),
+           starts: Sequence[str] = (), counts: Sequence[str] = ()) -> Moves:
+    """Moves by their columns, of which there are none without moves."""
     return Moves(list(map(int, requests)), whats, disks, list(map(int, starts)), list(map(int, counts)))
