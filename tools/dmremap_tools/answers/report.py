@@ -92,7 +92,11 @@ class Report:
     def take(self, source: pieces.Answers, moves: pieces.Moves, copied: pieces.Moves, others: List[Tuple[str, str]]
              ) -> None:
         if moves.requests:
-            self._count_splits(moves.requests)
+            counts = Counter(moves.requests)
+            counts[self._request] += self._pieces
+            self._request = moves.requests[-1]
+            self._pieces = counts.pop(self._request)
+            self._splits.update(counts.values())
             self._take_moves(source, moves, True)
         if copied.requests:
             self._take_moves(source, copied, False)
@@ -118,13 +122,6 @@ class Report:
         self._splits[self._pieces] += 1
         for count in sorted(self._splits.keys() - {0}):
             streams.out.write(f"split {count} {self._splits[count]}\n")
-
-    def _count_splits(self, requests: List[int]) -> None:
-        counts = Counter(requests)
-        counts[self._request] += self._pieces
-        self._request = requests[-1]
-        self._pieces = counts.pop(self._request)
-        self._splits.update(counts.values())
 
     def _take_moves(self, source: pieces.Answers, moves: pieces.Moves, are_heads: bool) -> None:
         """Counts reads and writes, for which heads may have to move."""

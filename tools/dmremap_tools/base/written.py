@@ -51,7 +51,9 @@ def note_path(path: str) -> None:
 def discard() -> None:
     """Removes what was begun and isn't in its place."""
     for place in _places:
-        place.discard()
+        if place._beside is not None:
+            with contextlib.suppress(OSError):
+                os.unlink(place._beside)
 
 
 def file_of(path: str) -> str:
@@ -144,11 +146,6 @@ class Place:
         self._beside = None
         self._there = os.lstat(self.path)
         self.known = identity(self._there)
-
-    def discard(self) -> None:
-        if self._beside is not None:
-            with contextlib.suppress(OSError):
-                os.unlink(self._beside)
 
     def remove(self) -> None:
         with contextlib.suppress(OSError):

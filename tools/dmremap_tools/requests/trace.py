@@ -17,7 +17,7 @@ bytes touch. The files of the log are devices; LS is read only if they are given
 import re
 from argparse import ArgumentParser, Namespace
 from collections import Counter
-from typing import Dict, Optional
+from typing import Dict, Optional, Sequence
 
 from dmremap_tools.base import disks, listings, names, quoting, requests, streams, tables
 from dmremap_tools.base.refusal import Refusal, WrongWords
@@ -68,7 +68,7 @@ def run(words: Namespace) -> None:
     times = streams.beside(words.times) if words.times is not None else None
     known = listings.read_lsblk(words.ls)[1] if words.lower else {number: name for name, number in listings.read_ls(words.ls)}
     by_number = {number.replace(":", ","): name for number, name in known.items()}
-    Reader(streams.Lines(words.file), by_number, Kept(words.tables, words.lower), times).read()
+    read_trace(streams.Lines(words.file), by_number, Kept(words.tables, words.lower), times)
 
 
 class Kept:
@@ -121,61 +121,54 @@ def read_log(source: streams.Lines, kept: Kept, known: names.Names) -> None:
     kept.tell(made, "trims", trims)
 
 
-class Reader:
-    """Makes requests of the events of a trace."""
-
-    def __init__(self, source: streams.Lines, known: Dict[str, str], kept: Kept, times: Optional[streams.Output]) -> None:
-        self._source, self._names, self._kept, self._times = source, known, kept, times
-        self._events = self._passed = self._dropped = self._made = 0
-
-    def read(self) -> None:
-        """Takes all lines, and tells what was left out."""
-        for line in self._source:
-            self._take_line(line)
-        if not self._events:
-            self._source.refuse("no request in the trace: give what `blkparse` prints of the devices")
-        if self._passed:
-            streams.tell(f"left out: {self._passed} lines that tell of no request")
-        self._kept.tell(self._made, "requests that are neither reads nor writes", self._dropped,
-                        ": a trace of the disks below them takes --lower")
-
-    def _take_line(self, line: str) -> None:
-        """Takes an event, or a request that blkparse tells of, and counts other lines."""
-        source, queued = self._source, QUEUED.fullmatch(line)
-        if queued:
-            number, time, what, first, count = queued.groups()
-        elif LOST.fullmatch(line):
-            source.refuse_line("events were lost, trace again with larger buffers")
-        elif EVENT in line:
-            head, _, rest = line.partition(EVENT)
-            before, after = BEFORE.fullmatch(head), AFTER.fullmatch(rest)
-            if not before or not after:
-                source.refuse_line(NO_FORM)
-            time, (number, what, first, count) = before[1], after.groups()
-            # One of no sectors is none.
-            what = "" if count == "0" else what
-        else:
-            action = ACTION.match(line)
-            if action and action[3] and not action[4]:
-                source.refuse_line(NO_FORM)
-            self._events += bool(action)
-            self._passed += not action and not BESIDE.fullmatch(line)
-            return
-        self._events += 1
-        if what:
-            self._take(number, what, source.whole(first), source.whole(count), time)
-
-    def _take(self, number: str, what: str, first: int, count: int, time: str) -> None:
-        """Prints a request, or leaves it out: the device's number, what is done, and with which sectors."""
-        name = self._names.get(number)
-        if name not in self._kept.names:
-            self._kept.leave(number if name is None else f"{name} ({number})", name is not None)
+def read_trace(source: streams.Lines, known: Dict[str, str], kept: Kept, times: Optional[streams.Output]) -> None:
+    """Prints the requests of a trace as they come, and tells what was left out. Devices are known by their numbers."""
+    events = passed = dropped = made = 0
+    for line in source:
+        event = event_in(source, line)
+        if not event:
+            passed += not BESIDE.fullmatch(line)
+            continue
+        events += 1
+        number, time, what, first, count = event
+        if not what:
+            continue
+        name, start, sectors = known.get(number), source.whole(first), source.whole(count)
+        if name not in kept.names:
+            kept.leave(number if name is None else f"{name} ({number})", name is not None)
         elif EITHER.fullmatch(what):
-            made = requests.write(self._source, "W" if "W" in what else "R", name, first, count)
-            self._made += made
-            if self._times:
-                self._times.write((time + "\n") * made)
+            parts = requests.write(source, "W" if "W" in what else "R", name, start, sectors)
+            made += parts
+            if times:
+                times.write((time + "\n") * parts)
         elif NEITHER.fullmatch(what):
-            self._dropped += 1
+            dropped += 1
         else:
-            self._source.refuse_line("neither a read nor a write, leave it out")
+            source.refuse_line("neither a read nor a write, leave it out")
+    if not events:
+        source.refuse("no request in the trace: give what `blkparse` prints of the devices")
+    if passed:
+        streams.tell(f"left out: {passed} lines that tell of no request")
+    kept.tell(made, "requests that are neither reads nor writes", dropped,
+              ": a trace of the disks below them takes --lower")
+
+
+def event_in(source: streams.Lines, line: str) -> Optional[Sequence[str]]:
+    """Of a line that tells of an event the device's number, the time, what is done, and with which sectors. Nothing is
+    done in one that is no request."""
+    queued = QUEUED.fullmatch(line)
+    if queued:
+        return queued.groups()
+    if LOST.fullmatch(line):
+        source.refuse_line("events were lost, trace again with larger buffers")
+    if EVENT in line:
+        head, _, rest = line.partition(EVENT)
+        before, after = BEFORE.fullmatch(head), AFTER.fullmatch(rest)
+        if not before or not after:
+            source.refuse_line(NO_FORM)
+        number, what, first, count = after.groups()
+        return number, before[1], what if count != "0" else "", first, count
+    action = ACTION.match(line)
+    if action and action[3] and not action[4]:
+        source.refuse_line(NO_FORM)
+    return [""] * 5 if action else None
