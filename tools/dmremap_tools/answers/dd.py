@@ -80,8 +80,7 @@ class Writer:
             streams.out.write(f"{line}{seek}\n")
 
     def _place(self, name: str, start: int, read: int = 0) -> Tuple[str, int]:
-        """Where sectors are, of which some are read. `dd` says nothing of a file that ends before them, and what follows
-        would move up."""
+        """Where sectors are. `dd` says nothing of a file that ends before those that are read: what follows moves up."""
         path, first, end = self._disk(name)
         if read and end is not None and end < (first + start + read) * numbers.SECTOR:
             why = f"it ends at byte {end}, before sector {first + start + read}: give an image of the whole disk"
@@ -90,8 +89,7 @@ class Writer:
 
     @functools.lru_cache(maxsize=None)
     def _disk(self, name: str) -> Tuple[str, int, Optional[int]]:
-        """The path of a disk, the sector at which it begins there, and at which byte the file or disk of --paths ends.
-        That none is there `dd` tells itself."""
+        """The path of a disk, its first sector there, and where what --paths names ends, if it is there."""
         place, end = self.here.get(name) or paths.Place(name), None
         if self._known and written.identity_at(place.path) == self._known:
             shown = f"{quoting.shown(self.image or '')} is the disk {quoting.shown(name)}"

@@ -14,7 +14,7 @@ from dmremap_tools.layouts import svg
 COLUMNS, ROWS, CELL, MARGIN = 450, 150, 2, 20
 DARKEST = 16
 CLAMPED = bytes(min(it, DARKEST) for it in range(256))
-# The counts of a column, of what is read and of what is written.
+# How often each cell of a column was read, and how often written, up to the darkest.
 BOTH = bytes(2 * ROWS)
 COLOURS = ((31, 95, 191), (192, 48, 32))
 STEP = 1e-6
@@ -54,34 +54,20 @@ class Moments:
         return [self._of[it] for it in requests] if self.are_times else requests
 
 
-class Field:
-    """How often each cell of a disk's field was read and written, up to the darkest."""
+def halved(columns: List[bytes]) -> List[bytes]:
+    halves = [bytes(map(add, *both)).translate(CLAMPED) if all(both) else both[0] or both[1]
+              for both in zip(columns[::2], columns[1::2])]
+    return halves + [b""] * (COLUMNS - len(halves))
 
-    def __init__(self, size: int) -> None:
-        self.size = size
-        # For each column the counts of what is read in its cells, and of what is written; none where nothing was.
-        self._columns = [b""] * COLUMNS
 
-    def add(self, column: int, first: int, touched: Dict[int, int]) -> None:
-        """Counts how often cells were touched, which are counted from `first` on."""
-        counts = bytearray(self._columns[column] or BOTH)
-        for cell, times in touched.items():
-            counts[first + cell] = min(DARKEST, counts[first + cell] + times)
-        self._columns[column] = bytes(counts)
-
-    def halve(self) -> None:
-        halves = [bytes(map(add, *both)).translate(CLAMPED) if all(both) else both[0] or both[1]
-                  for both in zip(self._columns[::2], self._columns[1::2])]
-        self._columns = halves + [b""] * (COLUMNS - len(halves))
-
-    def pixels(self, columns: int) -> List[bytes]:
-        """The rows of the picture, the last sectors above."""
-        rows = [bytearray(4 * columns) for _ in range(ROWS)]
-        for column, counts in enumerate(self._columns[:columns]):
-            for row, both in zip(reversed(rows), zip(counts[:ROWS], counts[ROWS:])):
-                if both != (0, 0):
-                    row[4 * column:4 * column + 4] = _pixel(*both)
-        return [bytes(it) for it in rows]
+def pixels(columns: List[bytes]) -> List[bytes]:
+    """The rows of the picture, the last sectors above."""
+    rows = [bytearray(4 * len(columns)) for _ in range(ROWS)]
+    for column, counts in enumerate(columns):
+        for row, both in zip(reversed(rows), zip(counts[:ROWS], counts[ROWS:])):
+            if both != (0, 0):
+                row[4 * column:4 * column + 4] = _pixel(*both)
+    return [bytes(it) for it in rows]
 
 
 @functools.lru_cache(maxsize=None)
@@ -97,7 +83,8 @@ class Fields:
     def __init__(self, sizes: Dict[str, int], moments: Moments) -> None:
         self._sizes, self._moments = sizes, moments
         self._step, self._used = STEP if moments.are_times else 1, 0
-        self._fields: Dict[str, Field] = {}
+        # The columns of each disk, without counts where nothing was done.
+        self._fields: Dict[str, List[bytes]] = {}
         # The column that pieces stand in, and how often what is done with a disk touches which cells of it.
         self._column = 0
         self._touched: Dict[Tuple[str, str], Dict[int, int]] = defaultdict(Counter)
@@ -109,8 +96,7 @@ class Fields:
             self._settle(0)
             self._step *= 2
             self._used = (self._used + 1) // 2
-            for field in self._fields.values():
-                field.halve()
+            self._fields = {disk: halved(columns) for disk, columns in self._fields.items()}
         begin = 0
         while begin < len(places):
             column = int((places[begin] - first) / self._step)
@@ -126,11 +112,10 @@ class Fields:
             if len(self._fields) == MOST_FIELDS:
                 raise Refusal(source.name, f"pieces on more than {MOST_FIELDS} disks, too many for a picture: "
                               "give those of fewer")
-            self._fields[disk] = Field(self._sizes[disk])
+            self._fields[disk] = [b""] * COLUMNS
         if column != self._column:
             self._settle(column)
-        field, touched = self._fields[disk], self._touched[disk, what]
-        size = field.size
+        size, touched = self._sizes[disk], self._touched[disk, what]
         cells, lasts = [start * ROWS // size for start in starts], [(end - 1) * ROWS // size for end in ends]
         touched.update(cells)
         if cells != lasts:
@@ -141,7 +126,11 @@ class Fields:
     def _settle(self, column: int) -> None:
         """Marks what was touched in the column so far, and goes on with another one."""
         for (disk, what), touched in self._touched.items():
-            self._fields[disk].add(self._column, ROWS if what == "W" else 0, touched)
+            columns, first = self._fields[disk], ROWS if what == "W" else 0
+            counts = bytearray(columns[self._column] or BOTH)
+            for cell, times in touched.items():
+                counts[first + cell] = min(DARKEST, counts[first + cell] + times)
+            columns[self._column] = bytes(counts)
         self._touched.clear()
         self._column = column
 
@@ -153,9 +142,8 @@ class Fields:
         end = len(shown) * (high + 40) + MARGIN
         out.write(svg.head(width + 2 * MARGIN, end + MARGIN))
         for top, disk in zip(range(MARGIN, end, high + 40), shown):
-            field = self._fields[disk]
-            out.write(svg.text(MARGIN, top, f"{disk}: sectors 0 (below) to {field.size - 1} (above), {reach}"))
-            out.write(svg.image(MARGIN, top + 6, width, high, field.pixels(self._used)))
+            out.write(svg.text(MARGIN, top, f"{disk}: sectors 0 (below) to {self._sizes[disk] - 1} (above), {reach}"))
+            out.write(svg.image(MARGIN, top + 6, width, high, pixels(self._fields[disk][:self._used])))
             out.write(f'<rect x="{MARGIN}" y="{top + 6}" width="{width}" height="{high}" fill="none" stroke="#888"/>\n')
         out.write(f'<g fill="#1f5fbf">{svg.text(MARGIN, end, "read")}</g>\n'
                   f'<g fill="#c03020">{svg.text(MARGIN + 60, end, "written")}</g>\n</svg>\n')

@@ -15,8 +15,7 @@ MAGIC, SECOND_MAGIC = b"LUKS\xba\xbe", b"SKUL\xba\xbe"
 SIZES = [1 << it for it in range(14, 23)]
 BINARY, SUM_AT, SUM_BYTES = 4096, 448, 64
 SUMS = ("sha1", "sha224", "sha256", "sha384", "sha512")
-# Version 1: where the data begins, the bytes of a key, and the id; and eight slots, each with a key's place and its
-# stripes.
+# Version 1: where the data begins, the bytes of a key, and the id; and eight slots with a key's place and stripes.
 FIRST, SLOT, SLOTS, FIRST_BYTES = struct.Struct(">104xLL56x40s"), struct.Struct(">40xLL"), slice(208, 592), 592
 # Version 2: magic and version, the size, how often it was written, the name of its sum, the id, and where it is.
 SECOND = struct.Struct(">6sHQQ48x32s64x40s48xQ")

@@ -5,8 +5,7 @@ from typing import Callable, Iterator, List, NamedTuple, Optional, Pattern, Sequ
 
 from dmremap_tools.base import numbers, streams
 
-# The groups of a piece: the request, whether TO comes, what is done, the disk and the start, or what else is done, how
-# many sectors, TO and where it begins.
+# Of a piece the request, if TO comes, what is done, disk and start, what else is done, the count, TO and its start.
 Fields = Tuple[str, ...]
 
 

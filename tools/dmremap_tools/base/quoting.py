@@ -8,8 +8,7 @@ MOST_NAMED = 16
 
 
 def escaped(text: str, kept: str = "") -> str:
-    """The text with an escape for each character that isn't printable, so that a terminal obeys none of them, but for
-    those that are kept."""
+    """The text with an escape for each character that a terminal might obey, but for those that are kept."""
     return text if text.isprintable() else "".join(it if it in kept else _escape(it) for it in text)
 
 

@@ -17,8 +17,7 @@ _MOST_LINES = re.compile(fr"([RW]) (\S+) {numbers.SHORT} {numbers.SHORT}")
 
 def read(source: streams.Lines, device: Callable[[str, names.Place], str], form: str
          ) -> Iterator[Tuple[str, str, int, int]]:
-    """The lines that say R or W, a device, whose name a function gives, and two numbers. Others are refused as not of
-    this form, in words."""
+    """The lines that say R or W, a device, whose name a function gives, and two numbers; `form` tells of others."""
     for line in source:
         match = _MOST_LINES.fullmatch(line)
         if match:

@@ -11,7 +11,7 @@ from typing import Iterator, List, NoReturn, Optional, Set, Tuple, Union
 from dmremap_tools.base import quoting
 from dmremap_tools.base.refusal import OutputFailed, Refusal, WrongWords
 
-# Which file or disk it is, whatever it is called.
+# Which file or disk it is, whatever it is called; of a file that is to be made its name, and which folder it gets into.
 Identity = Tuple[str, int, int]
 # How much of a name goes into that of what is made beside it, so that this isn't too long.
 LONGEST_NAME = 40
@@ -70,22 +70,21 @@ class Place:
         self.path, self.shown = file_of(path), quoting.shown(path)
         self._beside: Optional[str] = None
         self._descriptor: Optional[int] = None
-        self._key: Optional[Tuple[int, int, str]] = None
         with self._failing():
             self._there = self._look(is_word)
-            self.is_special = self._there is not None and not stat.S_ISREG(self._there.st_mode)
-            self.known = identity(self._there) if self._there and not self.is_special else None
+            self.known = identity(self._there) if self._there else None
+            self.is_special = self._there is not None and not self.known
             if not self.is_special:
                 self.path = os.path.realpath(self.path) if is_word else self.path
                 folder, name = os.path.split(self.path)
                 status = os.stat(folder or ".")
-                self._key = status.st_dev, status.st_ino, name
+                self.known = self.known or (name, status.st_dev, status.st_ino)
         if self.known in _inputs:
             self.refuse()
-        if any(it._key == self._key or it.known == self.known is not None for it in _places if self._key is not None):
+        if self.known and any(it.known == self.known for it in _places):
             raise WrongWords(f"{self.shown}: two outputs can't be one file: give another name")
         for descriptor, name in (1, "output"), (2, "error"):
-            if self.known is not None and identity_at(descriptor) == self.known:
+            if self.known and identity_at(descriptor) == self.known:
                 raise WrongWords(f"{self.shown}: standard {name} goes there, too: give another file")
         _places.append(self)
 

@@ -21,12 +21,11 @@ part of XFS has its extents on another device.
 
 import re
 from argparse import ArgumentParser, Namespace
-from typing import Iterator, List, Set, Tuple
+from typing import Dict, Iterator, List, Match, NoReturn, Optional, Set, Tuple
 
 from dmremap_tools.base import names, numbers, quoting, requests, streams, tables
 from dmremap_tools.base.refusal import WrongWords
 from dmremap_tools.layers import parts
-from dmremap_tools.requests.extent_list import ExtentList
 
 EXAMPLE = "filefrag -s -v -b512 /mnt/report.odt | dmremap-tools filefrag vg0-lv0 | dmremap map lvm vg0.backup"
 
@@ -42,6 +41,14 @@ BTRFS = {"9123683e"}
 PLACED = {"", "last", "eof", "merged", "shared", "unwritten"}
 MOST_SPARE = 1 << 24
 ANEW = "make the text anew by `filefrag -s -v -b512`"
+# What debugfs prints, and dumpe2fs.
+BLOCK = re.compile(r"Block size: +([0-9]+)")
+LIST_HEAD = re.compile(r"Level Entries +Logical +Physical Length Flags")
+ENTRY = re.compile(r"([0-9]+)/ *([0-9]+) +([0-9]+)/ *([0-9]+) (.*)")
+LEAF = re.compile(r" *([0-9]+) - +([0-9]+) +([0-9]+) - +([0-9]+) +([0-9]+)( Uninit)?")
+INNER = re.compile(r" *[0-9]+ - +[0-9]+ +[0-9]+ +[0-9]+")
+MOST_LEVELS = 64
+LIST_ANEW = "make the text anew by `debugfs -R 'ex /FILE' IMAGE`"
 # The sector of the file, that of the device, and how many there are.
 Extent = Tuple[int, int, int]
 
@@ -152,3 +159,70 @@ class Reader:
             return
         sectors = requests.sectors_of(self.source, self._block)
         yield first * sectors, start * sectors, length * sectors
+
+
+class ExtentList:
+    """Reads the list that debugfs prints line by line. Each node of the tree has entries 1 to N. `size` is how many bytes the file has."""
+
+    files = 1
+
+    def __init__(self, path: str, source: streams.Lines, size: int) -> None:
+        self.source, self.size = source, size
+        self._block = block_of(path)
+        # By level, the last entry, and how many its node has.
+        self._entries: Dict[int, Tuple[int, int]] = {}
+        self._after = 0
+
+    def extents(self) -> Iterator[Extent]:
+        """The extents as they come: the sector of the file, that of the device, and how many there are."""
+        is_listed = False
+        for line in self.source:
+            if not LIST_HEAD.fullmatch(line):
+                yield from self._take(ENTRY.fullmatch(line.strip(" ")) if is_listed else None)
+            elif is_listed:
+                self.source.refuse("more than one file: give the list of one")
+            else:
+                is_listed = True
+        if any(number < count for number, count in self._entries.values()):
+            self.source.refuse("entries are missing at the end, " + LIST_ANEW)
+        if not is_listed:
+            self.source.refuse("no list of extents, which only files with extents have: " + LIST_ANEW)
+
+    def _take(self, entry: Optional[Match[str]]) -> Iterator[Extent]:
+        level, depth, number, count = map(self.source.whole, entry.groups()[:4]) if entry else (1, 0, 0, 0)
+        if not entry or level > depth or depth > MOST_LEVELS:
+            self._refuse("not a line of ex")
+        last, most = self._entries.get(level, (0, 0))
+        if number != (last + 1 if last < most else 1) or number > count:
+            self._refuse("an entry is missing")
+        self._entries[level] = number, count
+        leaf = LEAF.fullmatch(entry[5])
+        if not leaf:
+            if level == depth or not INNER.fullmatch(entry[5]):
+                self._refuse("not a line of ex")
+            return
+        first, last, start, end, length = map(self.source.whole, leaf.groups()[:5])
+        if level != depth or first < self._after:
+            self._refuse("out of order")
+        self._after = last + 1
+        if self._after - first != length or end + 1 - start != length:
+            self._refuse("ends and length differ")
+        if leaf[6]:
+            streams.tell("unwritten, so that it reads as zeros: " + quoting.shown(self.source.line.strip(" ")))
+            return
+        sectors = requests.sectors_of(self.source, self._block)
+        yield first * sectors, start * sectors, length * sectors
+
+    def _refuse(self, why: str) -> NoReturn:
+        self.source.refuse(f"{why}, {LIST_ANEW}: {quoting.shown(self.source.line.strip(' '))}")
+
+
+def block_of(path: str) -> int:
+    block, source = None, streams.Lines(path)
+    for line in source:
+        match = BLOCK.fullmatch(line)
+        if match:
+            block = source.whole(match[1])
+    if block is None:
+        source.refuse("no line 'Block size': give what `dumpe2fs -h` prints")
+    return block

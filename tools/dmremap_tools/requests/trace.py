@@ -26,7 +26,7 @@ EXAMPLE = "btrace /dev/dm-0 | dmremap-tools trace ls.txt vg0.table | dmremap map
 
 # A line of blkparse, up to the action: the device and the time. The action Q is a request that comes; of others there is
 # nothing to read. A process may have a name that looks like such a line.
-PARSED = r" *([0-9]+,[0-9]+) +[0-9]+ +[0-9]+ +([0-9.]+) +[0-9]+ +"
+PARSED = r"([0-9]+,[0-9]+) +[0-9]+ +[0-9]+ +([0-9.]+) +[0-9]+ +"
 # What is done, the first sector, and how many there are.
 ASKED = r"\s*(\S+)\s+(\S+)\s+\+\s+(\S+)(?:\s.*)?"
 QUEUED = re.compile(f"{PARSED}Q {ASKED}")
@@ -156,7 +156,7 @@ def read_trace(source: streams.Lines, known: Dict[str, str], kept: Kept, times: 
 def event_in(source: streams.Lines, line: str) -> Optional[Sequence[str]]:
     """Of a line that tells of an event the device's number, the time, what is done, and with which sectors. Nothing is
     done in one that is no request."""
-    queued = QUEUED.fullmatch(line)
+    queued = QUEUED.fullmatch(line.lstrip(" "))
     if queued:
         return queued.groups()
     if LOST.fullmatch(line):
@@ -168,7 +168,7 @@ def event_in(source: streams.Lines, line: str) -> Optional[Sequence[str]]:
             source.refuse_line(NO_FORM)
         number, what, first, count = after.groups()
         return number, before[1], what if count != "0" else "", first, count
-    action = ACTION.match(line)
+    action = ACTION.match(line.lstrip(" "))
     if action and action[3] and not action[4]:
         source.refuse_line(NO_FORM)
     return [""] * 5 if action else None
