@@ -14,8 +14,7 @@ How to add a command:
 
 What a command uses of `base`, so that all behave alike:
 
-    streams.Lines(path)         the lines of a file or of `-`, as they come, with .refuse(why) and .whole(word);
-                                .rows(form) reads many lines of one form at once
+    streams.Lines(path)         the lines of a file or of `-`, as they come, with .refuse(why) and .whole(word)
     streams.read(path)          the whole text of a file or of `-`
     streams.out.write(text)     standard output; it is flushed before an input is waited for
     streams.beside(path)        a file that is written beside it, as TIMES

@@ -64,7 +64,8 @@ def run(words: Namespace) -> None:
     for requests, *done in source.by_blocks():
         moments.take(source, requests)
         report.take(source, *done)
-    source.tell_if_none()
+    if source.number == source.statuses:
+        streams.tell("no piece came")
     report.write()
     if words.times is not None:
         streams.out.write(f"time {moments.last:g}\n")

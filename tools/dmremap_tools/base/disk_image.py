@@ -90,13 +90,12 @@ def image_at(place: Place) -> Image:
 
 
 def check_form(descriptor: int, path: str) -> None:
-    why = ""
     # What can't be read there is met later.
     with contextlib.suppress(OSError):
-        if stat.S_ISREG(os.fstat(descriptor).st_mode):
-            why = other_form(os.pread(descriptor, LONGEST_MAGIC, 0))
-    if why:
-        raise Refusal(path, why)
+        is_file = stat.S_ISREG(os.fstat(descriptor).st_mode)
+        why = other_form(os.pread(descriptor, LONGEST_MAGIC, 0)) if is_file else ""
+        if why:
+            raise Refusal(path, why)
 
 
 def other_form(beginning: bytes) -> str:

@@ -82,11 +82,6 @@ class Answers(streams.Lines):
             if is_bad(piece):
                 self.refuse_line(reason)
 
-    def tell_if_none(self) -> None:
-        """Tells at the end if there was no piece."""
-        if self.number == self.statuses:
-            streams.tell("no piece came")
-
     def _mixed(self, text: str) -> Block:
         """A block with other pieces than R and W, or with lines that are none."""
         rows = _SHORT.findall(text)
