@@ -15,7 +15,6 @@ class Mapped(contextlib.AbstractContextManager):
     """dmremap while it answers: `answers` has the pieces as they come. How it fails is told at the end."""
 
     def __init__(self, command: Sequence[str], requests: Iterable[str]) -> None:
-        self._name = command[0]
         streams.flush()
         with tempfile.TemporaryFile() as given:
             given.writelines(it.encode("utf-8", "surrogateescape") for it in requests)
@@ -25,7 +24,7 @@ class Mapped(contextlib.AbstractContextManager):
             except OSError as fault:
                 raise Refusal(quoting.shown(command[0]), streams.why(fault))
         self.answers = pieces.Answers(f"/dev/fd/{self._child.stdout.fileno()}")
-        self.answers.name = self._name
+        self.answers.name = command[0]
 
     def __exit__(self, kind: Optional[Type[BaseException]], *_: object) -> None:
         answers = self._child.stdout
@@ -36,4 +35,4 @@ class Mapped(contextlib.AbstractContextManager):
         answers.close()
         status = self._child.wait()
         if (kind is None or kind is Refusal) and (status > 0 or status and is_ended):
-            program.fail(self._name, status)
+            program.fail(self.answers.name, status)

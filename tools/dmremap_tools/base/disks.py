@@ -2,7 +2,7 @@
 
 from typing import Dict
 
-from dmremap_tools.base import names, numbers, quoting, streams
+from dmremap_tools.base import names, numbers, streams
 
 
 def read(path: str) -> Dict[str, int]:
@@ -13,6 +13,6 @@ def read(path: str) -> Dict[str, int]:
         name, _, length = row.partition(" ")
         sectors = numbers.read(length)
         if sectors is None or not names.DISK.fullmatch(name):
-            source.refuse("not a line of DISKS, give NAME SECTORS: " + quoting.shown(row))
+            source.refuse_line("not a line of DISKS, give NAME SECTORS")
         disks[name] = sectors
     return disks

@@ -27,6 +27,7 @@ class Word(NamedTuple):
 # Where a name stands.
 Place = Union[streams.Lines, Word]
 
+
 def of_path(path: str) -> str:
     """The name of a device that is given by /dev/mapper/NAME or /dev/VG/LV. Anything else stays."""
     parts = path.split("/")

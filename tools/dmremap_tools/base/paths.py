@@ -44,9 +44,9 @@ def read(path: str, form: Optional[Pattern[str]] = None) -> Dict[str, str]:
     for line in source:
         name, _, place = line.partition(" ")
         if not name or not place or "\0" in line or (form and not form.fullmatch(place)):
-            source.refuse("not a line of PATHS, give NAME PATH: " + quoting.shown(line))
+            source.refuse_line("not a line of PATHS, give NAME PATH")
         if name in paths or place in taken:
-            source.refuse("named before, give each name and path once: " + quoting.shown(line))
+            source.refuse_line("named before, give each name and path once")
         paths[name] = place
         taken.add(place)
     return paths
