@@ -16,7 +16,8 @@ class Compared:
     def __init__(self, path: str) -> None:
         self._source = streams.Lines(path)
         # The names of disks stay what they are.
-        self._rows = requests.read(self._source, lambda path, _: path, "give R or W, a disk, a sector and how many, and not")
+        self._rows = requests.read(self._source, lambda disk, _: disk,
+                                   "give R or W, a disk, a sector and how many, and not")
         # By R or W and the disk: how many more times a sector was answered than the one before it, where that differs.
         self._steps: Dict[str, Dict[int, int]] = defaultdict(dict)
         # How many sectors were answered that LOWER didn't have yet.

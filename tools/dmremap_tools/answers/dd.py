@@ -80,7 +80,7 @@ class Writer:
             streams.out.write(f"{line}{seek}\n")
 
     def _place(self, name: str, start: int, read: int = 0) -> Tuple[str, int]:
-        """Where sectors are. `dd` says nothing of a file that ends before those that are read: what follows moves up."""
+        """Where sectors are. `dd` says nothing of a file that ends before those that it reads, so that is refused."""
         path, first, end = self._disk(name)
         if read and end is not None and end < (first + start + read) * numbers.SECTOR:
             why = f"it ends at byte {end}, before sector {first + start + read}: give an image of the whole disk"

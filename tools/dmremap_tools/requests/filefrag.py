@@ -162,7 +162,7 @@ class Reader:
 
 
 class ExtentList:
-    """Reads the list that debugfs prints line by line. Each node of the tree has entries 1 to N. `size` is how many bytes the file has."""
+    """Reads what debugfs lists. Each node of the tree has entries 1 to N. `size` is how many bytes the file has."""
 
     files = 1
 

@@ -24,14 +24,14 @@ from dmremap_tools.base.refusal import Refusal, WrongWords
 
 EXAMPLE = "btrace /dev/dm-0 | dmremap-tools trace ls.txt vg0.table | dmremap map lvm vg0.backup | dmremap-tools report"
 
-# A line of blkparse, up to the action: the device and the time. The action Q is a request that comes; of others there is
-# nothing to read. A process may have a name that looks like such a line.
+# A line of blkparse, up to the action: the device and the time. The action Q is a request that comes; of others nothing
+# is read. A process may have a name that looks like such a line.
 PARSED = r"([0-9]+,[0-9]+) +[0-9]+ +[0-9]+ +([0-9.]+) +[0-9]+ +"
 # What is done, the first sector, and how many there are.
 ASKED = r"\s*(\S+)\s+(\S+)\s+\+\s+(\S+)(?:\s.*)?"
 QUEUED = re.compile(f"{PARSED}Q {ASKED}")
 ACTION = re.compile(fr"{PARSED}(?:(Q )(\s*\S+\s+\[)?|[A-PR-Za-z][A-Za-z]* )")
-# An event, as ftrace and perf print it: the time before its name, where perf has another word, and the device behind it.
+# An event, as ftrace and perf print it: before its name the time, for perf with another word, and behind it the device.
 EVENT = "block_bio_queue:"
 BEFORE = re.compile(r"(?:.*\s)?([0-9.]+):?(?:\s+\S*:)?\s*")
 AFTER = re.compile(fr"\s*([0-9]+,[0-9]+)\s{ASKED}")
@@ -92,7 +92,8 @@ class Kept:
         left = [(times, f"requests to {quoting.shown(to)}") for to, times in self._left.items()]
         streams.tell(*(f"left out: {times} {what}" for times, what in [*left, (count, others)] if times))
         if not made:
-            streams.tell("no request came to a " + ("disk of DISKS" if self.are_disks else f"device of the tables{hint}"))
+            asked = "disk of DISKS" if self.are_disks else f"device of the tables{hint}"
+            streams.tell("no request came to a " + asked)
 
 
 def read_log(source: streams.Lines, kept: Kept, known: names.Names) -> None:
