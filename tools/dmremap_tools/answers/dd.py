@@ -14,7 +14,7 @@ import functools
 import os
 import tempfile
 from argparse import ArgumentParser, Namespace
-from typing import Iterator, Optional, Set, Tuple
+from typing import Iterator, Optional, Tuple
 
 from dmremap_tools.answers.mapped import Mapped
 from dmremap_tools.base import disk_image, given, names, numbers, paths, pieces, quoting, requests, streams, written
@@ -34,8 +34,7 @@ def add_words(parser: ArgumentParser) -> None:
 def run(words: Namespace) -> None:
     image = written.file_of(words.image) if words.image is not None else None
     source = given.given_in(words, "FORMAT FILE [DISKS] < REQUESTS")
-    devices: Set[str] = set()
-    operations: Set[str] = set()
+    devices, operations = set(), set()
 
     def asked() -> Iterator[str]:
         lines = streams.Lines(words.requests)

@@ -5,7 +5,7 @@ import functools
 import re
 from collections import Counter, defaultdict
 from operator import add
-from typing import Dict, Iterator, List, Optional, Sequence, Tuple
+from typing import Dict, Iterator, List, Optional, Tuple
 
 from dmremap_tools.base import pieces, streams
 from dmremap_tools.base.refusal import Refusal
@@ -24,8 +24,9 @@ TIME = re.compile(r"\d{1,15}(?:\.\d{1,12})?")
 
 
 class Moments:
-    """The moments of the requests of a block: their numbers, or of TIMES how many seconds after the first they came. A time before
-    that of an earlier request counts as that. `first` is the least moment, `last` that of the last request."""
+    """The moments of the requests of a block: their numbers, or of TIMES how many seconds after the first they came,
+    which `of` has. A time before that of an earlier request counts as that. `first` is the least moment, `last` that of
+    the last request."""
 
     def __init__(self, times: Optional[str]) -> None:
         self.are_times = times is not None
@@ -33,14 +34,14 @@ class Moments:
         self._times = streams.Lines(times) if times is not None else None
         self._rows: Iterator[str] = iter(self._times or ())
         self._begun: Optional[float] = None
-        self._of: Dict[int, float] = {}
+        self.of: Dict[int, float] = {}
 
     def take(self, source: pieces.Answers, requests: List[int]) -> None:
         if self._times is None:
             self.last = requests[-1] if requests else self.last
             return
         # The first of them may be the last of the block before, whose moment is the last one.
-        self._of = {}
+        self.of = {}
         for number in dict.fromkeys(requests):
             while self._times.number < number:
                 row = next(self._rows, "")
@@ -48,10 +49,7 @@ class Moments:
                     source.refuse_where("no time of the request, give what `trace --times` wrote", lambda it: it.request == number)
                 self._begun = float(row) if self._begun is None else self._begun
                 self.last = max(self.last, float(row) - self._begun)
-            self._of[number] = self.last
-
-    def of(self, requests: List[int]) -> Sequence[float]:
-        return [self._of[it] for it in requests] if self.are_times else requests
+            self.of[number] = self.last
 
 
 def halved(columns: List[bytes]) -> List[bytes]:
@@ -91,7 +89,8 @@ class Fields:
 
     def columns(self, requests: List[int]) -> Iterator[Tuple[int, int, int]]:
         """Which of some requests, from one up to another, stand in which column."""
-        places, first = self._moments.of(requests), self._moments.first
+        places = [self._moments.of[it] for it in requests] if self._moments.are_times else requests
+        first = self._moments.first
         while places[-1] - first >= self._step * COLUMNS:
             self._settle(0)
             self._step *= 2

@@ -99,7 +99,7 @@ def _container_of(image: Image, header: Header) -> Container:
         kinds = ", ".join(kind[:16] for kind, _, _ in segments[:4])
         raise Refusal(image.path, f"it has {len(segments)} segments, as while it is being encrypted anew ({kinds}): "
                       "end that by `cryptsetup reencrypt`")
-    start, length = numbers.read(segments[0][1]), numbers.read(segments[0][2])
+    start, length = map(numbers.read, segments[0][1:])
     is_odd = segments[0][2] != "dynamic" if length is None else length == 0 or length % SECTOR
     if start is None or start % SECTOR or is_odd:
         raise unsaid

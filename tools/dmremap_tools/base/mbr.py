@@ -1,7 +1,7 @@
 """The partitions of an MBR, and of the tables inside its extended partitions, numbered as Linux does."""
 
 import struct
-from typing import List, NamedTuple, Optional, Set, Tuple
+from typing import List, NamedTuple, Tuple
 
 from dmremap_tools.base.disk_image import Image
 from dmremap_tools.base.numbers import SECTOR
@@ -51,11 +51,9 @@ def partitions_of(image: Image, entries: List[Entry], size: int) -> Tuple[List[P
     of partitions counts from itself, and what it says of the next table from the first. As with Linux, its third and
     fourth entry count only inside of the extended partition, as they may be garbage."""
     runs = [(number, it.start, it.size) for number, it in enumerate(entries, 1) if it.size and not it.is_extended()]
-    starts, following = [0], FIRST_LOGICAL
-    seen: Set[int] = set()
+    starts, seen, following = [0], set(), FIRST_LOGICAL
     for outer in filter(Entry.is_extended, entries):
-        table: Optional[Entry] = outer
-        empty = 0
+        table, empty = outer, 0
         while table and table.start not in seen and empty < MOST_EMPTY:
             seen.add(table.start)
             inside = _entries_in(image.read(table.start * size, SECTOR))
