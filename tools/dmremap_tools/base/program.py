@@ -71,7 +71,8 @@ def _asked(words: Sequence[str], given: Optional[int], said: Optional[IO[bytes]]
     try:
         printed = child.stdout.read(streams.MOST_TEXT + 1)
         if len(printed) > streams.MOST_TEXT:
-            raise Refusal(quoting.shown(words[0]), f"it printed more than {streams.MOST_TEXT} bytes: ask for less at once")
+            why = f"it printed more than {streams.MOST_TEXT} bytes: ask for less at once"
+            raise Refusal(quoting.shown(words[0]), why)
         return printed.decode("utf-8", "surrogateescape"), child.wait()
     finally:
         # One that wasn't awaited.
