@@ -12,7 +12,7 @@ from dmremap_tools.base.numbers import SECTOR
 from dmremap_tools.base.refusal import Refusal
 from dmremap_tools.metadata.volume_group import Segment
 from dmremap_tools.model.device import Device, Gap, Known, Overlaid
-from dmremap_tools.model.layout import Layout, number
+from dmremap_tools.model.layout import Layout
 from dmremap_tools.model.pools import sum_of
 
 # Magic, version, integrity_tag_size, journal_sections, provided_data_sectors, flags, log2_sectors_per_block and salt.
@@ -48,7 +48,7 @@ def device_of(layout: Layout, name: str, segment: Segment, size: int) -> Device:
     if entry > ID_AT:
         raise Refusal(name, f"its entries don't fit into a sector: {OTHER_LEG}")
     section = (ID_AT // entry * ENTRY_SECTORS * sectors + ENTRY_SECTORS) * SECTOR
-    told = [number(segment.node, key) for key in (b"tag_size", b"block_size")]
+    told = [segment.node.value(key, int) for key in (b"tag_size", b"block_size")]
     if provided * SECTOR < size or sections * section > min(meta.size, MOST_JOURNAL) \
             or any(said not in (None, here) for said, here in zip(told, (tag, sectors * SECTOR))):
         raise Refusal(name, f"the superblock of its metadata has other sizes than the text: {OTHER_LEG}")

@@ -46,7 +46,7 @@ class Layout:
         self.origins = {record.store: record.origin for record in reversed(self.group.records) if not record.is_merging}
         self.tables = Tables()
         self._keys = {name: f"v{number}" for number, name in enumerate(self.group.volumes)}
-        self._are_all_added, self._snapshots = False, 0
+        self._snapshots = 0
         # The bytes of a volume as its user sees them.
         self.volume = functools.lru_cache(None)(self._volume)
 
@@ -60,9 +60,12 @@ class Layout:
         deep = f"it lies on itself, or on others in more than {MOST_LEVELS} levels: {ODD}"
         return {name: deep for name in deep_volumes(self.group)}
 
+    def path(self, name: bytes) -> str:
+        return f"{self.name}/{shown(name)}"
+
     def refuse(self, name: bytes, why: str) -> NoReturn:
         """Refuses a volume of which the text makes no sense."""
-        raise Refusal(f"{self.name}/{shown(name)}", f"{why}: {ODD}")
+        raise Refusal(self.path(name), f"{why}: {ODD}")
 
     def check(self) -> None:
         """Refuses a text of whose volumes nobody can say the length."""
@@ -85,39 +88,38 @@ class Layout:
             return self.plain(name)
         self._snapshots += 1
         if self._snapshots > MOST_SNAPSHOTS:
-            raise Refusal(f"{self.name}/{shown(name)}", MANY)
+            raise Refusal(self.path(name), MANY)
         return snapshot.device_of(self, record)
 
     def plain(self, name: bytes) -> Device:
-        """The bytes that the segments of a volume have. All volumes that can be followed are loaded together."""
+        """The bytes that the segments of a volume have."""
         key = self.key_of(name)
-        if not self._are_all_added:
-            self._are_all_added = True
-            for other in self.group.volumes:
-                with contextlib.suppress(Refusal):
-                    self.key_of(other)
-        return Mapped(f"{self.name}/{shown(name)}", self.tables, key)
+        return Mapped(self.path(name), self._all_tables, key)
 
-    def named(self, segment: Segment, field: bytes) -> Optional[Volume]:
-        name = segment.node.value(field, bytes)
-        return self.group.volumes.get(name) if isinstance(name, bytes) else None
+    @functools.cached_property
+    def _all_tables(self) -> Tables:
+        """The tables with all volumes that can be followed, as they are loaded together."""
+        for name in self.group.volumes:
+            with contextlib.suppress(Refusal):
+                self.key_of(name)
+        return self.tables
 
     def lower(self, segment: Segment, field: bytes) -> Optional[Device]:
         """The bytes of the volume that a field of a segment names, or None where it has none."""
         name = segment.node.value(field, bytes)
-        return self.plain(name) if isinstance(name, bytes) else None
+        return None if name is None else self.plain(name)
 
     def key_of(self, name: bytes) -> str:
         """The name of a volume in the tables, where its lines stand then. One that can't be followed is refused."""
         self.check()
         key = self._keys.get(name)
         if name in self._whys:
-            raise Refusal(f"{self.name}/{shown(name)}", self._whys[name])
+            raise Refusal(self.path(name), self._whys[name])
         if key is None:
             self.refuse(name, "the text has no such volume")
         if key not in self.tables.devices:
             try:
-                self.tables.add(key, list(self._lines(name, self.group.volumes[name])))
+                self.tables.add(key, list(self._lines(self.group.volumes[name])))
             except Refusal as refusal:
                 self._whys[name] = refusal.why
                 raise
@@ -127,39 +129,40 @@ class Layout:
         volume = self.group.volumes.get(name)
         return volume.extents * self.extent if volume else 0
 
-    def _lines(self, name: bytes, volume: Volume) -> Iterator[tables.Line]:
+    def _lines(self, volume: Volume) -> Iterator[tables.Line]:
         start = 0
         if not volume.segments or volume.extents > MOST_EXTENTS:
-            self.refuse(name, "its text says no length")
-        for segment in sorted(volume.segments, key=lambda segment: number(segment.node, b"start_extent") or 0):
+            self.refuse(volume.name, "its text says no length")
+        for segment in sorted(volume.segments, key=lambda segment: segment.node.value(b"start_extent", int) or 0):
             count = segment.count or 0
-            if number(segment.node, b"start_extent") != start or count <= 0:
-                self.refuse(name, f"its {shown(segment.node.key)} doesn't begin where the one before ends")
-            yield self._line(name, volume, segment, start * self.extent // SECTOR, count * self.extent // SECTOR)
+            if segment.node.value(b"start_extent", int) != start or count <= 0:
+                self.refuse(volume.name, f"its {shown(segment.node.key)} doesn't begin where the one before ends")
+            yield self._line(volume, segment, start * self.extent // SECTOR, count * self.extent // SECTOR)
             start += count
 
-    def _line(self, name: bytes, volume: Volume, segment: Segment, first: int, length: int) -> tables.Line:
-        label, which, kind = f"{self.name}/{shown(name)}", shown(segment.node.key), segment.kind or b"none"
+    def _line(self, volume: Volume, segment: Segment, first: int, length: int) -> tables.Line:
+        name, which, kind = volume.name, shown(segment.node.key), segment.kind or b"none"
         if kind in (b"zero", b"error"):
             return tables.Line(first, length, kind.decode(), [])
         if kind in (b"striped", b"linear"):
             return self._striped(name, segment, first, length)
         if kind == b"mirror" and b"PVMOVE" in volume.node.values(b"status"):
             legs = areas_of(segment)
-            moved = number(segment.node, b"extents_moved") or 0
+            moved = segment.node.value(b"extents_moved", int) or 0
             if len(legs) != 2 or not 0 <= moved <= (segment.count or 0):
                 self.refuse(name, f"its {which} says no two legs")
             # The second one if all extents were moved. The first is written all the time, while the second isn't whole.
             return tables.Line(first, length, "linear", self._area(name, *legs[moved == segment.count], length))
         maker = layers().get(kind)
         if maker is None:
-            raise Refusal(label, f"its {which} is of type {shown(kind)}, which isn't followed: {NEXT}")
-        device = Deferred(label, length * SECTOR, functools.partial(maker, self, label, segment, length * SECTOR))
+            raise Refusal(self.path(name), f"its {which} is of type {shown(kind)}, which isn't followed: {NEXT}")
+        size = length * SECTOR
+        device = Deferred(self.path(name), size, functools.partial(maker, self, self.path(name), segment, size))
         return tables.Line(first, length, "linear", [self.tables.disk(device), "0"])
 
     def _striped(self, name: bytes, segment: Segment, first: int, length: int) -> tables.Line:
         columns, which = len(segment.stripes), f"its {shown(segment.node.key)}"
-        if not columns or columns != (number(segment.node, b"stripe_count") or columns):
+        if not columns or columns != (segment.node.value(b"stripe_count", int) or columns):
             self.refuse(name, f"{which} has other stripes than it counts")
         if length % columns:
             self.refuse(name, f"{which} isn't divided evenly by its stripes")
@@ -176,7 +179,7 @@ class Layout:
             self.refuse(name, "a segment names no place")
         first = extent * self.extent // SECTOR
         if area in self.physical:
-            start, count = (number(self.group.physicals[area], key) for key in (b"pe_start", b"pe_count"))
+            start, count = (self.group.physicals[area].value(key, int) for key in (b"pe_start", b"pe_count"))
             if start is None or count is None or start < 0 or first + length > count * self.extent // SECTOR:
                 self.refuse(name, f"a segment goes past the end of {shown(area)}")
             return [self.tables.disk(self.physical[area]), str(start + first)]
@@ -186,30 +189,26 @@ class Layout:
 
     def below(self, name: bytes) -> List[bytes]:
         """The other volumes that a volume lies on; the origin of a snapshot is one."""
-        found, waiting = [name], [name]
-        while waiting:
-            volume = self.group.volumes.get(waiting.pop())
-            if volume:
-                records = [record for record in self.group.records
-                           if volume.name in (record.store, record.is_merging and record.origin)]
-                lower = [*lower_in(volume), *(each for record in records for each in (record.origin, record.store))]
-                names_here = (each for each in dict.fromkeys(lower) if isinstance(each, bytes) and each not in found)
-                new = [each for each in names_here if each in self.group.volumes]
-                found += new
-                waiting += new
+        found = [name]
+        # It grows meanwhile.
+        for upper in found:
+            lower = set(lower_in(self.group.volumes[upper]))
+            for record in self.group.records:
+                if upper in (record.store, record.is_merging and record.origin):
+                    lower |= {record.origin, record.store}
+            found += self.group.volumes.keys() & lower - set(found)
         return found[1:]
 
     def uses(self, name: bytes) -> Set[Use]:
         """What a volume and what it lies on use of physical volumes."""
         found, sectors = set(), self.extent // SECTOR
-        volumes = [self.group.volumes[lower] for lower in (name, *self.below(name)) if lower in self.group.volumes]
+        volumes = [self.group.volumes[lower] for lower in (name, *self.below(name))]
         for segment in (segment for volume in volumes for segment in volume.segments):
             length = (segment.count or 0) // (len(segment.stripes) or 1) * sectors
             for area, start in segment.stripes or areas_of(segment):
-                node = self.group.physicals.get(area) if isinstance(area, bytes) else None
-                if node is not None and isinstance(start, int):
-                    first = (number(node, b"pe_start") or 0) + start * sectors
-                    found.add((self.physical_ids[node.key], first, first + length))
+                if area in self.group.physicals and isinstance(start, int):
+                    first = (self.group.physicals[area].value(b"pe_start", int) or 0) + start * sectors
+                    found.add((self.physical_ids[area], first, first + length))
         return found
 
 
@@ -267,11 +266,5 @@ def areas_of(segment: Segment) -> List[Tuple[object, object]]:
     return list(zip(values[::2], values[1::2]))
 
 
-def number(node: Node, key: bytes) -> Optional[int]:
-    value = node.value(key, int)
-    return value if isinstance(value, int) else None
-
-
 def identity_of(node: Node) -> str:
-    value = node.value(b"id", bytes)
-    return value.decode("ascii", "replace") if isinstance(value, bytes) else ""
+    return (node.value(b"id", bytes) or b"").decode("ascii", "replace")

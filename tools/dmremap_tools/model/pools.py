@@ -6,14 +6,14 @@ import functools
 import itertools
 import struct
 from collections import namedtuple
-from typing import Iterator, List, NamedTuple, Optional, Tuple, Union
+from typing import Any, Iterator, NamedTuple, Optional, Tuple
 
 from dmremap_tools.base.config_text import shown
 from dmremap_tools.base.numbers import SECTOR
 from dmremap_tools.base.refusal import Refusal
 from dmremap_tools.metadata.volume_group import Segment
 from dmremap_tools.model.device import ZEROS, Device, Extent, Gap, Missing, Overlaid, Part, Run
-from dmremap_tools.model.layout import Layout, number
+from dmremap_tools.model.layout import Layout
 
 BLOCK, WORD = 4096, 8
 # struct node_header and struct array_block, and what the sum of a block of each kind is changed by.
@@ -22,13 +22,12 @@ ARRAY, ARRAY_SUM = struct.Struct("<LLLLQ"), 595846735
 # The most levels of a tree: with the fewest children a node may have, more don't fit into a device.
 MOST_LEVELS, MOST_KEPT, LAST_KEY = 16, 128, 1 << 64
 POLYNOMIAL, VERSIONS = 0x82F63B78, (1, 2)
-THIN, THIN_SUM, THIN_MAGIC = struct.Struct("<32xQL4xQ264xQ8xLL16xL"), 160774, 27022010
-ThinSuperblock = namedtuple(
-    "ThinSuperblock", "magic version trans_id data_mapping_root data_block_size metadata_block_size incompat_flags")
-CACHE, CACHE_SUM, CACHE_MAGIC = struct.Struct("<32xQL148xQ32xLLL8xL"), 9031977, 0o6142003
-CacheSuperblock = namedtuple(
-    "CacheSuperblock", "magic version mapping_root data_block_size metadata_block_size cache_blocks incompat_flags")
-Superblock = Union[ThinSuperblock, CacheSuperblock]
+# The superblock of a pool or a cache: `trans_id` means something in a pool's, and `cache_blocks` in a cache's.
+Superblock = namedtuple("Superblock", "magic version trans_id mapping_root data_block_size metadata_block_size "
+                        "cache_blocks incompat_flags")
+# For each kind where it has these fields, what its sum is changed by, its magic, and words for messages.
+THIN = (struct.Struct("<32xQL4xQ264xQ8xLL8xL4xL"), 160774, 27022010, "a thin pool", "pool", "thin_check", "pool")
+CACHE = (struct.Struct("<32xQL4xQ136xQ32xLLL8xL"), 9031977, 0o6142003, "a cache", "cache", "cache_check", "volume")
 # A mapping of a pool is a block of it, and in the lower bits a time; one of a cache is a block of the origin, and
 # flags.
 TIME_BITS, FLAG_BITS, VALID = 24, 16, 1
@@ -94,13 +93,18 @@ def array_values(device: Device, root: int) -> Iterator[int]:
         yield from struct.unpack_from(f"<{count}Q", content, ARRAY.size)
 
 
-def check_superblock(meta: Device, found: Superblock, is_known: bool, what: str, tool: str, owner: str) -> None:
-    """Refuses the superblock of a pool or a cache that is of another kind, or says what isn't known here."""
-    is_known = is_known and found.version in VERSIONS and found.metadata_block_size * SECTOR == BLOCK
+def superblock_of(name: str, meta: Device, kind: Tuple[Any, ...], settings: Segment) -> Superblock:
+    """The superblock in the metadata of a volume's pool or cache, whose blocks are as long as a segment says."""
+    form, changed, magic, what, short, tool, owner = kind
+    found = Superblock(*form.unpack_from(checked(meta, 0, changed)))
+    is_known = found.magic == magic and found.version in VERSIONS and found.metadata_block_size * SECTOR == BLOCK
     if not is_known or not found.data_block_size:
         raise Gap(meta.name, f"it has no superblock of {what} that is followed: run {tool} on a copy of it")
     if found.incompat_flags:
         raise Gap(meta.name, f"its superblock has features that aren't followed: activate the {owner} with lvm2")
+    if found.data_block_size != settings.node.value(b"chunk_size", int):
+        raise Refusal(name, f"the {short}'s metadata has other blocks than the text: {ONE_TIME}")
+    return found
 
 
 def damage(device: Device, what: str) -> Gap:
@@ -128,17 +132,15 @@ def sum_of(content: bytes) -> int:
     return value
 
 
-def _tables() -> List[List[int]]:
-    """What a byte adds to the sum, if none, one, two or three bytes follow it in its word."""
-    tables = [list(range(256))]
-    for _ in range(8):
-        tables[0] = [value >> 1 ^ (POLYNOMIAL if value & 1 else 0) for value in tables[0]]
-    for _ in range(3):
-        tables.append([value >> 8 ^ tables[0][value & 0xFF] for value in tables[-1]])
-    return tables
+def _shifted(value: int, bits: int) -> int:
+    """What a sum is after so many more bits of zeros."""
+    for _ in range(bits):
+        value = value >> 1 ^ (POLYNOMIAL if value & 1 else 0)
+    return value
 
 
-TABLES = _tables()
+# What a byte adds to the sum, if none, one, two or three bytes follow it in its word.
+TABLES = [[_shifted(byte, bits) for byte in range(256)] for bits in (8, 16, 24, 32)]
 
 
 class ThinDevice(Device):
@@ -177,27 +179,25 @@ class ThinDevice(Device):
 
 def thin_of(layout: Layout, name: str, segment: Segment, size: int) -> Device:
     """The device of a thin segment: the tree of devices of its pool leads to its own."""
-    device, pool = number(segment.node, b"device_id"), layout.named(segment, b"thin_pool")
+    node, volumes = segment.node, layout.group.volumes
+    device, pool = node.value(b"device_id", int), volumes.get(node.value(b"thin_pool", bytes))
     if not pool or len(pool.segments) != 1 or device is None or device < 0:
         raise Refusal(name, "its text doesn't say in which pool it is: activate it with lvm2")
-    if segment.node.child(b"external_origin"):
+    if node.child(b"external_origin"):
         raise Refusal(name, "it has an external origin, which isn't followed: activate it with lvm2")
-    segments = [other for volume in layout.group.volumes.values() for other in volume.segments if other.kind == b"thin"]
-    for other in (other for other in segments if other.node.child(b"merge")):
-        merged = layout.named(other, b"merge")
-        if device in (number(each.node, b"device_id") for each in [other, *(merged.segments[:1] if merged else ())]):
+    segments = (other for volume in volumes.values() for other in volume.segments)
+    for other in (other for other in segments if other.kind == b"thin" and other.node.child(b"merge")):
+        merged = volumes.get(other.node.value(b"merge", bytes))
+        if device in (each.node.value(b"device_id", int) for each in [other, *(merged.segments[:1] if merged else ())]):
             raise Refusal(name, "a thin snapshot is being merged, which isn't followed: activate it with lvm2")
     meta, data = (layout.lower(pool.segments[0], key) for key in (b"metadata", b"pool"))
     if not meta or not data:
         raise Refusal(name, f"the text doesn't say where the pool {shown(pool.name)} is: activate it with lvm2")
-    superblock = ThinSuperblock(*THIN.unpack_from(checked(meta, 0, THIN_SUM)))
-    check_superblock(meta, superblock, superblock.magic == THIN_MAGIC, "a thin pool", "thin_check", "pool")
-    if superblock.data_block_size != number(pool.segments[0].node, b"chunk_size"):
-        raise Refusal(name, f"the pool's metadata has other blocks than the text: {ONE_TIME}")
-    told, here = number(pool.segments[0].node, b"transaction_id"), superblock.trans_id
+    superblock = superblock_of(name, meta, THIN, pool.segments[0])
+    told, here = pool.segments[0].node.value(b"transaction_id", int), superblock.trans_id
     if told is not None and abs(told - here) > 1:
         raise Refusal(name, f"the pool's metadata has the transaction {here}, and the text {told}: {ONE_TIME}")
-    root = next(Tree(meta, superblock.data_mapping_root).entries(device, device + 1), None)
+    root = next(Tree(meta, superblock.mapping_root).entries(device, device + 1), None)
     if root is None:
         raise Refusal(name, f"the pool's metadata has no device {device}: it was deleted from the pool, and `scan` "
                       "lists what is left")
@@ -210,7 +210,7 @@ def cached_of(layout: Layout, name: str, segment: Segment, size: int) -> Device:
     """The device of a cached segment: a block that is mapped is read from the cache, any other from the origin. Which
     blocks are dirty needn't be asked: a mapped block is never older than the origin's."""
     pool, origin = (segment.node.value(key, bytes) for key in (b"cache_pool", b"origin"))
-    if not isinstance(pool, bytes) or not isinstance(origin, bytes):
+    if pool is None or origin is None:
         raise Refusal(name, "its text doesn't say what is cached where: activate it with lvm2")
     meta, data, settings = cache_of(layout, segment, pool)
     if not meta or not data:
@@ -218,10 +218,7 @@ def cached_of(layout: Layout, name: str, segment: Segment, size: int) -> Device:
     mode = segment.node.value(b"cache_mode", bytes) or settings.node.value(b"cache_mode", bytes)
     if mode not in (None, *MODES):
         raise Refusal(name, f"a cache of the mode {mode!r} isn't followed: activate it with lvm2")
-    superblock = CacheSuperblock(*CACHE.unpack_from(checked(meta, 0, CACHE_SUM)))
-    check_superblock(meta, superblock, superblock.magic == CACHE_MAGIC, "a cache", "cache_check", "volume")
-    if superblock.data_block_size != number(settings.node, b"chunk_size"):
-        raise Refusal(name, f"the cache's metadata has other blocks than the text: {ONE_TIME}")
+    superblock = superblock_of(name, meta, CACHE, settings)
     block = superblock.data_block_size * SECTOR
     if superblock.cache_blocks * block > data.size:
         raise Refusal(name, f"the cache's metadata counts more blocks than the cache has: {ONE_TIME}")
@@ -236,7 +233,8 @@ def cache_of(layout: Layout, segment: Segment, pool: bytes) -> Tuple[Optional[De
     """The metadata and the data of a cache, a pool's or runs of one volume, and the segment that says its blocks."""
     volume = layout.group.volumes.get(pool)
     if segment.node.child(b"metadata_start"):
-        runs = [number(segment.node, key) for key in (b"metadata_start", b"metadata_len", b"data_start", b"data_len")]
+        keys = (b"metadata_start", b"metadata_len", b"data_start", b"data_len")
+        runs = [segment.node.value(key, int) for key in keys]
         places = [run * SECTOR for run in runs if run is not None and run >= 0]
         if len(places) == 4:
             whole = layout.plain(pool)

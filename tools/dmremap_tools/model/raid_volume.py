@@ -9,7 +9,7 @@ from dmremap_tools.base.numbers import SECTOR
 from dmremap_tools.base.refusal import Refusal
 from dmremap_tools.metadata.volume_group import Segment
 from dmremap_tools.model.device import ALL, Copies, Device, Gap, Missing, Part, Run
-from dmremap_tools.model.layout import Layout, number
+from dmremap_tools.model.layout import Layout
 from dmremap_tools.model.parity import Rows, Shape
 
 FORM, MAGIC, V190 = struct.Struct("<4L4Q3L4xQ12xl8xQ16x"), 0x64526D44, 1
@@ -52,7 +52,7 @@ def legs_of(layout: Layout, name: str, segment: Segment, level: int) -> Legs:
     """The legs of a segment. One counts if it has the most events, or one less, didn't fail, and is whole."""
     names = [value for value in segment.node.values(b"raids") if isinstance(value, bytes)]
     pairs = list(zip(names[::2], names[1::2]))
-    if not 1 < len(pairs) <= MOST_LEGS or len(pairs) != number(segment.node, b"device_count"):
+    if not 1 < len(pairs) <= MOST_LEGS or len(pairs) != segment.node.value(b"device_count", int):
         raise Refusal(name, "its text doesn't say its legs: activate it with lvm2")
     found: Dict[int, Superblock] = {}
     missing: Dict[int, str] = {}

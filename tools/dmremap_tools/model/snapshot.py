@@ -29,7 +29,7 @@ BROKEN = f"the store: its list goes on behind a free place, {DAMAGED}: {OLDER}"
 def device_of(layout: Layout, record: Record) -> Device:
     """The device of a snapshot, or of the origin that it is merged into, whose store dmremap takes and is valid."""
     origin, store, chunk = record.origin or b"", record.store or b"", record.chunk or 0
-    name = f"{layout.name}/{shown(origin if record.is_merging else store)}"
+    name = layout.path(origin if record.is_merging else store)
     merging = [other for other in layout.group.records if other.is_merging and other.origin == origin]
     other = next((shown(other.store or b"") for other in merging if other is not record), None)
     if other is not None:

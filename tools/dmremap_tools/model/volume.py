@@ -1,14 +1,14 @@
 """A volume of a group, as somebody asks for it, and those that were removed, by the texts of the time before."""
 
 import functools
+import itertools
 import re
 from typing import Callable, Dict, Iterable, Iterator, List, Optional, Sequence, Set, Tuple, Union
 
-from dmremap_tools.base.config_text import shown
 from dmremap_tools.base.numbers import SECTOR
 from dmremap_tools.base.refusal import Refusal
 from dmremap_tools.model.contents import file_system_of
-from dmremap_tools.model.device import Device
+from dmremap_tools.model.device import Device, Missing
 from dmremap_tools.model.layout import Layout, Use
 from dmremap_tools.model.mapping import NoProgram
 from dmremap_tools.model.physical_volume import Text
@@ -38,8 +38,7 @@ class Volume:
         if origin is not None:
             self.kind = "snapshot"
         elif b"thin" in kinds:
-            value = segments[kinds.index(b"thin")].node.value(b"origin", bytes)
-            origin = value if isinstance(value, bytes) else None
+            origin = segments[kinds.index(b"thin")].node.value(b"origin", bytes)
         self.origin = None if origin is None else origin.decode("utf-8", "surrogateescape")
 
     @functools.cached_property
@@ -92,8 +91,6 @@ class Writers:
 
     def __init__(self, find: Callable[[str], Device], lost: Dict[str, str], texts: Iterable[Tuple[Text, bool]]) -> None:
         self.find, self._lost, self._texts = find, lost, list(texts)
-        self._uses = functools.lru_cache(None)(self._uses_of)
-        self._fault = functools.lru_cache(None)(self._fault_of)
 
     def _after(self, text: Text) -> Iterator[Text]:
         """The texts that were written after one, as far as that is known."""
@@ -101,30 +98,6 @@ class Writers:
             is_same = other.identity == text.identity
             if other.seqno > text.seqno if is_same else is_current or other.time >= text.time:
                 yield other
-
-    def _uses_of(self, text: Text) -> List[Tuple[Use, str]]:
-        side = Layout(text, self.find)
-        return [(use, f"{text.group}/{shown(name)}") for name in side.group.volumes for use in side.uses(name)]
-
-    def _fault_of(self, text: Text) -> Optional[str]:
-        try:
-            text.node()
-            return None
-        except Refusal as refusal:
-            return str(refusal)
-
-    def owner(self, side: Layout, name: bytes) -> Optional[str]:
-        """A volume of a later text that has some of the sectors of a removed one."""
-        mine = side.uses(name)
-        for (identity, first, end), owner in (each for text in self._after(side.text) for each in self._uses(text)):
-            if any(identity == other and first < stop and start < end for other, start, stop in mine):
-                return owner
-        return None
-
-    def unreadable(self, side: Layout) -> Optional[str]:
-        """Why a later text can't be read, if one can't: it may be the current one of a disk of this side."""
-        lost = (self._lost.get(identity) for identity in side.physical_ids.values())
-        return next(filter(None, lost), None) or next(filter(None, map(self._fault, self._after(side.text))), None)
 
     def refused(self, side: Layout, name: bytes, texts: Sequence[Text], doubt: Optional[str]) -> Optional[str]:
         """Why a removed volume of a group that has these texts can't be given, or None."""
@@ -140,12 +113,15 @@ class Writers:
         lost = next((number for number in between if number not in numbers), None)
         if lost:
             return f"it was removed, and the text with the seqno {lost} that came after it is lost: {SINCE}"
-        unreadable = self.unreadable(side)
+        # The current text of a disk of this side that can't be read may be a later one, too.
+        faults = map(self._lost.get, side.physical_ids.values())
+        unreadable = next(filter(None, itertools.chain(faults, map(fault_of, self._after(side.text)))), None)
         if unreadable:
             return f"only an older text has it, and a later one can't be read ({unreadable}), so that {SINCE}"
-        owner = self.owner(side, name)
-        if owner:
-            return f"it was removed, and some of its extents belong to {owner} since, so that {LEFT}"
+        mine = side.uses(name)
+        for (identity, first, end), owner in (each for text in self._after(side.text) for each in uses_of(text)):
+            if any(identity == other and first < stop and start < end for other, start, stop in mine):
+                return f"it was removed, and some of its extents belong to {owner} since, so that {LEFT}"
         if any(below & ids_in(text) for text in later):
             return "it was removed, and what it was a part of went on without it, and may have changed"
         return None
@@ -162,6 +138,23 @@ class Writers:
                 continue
             for side, name in ((side, name) for side in sides for name in side.visible() if side.ids[name] in ids):
                 yield Volume(side, name, functools.partial(self.refused, side, name, texts, doubt), True)
+
+
+@functools.lru_cache(None)
+def uses_of(text: Text) -> List[Tuple[Use, str]]:
+    """What the volumes of a text use of physical volumes, and which volume that is."""
+    side = Layout(text, Missing)
+    return [(use, side.path(name)) for name in side.group.volumes for use in side.uses(name)]
+
+
+@functools.lru_cache(None)
+def fault_of(text: Text) -> Optional[str]:
+    """Why a text can't be read, or None."""
+    try:
+        text.node()
+        return None
+    except Refusal as refusal:
+        return str(refusal)
 
 
 @functools.lru_cache(maxsize=1 << 12)
