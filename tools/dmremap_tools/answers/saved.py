@@ -1,19 +1,17 @@
 """A file that is put together, and how far it is, as a map of ddrescue, by which a later run goes on."""
 
-import bisect
 import contextlib
-import errno
-import itertools
 import os
 import stat
 import time
-from typing import Generator, Iterable, Iterator, List, NamedTuple, Optional, Tuple
+from typing import Generator, Iterable, Iterator, List, NamedTuple, Optional, Sequence, Tuple
 
 from dmremap_tools.base import quoting, streams, written
 from dmremap_tools.base.numbers import SECTOR
 from dmremap_tools.base.refusal import Refusal
 from dmremap_tools.layouts import rescue_map
 from dmremap_tools.layouts.rescue_map import FINISHED, UNTRIED, Area
+from dmremap_tools.model.device import cut
 
 HEAD = "# Mapfile. Created by dmremap-tools save\n# current_pos  current_status  current_pass\n"
 PARTLY = "give --map MAP to save the rest: the map says then what is missing"
@@ -36,21 +34,20 @@ class Part(NamedTuple):
 class SavedMap:
     """The areas of a file of so many bytes, of which only some, given by begin and end, have to be put together."""
 
-    def __init__(self, path: Optional[str], size: int, wanted: Iterable[Tuple[int, int]]) -> None:
+    def __init__(self, path: Optional[str], size: int, wanted: Sequence[Tuple[int, int]]) -> None:
         self._path, self.size = path or "", size
         self.place = None if path is None else written.Place(path)
         self.is_begun = path is not None and os.path.lexists(path)
-        self._areas = self._read() if self.is_begun else joined(first_areas(size, wanted))
-        self._ends = [area.end for area in self._areas]
+        # What isn't wanted reads as zeros.
+        first = (Area(begin, end, UNTRIED if run else FINISHED) for begin, end, run in cut(wanted, 0, size))
+        self._areas = self._read() if self.is_begun else joined(first)
         self._marks: List[Area] = []
 
     def left(self, begin: int, end: int) -> Iterator[Tuple[int, int]]:
         """The parts of an area that were not finished when the run began."""
-        for area in itertools.islice(self._areas, bisect.bisect_right(self._ends, begin), None):
-            if area.begin >= end:
-                break
-            if area.status != FINISHED:
-                yield max(begin, area.begin), min(end, area.end)
+        for first, stop, area in cut(self._areas, begin, end):
+            if area and area.status != FINISHED:
+                yield first, stop
 
     def mark(self, begin: int, end: int, status: str) -> None:
         """Gives a status to bytes, which lie after those that were marked before."""
@@ -60,7 +57,8 @@ class SavedMap:
         """Writes the map, in place of the one that was there."""
         if self.place is None:
             return
-        areas = joined(overlaid(self._areas, self._marks))
+        areas = joined(Area(begin, end, (mark or area).status) for area in self._areas
+                       for begin, end, mark in cut(self._marks, area.begin, area.end))
         left = next((area for area in areas if area.status != FINISHED), None)
         now, status = (left.begin, UNTRIED) if left else (self.size, FINISHED)
         rows = "".join(f"0x{area.begin:08X}  0x{area.end - area.begin:08X}  {area.status}\n" for area in areas)
@@ -69,9 +67,7 @@ class SavedMap:
 
     def _read(self) -> List[Area]:
         try:
-            if os.path.isdir(self._path):
-                raise IsADirectoryError(errno.EISDIR, os.strerror(errno.EISDIR))
-            os.close(os.open(self._path, os.O_RDONLY))
+            open(self._path, "rb").close()
         except OSError as fault:
             # As it is written, too, it is an output that failed.
             raise streams.OutputFailed(f"{quoting.shown(self._path)}: {streams.why(fault)}")
@@ -83,31 +79,6 @@ class SavedMap:
         if (areas[0].begin, areas[-1].end) != (0, self.size) if areas else self.size:
             raise Refusal(quoting.shown(self._path), f"a map of another file than one of {self.size} bytes: give its own")
         return areas
-
-
-def first_areas(size: int, wanted: Iterable[Tuple[int, int]]) -> Iterator[Area]:
-    """The areas of a file that is begun: what isn't wanted reads as zeros, and is finished."""
-    at = 0
-    for begin, end in wanted:
-        yield Area(at, min(begin, size), FINISHED)
-        yield Area(min(begin, size), min(end, size), UNTRIED)
-        at = max(at, min(end, size))
-    yield Area(at, size, FINISHED)
-
-
-def overlaid(areas: List[Area], marks: List[Area]) -> Iterator[Area]:
-    """The areas with marks over them. Both are in ascending order."""
-    at, place = 0, 0
-    for mark in marks + [Area(areas[-1].end, areas[-1].end, FINISHED)] if areas else marks:
-        while place < len(areas) and at < mark.begin:
-            end = min(areas[place].end, mark.begin)
-            yield Area(at, end, areas[place].status)
-            at = max(at, end)
-            place += areas[place].end <= at
-        yield mark
-        at = max(at, mark.end)
-        while place < len(areas) and areas[place].end <= at:
-            place += 1
 
 
 def append(areas: List[Area], area: Area) -> None:

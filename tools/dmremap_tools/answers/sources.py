@@ -1,10 +1,12 @@
 """The disks that pieces lie on, or images of them, to be read."""
 
+import functools
 import os
 import stat
 from typing import Dict, Iterable, Iterator, Optional, Tuple
 
-from dmremap_tools.base import disk_image, numbers, quoting, streams, written
+from dmremap_tools.base import disk_image, quoting, streams, written
+from dmremap_tools.base.numbers import SECTOR
 from dmremap_tools.base.paths import Place
 from dmremap_tools.base.refusal import Refusal
 
@@ -17,14 +19,12 @@ class Sources:
 
     def __init__(self, places: Dict[str, Place]) -> None:
         self._places = places
-        self._open: Dict[str, int] = {}
-        self._missing: Dict[str, str] = {}
+        self._file = functools.lru_cache(MOST_OPEN)(lambda name: os.fdopen(opened(self._place(name).path), "rb", 0))
 
     def lack(self, name: str, end: int) -> Optional[str]:
         """That a disk isn't there, or ends before this sector; None if neither is so."""
-        missing = self.missing(name)
-        place = self._place(name)
-        if missing is None and os.lseek(self._open[name], 0, os.SEEK_END) < place.start + end * numbers.SECTOR:
+        missing, place = self.missing(name), self._place(name)
+        if missing is None and self._file(name).seek(0, os.SEEK_END) < place.start + end * SECTOR:
             missing = f"it ends before sector {end}"
         return missing and f"{quoting.shown(place.path)}: {missing}"
 
@@ -35,26 +35,21 @@ class Sources:
 
     def missing(self, name: str) -> Optional[str]:
         """Why a disk isn't there, or None if it is."""
-        if name not in self._open and name not in self._missing:
-            if len(self._open) == MOST_OPEN:
-                os.close(self._open.pop(next(iter(self._open))))
-            try:
-                self._open[name] = opened(self._place(name).path)
-            except Refusal as refusal:
-                self._missing[name] = str(refusal).partition(": ")[2]
-        return self._missing.get(name)
+        try:
+            self._file(name)
+        except Refusal as refusal:
+            return refusal.why
+        return None
 
     def parts(self, name: str, start: int, count: int) -> Iterator[Tuple[int, bytes]]:
         """The bytes of some sectors, in parts: how many they are, and they themselves, or none where they can't be read."""
-        at = self._place(name).start + start * numbers.SECTOR
-        end = at + count * numbers.SECTOR
         if self.missing(name) is not None:
-            yield end - at, b""
+            yield count * SECTOR, b""
             return
-        while at < end:
-            size = min(BLOCK, end - at)
-            yield from read(self._open[name], at, size)
-            at += size
+        file, first = self._file(name), self._place(name).start + start * SECTOR
+        end = first + count * SECTOR
+        for at in range(first, end, BLOCK):
+            yield from read(file.fileno(), at, min(BLOCK, end - at))
 
     def _place(self, name: str) -> Place:
         return self._places.get(name) or Place(name)
@@ -79,13 +74,13 @@ def read(descriptor: int, at: int, size: int) -> Iterator[Tuple[int, bytes]]:
     try:
         content = os.pread(descriptor, size, at)
     except OSError:
-        half = size // 2 // numbers.SECTOR * numbers.SECTOR
+        half = size // 2 // SECTOR * SECTOR
         if half:
             yield from read(descriptor, at, half)
             yield from read(descriptor, at + half, size - half)
             return
         content = b""
-    content = content[:len(content) // numbers.SECTOR * numbers.SECTOR]
+    content = content[:len(content) // SECTOR * SECTOR]
     if not content:
         yield size, b""
         return

@@ -23,19 +23,18 @@ import re
 import tempfile
 from argparse import ArgumentParser, Namespace
 from collections import Counter
-from typing import List, Optional, Sequence
+from typing import Optional, Sequence
 
 from dmremap_tools.base import program, streams
 from dmremap_tools.base.numbers import SECTOR
-from dmremap_tools.images.copied import parts_of
+from dmremap_tools.images.save import parts_of
 from dmremap_tools.layouts import rescue_map, systems
 from dmremap_tools.layouts.asked_runs import AskedRuns, Run
 from dmremap_tools.layouts.debugfs import Debugfs, quoted
 from dmremap_tools.model import mapping
-from dmremap_tools.model.device import Device, joined
+from dmremap_tools.model.device import joined, lacking
 from dmremap_tools.model.image import Image
-from dmremap_tools.model.named import Target, target_of
-from dmremap_tools.model.pile import Pile
+from dmremap_tools.model.pile import Pile, Target
 
 EXAMPLE = "dmremap-tools lost vg0/home sda.img sdb.img --map sda.img=sda.map"
 FOLDER = re.compile(r"Type: directory")
@@ -53,27 +52,15 @@ def add_words(parser: ArgumentParser) -> None:
 def run(words: Namespace) -> None:
     mapping.use(words.program)
     pile = Pile(words.images, rescue_map.unread_in(words.map, words.images))
-    target = target_of(pile, words.volume)
-    runs = list(lost_runs(target.device, target.size))
+    target = pile.target(words.volume)
+    lost = lacking(target.device, target.size)
+    runs = [Run(begin // SECTOR, (end - begin) // SECTOR) for begin, end in lost]
     if runs:
         with tempfile.TemporaryDirectory(prefix="dmremap-tools-") as room:
             path = words.saved or place_of(target) or copied(target, os.path.join(room, "volume.img"))
             for line in lines_of(path, target.name, runs):
                 streams.out.write(line + "\n")
     streams.out.write(f"{sum(run.count for run in runs)} sectors lost of {target.size // SECTOR}\n")
-
-
-def lost_runs(device: Device, size: int) -> "list[Run]":
-    runs: List[Run] = []
-    at = 0
-    for extent in joined(device.extents(0, size)):
-        if extent.source.lack(extent.start, extent.size) is not None:
-            if runs and runs[-1].first + runs[-1].count == at // SECTOR:
-                runs[-1] = Run(runs[-1].first, runs[-1].count + extent.size // SECTOR)
-            else:
-                runs.append(Run(at // SECTOR, extent.size // SECTOR))
-        at += extent.size
-    return runs
 
 
 def place_of(target: Target) -> Optional[str]:

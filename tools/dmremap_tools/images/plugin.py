@@ -11,9 +11,8 @@ from dmremap_tools.base import streams
 from dmremap_tools.base.numbers import SECTOR
 from dmremap_tools.base.refusal import Refusal
 from dmremap_tools.model import mapping
-from dmremap_tools.model.device import Gap, joined
-from dmremap_tools.model.named import Target, target_of
-from dmremap_tools.model.pile import Pile
+from dmremap_tools.model.device import ZEROS, Gap, joined
+from dmremap_tools.model.pile import Pile, Target
 
 __all__ = ["API_VERSION", "thread_model", "config", "get_ready", "open", "get_size", "can_multi_conn", "can_extents", "pread", "extents"]
 
@@ -42,7 +41,7 @@ def get_ready() -> None:
     global _target
     try:
         mapping.use(_given.get("program"))
-        _target = target_of(Pile(_images), _given["volume"])
+        _target = Pile(_images).target(_given["volume"])
     except Refusal as refusal:
         streams.tell(f"dmremap-tools serve: {refusal}")
         os._exit(1)
@@ -83,7 +82,7 @@ def found_extents(count: int, offset: int) -> List[Tuple[int, int, int]]:
     found: List[Tuple[int, int, int]] = []
     for extent in joined(_target.device.extents(first, end - first)):
         begin, first = max(first, offset), first + extent.size
-        found.append((begin, first - begin, (nbdkit.EXTENT_HOLE | nbdkit.EXTENT_ZERO) * extent.source.is_zero))
+        found.append((begin, first - begin, (nbdkit.EXTENT_HOLE | nbdkit.EXTENT_ZERO) * (extent.source is ZEROS)))
         if len(found) == MOST_EXTENTS:
             break
     return found

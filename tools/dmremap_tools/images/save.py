@@ -18,19 +18,24 @@ to take a file from it, `debugfs -R 'dump /FILE OUT' OUT`.
 """
 
 from argparse import ArgumentParser, Namespace
-from typing import Optional
+from typing import Generator, Iterator, List, Optional, Tuple
 
 from dmremap_tools.answers import save as by_tables
-from dmremap_tools.base import given, names
-from dmremap_tools.base.refusal import INCOMPLETE, WrongWords
-from dmremap_tools.images.copied import copy
+from dmremap_tools.answers.saved import PARTLY, Part, SavedMap, put_together
+from dmremap_tools.base import given, names, quoting, streams
+from dmremap_tools.base.numbers import SECTOR
+from dmremap_tools.base.refusal import INCOMPLETE, Refusal, WrongWords
 from dmremap_tools.layers import started
+from dmremap_tools.layouts.rescue_map import BAD, FINISHED
 from dmremap_tools.model import mapping
-from dmremap_tools.model.named import target_of
-from dmremap_tools.model.pile import Pile
+from dmremap_tools.model.device import ZEROS, Extent, Gap, cut, joined
+from dmremap_tools.model.image import Image
+from dmremap_tools.model.pile import Pile, Target
 
 EXAMPLE = "dmremap-tools save vg0/home home.img sda.img sdb.img --map home.map"
 USAGE = "usage: GROUP/VOLUME OUT IMAGE.., or VOLUME TARGET FORMAT FILE [DISKS]"
+# Bytes whose places are asked for at once, and bytes that are read at once.
+WINDOW, BLOCK = 256 << 20, 1 << 20
 
 
 def add_words(parser: ArgumentParser) -> None:
@@ -50,10 +55,66 @@ def run(words: Namespace) -> Optional[int]:
         raise WrongWords("--map MAP is a file that save writes: give the maps of images to lost or owner", USAGE)
     if form in given.FORMATS and 1 <= len(others) <= 2:
         words.form, words.file, words.disks = form, others[0], others[1] if len(others) == 2 else None
-        return by_tables.run(words)
-    for option in ("extents", "paths", "ls", "fresh"):
-        if getattr(words, option):
-            raise WrongWords(f"--{option} is for FORMAT FILE [DISKS]: leave it out", USAGE)
-    mapping.use(words.program)
-    is_partly = copy(target_of(Pile(words.images), words.volume), words.target, words.map, words.allow_missing)
+        is_partly = by_tables.run(words)
+    else:
+        for option in ("extents", "paths", "ls", "fresh"):
+            if getattr(words, option):
+                raise WrongWords(f"--{option} is for FORMAT FILE [DISKS]: leave it out", USAGE)
+        mapping.use(words.program)
+        is_partly = copy(Pile(words.images).target(words.volume), words.target, words.map, words.allow_missing)
     return INCOMPLETE if is_partly and not words.allow_missing else None
+
+
+def copy(target: Target, path: str, map_path: Optional[str], may_lack: bool) -> bool:
+    """Copies a target to a path, perhaps with a map, and says whether something is missing. A device that lacks bytes
+    is refused, unless it was said that it may."""
+    why = target.device.lack(0, target.size)
+    if why and not (map_path or may_lack):
+        raise Refusal(quoting.shown(target.name), f"{why}; or {PARTLY}")
+    if why:
+        streams.tell(f"{quoting.shown(target.name)}: {why}")
+    saved = SavedMap(map_path, target.size, [(0, target.size)])
+    return put_together(path, saved, parts(target, saved))
+
+
+def parts(target: Target, saved: SavedMap) -> "Generator[Part, None, None]":
+    """What is left to do, as it is read."""
+    for begin, end in list(saved.left(0, target.size)):
+        for start in range(begin, end, WINDOW):
+            first = start // SECTOR * SECTOR
+            stop = -(-min(end, start + WINDOW) // SECTOR) * SECTOR
+            for extent in joined(target.device.extents(first, stop - first)):
+                for size, content, is_there in parts_of(extent):
+                    yield Part(first, size, content, FINISHED if is_there else BAD, max(start, first))
+                    first += size
+
+
+def parts_of(extent: Extent) -> Iterator[Tuple[int, bytes, bool]]:
+    """The bytes of an extent in blocks: how many, the bytes themselves unless they are zeros, and whether they are
+    there."""
+    source = extent.source
+    if source is ZEROS:
+        yield extent.size, b"", True
+    elif source.lack(extent.start, extent.size) is not None:
+        yield extent.size, b"", False
+    else:
+        begin, end = extent.start, extent.start + extent.size
+        # Holes of an image aren't read.
+        has_holes = isinstance(source, Image) and extent.size >= BLOCK
+        for first, stop, run in cut(list(source.runs(begin, end)) if has_holes else [(begin, end)], begin, end):
+            yield from blocks_of(extent, first, stop) if run else [(stop - first, b"", True)]
+
+
+def blocks_of(extent: Extent, begin: int, end: int) -> Iterator[Tuple[int, bytes, bool]]:
+    """The same of bytes of its source, in halves, and these in halves, where they can't be read."""
+    waiting: List[Tuple[int, int]] = [(start, min(BLOCK, end - start)) for start in reversed(range(begin, end, BLOCK))]
+    while waiting:
+        start, size = waiting.pop()
+        try:
+            yield size, extent.source.load(start, size), True
+        except Gap:
+            half = size // 2 // SECTOR * SECTOR
+            if half:
+                waiting += [(start + half, size - half), (start, half)]
+            else:
+                yield size, b"", False

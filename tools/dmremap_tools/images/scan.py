@@ -20,12 +20,24 @@ followed.
 
 import json
 from argparse import ArgumentParser, Namespace
+from typing import Any, Dict, Iterator, List
 
-from dmremap_tools.base import program, streams
-from dmremap_tools.model import mapping, report
-from dmremap_tools.model.pile import Pile
+from dmremap_tools.base import program, quoting, streams
+from dmremap_tools.base.numbers import SECTOR
+from dmremap_tools.model import mapping
+from dmremap_tools.model.contents import container_in, ways_in
+from dmremap_tools.model.device import Device
+from dmremap_tools.model.groups import Group
+from dmremap_tools.model.md_array import Array
+from dmremap_tools.model.pile import Pile, Spot
+from dmremap_tools.model.volume import WHOLE, Volume
 
 EXAMPLE = "dmremap-tools scan disk1.img disk2.img /dev/sdc"
+Row = Dict[str, Any]
+UNITS = ("bytes", "KiB", "MiB", "GiB", "TiB", "PiB", "EiB")
+COPIES = {"first": " (first copy)", "backup": " (backup copy, as the first is damaged)"}
+# How many columns the name of a volume gets at least, and its length, its kind and what begins there.
+COLUMNS = (24, 10, 10, 8)
 
 
 def add_words(parser: ArgumentParser) -> None:
@@ -39,6 +51,135 @@ def run(words: Namespace) -> None:
     pile = Pile(words.images)
     pile.search()
     if words.json:
-        streams.out.write(json.dumps(report.object_of(pile), indent=1) + "\n")
+        streams.out.write(json.dumps(object_of(pile), indent=1) + "\n")
     else:
-        streams.out.write("".join(f"{line}\n" for line in report.lines_of(pile)))
+        streams.out.write("".join(f"{line}\n" for line in lines_of(pile)))
+
+
+def object_of(pile: Pile) -> Row:
+    return {"images": [image_row(pile, spot) for spot in pile.spots() if spot.device is spot.image],
+            "arrays": [array_row(pile, array) for array in pile.arrays],
+            "luks": list(luks_rows(pile)),
+            "groups": [group_row(group) for group in pile.groups]}
+
+
+def luks_rows(pile: Pile) -> Iterator[Row]:
+    """The containers in images and arrays, and those in volumes."""
+    found = [(spot.place, *((spot.path, spot.partition) if spot.image else (None, 0)), container)
+             for spot, container in pile.containers]
+    volumes = (volume for group in pile.groups for volume in group.volumes if volume.file_system() == "luks")
+    found += [(volume.path, None, 0, container_in(volume.device())) for volume in volumes]
+    for name, image, partition, container in found:
+        yield {"name": name, "image": image or name, "partition": partition, "version": container.version,
+               "id": container.identity, "start": container.start, "sectors": container.length,
+               "why": container.fault, "ways": ways_in(container, name, image, partition)}
+
+
+def image_row(pile: Pile, spot: Spot) -> Row:
+    table = pile.table_of(spot.device)
+    holds = [{"partition": found.spot.partition, "what": found.what, "why": found.note or None}
+             for found in pile.found if found.spot.image is spot.image]
+    row = table and {"kind": table.kind, "copy": table.copy, "sector": table.sector, "why": table.fault}
+    return {"image": spot.path, "bytes": spot.image.bytes if spot.image else 0, "table": row, "holds": holds}
+
+
+def array_row(pile: Pile, array: Array) -> Row:
+    members = [pile.spot_of(member.device).place for member in array.by_role.values()]
+    stale = [pile.spot_of(member.device).place for member in array.stale]
+    return {"name": array.label, "id": array.identity, "level": array.level, "members": members,
+            "missing": array.missing, "stale": stale, "sectors": array.device.size // SECTOR if array.device else None,
+            "why": array.why}
+
+
+def group_row(group: Group) -> Row:
+    return {"name": group.name, "id": group.identity, "seqno": group.seqno, "state": group.state,
+            "images": group.places, "former_names": group.former_names, "notes": group.notes,
+            "volumes": [volume_row(volume) for volume in group.volumes]}
+
+
+def volume_row(volume: Volume) -> Row:
+    return {"name": volume.name, "id": volume.identity, "sectors": volume.sectors, "kind": volume.kind,
+            "file_system": volume.file_system(), "state": volume.state(), "why": volume.why(), "origin": volume.origin,
+            "chunks_used": volume.chunks_used()}
+
+
+def lines_of(pile: Pile) -> Iterator[str]:
+    for spot in (spot for spot in pile.spots() if spot.device is spot.image):
+        table, inner = pile.table_of(spot.device), held_by(pile, spot.device)
+        if table:
+            count = f"{len(table.partitions)} partition" + "s" * (len(table.partitions) != 1)
+            fault = f": {table.fault}" if table.fault else ""
+            yield f"{quoting.shown(spot.place)}: {table.kind}{COPIES.get(table.copy, '')}, {count}{fault}"
+            yield from (f"  {line}" for line in inner)
+        else:
+            yield f"{quoting.shown(spot.place)}: {inner[0]}"
+    for array in pile.arrays:
+        row = array_row(pile, array)
+        missing = f", {array.missing} missing" if array.missing else ""
+        stale = f"; stale, so not read: {shown_list(row['stale'])}" if array.stale else ""
+        why = f": {array.why}" if array.why else ""
+        what = f"{array.level} of {array.count}{missing}: {shown_list(row['members'])}"
+        yield f"{quoting.shown(array.label)}: {what}{stale}{why}"
+        yield from (f"  {line}" for line in (held_by(pile, array.device) if array.device else ()))
+    for group in pile.groups:
+        yield from group_lines(group)
+    for row in luks_rows(pile):
+        why = f": {row['why']}" if row["why"] else ""
+        identity = quoting.shown(row["id"]) or "unknown"
+        yield f"LUKS{row['version']} container on {quoting.shown(row['name'])}, id {identity}{why}"
+        yield from (f"  {who}: {quoting.escaped(way)}" for who, way in zip(("as root", "without root"), row["ways"]))
+
+
+def held_by(pile: Pile, device: Device) -> List[str]:
+    """What lies on a device, in words: a line for each partition, or one for all of it."""
+    table = pile.table_of(device)
+    if not table:
+        return [what_is(pile, device)]
+    return [f"{partition.number}: {what_is(pile, partition.device)}" for partition in table.partitions]
+
+
+def what_is(pile: Pile, device: Device) -> str:
+    for array in pile.arrays:
+        if any(member.device is device for member in [*array.by_role.values(), *array.stale]):
+            return f"member of {array.label}"
+    words: List[str] = []
+    for found in pile.found:
+        if found.spot.device is device or found.spot.image is device:
+            group = next((group.name for group in reversed(pile.groups) if found.spot.device.name in group.places), "")
+            without = " without a group" if found.what == "physical volume" else ""
+            what = found.what + (f" of {quoting.shown(group)}" if group else without)
+            is_noted = found.note and found.what != "unknown"
+            words.append(quoting.shown(f"{what}: {found.note}" if is_noted else found.note or what))
+    return "; ".join(words) or "looked into no more"
+
+
+def group_lines(group: Group) -> Iterator[str]:
+    former = f", formerly {quoting.some(group.former_names)}" if group.former_names else ""
+    yield f"group {quoting.shown(group.name)}: {group.state}, seqno {group.seqno}, id {group.identity}{former}"
+    yield f"  on {shown_list(group.places) or 'none of these images'}"
+    yield from (f"  {note}" for note in group.notes)
+    for volume in group.volumes:
+        row, path = volume_row(volume), quoting.shown(f"{group.name}/{volume.name}")
+        columns = [path, in_units(volume.sectors * SECTOR), row["kind"], row["file_system"] or "-"]
+        chunks = f"{row['chunks_used']} chunks" if row["chunks_used"] is not None else ""
+        origin = f"of {quoting.shown(row['origin'])}" if row["origin"] else ""
+        notes = [origin, chunks, row["state"] if row["state"] != WHOLE else "", row["why"] or ""]
+        line = " ".join(column.ljust(width) for column, width in zip(columns, COLUMNS))
+        yield f"  {line} {': '.join(filter(None, notes))}".rstrip()
+
+
+def shown_list(words: List[str]) -> str:
+    return ", ".join(map(quoting.shown, words))
+
+
+def in_units(size: int) -> str:
+    """A number of bytes in the largest unit that divides it, or with a fraction in that of its size."""
+    unit = 0
+    while size and size % 1024 == 0 and unit < len(UNITS) - 1:
+        size, unit = size // 1024, unit + 1
+    if size < 10240:
+        return f"{size} {UNITS[unit]}"
+    value = float(size)
+    while value >= 1024 and unit < len(UNITS) - 1:
+        value, unit = value / 1024, unit + 1
+    return f"{value:.1f} {UNITS[unit]}"

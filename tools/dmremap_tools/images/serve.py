@@ -20,7 +20,6 @@ from typing import List
 from dmremap_tools.base import program, streams
 from dmremap_tools.base.refusal import Refusal
 from dmremap_tools.model import mapping
-from dmremap_tools.model.named import target_of
 from dmremap_tools.model.pile import Pile
 
 EXAMPLE = "dmremap-tools serve vg0/home sda.img sdb.img"
@@ -52,7 +51,7 @@ def run(words: Namespace) -> None:
         raise Refusal("nbdkit", "it isn't here: install nbdkit and its plugin for Python (nbdkit-plugin-python), or use `save`")
     mapping.use(words.program)
     # What is refused is refused before the server begins.
-    target = target_of(Pile(words.images), words.volume)
+    target = Pile(words.images).target(words.volume)
     why = target.device.lack(0, target.size)
     if why:
         streams.tell(f"{target.name}: {why}: reads of that fail")

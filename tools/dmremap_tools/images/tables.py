@@ -9,17 +9,20 @@ volume that a layer computes, such as a thin one or one with parity, has no tabl
 import os
 import shlex
 from argparse import ArgumentParser, Namespace
+from typing import Dict, Tuple, Union
 
-from dmremap_tools.base import program, quoting, streams, tables
-from dmremap_tools.base.given import put
+from dmremap_tools.base import names, program, quoting, streams, tables
+from dmremap_tools.base.numbers import SECTOR
 from dmremap_tools.base.refusal import Refusal
 from dmremap_tools.model import mapping
-from dmremap_tools.model.group_tables import GroupTables
-from dmremap_tools.model.named import groups_named
+from dmremap_tools.model.device import Copies, Device, Part
+from dmremap_tools.model.image import Image
+from dmremap_tools.model.layout import Layout
+from dmremap_tools.model.mapping import Mapped, Tables
 from dmremap_tools.model.pile import Pile
 
 EXAMPLE = "dmremap-tools tables vg0 sda.img sdb.img --to vg0.tables"
-FILES = ("FILE", "DISKS", "PATHS")
+Devices = Dict[str, tables.Device]
 
 
 def add_words(parser: ArgumentParser) -> None:
@@ -31,7 +34,7 @@ def add_words(parser: ArgumentParser) -> None:
 
 def run(words: Namespace) -> None:
     mapping.use(words.program)
-    groups = groups_named(Pile(words.images), words.group)
+    groups = Pile(words.images).groups_named(words.group)
     if len(groups) > 1:
         raise Refusal(quoting.shown(words.group), "several groups or sides of one are called so: say the id, or give the images of one side")
     group = groups[0]
@@ -40,26 +43,111 @@ def run(words: Namespace) -> None:
     made = GroupTables(group.side)
     for volume in group.volumes:
         if volume.side is group.side and not volume.is_removed:
-            made.add(volume.key)
+            made.add_volume(volume.key)
     for name, why in made.left_out.items():
         streams.tell(f"left out: {quoting.shown(name)}: {why}")
     if not made.devices:
         raise Refusal(quoting.shown(words.group), "none of its volumes has a table: `save` and `serve` give those that are computed")
-    write(made, words.to)
+    made.put(words.to)
 
 
-def write(made: GroupTables, folder: str) -> None:
-    """Writes the three files, and prints how they are used."""
-    file, disks, paths = (os.path.join(folder, name) for name in FILES)
-    try:
-        os.makedirs(folder, exist_ok=True)
-    except OSError as fault:
-        raise streams.OutputFailed(f"{quoting.shown(folder)}: {streams.why(fault)}")
-    for path in (file, disks, paths):
-        if os.path.lexists(path):
-            raise Refusal(quoting.shown(path), "it is there already: give another folder, or remove it first")
-    put(file, [tables.text_of(list(made.devices.values()), False)])
-    put(disks, [f"{name} {made.sectors_of(name)}\n" for name in made.disks])
-    put(paths, [f"{name} {os.path.abspath(image.path)}\n" for name, image in made.disks.items()])
-    command = f"dmremap map table {shlex.quote(file)} {shlex.quote(disks)}"
-    streams.out.write(command + f" --paths {shlex.quote(paths)}" * made.has_snapshots + "\n")
+class GroupTables(Tables):
+    """The tables of a group for dmremap itself: its volumes under the names that lvm2 gives them, the arrays that they
+    lie on, and the images. `left_out` says why a volume isn't among them."""
+
+    def __init__(self, layout: Layout) -> None:
+        super().__init__()
+        layout.check()
+        self._layout = layout
+        self.left_out: Dict[str, str] = {}
+        self._arrays: Dict[int, str] = {}
+
+    def add_volume(self, name: bytes) -> None:
+        """Adds a volume, or says why it can't be."""
+        try:
+            self.devices.update(self._volume(name))
+        except Refusal as refusal:
+            self.left_out[name.decode("utf-8", "replace")] = refusal.why
+
+    def _volume(self, name: bytes) -> Devices:
+        layout, record, called = self._layout, self._layout.records.get(name), self._name_of(name)
+        others = [other for other in layout.group.records if other.origin == name]
+        if record and record.is_merging:
+            raise Refusal(called, "it is being merged into its origin: use `save` or `serve`")
+        if not record and any(other.is_merging for other in others):
+            raise Refusal(called, "a snapshot is being merged into it: use `save` or `serve`")
+        if not record and not others:
+            return self._plain(name, called)
+        origin = record.origin or b"" if record else name
+        real, store, device = self._name_of(origin, "real"), self._name_of(name, "cow"), tables.Device(called)
+        if record:
+            layout.volume(name)
+        made = {**self._plain(origin, real), **(self._plain(name, store) if record else {}), called: device}
+        words = [names.MAPPER + store, "P", str(record.chunk)] if record else []
+        target = "snapshot" if record else "snapshot-origin"
+        device.lines.append(tables.Line(0, layout.size_of(origin) // SECTOR, target, [names.MAPPER + real, *words]))
+        return made
+
+    def _plain(self, name: bytes, called: str) -> Devices:
+        """A volume under this name, and what it lies on."""
+        return self._renamed(self._layout.tables, self._layout.key_of(name), called)
+
+    def _renamed(self, source: Tables, key: str, called: str) -> Devices:
+        found: Devices = {}
+        closure = source.closure([key])
+        new = {other: f"{called}-below-{number}" for number, other in enumerate(closure.devices)}
+        new[key] = called
+        for other, device in closure.devices.items():
+            made = tables.Device(new[other])
+            made.lines += [self._placed(closure, line, new, found) for line in device.lines]
+            found[made.name] = made
+        # What others name comes first.
+        return dict(reversed(list(found.items())))
+
+    def _placed(self, source: Tables, line: tables.Line, new: Dict[str, str], found: Devices) -> tables.Line:
+        """A line with disks that are places in images, or arrays that are tables themselves."""
+        words = list(line.words)
+        for place in line.places():
+            if words[place] not in source.disks:
+                words[place] = names.MAPPER + new[names.of_path(words[place])]
+                continue
+            words[place], start = self._disk(source.disks[words[place]], found)
+            if line.target in ("linear", "striped"):
+                words[place + 1] = str(int(words[place + 1]) + start)
+        return tables.Line(line.start, line.length, line.target, words)
+
+    def _disk(self, device: Device, found: Devices) -> Tuple[str, int]:
+        """What a line names for a device, and the sector at which the device begins there."""
+        start = 0
+        while isinstance(device, (Part, Copies)):
+            start += device.start if isinstance(device, Part) else 0
+            device = device.lower if isinstance(device, Part) else device.best()
+        if isinstance(device, Image):
+            name = self._names.setdefault(id(device), f"disk{len(self.disks)}")
+            self.disks[name] = device
+            return name, start // SECTOR
+        if not isinstance(device, Mapped):
+            computed = f"{device.name} is computed, and no table can say how: use `save` or `serve`"
+            raise Refusal(device.name, device.lack(0, device.size) or computed)
+        called = self._arrays.setdefault(id(device), f"array-{len(self._arrays)}")
+        found.update(self._renamed(device.source, device.key, called))
+        return names.MAPPER + called, start // SECTOR
+
+    def put(self, folder: str) -> None:
+        """Writes the three files, and prints how they are used."""
+        try:
+            os.makedirs(folder, exist_ok=True)
+        except OSError as fault:
+            raise streams.OutputFailed(f"{quoting.shown(folder)}: {streams.why(fault)}")
+        for path in (os.path.join(folder, name) for name in mapping.FILES):
+            if os.path.lexists(path):
+                raise Refusal(quoting.shown(path), "it is there already: give another folder, or remove it first")
+        places = {name: os.path.abspath(image.path) for name, image in self.disks.items()}
+        file, disks, paths = map(shlex.quote, self.write(folder, places))
+        has_snapshots = any(line.target == "snapshot" for line in self.lines())
+        streams.out.write(f"dmremap map table {file} {disks}" + f" --paths {paths}" * has_snapshots + "\n")
+
+    def _name_of(self, *parts: Union[bytes, str]) -> str:
+        """The name that lvm2 gives a device: each hyphen of a part is doubled."""
+        words = (part if isinstance(part, str) else part.decode("utf-8", "replace") for part in parts)
+        return "-".join(word.replace("-", "--") for word in (self._layout.name, *words))

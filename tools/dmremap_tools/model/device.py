@@ -3,9 +3,8 @@ large blocks, and so that what is missing is known before anything is read."""
 
 import bisect
 import functools
-import itertools
 from array import array
-from typing import Iterable, Iterator, NamedTuple, Optional, Sequence, Tuple
+from typing import Iterable, Iterator, List, NamedTuple, Optional, Sequence, Tuple
 
 from dmremap_tools.base.numbers import SECTOR
 from dmremap_tools.base.refusal import Refusal
@@ -26,9 +25,7 @@ Extent = NamedTuple("Extent", [("source", "Device"), ("start", int), ("size", in
 class Device:
     """So many bytes; messages call them `name`. Most lie in other devices; a source reads or computes its own."""
 
-    is_zero = False
-
-    def __init__(self, name: str, size: int) -> None:
+    def __init__(self, name: str, size: int = ALL) -> None:
         self.name, self.size = name, size
 
     def extents(self, start: int, size: int) -> Iterator[Extent]:
@@ -73,17 +70,12 @@ class Device:
 class Zeros(Device):
     """Bytes that nobody wrote, and that read as zeros."""
 
-    is_zero = True
-
     def load(self, start: int, size: int) -> bytes:
         return bytes(size)
 
 
 class Missing(Device):
     """Bytes that aren't there; the name says why."""
-
-    def __init__(self, why: str, size: int = ALL) -> None:
-        super().__init__(why, size)
 
     def lack(self, start: int, size: int) -> Optional[str]:
         return self.name
@@ -183,7 +175,8 @@ class Copies(Device):
 
 def cut(runs: Sequence[Run], start: int, end: int) -> Iterator[Tuple[int, int, Optional[Run]]]:
     """Some bytes in parts: those in a run, with that, and those between. The runs are sorted, and don't meet."""
-    for run in itertools.islice(runs, max(0, bisect.bisect_right(runs, (start, ALL)) - 1), None):
+    for at in range(max(0, bisect.bisect_right(runs, (start, ALL)) - 1), len(runs)):
+        run = runs[at]
         if run[0] >= end:
             break
         if run[1] > start:
@@ -204,6 +197,18 @@ def blocks_of(start: int, size: int, block: int) -> Iterator[Tuple[int, int, int
         start, size = start + count, size - count
 
 
+def lacking(device: Device, size: int) -> List[Run]:
+    """The runs of the first bytes of a device that aren't there."""
+    runs: List[Run] = []
+    at = 0
+    for extent in joined(device.extents(0, size)) if device.lack(0, size) is not None else ():
+        if extent.source.lack(extent.start, extent.size) is not None:
+            begin = runs.pop()[0] if runs and runs[-1][1] == at else at
+            runs.append((begin, at + extent.size))
+        at += extent.size
+    return runs
+
+
 def joined(extents: Iterable[Extent]) -> Iterator[Extent]:
     """Extents, with those that go on in their source in one."""
     last: Optional[Extent] = None
@@ -218,4 +223,4 @@ def joined(extents: Iterable[Extent]) -> Iterator[Extent]:
         yield last
 
 
-ZEROS = Zeros("zeros", ALL)
+ZEROS = Zeros("zeros")

@@ -11,9 +11,9 @@ from dmremap_tools.base.numbers import SECTOR
 from dmremap_tools.base.refusal import Refusal
 from dmremap_tools.metadata.volume_group import Segment
 from dmremap_tools.model import snapshot
-from dmremap_tools.model.device import Device, blocks_of, joined
+from dmremap_tools.model.device import ZEROS, Device, blocks_of, joined
 from dmremap_tools.model.groups import REMOVED, Group
-from dmremap_tools.model.layout import LOWER, Layout, number
+from dmremap_tools.model.layout import LOWER, Layout
 from dmremap_tools.model.mapping import NoProgram
 from dmremap_tools.model.owners import Ground, Run, Step, all_of, claimed, column, gaps, unknown
 from dmremap_tools.model.parity import Shape
@@ -42,7 +42,7 @@ class Reading:
         for extent in joined(device.extents(0, device.size)):
             why = extent.source.lack(extent.start, extent.size)
             self.lacks = self.lacks or why
-            if why is None and not extent.source.is_zero:
+            if why is None and extent.source is not ZEROS:
                 rows.setdefault(extent.source, []).append((extent.start, extent.size, at))
             at += extent.size
         # The starts, the sizes and the places in the volume, by their sources.
@@ -75,10 +75,10 @@ class Stack:
 
     def path(self, name: bytes) -> str:
         """What a volume is called, or the store of a snapshot."""
-        return ("store of " if name in self._stores else "") + f"{self.side.name}/{shown(name)}"
+        return ("store of " if name in self._stores else "") + self.side.path(name)
 
     def _add(self, name: bytes, segment: Segment) -> None:
-        first, which = number(segment.node, b"start_extent"), f"{shown(segment.node.key)} of {shown(name)}"
+        first, which = segment.node.value(b"start_extent", int), f"{shown(segment.node.key)} of {shown(name)}"
         is_placed = first is not None and first >= 0 and (segment.count or 0) > 0
         doubts = [] if is_placed else [f"the text doesn't say where {which} lies"]
         is_named = False
@@ -114,7 +114,7 @@ class Stack:
     def _through(self, lower: bytes, above: Above, first: int, end: int) -> Iterator[Run]:
         """Who has sectors of a volume by way of one that lies on it."""
         segment, kind, upper, field = above.segment, above.segment.kind or b"", above.volume, above.field
-        length, to = (segment.count or 0) * self.extent, (number(segment.node, b"start_extent") or 0) * self.extent
+        length, to = (segment.count or 0) * self.extent, (segment.node.value(b"start_extent", int) or 0) * self.extent
         begin, columns = above.start * self.extent, len(segment.stripes) if field == b"stripes" else 1
         if field == b"raids":
             yield from self._of_raid(above, first, end, to, length)
@@ -169,7 +169,7 @@ class Stack:
 
     def _read(self, upper: bytes, lower: bytes, first: int, end: int) -> Iterator[Run]:
         """The sectors of a volume that another one reads, which its own layer says. A snapshot's are its own."""
-        called, over = f"{self.side.name}/{shown(upper)}", None if upper in self._stores else self.on(upper)
+        called, over = self.side.path(upper), None if upper in self._stores else self.on(upper)
         try:
             reading, at = self._reading(upper), first
             for extent in joined(self.side.plain(lower).extents(first * SECTOR, (end - first) * SECTOR)):
@@ -210,7 +210,7 @@ class Groups:
     def _extents(self, stack: Stack, key: bytes, volume: PhysicalVolume) -> Ground:
         """Who has the sectors of a physical volume by the text of one group."""
         group, node = stack.side.name, stack.group.physicals[key]
-        start, count = number(node, b"pe_start"), number(node, b"pe_count")
+        start, count = node.value(b"pe_start", int), node.value(b"pe_count", int)
         if start is None or count is None or start < 0 or count < 0:
             return all_of(unknown(f"the text of {group} doesn't say where the extents of {shown(key)} are"))
         begin, stop, on = start, start + count * stack.extent, stack.on(key)

@@ -5,7 +5,7 @@ from typing import Dict, Iterable, Iterator, List, NamedTuple, Optional, Sequenc
 from dmremap_tools.base.config_text import shown
 from dmremap_tools.base.numbers import SECTOR
 from dmremap_tools.model.device import Device, Missing
-from dmremap_tools.model.layout import Layout, number
+from dmremap_tools.model.layout import Layout
 from dmremap_tools.model.physical_volume import PhysicalVolume, Text
 from dmremap_tools.model.volume import REMOVED, Volume, Writers
 
@@ -148,7 +148,7 @@ def newer_text(holder: Holder, side: Layout, volumes: Sequence[PhysicalVolume]) 
 def state_of(side: Layout) -> Tuple[str, List[str]]:
     state, notes = COMPLETE, []
     for key, device in side.physical.items():
-        start, count = (number(side.group.physicals[key], field) or 0 for field in (b"pe_start", b"pe_count"))
+        start, count = (side.group.physicals[key].value(field, int) or 0 for field in (b"pe_start", b"pe_count"))
         why = device.lack(0, start * SECTOR + count * side.extent)
         if why is not None:
             notes.append(f"{shown(key)}: {why}")

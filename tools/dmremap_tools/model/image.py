@@ -20,8 +20,9 @@ class Image(Device):
         try:
             self._descriptor = os.open(path, os.O_RDONLY | os.O_NONBLOCK | os.O_CLOEXEC)
             found = os.fstat(self._descriptor)
-            is_file = stat.S_ISREG(found.st_mode)
-            if not is_file and not stat.S_ISBLK(found.st_mode):
+            # By this a file is the same one under another name.
+            self.identity = written.identity(found)
+            if not self.identity:
                 raise Refusal(name, "neither a file nor a disk: give an image of the disk")
             written.note_input(self._descriptor)
             self.bytes = os.lseek(self._descriptor, 0, os.SEEK_END)
@@ -29,12 +30,10 @@ class Image(Device):
             raise Refusal(name, streams.why(fault))
         super().__init__(name, self.bytes // SECTOR * SECTOR)
         self.is_whole = not unread
-        # By these a file is the same one under another name.
-        self.identity = (found.st_dev, found.st_ino) if is_file else (found.st_rdev, -1)
         self.other_form = ""
         with contextlib.suppress(OSError):
-            beginning = os.pread(self._descriptor, disk_image.LONGEST_MAGIC, 0) if is_file else b""
-            self.other_form = disk_image.other_form(beginning)
+            if stat.S_ISREG(found.st_mode):
+                self.other_form = disk_image.other_form(os.pread(self._descriptor, disk_image.LONGEST_MAGIC, 0))
 
     def ended(self) -> str:
         return f"{self.name} ends at byte {self.bytes}: give an image of the whole disk"
@@ -60,7 +59,7 @@ class Image(Device):
         return parts[0] if len(parts) == 1 else b"".join(parts)
 
     def runs(self, start: int, end: int) -> Iterator[Run]:
-        """The runs of these bytes that aren't holes, where the file system tells of holes."""
+        """The sectors of these bytes that aren't in holes, where the file system tells of holes, as runs of bytes."""
         while start < end:
             try:
                 begin = os.lseek(self._descriptor, start, os.SEEK_DATA)
@@ -71,7 +70,7 @@ class Image(Device):
                 return
             if begin >= end:
                 return
-            yield begin, min(stop, end)
+            yield begin // SECTOR * SECTOR, min(-(-stop // SECTOR) * SECTOR, end)
             start = stop
 
 

@@ -8,7 +8,7 @@ import os
 import re
 import subprocess
 import tempfile
-from typing import Callable, Dict, Iterator, List, NamedTuple, NoReturn, Optional, Sequence, Set
+from typing import Callable, Dict, Iterator, List, NamedTuple, NoReturn, Optional, Sequence, Set, Tuple
 
 from dmremap_tools.base import names, numbers, program, quoting, streams, tables
 from dmremap_tools.base.given import put
@@ -17,12 +17,13 @@ from dmremap_tools.base.refusal import Refusal
 from dmremap_tools.layers import store_states
 from dmremap_tools.model.device import ZEROS, Device, Extent, Gap, Missing
 
-# Sectors that one request asks for, requests that are written before their answers are read, and windows that are kept.
-MOST_SECTORS, BATCH, WINDOW, MOST_WINDOWS = 1 << 20, 64, 1 << 14, 64
+# Sectors that one request asks for, those of a window, and windows that are kept.
+MOST_SECTORS, WINDOW, MOST_WINDOWS = 1 << 20, 1 << 14, 64
 # Devices that are loaded together, of which the program takes 1,024 with what they lie on, and programs that run.
 MOST_DEVICES, MOST_CHILDREN = 400, 16
 ANSWER = re.compile(r"([0-9]+) (?:R ([^ ]+) ([0-9]+)|(zero|error)) ([0-9]+)\n")
 READ, ZERO = "R", "zero"
+FILES = ("FILE", "DISKS", "PATHS")
 FAILS = "reads fail there, as the tables say"
 ASKED = "it is asked where volumes lie: build it, put it beside this tool, or give --program"
 # Sectors of an answer: a disk and a start there, unless they are zeros or fail.
@@ -77,6 +78,13 @@ class Tables:
         found.stores = {name: copy for name, copy in self.stores.items() if name in found.disks}
         return found
 
+    def lines(self) -> Iterator[tables.Line]:
+        return (line for device in self.devices.values() for line in device.lines)
+
+    def spans(self) -> Iterator[Tuple[str, int, Optional[int]]]:
+        """What the lines use of disks: the first sector, and how many, or None for all."""
+        return (span for line in self.lines() for span in line.spans() if span[0] in self.disks)
+
     def child_of(self, name: str) -> "Child":
         """The program that knows a device and others around it, or this one alone where it refuses another."""
         child = self._children.get(name)
@@ -100,23 +108,24 @@ class Tables:
 
     def words(self, room: str) -> List[str]:
         """The words with which the program maps by them, once what it reads is in a folder."""
-        file, disks, paths = (os.path.join(room, name) for name in ("FILE", "DISKS", "PATHS"))
-        put(file, [tables.text_of(list(self.devices.values()), False)])
-        put(disks, [self._disk_list()])
-        for name, copy in self.stores.items():
-            copy(os.path.join(room, name))
-        put(paths, (f"{name} {os.path.join(room, name)}?offset=0\n" for name in self.stores))
+        copies = {name: os.path.join(room, name) for name in self.stores}
+        for name, path in copies.items():
+            self.stores[name](path)
+        file, disks, paths = self.write(room, {name: path + "?offset=0" for name, path in copies.items()})
         words = [program.dmremap(Child.program), "map", "table", file, disks]
         return words + ["--paths", paths] if self.stores else words
 
-    def _disk_list(self) -> str:
-        """The disks and their sectors: of one that is too short as many as lines say, as reading tells what it
-        lacks."""
+    def write(self, folder: str, places: Dict[str, str]) -> List[str]:
+        """Writes FILE, DISKS, and PATHS with these places; the paths of the three. A disk that is too short gets as
+        many sectors as lines say, as reading tells what it lacks."""
         ends = {name: min(device.size // SECTOR, numbers.LONGEST_DEVICE) for name, device in self.disks.items()}
-        lines = (line for device in self.devices.values() for line in device.lines)
-        for lower, start, count in (span for line in lines for span in line.spans() if span[0] in ends):
-            ends[lower] = max(ends[lower], start + (count or 0))
-        return "".join(f"{name} {end}\n" for name, end in ends.items())
+        for disk, start, count in self.spans():
+            ends[disk] = max(ends[disk], start + (count or 0))
+        written = [os.path.join(folder, name) for name in FILES]
+        put(written[0], [tables.text_of(list(self.devices.values()), False)])
+        for path, rows in zip(written[1:], (ends, places)):
+            put(path, (f"{name} {what}\n" for name, what in rows.items()))
+        return written
 
 
 class Child:
@@ -127,8 +136,9 @@ class Child:
 
     def __init__(self, source: Tables, name: str) -> None:
         self._name, self._number, self.is_closed = program.dmremap(Child.program), 0, False
-        self._window = functools.lru_cache(MOST_WINDOWS)(self._read_window)
-        self._ends = {name: device.end() for name, device in source.devices.items()}
+        ends = {name: device.end() for name, device in source.devices.items()}
+        self._window = functools.lru_cache(MOST_WINDOWS)(
+            lambda name, start: self._ask(name, start, min(WINDOW, ends[name] - start)))
         self._said = tempfile.TemporaryFile()
         with tempfile.TemporaryDirectory(prefix="dmremap-tools-") as room:
             words = source.words(room)
@@ -141,7 +151,7 @@ class Child:
             _live.append(self)
             if len(_live) > MOST_CHILDREN:
                 _live[0].close()
-            list(self._asked(name, 0, 1))
+            self._ask(name, 0, 1)
 
     def close(self) -> None:
         _live.remove(self)
@@ -153,50 +163,37 @@ class Child:
             with contextlib.suppress(OSError):
                 pipe.close()
 
-    def pieces(self, name: str, first: int, count: int) -> Iterator[Piece]:
-        """Where these sectors are read. A few are taken from a window around them, which is kept."""
+    def pieces(self, name: str, first: int, count: int) -> List[Piece]:
+        """Where so many sectors are read as one request may have. A few are taken from a window, which is kept."""
         if count > WINDOW // 4:
-            yield from self._asked(name, first, count)
-            return
-        end = first + count
-        for at in range(first // WINDOW * WINDOW, end, WINDOW):
+            return self._ask(name, first, count)
+        found: List[Piece] = []
+        for at in range(first // WINDOW * WINDOW, first + count, WINDOW):
             for piece in self._window(name, at):
-                begin, stop = max(first, at), min(end, at + piece.count)
+                begin, stop = max(first, at), min(first + count, at + piece.count)
                 if begin < stop:
-                    yield Piece(piece.what, piece.disk, piece.start + begin - at, stop - begin)
+                    found.append(Piece(piece.what, piece.disk, piece.start + begin - at, stop - begin))
                 at += piece.count
+        return found
 
-    def _read_window(self, name: str, start: int) -> List[Piece]:
-        return list(self._asked(name, start, min(WINDOW, self._ends[name] - start)))
-
-    def _asked(self, name: str, first: int, count: int) -> Iterator[Piece]:
-        starts = range(first, first + count, MOST_SECTORS)
-        for batch in (starts[at:at + BATCH] for at in range(0, len(starts), BATCH)):
-            counts = [min(MOST_SECTORS, first + count - start) for start in batch]
-            self._write("".join(f"R {name} {start} {some}\n" for start, some in zip(batch, counts)))
-            yield from [piece for some in counts for piece in self._answer(some)]
-
-    def _write(self, text: str) -> None:
-        if self.is_closed:
-            raise Refusal(quoting.shown(self._name), "it was ended, as others were asked meanwhile: ask again")
+    def _ask(self, name: str, first: int, count: int) -> List[Piece]:
+        """The answer to one request, which has its number."""
         try:
-            self._child.stdin.write(text.encode())
+            self._child.stdin.write(f"R {name} {first} {count}\n".encode())
             self._child.stdin.flush()
         except OSError:
             self._fail()
-
-    def _answer(self, left: int) -> Iterator[Piece]:
-        """The pieces of the next answer, which has the number of its request."""
         self._number += 1
-        while left > 0:
+        found: List[Piece] = []
+        while count > 0:
             match = ANSWER.fullmatch(self._child.stdout.readline().decode())
             if not match or int(match[1]) != self._number:
                 self._fail()
-            piece = Piece(match[4] or READ, match[2], int(match[3] or 0), int(match[5]))
-            left -= piece.count
-            yield piece
-        if left:
+            found.append(Piece(match[4] or READ, match[2], int(match[3] or 0), int(match[5])))
+            count -= found[-1].count
+        if count:
             self._fail()
+        return found
 
     def _fail(self) -> NoReturn:
         """Refuses what the program refused, with what it said."""
@@ -227,10 +224,9 @@ class Mapped(Device):
     def _why(self) -> Optional[str]:
         """What the disks lack of the sectors that the lines name."""
         source = self.source.closure([self.key])
-        lines = [line for device in source.devices.values() for line in device.lines]
-        if any(line.target == "error" for line in lines):
+        if any(line.target == "error" for line in source.lines()):
             return FAILS
-        for name, start, count in (span for line in lines for span in line.spans() if span[0] in source.disks):
+        for name, start, count in source.spans():
             disk = source.disks[name]
             why = disk.lack(start * SECTOR, disk.size if count is None else count * SECTOR)
             if why:
@@ -247,11 +243,15 @@ class Mapped(Device):
     def _extents(self, start: int, size: int) -> Iterator[Extent]:
         if start % SECTOR or size % SECTOR:
             raise Gap(self.name, "no whole sectors: ask for these")
-        for piece in self.source.child_of(self.key).pieces(self.key, start // SECTOR, size // SECTOR):
-            if piece.what == READ:
-                yield from self.source.disks[piece.disk].extents(piece.start * SECTOR, piece.count * SECTOR)
-            else:
-                yield Extent(ZEROS if piece.what == ZERO else Missing(FAILS), 0, piece.count * SECTOR)
+        end = (start + size) // SECTOR
+        for first in range(start // SECTOR, end, MOST_SECTORS):
+            # Others that are asked meanwhile may end the child.
+            child = self.source.child_of(self.key)
+            for piece in child.pieces(self.key, first, min(MOST_SECTORS, end - first)):
+                if piece.what == READ:
+                    yield from self.source.disks[piece.disk].extents(piece.start * SECTOR, piece.count * SECTOR)
+                else:
+                    yield Extent(ZEROS if piece.what == ZERO else Missing(FAILS), 0, piece.count * SECTOR)
 
 
 DISKS = itertools.count()

@@ -8,7 +8,7 @@ from typing import Iterator, List, NamedTuple, Optional, Sequence, Tuple
 
 from dmremap_tools.base import quoting
 from dmremap_tools.layers import arrays
-from dmremap_tools.model.device import ALL, Device, Extent, Gap, Run, blocks_of, joined
+from dmremap_tools.model.device import ALL, Copies, Device, Extent, Gap, Run, blocks_of, lacking
 
 POLYNOMIAL = 0x11D
 UNCLEAN = "the array wasn't shut down cleanly, so that its parity may be old: give the missing member"
@@ -61,6 +61,7 @@ class Rows(Device):
         super().__init__(name, size)
         self.shape, self.members, self.doubtful = shape, members, doubtful
         self._computed = [Computed(self, role) for role in range(shape.count)]
+        self._columns = [Copies(name, [member, other], ALL) for member, other in zip(members, self._computed)]
 
     @functools.cached_property
     def _edges(self) -> List[int]:
@@ -97,20 +98,14 @@ class Rows(Device):
     def _extents(self, start: int, size: int) -> Iterator[Extent]:
         for number, offset, count in blocks_of(start, size, self.shape.chunk):
             role, row = self.shape.place(number)
-            at, member = row * self.shape.chunk + offset, self.members[role]
-            if member.lack(at, count) is None:
-                yield from member.extents(at, count)
-                continue
-            for _, begin, some in self.parts(at, count):
-                is_there = member.lack(begin, some) is None
-                yield from member.extents(begin, some) if is_there else [Extent(self._computed[role], begin, some)]
+            yield from self._columns[role].extents(row * self.shape.chunk + offset, count)
 
 
 class Computed(Device):
     """What a member that is missing had, as far as it was data, computed from the others."""
 
     def __init__(self, rows: Rows, role: int) -> None:
-        super().__init__(f"{rows.members[role].name}, computed", ALL)
+        super().__init__(f"{rows.members[role].name}, computed")
         self._rows, self._shape, self._members, self._role = rows, rows.shape, rows.members, role
 
     def lack(self, start: int, size: int) -> Optional[str]:
@@ -155,14 +150,6 @@ class Computed(Device):
         other = roles.data.index(next(role for role in lost if role != self._role))
         both = added([have[roles.parity or 0]] + [content for _, content in data])
         return times(added([syndrome, times(both, other)]), -LOGARITHMS[POWERS[mine] ^ POWERS[other]])
-
-
-def lacking(device: Device, size: int) -> Iterator[Run]:
-    at = 0
-    for extent in joined(device.extents(0, size)) if device.lack(0, size) is not None else ():
-        if extent.source.lack(extent.start, extent.size) is not None:
-            yield at, at + extent.size
-        at += extent.size
 
 
 def added(parts: Sequence[bytes]) -> bytes:

@@ -276,7 +276,7 @@ def volumes_within(image: Image) -> List[PhysicalVolume]:
     """The physical volumes anywhere in an image, by sound labels that say in which sector of theirs they lie."""
     found: Dict[int, PhysicalVolume] = {}
     for begin, end in image.runs(0, image.size):
-        for at in range(begin // SECTOR * SECTOR, end, WINDOW):
+        for at in range(begin, end, WINDOW):
             streams.show_progress(f"{image.name}: {at >> 20} of {image.size >> 20} MiB")
             try:
                 content = image.load(at, min(WINDOW, image.size - at))

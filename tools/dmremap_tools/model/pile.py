@@ -1,18 +1,22 @@
-"""A pile of images: what is found in them where labels and superblocks lie, or else anywhere."""
+"""A pile of images: what is found in them where labels and superblocks lie, or else anywhere, and what somebody means
+by a name."""
 
 from typing import Dict, List, NamedTuple, Optional, Sequence, Tuple
 
+from dmremap_tools.base import quoting
+from dmremap_tools.base.numbers import SECTOR
 from dmremap_tools.base.refusal import Refusal
 from dmremap_tools.model import md_superblock, physical_volume
 from dmremap_tools.model.contents import BIG_SECTOR, Container, Partitions, container_in, file_system_of, partitions_of
 from dmremap_tools.model.device import Device, Run
-from dmremap_tools.model.groups import Group, groups_of
+from dmremap_tools.model.groups import REMOVED, Group, groups_of, same_id
 from dmremap_tools.model.image import Image, Lenient
 from dmremap_tools.model.md_array import Array
 from dmremap_tools.model.md_superblock import Member
 from dmremap_tools.model.physical_volume import PhysicalVolume
+from dmremap_tools.model.volume import Volume
 
-NOTHING = "nothing is found in it"
+NOTHING, SCAN = "nothing is found in it", "`scan` lists what is there"
 # The most disks, partitions and arrays that are looked at, and the most levels of arrays that are members of others.
 MOST_SPOTS, MOST_LEVELS = 1 << 13, 8
 MANY = f"no more than {MOST_SPOTS} disks, partitions and arrays are looked at: give fewer images"
@@ -45,6 +49,8 @@ class Spot(NamedTuple):
         return self.path + (f":{self.partition}" if self.partition else "")
 
 
+# What is meant by a name: what it is called, and its bytes.
+Target = NamedTuple("Target", [("name", str), ("device", Device), ("size", int)])
 # What a spot is: a word for it, and what is to be said of it.
 Found = NamedTuple("Found", [("spot", Spot), ("what", str), ("note", str)])
 
@@ -64,7 +70,7 @@ class Pile:
         self._damaged: List[Tuple[Spot, bytes]] = []
         self._spots: Dict[int, Spot] = {}
         self._unknown: List[Spot] = []
-        images: Dict[Tuple[int, int], Image] = {}
+        images: Dict[object, Image] = {}
         for image in [Image(path, (unread or {}).get(path, ())) for path in paths]:
             if images.setdefault(image.identity, image) is not image:
                 self._say(Spot(image, image), "foreign", f"it is {images[image.identity].name} under another name")
@@ -180,6 +186,77 @@ class Pile:
                     array.refuse(MAY_BE_NEWER.format(newer[0].device.name))
                 if array.device and not self._is_member(Spot(array.device, None)):
                     self._look_into(Spot(array.device, None))
+
+    def target(self, name: str) -> Target:
+        """What a name means. One that means nothing, or several things, is refused, with what to say instead."""
+        device, shown = self.device_named(name), quoting.shown(name)
+        if device:
+            try:
+                path = quoting.shown(self._volume_named(name).path)
+            except Refusal:
+                return Target(name, device, device.size)
+            raise Refusal(shown, f"both an image and a volume are called so: say ./{shown}, or {path}")
+        try:
+            is_whole = self._volume_named(name).why() is None
+        except Refusal:
+            is_whole = False
+        if not is_whole:
+            self.search()
+        volume = self._volume_named(name)
+        return Target(volume.path, volume.device(), volume.sectors * SECTOR)
+
+    def device_named(self, name: str) -> Optional[Device]:
+        """The image, the partition or the array of this name."""
+        found = []
+        for spot in self.spots():
+            places = [spot.place, spot.place.rpartition("/")[2], f"./{spot.place}"] if spot.image else [spot.place]
+            if name in places:
+                found.append(spot.device)
+        for array in (array for array in self.arrays if name in (array.label, f"md:{array.identity}")):
+            if array.why:
+                raise Refusal(array.label, array.why)
+            if array.device and array.device not in found:
+                found.append(array.device)
+        if len(found) > 1:
+            raise Refusal(quoting.shown(name), "several are called so: give an image by its path as it is given, or an "
+                          "array as md:UUID")
+        return found[0] if found else None
+
+    def _volume_named(self, name: str) -> Volume:
+        """The volume of this name: GROUP/VOLUME, where GROUP may be the group's id, or VOLUME alone."""
+        shown, (group_name, slash, volume_name) = quoting.shown(name), name.rpartition("/")
+        groups, which = self._called(group_name) if slash else self.groups, quoting.shown(group_name)
+        if slash and not groups:
+            raise Refusal(shown, f"no group is called {which}{self._unread_notes()}: {SCAN}")
+        found = [(group, volume) for group in groups for volume in [group.volume(volume_name)] if volume]
+        found = [each for each in found if each[0].state != REMOVED and not each[1].is_removed] or found
+        if not found and slash:
+            raise Refusal(shown, f"the group {which} has no such volume: {SCAN}")
+        if not found:
+            raise Refusal(shown, f"no group has such a volume{self._unread_notes()}: {SCAN}")
+        if len({group.identity for group, _ in found}) > 1:
+            said = [f"{group.identity}/{quoting.shown(volume_name)} (on {', '.join(map(quoting.shown, group.places))})"
+                    for group, _ in found]
+            raise Refusal(shown, "several groups have such a volume: say " + quoting.some(said, " or "))
+        return found[0][1]
+
+    def _called(self, name: str) -> List[Group]:
+        return [group for group in self.groups if name == group.name or same_id(name, group.identity)]
+
+    def _unread_notes(self) -> str:
+        """What of a pile can't be read, in which something may be that isn't found."""
+        notes = [(array.label, array.why) for array in self.arrays if array.why]
+        notes += [(found.spot.path, found.note) for found in self.found if found.note not in ("", NOTHING)]
+        whys = quoting.some([f"{quoting.shown(where)}: {why}" for where, why in notes], "; ")
+        return f" ({whys})" if whys else ""
+
+    def groups_named(self, name: str) -> List[Group]:
+        """The groups of this name or id, which is refused if there are none."""
+        self.search()
+        found = self._called(name)
+        if not found:
+            raise Refusal(quoting.shown(name), f"no group is called so{self._unread_notes()}: {SCAN}")
+        return found
 
 
 def known_in(device: Device) -> Optional[str]:
