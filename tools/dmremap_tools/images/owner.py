@@ -29,7 +29,7 @@ from dmremap_tools.model.contents import Container, Partitions
 from dmremap_tools.model.device import Device, Part, blocks_of
 from dmremap_tools.model.group_owners import Groups
 from dmremap_tools.model.mapping import Mapped
-from dmremap_tools.model.md_array import Array, Laid
+from dmremap_tools.model.md_array import Array
 from dmremap_tools.model.md_superblock import Member
 from dmremap_tools.model.owners import Ground, Run, Step, all_of, claimed, column, free, gaps, unknown, ways
 from dmremap_tools.model.pile import Pile
@@ -39,9 +39,6 @@ QUERY = re.compile(r"(.+?) ([0-9]+)(?: ([0-9]+))?")
 # A kernel's block layer counts in 512 bytes, whatever sectors the disk itself has.
 KERNEL_SECTOR = re.compile(r"\bdev ([!-+\--~]{1,255}), sector ([0-9]+)\b.*")
 KERNEL_LINE = re.compile(r"(?:<\d+>)?\[ *\d+\.\d+\].*|.*\bkernel: .*")
-NOT_KNOWN = ("unknown", "foreign")
-# Sectors of an image, a partition or an array: its name, the first one, and how many.
-Query = Tuple[str, int, int]
 
 
 def add_words(parser: ArgumentParser) -> None:
@@ -73,8 +70,8 @@ def run(words: Namespace) -> None:
             write(name, first, end - first, unknown(device.ended()))
 
 
-def asked(words: Namespace) -> Iterator[Query]:
-    """What the lines of standard input ask for."""
+def asked(words: Namespace) -> Iterator[Tuple[str, int, int]]:
+    """What the lines of standard input ask for: an image, a partition or an array, the first sector, and how many."""
     numbers.check_sector_size(words.sector_size)
     unit = 1 if words.bytes else words.sector_size or SECTOR
     source, passed = streams.Lines("-"), 0
@@ -106,19 +103,19 @@ class Owners:
     def __init__(self, pile: Pile) -> None:
         pile.search()
         self._pile, groups = pile, Groups(pile.groups)
-        self._known: Dict[int, Ground] = {}
+        self._known: Dict[Device, Ground] = {}
         for array in pile.arrays:
             for member in array.members:
-                self._known[id(member.device)] = of_member(array, member, self.on(array.device or member.device))
-        for spot, table in pile.tables:
-            self._known[id(spot.device)] = self._of_table(spot.device, table)
+                self._known[member.device] = of_member(array, member, self.on(array.device or member.device))
+        for device, table in pile.tables.items():
+            self._known[device] = self._of_table(device, table)
         for spot, container in pile.containers:
-            self._known[id(spot.device)] = of_container(container)
+            self._known[spot.device] = of_container(container)
         for volume in pile.volumes:
-            self._known[id(volume.device)] = groups.of(volume)
+            self._known[volume.device] = groups.of(volume)
 
     def on(self, device: Device) -> Ground:
-        return lambda first, end: (self._known.get(id(device)) or self._of_other(device))(first, end)
+        return lambda first, end: (self._known.get(device) or self._of_other(device))(first, end)
 
     def _of_table(self, device: Device, table: Partitions) -> Ground:
         if table.fault:
@@ -135,18 +132,18 @@ class Owners:
 
     def _of_other(self, device: Device) -> Ground:
         """Who has sectors of a device that is none of these."""
-        within = [id(found.spot.device) for found in self._pile.found if found.spot.image is device]
-        volumes = [volume for volume in self._pile.volumes if id(volume.device) in within]
-        claims = [self._within(volume.start, volume.size, volume.device) for volume in volumes]
+        within = [found.spot.device for found in self._pile.found if found.spot.image is device]
+        claims = [self._within(volume.start, volume.size, volume.device) for volume in self._pile.volumes
+                  if volume.device in within]
         found = next((found for found in self._pile.found if found.spot.device is device), None)
         if claims:
             around = "nothing says what is around the physical volumes that looking through it found"
             made = claimed(claims, all_of(unknown(around)))
-        elif found is None or found.what in NOT_KNOWN:
+        elif found is None or found.what in ("unknown", "foreign"):
             made = all_of(unknown(found.note if found else "it was looked into no more"))
         else:
             made = all_of(Step(f"{found.what}: {found.note}" if found.note else found.what))
-        return self._known.setdefault(id(device), made)
+        return self._known.setdefault(device, made)
 
 
 def of_container(container: Container) -> Ground:
@@ -197,21 +194,21 @@ def places(array: Array, member: Member, first: int, end: int) -> Iterator[Tuple
                     for at, some, to in column(start, begin, until, chunk, len(spans), place):
                         yield at, some, line.start + to
         return
-    role, laid = next(role for role, other in array.by_role.items() if other is member), Laid(array, [])
-    for row, skipped, count in blocks_of(first, min(end, laid.chunks * laid.chunk) - first, laid.chunk):
-        is_copied = laid.level == "raid10"
-        for number in copies_in(laid, role, row) if is_copied else [laid.shape().number(role, row)]:
-            yield row * laid.chunk + skipped, count, None if number is None else number * laid.chunk + skipped
+    role, chunk = next(role for role, other in array.by_role.items() if other is member), array.chunk
+    for row, skipped, count in blocks_of(first, min(end, array.chunks * chunk) - first, chunk):
+        is_copied = array.level == "raid10"
+        for number in copies_in(array, role, row) if is_copied else [array.shape().number(role, row)]:
+            yield row * chunk + skipped, count, None if number is None else number * chunk + skipped
 
 
-def copies_in(laid: Laid, role: int, row: int) -> List[int]:
+def copies_in(array: Array, role: int, row: int) -> List[int]:
     """The chunks of raid10 that a member has in a row."""
-    near, far, is_offset = laid.copies
-    stride, end, found = 1 if is_offset else max(1, laid.chunks // far), laid.sectors // laid.chunk, set()
+    near, far, is_offset = array.copies
+    stride, end, found = 1 if is_offset else max(1, array.chunks // far), array.sectors // array.chunk, set()
     for turn in range(far):
         base = (row - turn * stride) // (far if is_offset else 1)
-        about = (base * laid.count + (role - turn * near) % laid.count) // near
+        about = (base * array.count + (role - turn * near) % array.count) // near
         for number in range(max(0, about - near), min(end, about + near + 1)):
-            if any(arrays.place(laid, number, copy) == (role, row) for copy in range(near * far)):
+            if any(arrays.place(array, number, copy) == (role, row) for copy in range(near * far)):
                 found.add(number)
     return sorted(found)

@@ -3,7 +3,7 @@ arguments of nbdkit-python-plugin(3)."""
 
 import errno
 import os
-from typing import Callable, Dict, List, NoReturn, Tuple, TypeVar
+from typing import Callable, Dict, List, Tuple, TypeVar
 
 import nbdkit  # type: ignore
 
@@ -71,12 +71,11 @@ def pread(handle: int, buffer: bytearray, offset: int, flags: int) -> None:
 
 
 def extents(handle: int, count: int, offset: int, flags: int) -> List[Tuple[int, int, int]]:
-    """What reads as zeros, and what doesn't, of these bytes."""
     return answered(lambda: found_extents(count, offset))
 
 
 def found_extents(count: int, offset: int) -> List[Tuple[int, int, int]]:
-    """The same, as far as it is told at once."""
+    """What reads as zeros, and what doesn't, of these bytes, as far as it is told at once."""
     first = offset // SECTOR * SECTOR
     end = min(-(-(offset + count) // SECTOR) * SECTOR, _target.size, first + MOST_BYTES)
     found: List[Tuple[int, int, int]] = []
@@ -88,20 +87,12 @@ def found_extents(count: int, offset: int) -> List[Tuple[int, int, int]]:
     return found
 
 
-def answered(ask: Callable[[], Answer]) -> Answer:
+def answered(ask: Callable[[], Answer], is_last: bool = False) -> Answer:
     """What is asked of the volume. Where a child was ended meanwhile it is asked once more; what isn't there fails."""
     try:
         return ask()
-    except Gap as gap:
-        _fail(gap)
-    except (Refusal, streams.OutputFailed):
-        pass
-    try:
-        return ask()
     except (Refusal, streams.OutputFailed) as fault:
-        _fail(fault)
-
-
-def _fail(fault: Exception) -> NoReturn:
-    nbdkit.set_error(errno.EIO)
-    raise RuntimeError(str(fault)) from None
+        if is_last or isinstance(fault, Gap):
+            nbdkit.set_error(errno.EIO)
+            raise RuntimeError(str(fault)) from None
+        return answered(ask, True)

@@ -76,11 +76,11 @@ def luks_rows(pile: Pile) -> Iterator[Row]:
 
 
 def image_row(pile: Pile, spot: Spot) -> Row:
-    table = pile.table_of(spot.device)
+    table = pile.tables.get(spot.device)
     holds = [{"partition": found.spot.partition, "what": found.what, "why": found.note or None}
              for found in pile.found if found.spot.image is spot.image]
     row = table and {"kind": table.kind, "copy": table.copy, "sector": table.sector, "why": table.fault}
-    return {"image": spot.path, "bytes": spot.image.bytes if spot.image else 0, "table": row, "holds": holds}
+    return {"image": spot.path, "bytes": spot.image.bytes, "table": row, "holds": holds}
 
 
 def array_row(pile: Pile, array: Array) -> Row:
@@ -105,7 +105,7 @@ def volume_row(volume: Volume) -> Row:
 
 def lines_of(pile: Pile) -> Iterator[str]:
     for spot in (spot for spot in pile.spots() if spot.device is spot.image):
-        table, inner = pile.table_of(spot.device), held_by(pile, spot.device)
+        table, inner = pile.tables.get(spot.device), held_by(pile, spot.device)
         if table:
             count = f"{len(table.partitions)} partition" + "s" * (len(table.partitions) != 1)
             fault = f": {table.fault}" if table.fault else ""
@@ -132,7 +132,7 @@ def lines_of(pile: Pile) -> Iterator[str]:
 
 def held_by(pile: Pile, device: Device) -> List[str]:
     """What lies on a device, in words: a line for each partition, or one for all of it."""
-    table = pile.table_of(device)
+    table = pile.tables.get(device)
     if not table:
         return [what_is(pile, device)]
     return [f"{partition.number}: {what_is(pile, partition.device)}" for partition in table.partitions]

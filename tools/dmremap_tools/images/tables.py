@@ -60,7 +60,7 @@ class GroupTables(Tables):
         layout.check()
         self._layout = layout
         self.left_out: Dict[str, str] = {}
-        self._arrays: Dict[int, str] = {}
+        self._arrays: Dict[Device, str] = {}
 
     def add_volume(self, name: bytes) -> None:
         """Adds a volume, or says why it can't be."""
@@ -119,17 +119,17 @@ class GroupTables(Tables):
     def _disk(self, device: Device, found: Devices) -> Tuple[str, int]:
         """What a line names for a device, and the sector at which the device begins there."""
         start = 0
-        while isinstance(device, (Part, Copies)):
+        while isinstance(device, Copies) or isinstance(device, Part) and not device.holes:
             start += device.start if isinstance(device, Part) else 0
             device = device.lower if isinstance(device, Part) else device.best()
         if isinstance(device, Image):
-            name = self._names.setdefault(id(device), f"disk{len(self.disks)}")
+            name = self._names.setdefault(device, f"disk{len(self.disks)}")
             self.disks[name] = device
             return name, start // SECTOR
         if not isinstance(device, Mapped):
             computed = f"{device.name} is computed, and no table can say how: use `save` or `serve`"
             raise Refusal(device.name, device.lack(0, device.size) or computed)
-        called = self._arrays.setdefault(id(device), f"array-{len(self._arrays)}")
+        called = self._arrays.setdefault(device, f"array-{len(self._arrays)}")
         found.update(self._renamed(device.source, device.key, called))
         return names.MAPPER + called, start // SECTOR
 

@@ -96,29 +96,23 @@ class Known(Device):
 
 
 class Part(Device):
-    """A run of bytes of another device."""
+    """A run of bytes of another device, perhaps with holes: runs of its own that don't meet; `why` is said of them."""
 
-    def __init__(self, name: str, lower: Device, start: int, size: int) -> None:
+    def __init__(self, name: str, lower: Device, start: int, size: int, holes: Sequence[Run] = (), why: str = "") -> None:
         super().__init__(name, size)
-        self.lower, self.start = lower, start
+        self.lower, self.start, self.holes, self._why = lower, start, holes, why
 
     def lack(self, start: int, size: int) -> Optional[str]:
+        if self.holes:
+            return super().lack(start, size)
         return self.ended() if start + size > self.size else self.lower.lack(self.start + start, size)
 
     def _extents(self, start: int, size: int) -> Iterator[Extent]:
-        return self.lower.extents(self.start + start, size)
-
-
-class Holed(Device):
-    """A device without some runs of bytes, which don't meet; `why` is said of them."""
-
-    def __init__(self, lower: Device, runs: Sequence[Run], why: str) -> None:
-        super().__init__(lower.name, lower.size)
-        self._lower, self._runs, self._why = lower, runs, why
-
-    def _extents(self, start: int, size: int) -> Iterator[Extent]:
-        for begin, end, run in cut(self._runs, start, start + size):
-            yield from [Extent(Missing(self._why), 0, end - begin)] if run else self._lower.extents(begin, end - begin)
+        for begin, end, hole in cut(self.holes, start, start + size):
+            if hole:
+                yield Extent(Missing(self._why), 0, end - begin)
+            else:
+                yield from self.lower.extents(self.start + begin, end - begin)
 
 
 class Overlaid(Device):

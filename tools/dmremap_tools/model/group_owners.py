@@ -87,7 +87,7 @@ class Stack:
             pairs = zip(values[::2], values[1::2]) if has_starts else zip(values, itertools.repeat(0))
             for place, (lower, start) in enumerate(pairs):
                 is_known = lower in self.group.volumes or lower in self.group.physicals
-                if is_known and isinstance(lower, bytes) and isinstance(start, int) and start >= 0:
+                if is_known and isinstance(start, int) and start >= 0:
                     self._above.setdefault(lower, []).append(Above(name, segment, field, place, start))
                     is_named = True
                 elif has_starts:
@@ -106,10 +106,9 @@ class Stack:
         for above in self._above.get(name, ()):
             yield from self._through(name, above, first, end)
         for record in self.group.records:
-            if name == record.store and record.is_merging:
-                yield from self._read(record.origin or b"", name, first, end)
-            elif name in (record.origin, record.store) and not record.is_merging:
-                yield from self._read(record.store or b"", name, first, end)
+            if name == record.store or name == record.origin and not record.is_merging:
+                upper = record.origin if record.is_merging else record.store
+                yield from self._read(upper or b"", name, first, end)
 
     def _through(self, lower: bytes, above: Above, first: int, end: int) -> Iterator[Run]:
         """Who has sectors of a volume by way of one that lies on it."""
@@ -190,8 +189,8 @@ class Groups:
     """All groups, to be asked for the sectors of physical volumes."""
 
     def __init__(self, groups: Sequence[Group]) -> None:
-        sides = {id(group.side): group for group in groups if group.state != REMOVED}
-        self._stacks = [Stack(group.side, group.doubt) for group in sides.values()]
+        doubts = {group.side: group.doubt for group in groups if group.state != REMOVED}
+        self._stacks = [Stack(side, doubt) for side, doubt in doubts.items()]
         self._removed: Dict[str, List[Run]] = {}
         for volume in (volume for group in groups for volume in group.volumes if volume.is_removed):
             for identity, first, end in volume.side.uses(volume.key):

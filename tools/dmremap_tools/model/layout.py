@@ -56,9 +56,13 @@ class Layout:
 
     @functools.cached_property
     def _whys(self) -> Dict[bytes, str]:
-        """Why volumes aren't followed, as far as that is known."""
-        deep = f"it lies on itself, or on others in more than {MOST_LEVELS} levels: {ODD}"
-        return {name: deep for name in deep_volumes(self.group)}
+        """Why volumes aren't followed, as far as that is known: at first those on others in too many levels."""
+        lower = {name: set(lower_in(volume)) for name, volume in self.group.volumes.items()}
+        deep = list(lower)
+        for _ in range(MOST_LEVELS):
+            known = set(deep)
+            deep = [name for name in deep if not known.isdisjoint(lower[name])]
+        return dict.fromkeys(deep, f"it lies on itself, or on others in more than {MOST_LEVELS} levels: {ODD}")
 
     def path(self, name: bytes) -> str:
         return f"{self.name}/{shown(name)}"
@@ -240,16 +244,6 @@ def layers() -> Dict[bytes, Callable[[Layout, str, Segment, int], Device]]:
     return {b"thin": pools.thin_of, b"cache": pools.cached_of, b"cache+CACHE_USES_CACHEVOL": pools.cached_of,
             b"integrity": integrity.device_of, b"raid1": raid_volume.mirror_of, b"raid5": raid_volume.parity_of,
             b"raid5_ls": raid_volume.parity_of}
-
-
-def deep_volumes(group: Group) -> List[bytes]:
-    """The volumes that lie on others in too many levels, or on themselves."""
-    lower = {name: set(lower_in(volume)) for name, volume in group.volumes.items()}
-    found = list(lower)
-    for _ in range(MOST_LEVELS):
-        known = set(found)
-        found = [name for name in found if not known.isdisjoint(lower[name])]
-    return found
 
 
 def lower_in(volume: Volume) -> Iterator[object]:

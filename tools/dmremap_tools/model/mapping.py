@@ -40,21 +40,16 @@ class Tables:
     def __init__(self) -> None:
         self.devices: Dict[str, tables.Device] = {}
         self.disks: Dict[str, Device] = {}
+        # What writes to a file what the program reads of the disk that a store is.
         self.stores: Dict[str, Callable[[str], None]] = {}
-        self._names: Dict[int, str] = {}
+        self._names: Dict[Device, str] = {}
         self._children: Dict[str, Child] = {}
         self._refused: Set[int] = set()
 
     def disk(self, device: Device) -> str:
         """The name of the disk that a device is here."""
-        name = self._names.setdefault(id(device), f"d{next(DISKS)}")
+        name = self._names.setdefault(device, f"d{next(DISKS)}")
         self.disks[name] = device
-        return name
-
-    def store(self, device: Device, copy: Callable[[str], None]) -> str:
-        """The name of the disk that a store is here; `copy` writes what the program reads of it to a file."""
-        name = self.disk(device)
-        self.stores[name] = copy
         return name
 
     def add(self, name: str, lines: Sequence[tables.Line]) -> None:
@@ -72,7 +67,7 @@ class Tables:
             for lower in self.devices[name].lowers():
                 if lower in self.disks:
                     found.disks[lower] = self.disks[lower]
-                    found._names[id(self.disks[lower])] = lower
+                    found._names[self.disks[lower]] = lower
                 else:
                     waiting.append(names.of_path(lower))
         found.stores = {name: copy for name, copy in self.stores.items() if name in found.disks}

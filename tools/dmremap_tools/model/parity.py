@@ -60,8 +60,8 @@ class Rows(Device):
     def __init__(self, name: str, shape: Shape, members: Sequence[Device], size: int, doubtful: Sequence[Run]) -> None:
         super().__init__(name, size)
         self.shape, self.members, self.doubtful = shape, members, doubtful
-        self._computed = [Computed(self, role) for role in range(shape.count)]
-        self._columns = [Copies(name, [member, other], ALL) for member, other in zip(members, self._computed)]
+        # The data of each member, or what is computed in their place.
+        self._columns = [Copies(name, [member, Computed(self, role)], ALL) for role, member in enumerate(members)]
 
     @functools.cached_property
     def _edges(self) -> List[int]:
@@ -84,9 +84,8 @@ class Rows(Device):
         chunk = self.shape.chunk
         for begin, end in zip(self._edges, self._edges[1:]):
             for row, offset, count in itertools.islice(blocks_of(begin, end - begin, chunk), self.shape.count + 1):
-                at = row * chunk + offset
-                roles = [role for role in self.shape.row(row).data if self.members[role].lack(at, count)]
-                why = next(filter(None, (self._computed[role].lack(at, count) for role in roles)), None)
+                columns = (self._columns[role] for role in self.shape.row(row).data)
+                why = next(filter(None, (column.lack(row * chunk + offset, count) for column in columns)), None)
                 if why:
                     return why
         return None

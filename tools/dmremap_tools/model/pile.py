@@ -60,7 +60,7 @@ class Pile:
 
     def __init__(self, paths: Sequence[str], unread: Optional[Dict[str, List[Run]]] = None) -> None:
         self.found: List[Found] = []
-        self.tables: List[Tuple[Spot, Partitions]] = []
+        self.tables: Dict[Device, Partitions] = {}
         self.arrays: List[Array] = []
         self.containers: List[Tuple[Spot, Container]] = []
         self.volumes: List[PhysicalVolume] = []
@@ -68,7 +68,7 @@ class Pile:
         self._members: Dict[bytes, List[Member]] = {}
         # Members with damaged superblocks, and the ids that these give their arrays.
         self._damaged: List[Tuple[Spot, bytes]] = []
-        self._spots: Dict[int, Spot] = {}
+        self._spots: Dict[Device, Spot] = {}
         self._unknown: List[Spot] = []
         images: Dict[object, Image] = {}
         for image in [Image(path, (unread or {}).get(path, ())) for path in paths]:
@@ -92,8 +92,8 @@ class Pile:
         """Looks through the whole of the images in which nothing sound was found, and says whether that was of use."""
         waiting, self._unknown, known = self._unknown, [], len(self.volumes)
         for spot in waiting:
-            for volume in physical_volume.volumes_within(spot.image) if spot.image else ():
-                inner = self._spots[id(volume.device)] = Spot(volume.device, spot.image)
+            for volume in physical_volume.volumes_within(spot.image):
+                inner = self._spots[volume.device] = Spot(volume.device, spot.image)
                 self.volumes.append(volume)
                 self.found = [found for found in self.found if found.spot is not spot]
                 self._say(inner, "physical volume", f"found at byte {volume.start} by looking through the whole image")
@@ -116,14 +116,11 @@ class Pile:
 
     def spots(self) -> List[Spot]:
         """All devices that were looked at: images, partitions, arrays and their partitions."""
-        others = [found.spot for found in self.found if id(found.spot.device) not in self._spots]
+        others = [found.spot for found in self.found if found.spot.device not in self._spots]
         return [*self._spots.values(), *others]
 
     def spot_of(self, device: Device) -> Spot:
-        return self._spots.get(id(device)) or Spot(device, None)
-
-    def table_of(self, device: Device) -> Optional[Partitions]:
-        return next((table for spot, table in self.tables if spot.device is device), None)
+        return self._spots.get(device) or Spot(device, None)
 
     def _say(self, spot: Spot, what: str, note: str = "") -> None:
         self.found.append(Found(spot, what, note))
@@ -135,7 +132,7 @@ class Pile:
         if not table:
             self._recognise(spot, known)
             return
-        self.tables.append((spot, table))
+        self.tables[spot.device] = table
         for partition in table.partitions:
             inner = Spot(partition.device, spot.image, partition.number)
             if not self._is_member(inner):
@@ -145,7 +142,7 @@ class Pile:
         """Whether it is a member of an array, which is looked into no more."""
         if len(self._spots) >= MOST_SPOTS:
             raise Refusal(spot.device.name, MANY)
-        self._spots[id(spot.device)] = spot
+        self._spots[spot.device] = spot
         members, old, damaged = md_superblock.members_in(spot.device)
         if members:
             self._members.setdefault(members[-1].superblock.array, []).append(members[-1])
@@ -180,10 +177,10 @@ class Pile:
                 array = Array(self._members[identity])
                 self.arrays.append(array)
                 if level == MOST_LEVELS:
-                    array.refuse(NESTED)
+                    array.give_up(NESTED)
                 newer = [spot for spot, other in self._damaged if other == identity or other not in self._members]
                 if newer and array.device and array.may_be_old:
-                    array.refuse(MAY_BE_NEWER.format(newer[0].device.name))
+                    array.give_up(MAY_BE_NEWER.format(newer[0].device.name))
                 if array.device and not self._is_member(Spot(array.device, None)):
                     self._look_into(Spot(array.device, None))
 

@@ -2,7 +2,7 @@
 
 import struct
 from collections import namedtuple
-from typing import Dict, List, NamedTuple, Optional
+from typing import Dict, List, Optional, Tuple
 
 from dmremap_tools.base.config_text import shown
 from dmremap_tools.base.numbers import SECTOR
@@ -20,36 +20,34 @@ CLEAN, LEFT_SYMMETRIC, MOST_LEGS = (1 << 64) - 1, 2, 64
 # The bitmap of what is being written (bitmap_super_t of the kernel's md-bitmap.h): its sync_size in sectors, and its
 # chunksize.
 BITMAP, BITMAP_MAGIC, BITMAP_AT, BITS_AT = struct.Struct("<4s36xQ4xL"), b"bitm", 4096, 256
-# The data of each leg, or why it isn't to be read, and the freshest superblock with the device that has it; and what is
-# wrong with superblocks that are there.
-Legs = NamedTuple("Legs", [
-    ("devices", List[Device]), ("best", Superblock), ("best_meta", Device), ("faults", List[str])])
 
 
 def mirror_of(layout: Layout, name: str, segment: Segment, size: int) -> Device:
     """A mirror: the first leg that has the bytes. Before the legs are alike, that is the first leg alone."""
-    legs = legs_of(layout, name, segment, 1)
-    if legs.faults:
-        raise Refusal(name, f"{legs.faults[0]}, so that nothing tells whether that leg is newer: leave its disk out to "
-                      "take the other one")
-    legs_here = legs.devices if legs.best.array_resync_offset == CLEAN else legs.devices[:1]
+    legs, best, _, faults = legs_of(layout, name, segment, 1)
+    if faults:
+        raise Refusal(name, f"{faults[0]}, so that nothing tells whether that leg is newer: leave its disk out to take "
+                      "the other one")
+    legs_here = legs if best.array_resync_offset == CLEAN else legs[:1]
     parts = [leg if isinstance(leg, Missing) else Part(leg.name, leg, 0, size) for leg in legs_here]
     return Copies(name, parts, size)
 
 
 def parity_of(layout: Layout, name: str, segment: Segment, size: int) -> Device:
     """Chunks with parity, where one leg may be missing."""
-    legs, chunk = legs_of(layout, name, segment, 5), segment.stripe_size or 0
-    if not 0 < chunk == legs.best.stripe_sectors or legs.best.layout != LEFT_SYMMETRIC:
+    (legs, best, meta, _), chunk = legs_of(layout, name, segment, 5), segment.stripe_size or 0
+    if not 0 < chunk == best.stripe_sectors or best.layout != LEFT_SYMMETRIC:
         raise Refusal(name, "its superblock has other chunks than the text, or a layout that isn't followed: activate "
                       "it with lvm2")
-    resync = legs.best.array_resync_offset
-    doubtful = dirty_runs(legs.best_meta) if resync == CLEAN else [(resync * SECTOR, ALL)]
-    return Rows(name, Shape("raid5", len(legs.devices), "left-symmetric", chunk * SECTOR), legs.devices, size, doubtful)
+    resync = best.array_resync_offset
+    doubtful = dirty_runs(meta) if resync == CLEAN else [(resync * SECTOR, ALL)]
+    return Rows(name, Shape("raid5", len(legs), "left-symmetric", chunk * SECTOR), legs, size, doubtful)
 
 
-def legs_of(layout: Layout, name: str, segment: Segment, level: int) -> Legs:
-    """The legs of a segment. One counts if it has the most events, or one less, didn't fail, and is whole."""
+def legs_of(layout: Layout, name: str, segment: Segment,
+            level: int) -> Tuple[List[Device], Superblock, Device, List[str]]:
+    """The data of each leg of a segment, or why it isn't to be read, the freshest superblock with the device that has
+    it, and what is wrong with others. A leg counts if it has the most events, or one less, didn't fail, and is whole."""
     names = [value for value in segment.node.values(b"raids") if isinstance(value, bytes)]
     pairs = list(zip(names[::2], names[1::2]))
     if not 1 < len(pairs) <= MOST_LEGS or len(pairs) != segment.node.value(b"device_count", int):
@@ -75,7 +73,7 @@ def legs_of(layout: Layout, name: str, segment: Segment, level: int) -> Legs:
         fault = None if leg in missing else faults.get(leg) or stale(found[leg], best, leg)
         why = f"{fault}: give the disks of the other legs" if fault else missing.get(leg)
         devices.append(Missing(f"{shown(data)}: {why}") if why else layout.plain(data))
-    return Legs(devices, best, layout.plain(pairs[freshest][0]), list(faults.values()))
+    return devices, best, layout.plain(pairs[freshest][0]), list(faults.values())
 
 
 def dirty_runs(meta: Device) -> List[Run]:

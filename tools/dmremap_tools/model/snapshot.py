@@ -41,7 +41,9 @@ def device_of(layout: Layout, record: Record) -> Device:
         raise Refusal(name, f"its text says chunks of {chunk} sectors, which aren't followed: {NEXT}")
     kept, key = layout.plain(store), layout.key_of(origin)
     source = layout.tables.closure([key])
-    words = [names.MAPPER + key, source.store(kept, lambda path: copy(kept, chunk, path)), "P", str(chunk)]
+    disk = source.disk(kept)
+    source.stores[disk] = lambda path: copy(kept, chunk, path)
+    words = [names.MAPPER + key, disk, "P", str(chunk)]
     source.add(NAME, [tables.Line(0, layout.size_of(origin) // SECTOR, "snapshot", words)])
     try:
         chunks = source.child_of(NAME).chunks[NAME]

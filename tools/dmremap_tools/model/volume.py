@@ -3,7 +3,7 @@
 import functools
 import itertools
 import re
-from typing import Callable, Dict, Iterable, Iterator, List, Optional, Sequence, Set, Tuple, Union
+from typing import Callable, Dict, Iterable, Iterator, List, Optional, Sequence, Set, Tuple
 
 from dmremap_tools.base.numbers import SECTOR
 from dmremap_tools.base.refusal import Refusal
@@ -42,23 +42,23 @@ class Volume:
         self.origin = None if origin is None else origin.decode("utf-8", "surrogateescape")
 
     @functools.cached_property
-    def _made(self) -> Union[Device, Refusal]:
+    def _made(self) -> Device:
         try:
             why = self._refused()
-            return Refusal(self.path, why) if why else self.side.volume(self.key)
+            return Missing(why) if why else self.side.volume(self.key)
         except Refusal as refusal:
-            return Refusal(self.path, refusal.why)
+            return Missing(refusal.why)
 
     def device(self) -> Device:
         """Its bytes, or a refusal that says why they can't be given."""
-        if isinstance(self._made, Refusal):
-            raise self._made
+        if isinstance(self._made, Missing):
+            raise Refusal(self.path, self._made.name)
         return self._made
 
     def why(self) -> Optional[str]:
         """Why its bytes can't be given, or aren't all there; None if they can."""
         try:
-            return self.device().lack(0, self.sectors * SECTOR)
+            return self._made.lack(0, self.sectors * SECTOR)
         except NoProgram:
             raise
         except Refusal as refusal:
@@ -71,11 +71,11 @@ class Volume:
             return REMOVED
         if why is None or why == INVALID_SNAPSHOT:
             return INVALID if why else WHOLE
-        return UNKNOWN if isinstance(self._made, Refusal) else INCOMPLETE
+        return UNKNOWN if isinstance(self._made, Missing) else INCOMPLETE
 
     def file_system(self) -> Optional[str]:
         try:
-            return file_system_of(self.device())
+            return file_system_of(self._made)
         except NoProgram:
             raise
         except Refusal:
@@ -132,12 +132,10 @@ class Writers:
         for text in sorted(texts, key=lambda text: -text.seqno):
             ids = ids_in(text) - seen
             seen |= ids
-            try:
-                sides = [Layout(text, self.find)] if ids else []
-            except Refusal:
-                continue
-            for side, name in ((side, name) for side in sides for name in side.visible() if side.ids[name] in ids):
-                yield Volume(side, name, functools.partial(self.refused, side, name, texts, doubt), True)
+            side = Layout(text, self.find) if ids and not fault_of(text) else None
+            for name in side.visible() if side else ():
+                if side.ids[name] in ids:
+                    yield Volume(side, name, functools.partial(self.refused, side, name, texts, doubt), True)
 
 
 @functools.lru_cache(None)
