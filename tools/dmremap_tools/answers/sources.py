@@ -5,13 +5,14 @@ import os
 import stat
 from typing import Dict, Iterable, Iterator, Optional, Tuple
 
+from dmremap_tools.answers.saved import blocks_of
 from dmremap_tools.base import disk_image, quoting, streams, written
 from dmremap_tools.base.numbers import SECTOR
 from dmremap_tools.base.paths import Place
 from dmremap_tools.base.refusal import Refusal
 
-# Bytes that are read at once, and disks that are open at once.
-BLOCK, MOST_OPEN = 1 << 20, 64
+# Disks that are open at once.
+MOST_OPEN = 64
 
 
 class Sources:
@@ -42,14 +43,16 @@ class Sources:
         return None
 
     def parts(self, name: str, start: int, count: int) -> Iterator[Tuple[int, bytes]]:
-        """The bytes of some sectors, in parts: how many they are, and they themselves, or none where they can't be read."""
-        if self.missing(name) is not None:
-            yield count * SECTOR, b""
-            return
-        file, first = self._file(name), self._place(name).start + start * SECTOR
-        end = first + count * SECTOR
-        for at in range(first, end, BLOCK):
-            yield from read(file.fileno(), at, min(BLOCK, end - at))
+        """The bytes of some sectors, in parts: how many they are, and they themselves, or none where they can't be
+        read."""
+        size, there = count * SECTOR, 0
+        if self.missing(name) is None:
+            file, begin = self._file(name), self._place(name).start + start * SECTOR
+            there = min(size, max(0, (file.seek(0, os.SEEK_END) - begin) // SECTOR * SECTOR))
+            for part, content, _ in blocks_of(functools.partial(read, file.fileno()), begin, begin + there):
+                yield part, content
+        if there < size:
+            yield size - there, b""
 
     def _place(self, name: str) -> Place:
         return self._places.get(name) or Place(name)
@@ -69,21 +72,9 @@ def opened(path: str) -> int:
     return descriptor
 
 
-def read(descriptor: int, at: int, size: int) -> Iterator[Tuple[int, bytes]]:
-    """Bytes of a disk, in halves, and these in halves, where they can't be read at once; none after its end."""
-    try:
-        content = os.pread(descriptor, size, at)
-    except OSError:
-        half = size // 2 // SECTOR * SECTOR
-        if half:
-            yield from read(descriptor, at, half)
-            yield from read(descriptor, at + half, size - half)
-            return
-        content = b""
-    content = content[:len(content) // SECTOR * SECTOR]
-    if not content:
-        yield size, b""
-        return
-    yield len(content), content
+def read(descriptor: int, at: int, size: int) -> bytes:
+    """These bytes of a disk, all of them."""
+    content = os.pread(descriptor, size, at)
     if len(content) < size:
-        yield from read(descriptor, at + len(content), size - len(content))
+        raise OSError("it ends before that")
+    return content

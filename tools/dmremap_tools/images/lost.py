@@ -31,6 +31,7 @@ from dmremap_tools.images.save import parts_of
 from dmremap_tools.layouts import rescue_map, systems
 from dmremap_tools.layouts.asked_runs import AskedRuns, Run
 from dmremap_tools.layouts.debugfs import Debugfs, quoted
+from dmremap_tools.layouts.ext_system import ExtSystem
 from dmremap_tools.model import mapping
 from dmremap_tools.model.device import joined, lacking
 from dmremap_tools.model.image import Image
@@ -95,14 +96,8 @@ def lines_of(path: str, volume: str, runs: Sequence[Run]) -> "list[str]":
         for block, first, end in each.parts(system.sectors):
             for file in system.users(block, first, end) if block < system.end else ["past its end"]:
                 counts[file] += end - first
-    folders = folders_of(path, [file[len(TABLE):] if file.startswith(TABLE) else file for file in counts])
+    files = [file[len(TABLE):] if file.startswith(TABLE) else file for file in counts]
+    files = [file for file in files if file.startswith("/") and isinstance(system, ExtSystem)]
+    answers = Debugfs(path, []).ask_many("stat " + quoted(file) for file in files)
+    folders = {file for file, answer in zip(files, answers) if FOLDER.search(answer)}
     return [f"{count} sectors: {'folder ' if file in folders else ''}{file}" for file, count in sorted(counts.items())]
-
-
-def folders_of(path: str, files: Sequence[str]) -> "set[str]":
-    """Those of these paths that are folders of an ext file system."""
-    asked = [file for file in files if file.startswith("/")]
-    with open(path.partition("?offset=")[0], "rb") as image:
-        is_xfs = image.read(4) == systems.XFS
-    answers = [] if is_xfs else Debugfs(path, []).ask_many("stat " + quoted(file) for file in asked)
-    return {file for file, answer in zip(asked, answers) if FOLDER.search(answer)}

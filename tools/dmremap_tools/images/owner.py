@@ -123,7 +123,7 @@ class Owners:
         copies = [table.kind, f"backup of the {table.kind}"] if table.kind == "GPT" else [table.kind] * len(table.taken)
         taken = [(start, end, name) for (start, end), name in zip(table.taken, copies) if start < end]
         claims = [Run(start // SECTOR, end // SECTOR, Step(name)) for start, end, name in taken]
-        claims += [self._within(part.start, part.size, part) for _, part in table.partitions]
+        claims += [self._within(part.start, part.size, part) for part in table.partitions.values()]
         return claimed(claims, free(device, "no partition has it"))
 
     def _within(self, start: int, size: int, device: Device) -> Run:

@@ -18,24 +18,24 @@ to take a file from it, `debugfs -R 'dump /FILE OUT' OUT`.
 """
 
 from argparse import ArgumentParser, Namespace
-from typing import Generator, Iterator, List, Optional, Tuple
+from typing import Generator, Iterator, Optional, Tuple
 
 from dmremap_tools.answers import save as by_tables
-from dmremap_tools.answers.saved import PARTLY, Part, SavedMap, put_together
+from dmremap_tools.answers.saved import BLOCK, PARTLY, Part, SavedMap, blocks_of, put_together
 from dmremap_tools.base import given, names, quoting, streams
 from dmremap_tools.base.numbers import SECTOR
 from dmremap_tools.base.refusal import INCOMPLETE, Refusal, WrongWords
 from dmremap_tools.layers import started
 from dmremap_tools.layouts.rescue_map import BAD, FINISHED
 from dmremap_tools.model import mapping
-from dmremap_tools.model.device import ZEROS, Extent, Gap, cut, joined
+from dmremap_tools.model.device import ZEROS, Extent, cut, joined
 from dmremap_tools.model.image import Image
 from dmremap_tools.model.pile import Pile, Target
 
 EXAMPLE = "dmremap-tools save vg0/home home.img sda.img sdb.img --map home.map"
 USAGE = "usage: GROUP/VOLUME OUT IMAGE.., or VOLUME TARGET FORMAT FILE [DISKS]"
-# Bytes whose places are asked for at once, and bytes that are read at once.
-WINDOW, BLOCK = 256 << 20, 1 << 20
+# Bytes whose places are asked for at once.
+WINDOW = 256 << 20
 
 
 def add_words(parser: ArgumentParser) -> None:
@@ -102,19 +102,4 @@ def parts_of(extent: Extent) -> Iterator[Tuple[int, bytes, bool]]:
         # Holes of an image aren't read.
         has_holes = isinstance(source, Image) and extent.size >= BLOCK
         for first, stop, run in cut(list(source.runs(begin, end)) if has_holes else [(begin, end)], begin, end):
-            yield from blocks_of(extent, first, stop) if run else [(stop - first, b"", True)]
-
-
-def blocks_of(extent: Extent, begin: int, end: int) -> Iterator[Tuple[int, bytes, bool]]:
-    """The same of bytes of its source, in halves, and these in halves, where they can't be read."""
-    waiting: List[Tuple[int, int]] = [(start, min(BLOCK, end - start)) for start in reversed(range(begin, end, BLOCK))]
-    while waiting:
-        start, size = waiting.pop()
-        try:
-            yield size, extent.source.load(start, size), True
-        except Gap:
-            half = size // 2 // SECTOR * SECTOR
-            if half:
-                waiting += [(start + half, size - half), (start, half)]
-            else:
-                yield size, b"", False
+            yield from blocks_of(source.load, first, stop) if run else [(stop - first, b"", True)]

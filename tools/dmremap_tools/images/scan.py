@@ -135,7 +135,7 @@ def held_by(pile: Pile, device: Device) -> List[str]:
     table = pile.tables.get(device)
     if not table:
         return [what_is(pile, device)]
-    return [f"{partition.number}: {what_is(pile, partition.device)}" for partition in table.partitions]
+    return [f"{number}: {what_is(pile, partition)}" for number, partition in table.partitions.items()]
 
 
 def what_is(pile: Pile, device: Device) -> str:

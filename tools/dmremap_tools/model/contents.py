@@ -2,7 +2,7 @@
 
 import shlex
 import struct
-from typing import List, NamedTuple, Optional
+from typing import Dict, List, NamedTuple, Optional
 
 from dmremap_tools.base import luks_header, partition_table
 from dmremap_tools.base.numbers import SECTOR
@@ -11,12 +11,10 @@ from dmremap_tools.model.device import Device, Gap, Part, Run
 from dmremap_tools.model.image import Lenient
 
 BIG_SECTOR = 4096
-# A partition, and the device of its bytes.
-Partition = NamedTuple("Partition", [("number", int), ("device", Part)])
-# A partition table: its kind, which copy was taken of a GPT, the bytes of its sectors, what it has, what it takes
-# itself, in bytes, and how it is damaged.
+# A partition table: its kind, which copy was taken of a GPT, the bytes of its sectors, its partitions by their numbers,
+# what it takes itself, in bytes, and how it is damaged.
 Partitions = NamedTuple("Partitions", [
-    ("kind", str), ("copy", str), ("sector", int), ("partitions", List[Partition]), ("taken", List[Run]),
+    ("kind", str), ("copy", str), ("sector", int), ("partitions", Dict[int, Part]), ("taken", List[Run]),
     ("fault", Optional[str])])
 # A container: its version and id, where its data begins and how long that is, what is wrong with it, and what its
 # headers and keys take, in sectors, as far as its header says so.
@@ -51,12 +49,12 @@ def partitions_of(device: Device, may_use_backup: bool, sector: int = SECTOR) ->
         table = partition_table.table_of(image, sector)
         table = table or (partition_table.backup_of(image) if may_use_backup else None)
     except Refusal as refusal:
-        return Partitions("GPT", "", SECTOR, [], [], refusal.why)
+        return Partitions("GPT", "", SECTOR, {}, [], refusal.why)
     if table is None:
         return None
     copy = "" if table.kind == "MBR" else "backup" if table.is_backup else "first"
-    parts = [Partition(each.number, Part(f"{device.name}:{each.number}", device, each.start, each.size))
-             for each in table.partitions]
+    parts = {each.number: Part(f"{device.name}:{each.number}", device, each.start, each.size)
+             for each in table.partitions}
     return Partitions(table.kind, copy, table.sector, parts, table.taken, None)
 
 

@@ -98,7 +98,8 @@ class Known(Device):
 class Part(Device):
     """A run of bytes of another device, perhaps with holes: runs of its own that don't meet; `why` is said of them."""
 
-    def __init__(self, name: str, lower: Device, start: int, size: int, holes: Sequence[Run] = (), why: str = "") -> None:
+    def __init__(self, name: str, lower: Device, start: int, size: int, holes: Sequence[Run] = (),
+                 why: str = "") -> None:
         super().__init__(name, size)
         self.lower, self.start, self.holes, self._why = lower, start, holes, why
 

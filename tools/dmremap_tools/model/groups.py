@@ -43,11 +43,6 @@ class Holder(NamedTuple):
     text: Text
     volumes: List[PhysicalVolume]
 
-    def ring(self) -> List[Text]:
-        """The texts of the group that are in the rings here, and this one."""
-        texts = (text for volume in self.volumes for text in [*volume.older, self.text])
-        return list({text.key(): text for text in texts if text.identity == self.text.identity}.values())
-
 
 def same_id(one: str, other: str) -> bool:
     """Whether two ids are the same, whichever dashes they have."""
@@ -124,7 +119,10 @@ def current_groups(holders: Sequence[Holder], texts: List[Text], volumes: Sequen
         named = {name for other in sides if other is not side for name in other.visible()}
         whys = {name: newer or (refused if name in named else None) for name in side.visible()}
         listed = [Volume(side, name, lambda why=why: why) for name, why in whys.items()]
-        known = holder.ring() if is_forked else texts
+        # Of a side the texts that are in the rings of its disks, and its own.
+        rings = (text for volume in holder.volumes for text in [*volume.older, side.text])
+        by_key = {text.key(): text for text in rings if text.identity == side.text.identity} if is_forked else {}
+        known = list(by_key.values()) or texts
         listed += writers.removed(known, living, newer)
         yield Group(side, FORKED if is_forked else state, volumes, known, listed, newer, notes)
 

@@ -2,6 +2,7 @@
 is believed that its sum doesn't confirm, or that says that it lies elsewhere."""
 
 import functools
+import itertools
 import struct
 from typing import Iterator, List, NamedTuple, Optional, Tuple
 
@@ -76,9 +77,8 @@ def bad_blocks(member: Member) -> List[Tuple[int, int]]:
     if not superblock.features & BAD_BLOCKS:
         return []
     content = member.device.read(superblock.at + offset * SECTOR, size * SECTOR)
-    entries = [entry for entry, in struct.iter_unpack("<Q", content)]
-    used = entries[:entries.index(CLEAN)] if CLEAN in entries else entries
-    return [((entry >> 10) << shift, (entry & 0x3FF) << shift) for entry in used]
+    used = itertools.takewhile(lambda entry: entry[0] != CLEAN, struct.iter_unpack("<Q", content))
+    return [((entry >> 10) << shift, (entry & 0x3FF) << shift) for entry, in used]
 
 
 def _found(image: Image, size: int) -> Iterator[Tuple[int, bytes, Optional[Superblock]]]:
@@ -112,9 +112,7 @@ def _tell_unread(path: str, at: int) -> None:
 
 def _sum(content: bytes, order: str) -> int:
     """The sum of all words, with what goes over added."""
-    total = sum(struct.unpack(f"{order}{len(content) // 4}L", content[:len(content) // 4 * 4]))
-    if len(content) % 4:
-        total += int.from_bytes(content[-2:], "little")
+    total = sum(word for word, in struct.iter_unpack(order + "L", content + bytes(-len(content) % 4)))
     return (total & 0xFFFFFFFF) + (total >> 32) & 0xFFFFFFFF
 
 

@@ -8,6 +8,7 @@ isn't inverted at the end. A sum is no bound, as whoever wrote the disk can make
 
 import functools
 import hashlib
+import itertools
 import re
 import struct
 import zlib
@@ -79,23 +80,13 @@ def _label_in(sector: bytes, place: int) -> Label:
     """What a label says: behind the id and the size are the places of data, those of areas, and an extension."""
     at, = struct.unpack_from("<L", sector, 20)
     letters, size = struct.unpack_from("<32sQ", sector, at)
-    _, at = _places_in(sector, at + 40)
-    areas, at = _places_in(sector, at)
+    # Pairs of a start and a size in bytes; each list ends with one that begins at 0.
+    pairs = struct.iter_unpack("<QQ", sector[at + 40:SECTOR - (SECTOR - at - 40) % 16])
+    data, areas = (list(itertools.takewhile(lambda pair: pair[0], pairs)) for _ in range(2))
+    at += 40 + 16 * (len(data) + len(areas) + 2)
     version, flags = struct.unpack_from("<LL", sector, at) if at + 8 <= SECTOR else (0, 0)
     identity = b"-".join(letters[begin:end] for begin, end in GROUPS)
     return Label(place, identity, size, areas[:MOST_AREAS], bool(flags & IN_USE) if version >= 2 else None)
-
-
-def _places_in(sector: bytes, at: int) -> Tuple[List[Run], int]:
-    """Pairs of a start and a size in bytes, up to one that begins at 0, and where they end."""
-    places: List[Run] = []
-    while at + 16 <= SECTOR:
-        start, size = struct.unpack_from("<QQ", sector, at)
-        at += 16
-        if start == 0:
-            break
-        places.append((start, size))
-    return places, at
 
 
 def listed_area(image: disk_image.Image, label: Label, start: int, size: int) -> Area:
@@ -182,6 +173,15 @@ class Text(NamedTuple):
         """The section of the group. A text that says something else is refused."""
         return _node(self.group, self.content)
 
+    @functools.lru_cache(None)
+    def fault(self) -> Optional[str]:
+        """Why it can't be read, or None."""
+        try:
+            self.node()
+            return None
+        except Refusal as refusal:
+            return str(refusal)
+
     def on_arrays(self) -> Iterator[str]:
         """The ids of the physical volumes that were on md arrays when it was written."""
         for node in sections_in(self.node(), b"physical_volumes"):
@@ -217,8 +217,15 @@ class PhysicalVolume:
         self.told: Dict[bytes, bytes] = {}
         for at, size in label.areas:
             area, told = listed_area(self._image, label, at, size), self._told_at(at)
-            fault = area.fault if area.text is None else self._take(area.text, told)
-            if fault not in (None, EMPTY):
+            text, fault = _text_of(area.text or b""), area.fault
+            if area.text is not None and not text:
+                fault = "its text doesn't begin as that of a group"
+            elif text and text.fault():
+                fault = f"its text can't be read: {text.fault()}"
+            if not fault:
+                self.current.append(text)
+                self.told.update({text.key(): told} if told else {})
+            elif fault != EMPTY:
                 self.faults.append(f"the metadata area at byte {at}: {fault}")
                 self.unread += [told] if told else []
 
@@ -229,20 +236,6 @@ class PhysicalVolume:
             return b""
         length, _, flags = struct.unpack_from("<QLL", header, 48)
         return header[48:60] if length and not flags & IGNORED else b""
-
-    def _take(self, content: bytes, told: bytes) -> Optional[str]:
-        """Takes the current text of an area, or says what is wrong with it."""
-        text = _text_of(content)
-        if not text:
-            return "its text doesn't begin as that of a group"
-        try:
-            text.node()
-        except Refusal as refusal:
-            return f"its text can't be read: {refusal}"
-        self.current.append(text)
-        if told:
-            self.told[text.key()] = told
-        return None
 
     @functools.cached_property
     def older(self) -> List[Text]:

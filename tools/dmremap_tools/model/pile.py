@@ -133,8 +133,8 @@ class Pile:
             self._recognise(spot, known)
             return
         self.tables[spot.device] = table
-        for partition in table.partitions:
-            inner = Spot(partition.device, spot.image, partition.number)
+        for number, device in table.partitions.items():
+            inner = Spot(device, spot.image, number)
             if not self._is_member(inner):
                 self._recognise(inner, known_in(inner.device))
 
@@ -267,7 +267,7 @@ def table_in(device: Device, known: Optional[str]) -> Optional[Partitions]:
     if not first or first.kind != "MBR":
         return first
     for table in (first, partitions_of(device, False, BIG_SECTOR)):
-        devices = [partition.device for partition in table.partitions] if table else []
+        devices = table.partitions.values() if table else ()
         if any(known_in(each) or md_superblock.members_in(each)[0] for each in devices):
             return table
     return None if known else first

@@ -46,8 +46,8 @@ def parity_of(layout: Layout, name: str, segment: Segment, size: int) -> Device:
 
 def legs_of(layout: Layout, name: str, segment: Segment,
             level: int) -> Tuple[List[Device], Superblock, Device, List[str]]:
-    """The data of each leg of a segment, or why it isn't to be read, the freshest superblock with the device that has
-    it, and what is wrong with others. A leg counts if it has the most events, or one less, didn't fail, and is whole."""
+    """The data of each leg of a segment, or why it isn't to be read, the freshest superblock, the device that has it,
+    and what is wrong with others. A leg counts if it has the most events, or one less, didn't fail, and is whole."""
     names = [value for value in segment.node.values(b"raids") if isinstance(value, bytes)]
     pairs = list(zip(names[::2], names[1::2]))
     if not 1 < len(pairs) <= MOST_LEGS or len(pairs) != segment.node.value(b"device_count", int):

@@ -115,7 +115,7 @@ class Writers:
             return f"it was removed, and the text with the seqno {lost} that came after it is lost: {SINCE}"
         # The current text of a disk of this side that can't be read may be a later one, too.
         faults = map(self._lost.get, side.physical_ids.values())
-        unreadable = next(filter(None, itertools.chain(faults, map(fault_of, self._after(side.text)))), None)
+        unreadable = next(filter(None, itertools.chain(faults, map(Text.fault, self._after(side.text)))), None)
         if unreadable:
             return f"only an older text has it, and a later one can't be read ({unreadable}), so that {SINCE}"
         mine = side.uses(name)
@@ -132,7 +132,7 @@ class Writers:
         for text in sorted(texts, key=lambda text: -text.seqno):
             ids = ids_in(text) - seen
             seen |= ids
-            side = Layout(text, self.find) if ids and not fault_of(text) else None
+            side = Layout(text, self.find) if ids and not text.fault() else None
             for name in side.visible() if side else ():
                 if side.ids[name] in ids:
                     yield Volume(side, name, functools.partial(self.refused, side, name, texts, doubt), True)
@@ -143,16 +143,6 @@ def uses_of(text: Text) -> List[Tuple[Use, str]]:
     """What the volumes of a text use of physical volumes, and which volume that is."""
     side = Layout(text, Missing)
     return [(use, side.path(name)) for name in side.group.volumes for use in side.uses(name)]
-
-
-@functools.lru_cache(None)
-def fault_of(text: Text) -> Optional[str]:
-    """Why a text can't be read, or None."""
-    try:
-        text.node()
-        return None
-    except Refusal as refusal:
-        return str(refusal)
 
 
 @functools.lru_cache(maxsize=1 << 12)
