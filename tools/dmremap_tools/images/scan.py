@@ -27,10 +27,9 @@ from dmremap_tools.base.numbers import SECTOR
 from dmremap_tools.model import mapping
 from dmremap_tools.model.contents import container_in, ways_in
 from dmremap_tools.model.device import Device
-from dmremap_tools.model.groups import Group
+from dmremap_tools.model.groups import WHOLE, Group, Volume
 from dmremap_tools.model.md_array import Array
 from dmremap_tools.model.pile import Pile, Spot
-from dmremap_tools.model.volume import WHOLE, Volume
 
 EXAMPLE = "dmremap-tools scan disk1.img disk2.img /dev/sdc"
 Row = Dict[str, Any]

@@ -89,7 +89,6 @@ class GroupTables(Tables):
         return made
 
     def _plain(self, name: bytes, called: str) -> Devices:
-        """A volume under this name, and what it lies on."""
         return self._renamed(self._layout.tables, self._layout.key_of(name), called)
 
     def _renamed(self, source: Tables, key: str, called: str) -> Devices:

@@ -74,7 +74,6 @@ class Stack:
                 self._add(name, segment)
 
     def path(self, name: bytes) -> str:
-        """What a volume is called, or the store of a snapshot."""
         return ("store of " if name in self._stores else "") + self.side.path(name)
 
     def _add(self, name: bytes, segment: Segment) -> None:
@@ -229,7 +228,6 @@ class Groups:
         return ground
 
     def _without_group(self, volume: PhysicalVolume) -> Ground:
-        """Who has the sectors of a physical volume that no text here names."""
         if volume.faults:
             step = unknown(volume.faults[0])
         elif volume.current:

@@ -1,19 +1,108 @@
-"""Volume groups: which texts count, and which volumes each group has."""
+"""Volume groups: which texts count, and which volumes each group has, also those that were removed, by the texts of the
+time before."""
 
-from typing import Dict, Iterable, Iterator, List, NamedTuple, Optional, Sequence, Tuple
+import functools
+import itertools
+import re
+from typing import Callable, Dict, Iterable, Iterator, List, NamedTuple, Optional, Sequence, Set, Tuple
 
 from dmremap_tools.base.config_text import shown
 from dmremap_tools.base.numbers import SECTOR
+from dmremap_tools.base.refusal import Refusal
+from dmremap_tools.model.contents import file_system_of
 from dmremap_tools.model.device import Device, Missing
-from dmremap_tools.model.layout import Layout
+from dmremap_tools.model.layout import Layout, Use
+from dmremap_tools.model.mapping import NoProgram
 from dmremap_tools.model.physical_volume import PhysicalVolume, Text
-from dmremap_tools.model.volume import REMOVED, Volume, Writers
+from dmremap_tools.model.snapshot import INVALID as INVALID_SNAPSHOT
 
 COMPLETE, LACKING, TRUNCATED, FORKED = "complete", "missing", "truncated", "forked"
 TWO_SIDES = ("disks of this group were changed apart from each other, and both sides have a volume of this name: give "
              "the images of one side alone ({})")
 NEWER = ("{} has {} ({}), and what can be read is the one with the seqno {}: restore one of them by vgcfgrestore on "
          "copies of the disks (`metadata` prints it)")
+WHOLE, INVALID, INCOMPLETE, UNKNOWN, REMOVED = "whole", "invalid", "incomplete", "not followed", "removed"
+# Where the volumes of a text begin, as lvm2 writes it, and where they end, and the id of each.
+VOLUMES, HISTORY = b"\nlogical_volumes {", b"\nhistorical_logical_volumes {"
+SINCE, LEFT = "nothing tells who wrote there since", "nothing tells which of its sectors are left"
+IDENTITY = re.compile(rb'\n[ \t]*[A-Za-z0-9_+.-]+ \{\n[ \t]*id = "([^"\n]*)"')
+Refused = Callable[[], Optional[str]]
+
+
+class Volume:
+    """A volume of a text: its length, its kind and its origin. `refused` says why it can't be given, if it can't."""
+
+    def __init__(self, side: Layout, key: bytes, refused: Refused, is_removed: bool = False) -> None:
+        self.side, self.key, self.name, self.is_removed = side, key, key.decode("utf-8", "surrogateescape"), is_removed
+        self.path, self.identity, self._refused = f"{side.name}/{self.name}", side.ids[key], refused
+        segments, origin = side.group.volumes[key].segments, side.origins.get(key)
+        self.sectors = side.size_of(origin or key) // SECTOR
+        kinds = [segment.kind or b"" for segment in segments]
+        kind = kinds[0].decode("ascii", "replace").partition("+")[0] if kinds else "none"
+        self.kind = "linear" if kind == "striped" else re.sub(r"^(raid\d+)_.*", r"\1", kind)
+        if any(segment.kind == b"striped" and len(segment.stripes) > 1 for segment in segments):
+            self.kind = "striped"
+        if origin is not None:
+            self.kind = "snapshot"
+        elif b"thin" in kinds:
+            origin = segments[kinds.index(b"thin")].node.value(b"origin", bytes)
+        self.origin = None if origin is None else origin.decode("utf-8", "surrogateescape")
+
+    @functools.cached_property
+    def _made(self) -> Device:
+        try:
+            why = self._refused()
+            return Missing(why) if why else self.side.volume(self.key)
+        except Refusal as refusal:
+            return Missing(refusal.why)
+
+    def device(self) -> Device:
+        """Its bytes, or a refusal that says why they can't be given."""
+        if isinstance(self._made, Missing):
+            raise Refusal(self.path, self._made.name)
+        return self._made
+
+    def why(self) -> Optional[str]:
+        """Why its bytes can't be given, or aren't all there; None if they can."""
+        try:
+            return self._made.lack(0, self.sectors * SECTOR)
+        except NoProgram:
+            raise
+        except Refusal as refusal:
+            return refusal.why
+
+    def state(self) -> str:
+        why = self.why()
+        if self.is_removed:
+            return REMOVED
+        if why is None or why == INVALID_SNAPSHOT:
+            return INVALID if why else WHOLE
+        return UNKNOWN if isinstance(self._made, Missing) else INCOMPLETE
+
+    def file_system(self) -> Optional[str]:
+        try:
+            return file_system_of(self._made)
+        except NoProgram:
+            raise
+        except Refusal:
+            return None
+
+    def chunks_used(self) -> Optional[int]:
+        return getattr(self._made, "chunks_used", None)
+
+
+@functools.lru_cache(None)
+def uses_of(text: Text) -> List[Tuple[Use, str]]:
+    """What the volumes of a text use of physical volumes, and which volume that is."""
+    side = Layout(text, Missing)
+    return [(use, side.path(name)) for name in side.group.volumes for use in side.uses(name)]
+
+
+@functools.lru_cache(maxsize=1 << 12)
+def ids_in(text: Text) -> Set[str]:
+    begin, end = text.content.find(VOLUMES), text.content.find(HISTORY)
+    region = text.content[begin:end if end > begin else len(text.content)] if begin >= 0 else b""
+    return {identity.decode("ascii", "replace") for identity in IDENTITY.findall(region)}
 
 
 class Group:
@@ -49,42 +138,6 @@ def same_id(one: str, other: str) -> bool:
     return one.replace("-", "") == other.replace("-", "")
 
 
-def groups_of(volumes: Sequence[PhysicalVolume]) -> List[Group]:
-    """The groups of these physical volumes: those that are there, and then those that were removed."""
-    def find(identity: str) -> Device:
-        # Two of one id are a copy and its original, or were changed apart.
-        here = [volume for volume in volumes if volume.identity == identity]
-        believed = [volume for volume in here if not volume.doubt]
-        if len(believed) == 1:
-            return believed[0].device
-        why = f"the physical volume {identity} isn't in these images: give the image that has it"
-        if believed:
-            places = " and ".join(volume.place for volume in believed)
-            why = f"{places} both are the physical volume {identity}: give one of them"
-        return Missing(here[0].doubt or "" if here and not believed else why)
-
-    current: Dict[str, Dict[bytes, Holder]] = {}
-    known: Dict[str, Dict[bytes, Text]] = {}
-    for volume in volumes:
-        for text in volume.older + volume.current:
-            known.setdefault(text.identity, {})[text.key()] = text
-        for text in volume.current:
-            holders = current.setdefault(text.identity, {})
-            holders.setdefault(text.key(), Holder(text, [])).volumes.append(volume)
-    unread = [volume for volume in volumes if volume.faults and not volume.current]
-    texts = ((text, key in current.get(text.identity, {})) for each in known.values() for key, text in each.items())
-    writers = Writers(find, {volume.identity: f"{volume.place}: {volume.faults[0]}" for volume in unread}, texts)
-    made: List[Group] = []
-    for identity in (identity for identity in known if identity in current):
-        made += current_groups(sides_of(current[identity].values()), list(known[identity].values()), volumes, writers)
-    for older in (list(known[identity].values()) for identity in known if identity not in current):
-        removed = list(writers.removed(older, set()))
-        if removed:
-            side = max((volume.side for volume in removed), key=lambda side: side.text.seqno)
-            made.append(Group(side, REMOVED, volumes, older, removed))
-    return made
-
-
 def sides_of(current: Iterable[Holder]) -> List[Holder]:
     """The current texts that count: the newest, and those that are no older text of another one that counts."""
     sides: List[Holder] = []
@@ -108,41 +161,6 @@ def is_behind(holder: Holder, side: Holder) -> bool:
     return any(volume.identity in named for volume in holder.volumes)
 
 
-def current_groups(holders: Sequence[Holder], texts: List[Text], volumes: Sequence[PhysicalVolume],
-                   writers: Writers) -> Iterator[Group]:
-    """The group that has these texts, or each side of it."""
-    sides = [Layout(holder.text, writers.find) for holder in holders]
-    living = {identity for side in sides for identity in side.ids.values()}
-    refused = TWO_SIDES.format(" or ".join(", ".join(volume.place for volume in holder.volumes) for holder in holders))
-    for side, holder in zip(sides, holders):
-        is_forked, (state, notes), newer = len(sides) > 1, state_of(side), newer_text(holder, side, volumes)
-        named = {name for other in sides if other is not side for name in other.visible()}
-        whys = {name: newer or (refused if name in named else None) for name in side.visible()}
-        listed = [Volume(side, name, lambda why=why: why) for name, why in whys.items()]
-        # Of a side the texts that are in the rings of its disks, and its own.
-        rings = (text for volume in holder.volumes for text in [*volume.older, side.text])
-        by_key = {text.key(): text for text in rings if text.identity == side.text.identity} if is_forked else {}
-        known = list(by_key.values()) or texts
-        listed += writers.removed(known, living, newer)
-        yield Group(side, FORKED if is_forked else state, volumes, known, listed, newer, notes)
-
-
-def newer_text(holder: Holder, side: Layout, volumes: Sequence[PhysicalVolume]) -> Optional[str]:
-    """Why a text may not be the last: a disk that it names has a later one, or one that can't be read, of another
-    sum."""
-    same = [volume.told.get(side.text.key()) for volume in holder.volumes]
-    for volume in volumes:
-        if volume.identity in side.physical_ids.values() and (volume.faults or not volume.current):
-            fault = volume.faults[0] if volume.faults else "it isn't the current one"
-            last = max((text.seqno for text in volume.older if text.identity == side.text.identity), default=0)
-            is_later = last > side.text.seqno
-            later = f"a later text, with the seqno {last}, that isn't confirmed"
-            if is_later or any(told not in same for told in volume.unread):
-                which = later if is_later else "another text, which may be later"
-                return NEWER.format(volume.place, which, fault, side.text.seqno)
-    return None
-
-
 def state_of(side: Layout) -> Tuple[str, List[str]]:
     state, notes = COMPLETE, []
     for key, device in side.physical.items():
@@ -153,3 +171,122 @@ def state_of(side: Layout) -> Tuple[str, List[str]]:
             if state != LACKING:
                 state = LACKING if isinstance(device, Missing) else TRUNCATED
     return state, notes
+
+
+class Texts:
+    """All texts of some physical volumes, of any group: those that are current, with the ones that have them, and all
+    that are known, whose volumes may have written where a removed volume was."""
+
+    def __init__(self, volumes: Sequence[PhysicalVolume]) -> None:
+        self._volumes = volumes
+        self._current: Dict[str, Dict[bytes, Holder]] = {}
+        self._known: Dict[str, Dict[bytes, Text]] = {}
+        for volume in volumes:
+            for text in volume.older + volume.current:
+                self._known.setdefault(text.identity, {})[text.key()] = text
+            for text in volume.current:
+                holders = self._current.setdefault(text.identity, {})
+                holders.setdefault(text.key(), Holder(text, [])).volumes.append(volume)
+        # Why the current text of a physical volume can't be read, by its id.
+        unread = [volume for volume in volumes if volume.faults and not volume.current]
+        self._lost = {volume.identity: f"{volume.place}: {volume.faults[0]}" for volume in unread}
+
+    def groups(self) -> Iterator[Group]:
+        """The groups that are there, and then those that were removed."""
+        for identity in (identity for identity in self._known if identity in self._current):
+            yield from self._sides(sides_of(self._current[identity].values()), list(self._known[identity].values()))
+        for older in (list(texts.values()) for identity, texts in self._known.items() if identity not in self._current):
+            removed = list(self._removed(older, set()))
+            if removed:
+                side = max((volume.side for volume in removed), key=lambda side: side.text.seqno)
+                yield Group(side, REMOVED, self._volumes, older, removed)
+
+    def _find(self, identity: str) -> Device:
+        """The device of a physical volume. Two of one id are a copy and its original, or were changed apart."""
+        here = [volume for volume in self._volumes if volume.identity == identity]
+        believed = [volume for volume in here if not volume.doubt]
+        if len(believed) == 1:
+            return believed[0].device
+        if not here:
+            return Missing(f"the physical volume {identity} isn't in these images: give the image that has it")
+        both = " and ".join(volume.place for volume in believed)
+        return Missing(f"{both} both are the physical volume {identity}: give one of them" if both else here[0].doubt)
+
+    def _sides(self, holders: Sequence[Holder], texts: List[Text]) -> Iterator[Group]:
+        """The group that has these texts, or each side of it."""
+        sides = [Layout(holder.text, self._find) for holder in holders]
+        living = {identity for side in sides for identity in side.ids.values()}
+        places = (", ".join(volume.place for volume in holder.volumes) for holder in holders)
+        refused, is_forked = TWO_SIDES.format(" or ".join(places)), len(sides) > 1
+        for side, holder in zip(sides, holders):
+            (state, notes), newer = state_of(side), self._newer(holder, side)
+            named = {name for other in sides if other is not side for name in other.visible()}
+            whys = {name: newer or (refused if name in named else None) for name in side.visible()}
+            listed = [Volume(side, name, lambda why=why: why) for name, why in whys.items()]
+            # Of a side the texts that are in the rings of its disks, and its own.
+            rings = (text for volume in holder.volumes for text in [*volume.older, side.text])
+            by_key = {text.key(): text for text in rings if text.identity == side.text.identity} if is_forked else {}
+            known = list(by_key.values()) or texts
+            listed += self._removed(known, living, newer)
+            yield Group(side, FORKED if is_forked else state, self._volumes, known, listed, newer, notes)
+
+    def _newer(self, holder: Holder, side: Layout) -> Optional[str]:
+        """Why a text may not be the last: a disk that it names has a later one, or one that can't be read, of another
+        sum."""
+        same = [volume.told.get(side.text.key()) for volume in holder.volumes]
+        for volume in self._volumes:
+            if volume.identity in side.physical_ids.values() and (volume.faults or not volume.current):
+                fault = volume.faults[0] if volume.faults else "it isn't the current one"
+                last = max((text.seqno for text in volume.older if text.identity == side.text.identity), default=0)
+                is_later = last > side.text.seqno
+                if is_later or any(told not in same for told in volume.unread):
+                    which = "another text, which may be later"
+                    which = f"a later text, with the seqno {last}, that isn't confirmed" if is_later else which
+                    return NEWER.format(volume.place, which, fault, side.text.seqno)
+        return None
+
+    def _after(self, text: Text) -> Iterator[Text]:
+        """The texts that were written after one, as far as that is known."""
+        for identity, texts in self._known.items():
+            for key, other in texts.items():
+                is_current = key in self._current.get(identity, {})
+                if other.seqno > text.seqno if identity == text.identity else is_current or other.time >= text.time:
+                    yield other
+
+    def _refused(self, side: Layout, name: bytes, texts: Sequence[Text], doubt: Optional[str]) -> Optional[str]:
+        """Why a removed volume of a group that has these texts can't be given, or None."""
+        if doubt:
+            return doubt
+        why = self._why(side, name, [text for text in texts if text.seqno > side.text.seqno])
+        restored = f"restore the text with the seqno {side.text.seqno} on copies (vgcfgrestore)"
+        return why and f"{why}: to see what is left, {restored}"
+
+    def _why(self, side: Layout, name: bytes, later: Sequence[Text]) -> Optional[str]:
+        numbers, below = {text.seqno for text in later}, {side.ids[lower] for lower in side.below(name)}
+        between = range(side.text.seqno + 1, max(numbers, default=0))
+        lost = next((number for number in between if number not in numbers), None)
+        if lost:
+            return f"it was removed, and the text with the seqno {lost} that came after it is lost: {SINCE}"
+        # The current text of a disk of this side that can't be read may be a later one, too.
+        faults = map(self._lost.get, side.physical_ids.values())
+        unreadable = next(filter(None, itertools.chain(faults, map(Text.fault, self._after(side.text)))), None)
+        if unreadable:
+            return f"only an older text has it, and a later one can't be read ({unreadable}), so that {SINCE}"
+        mine = side.uses(name)
+        for (identity, first, end), owner in (each for text in self._after(side.text) for each in uses_of(text)):
+            if any(identity == other and first < stop and start < end for other, start, stop in mine):
+                return f"it was removed, and some of its extents belong to {owner} since, so that {LEFT}"
+        if any(below & ids_in(text) for text in later):
+            return "it was removed, and what it was a part of went on without it, and may have changed"
+        return None
+
+    def _removed(self, texts: Sequence[Text], living: Set[str], doubt: Optional[str] = None) -> Iterator[Volume]:
+        """The volumes of texts, by the newest that has them, that aren't there now; `doubt` refuses them all."""
+        seen = set(living)
+        for text in sorted(texts, key=lambda text: -text.seqno):
+            ids = ids_in(text) - seen
+            seen |= ids
+            side = Layout(text, self._find) if ids and not text.fault() else None
+            for name in side.visible() if side else ():
+                if side.ids[name] in ids:
+                    yield Volume(side, name, functools.partial(self._refused, side, name, texts, doubt), True)

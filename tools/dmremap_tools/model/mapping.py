@@ -191,7 +191,6 @@ class Child:
         return found
 
     def _fail(self) -> NoReturn:
-        """Refuses what the program refused, with what it said."""
         with contextlib.suppress(OSError):
             self._child.stdin.close()
         status = self._child.wait()

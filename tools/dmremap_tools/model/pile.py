@@ -9,12 +9,11 @@ from dmremap_tools.base.refusal import Refusal
 from dmremap_tools.model import md_superblock, physical_volume
 from dmremap_tools.model.contents import BIG_SECTOR, Container, Partitions, container_in, file_system_of, partitions_of
 from dmremap_tools.model.device import Device, Run
-from dmremap_tools.model.groups import REMOVED, Group, groups_of, same_id
+from dmremap_tools.model.groups import REMOVED, Group, Texts, Volume, same_id
 from dmremap_tools.model.image import Image, Lenient
 from dmremap_tools.model.md_array import Array
 from dmremap_tools.model.md_superblock import Member
 from dmremap_tools.model.physical_volume import PhysicalVolume
-from dmremap_tools.model.volume import Volume
 
 NOTHING, SCAN = "nothing is found in it", "`scan` lists what is there"
 # The most disks, partitions and arrays that are looked at, and the most levels of arrays that are members of others.
@@ -112,7 +111,7 @@ class Pile:
         for volume in cut:
             if volume.start or volume.identity in on_arrays or volume.device in damaged:
                 volume.doubt = ONE_MEMBER.format(volume.place, volume.device.size, volume.size)
-        self.groups = groups_of(self.volumes)
+        self.groups = list(Texts(self.volumes).groups())
 
     def spots(self) -> List[Spot]:
         """All devices that were looked at: images, partitions, arrays and their partitions."""

@@ -100,7 +100,6 @@ def superblock_of(meta: Device, count: int, leg: int, level: int) -> Superblock:
 
 
 def stale(superblock: Superblock, best: Superblock, leg: int) -> Optional[str]:
-    """Why a leg isn't to be read, or None."""
     if superblock.events + 1 < best.events:
         return f"it is stale: its superblock has {superblock.events} events, and another one {best.events}"
     if best.failed_devices >> leg & 1:
