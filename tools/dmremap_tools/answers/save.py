@@ -1,5 +1,5 @@
-"""`save` by tables: a whole volume, or a file of it, out of the disks that they name or images of them. A snapshot is read
-as its store says, which is on these disks, too."""
+"""`save` by tables: a whole volume, or a file of it, out of the disks that they name or images of them. A snapshot is
+read as its store says, which is on these disks, too."""
 
 import contextlib
 import tempfile

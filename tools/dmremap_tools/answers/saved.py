@@ -84,8 +84,7 @@ class SavedMap:
 
 
 def blocks_of(load: Callable[[int, int], bytes], begin: int, end: int) -> Iterator[Tuple[int, bytes, bool]]:
-    """Bytes in blocks: how many, they themselves, and whether they are there. Where they can't be read, that is in
-    halves, and these in halves."""
+    """Bytes in blocks, and in halves of these where they can't be read: how many, the bytes, and if they are there."""
     waiting: List[Tuple[int, int]] = [(start, min(BLOCK, end - start)) for start in reversed(range(begin, end, BLOCK))]
     while waiting:
         start, size = waiting.pop()

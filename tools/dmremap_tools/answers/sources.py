@@ -43,8 +43,7 @@ class Sources:
         return None
 
     def parts(self, name: str, start: int, count: int) -> Iterator[Tuple[int, bytes]]:
-        """The bytes of some sectors, in parts: how many they are, and they themselves, or none where they can't be
-        read."""
+        """The bytes of some sectors, in parts: how many, and the bytes, or none where they can't be read."""
         size, there = count * SECTOR, 0
         if self.missing(name) is None:
             file, begin = self._file(name), self._place(name).start + start * SECTOR

@@ -66,8 +66,7 @@ def run(words: Namespace) -> Optional[int]:
 
 
 def copy(target: Target, path: str, map_path: Optional[str], may_lack: bool) -> bool:
-    """Copies a target to a path, perhaps with a map, and says whether something is missing. A device that lacks bytes
-    is refused, unless it was said that it may."""
+    """Copies a target, and says whether something is missing. That is refused, unless it was said that it may lack."""
     why = target.device.lack(0, target.size)
     if why and not (map_path or may_lack):
         raise Refusal(quoting.shown(target.name), f"{why}; or {PARTLY}")
@@ -90,8 +89,7 @@ def parts(target: Target, saved: SavedMap) -> "Generator[Part, None, None]":
 
 
 def parts_of(extent: Extent) -> Iterator[Tuple[int, bytes, bool]]:
-    """The bytes of an extent in blocks: how many, the bytes themselves unless they are zeros, and whether they are
-    there."""
+    """The bytes of an extent in blocks: how many, the bytes unless they are zeros, and whether they are there."""
     source = extent.source
     if source is ZEROS:
         yield extent.size, b"", True

@@ -59,7 +59,9 @@ def object_of(pile: Pile) -> Row:
     return {"images": [image_row(pile, spot) for spot in pile.spots() if spot.device is spot.image],
             "arrays": [array_row(pile, array) for array in pile.arrays],
             "luks": list(luks_rows(pile)),
-            "groups": [group_row(group) for group in pile.groups]}
+            "groups": [{"name": group.name, "id": group.identity, "seqno": group.seqno, "state": group.state,
+                        "images": group.places, "former_names": group.former_names, "notes": group.notes,
+                        "volumes": [volume_row(volume) for volume in group.volumes]} for group in pile.groups]}
 
 
 def luks_rows(pile: Pile) -> Iterator[Row]:
@@ -88,12 +90,6 @@ def array_row(pile: Pile, array: Array) -> Row:
     return {"name": array.label, "id": array.identity, "level": array.level, "members": members,
             "missing": array.missing, "stale": stale, "sectors": array.device.size // SECTOR if array.device else None,
             "why": array.why}
-
-
-def group_row(group: Group) -> Row:
-    return {"name": group.name, "id": group.identity, "seqno": group.seqno, "state": group.state,
-            "images": group.places, "former_names": group.former_names, "notes": group.notes,
-            "volumes": [volume_row(volume) for volume in group.volumes]}
 
 
 def volume_row(volume: Volume) -> Row:

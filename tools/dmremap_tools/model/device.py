@@ -25,6 +25,9 @@ Extent = NamedTuple("Extent", [("source", "Device"), ("start", int), ("size", in
 class Device:
     """So many bytes; messages call them `name`. Most lie in other devices; a source reads or computes its own."""
 
+    # Whether all its bytes are known to be there. Devices that can tell that sooner than by their extents do.
+    is_whole = False
+
     def __init__(self, name: str, size: int = ALL) -> None:
         self.name, self.size = name, size
 
@@ -42,11 +45,6 @@ class Device:
             return None
         others = (extent for extent in self.extents(start, size) if extent.source is not self)
         return next(filter(None, (extent.source.lack(extent.start, extent.size) for extent in others)), None)
-
-    @functools.cached_property
-    def is_whole(self) -> bool:
-        """Whether all its bytes are known to be there. Devices that can tell that sooner than by their extents do."""
-        return False
 
     def ended(self) -> str:
         """What is said of bytes past its end."""

@@ -114,12 +114,12 @@ class Stack:
         segment, kind, upper, field = above.segment, above.segment.kind or b"", above.volume, above.field
         length, to = (segment.count or 0) * self.extent, (segment.node.value(b"start_extent", int) or 0) * self.extent
         begin, columns = above.start * self.extent, len(segment.stripes) if field == b"stripes" else 1
-        if field == b"raids":
+        if field == b"raids" and (kind != b"raid1" or above.place % 2 == 0):
             yield from self._of_raid(above, first, end, to, length)
         elif field == b"stripes" and columns > 1 and not segment.stripe_size:
             yield Run(first, end, unknown(f"the text says no stripes of {self.path(upper)}"))
-        elif field in (b"stripes", b"mirrors") or field == b"origin" and kind == b"integrity":
-            first, end, chunk = max(first, begin), min(end, begin - -length // (columns or 1)), segment.stripe_size or 1
+        elif field in (b"stripes", b"mirrors", b"raids") or field == b"origin" and kind == b"integrity":
+            first, end, chunk = max(first, begin), min(end, begin - -length // columns), segment.stripe_size or 1
             for at, count, sector in column(begin, first, end, chunk, columns, above.place) if first < end else ():
                 yield Run(at, at + count, Step(self.path(upper), to + sector), self.on(upper))
         elif field not in SNAPSHOT or kind.startswith(b"cache"):
@@ -135,14 +135,11 @@ class Stack:
                 yield Run(*gap, self._part(ROLES.get(field, "part"), upper))
 
     def _of_raid(self, above: Above, first: int, end: int, to: int, length: int) -> Iterator[Run]:
-        """Who has sectors of a leg of a raid volume, or of what says how it is kept."""
+        """Who has sectors of a leg of a raid volume beside a mirror, or of what says how it is kept."""
         segment, upper = above.segment, above.volume
         role, legs, chunk = above.place // 2, len(segment.node.values(b"raids")) // 2, segment.stripe_size or 0
         if above.place % 2 == 0:
             yield Run(first, end, self._part("superblock", upper))
-        elif segment.kind == b"raid1":
-            if first < length:
-                yield Run(first, min(end, length), Step(self.path(upper), to + first), self.on(upper))
         elif segment.kind in (b"raid5", b"raid5_ls") and chunk and legs > 1:
             shape = Shape("raid5", legs, "left-symmetric", chunk * SECTOR)
             for row, skipped, count in blocks_of(first, end - first, chunk):

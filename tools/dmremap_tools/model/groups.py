@@ -231,8 +231,7 @@ class Texts:
             yield Group(side, FORKED if is_forked else state, self._volumes, known, listed, newer, notes)
 
     def _newer(self, holder: Holder, side: Layout) -> Optional[str]:
-        """Why a text may not be the last: a disk that it names has a later one, or one that can't be read, of another
-        sum."""
+        """Why a text may not be the last: a disk that it names has a later one, or one of another sum."""
         same = [volume.told.get(side.text.key()) for volume in holder.volumes]
         for volume in self._volumes:
             if volume.identity in side.physical_ids.values() and (volume.faults or not volume.current):

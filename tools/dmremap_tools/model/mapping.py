@@ -124,8 +124,7 @@ class Tables:
 
 
 class Child:
-    """The program, which has loaded the tables and knows a device, and answers each request before it takes the
-    next."""
+    """The program, which knows a device of tables. It answers each request before it takes the next."""
 
     program: Optional[str] = None
 

@@ -1,5 +1,4 @@
-"""A pile of images: what is found in them where labels and superblocks lie, or else anywhere, and what somebody means
-by a name."""
+"""A pile of images: what is found in them where labels and superblocks lie, or else anywhere, and what names mean."""
 
 from typing import Dict, List, NamedTuple, Optional, Sequence, Tuple
 
