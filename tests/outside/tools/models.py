@@ -440,12 +440,12 @@ def check_legs(tally, pile):
     pile.holds(tally, "the other leg", "vg0/home", bytes(wanted), "leg0")
 
 
-def member(data, level, number, roles, events, layout=0, chunk=8, size=64, disks=None, version=2, resync=(1 << 64) - 1, name=b"array"):
-    """A member of an md array, whose data begins at sector 64 (1.2) or 0 (1.0)."""
+def member(data, level, number, roles, events, layout=0, chunk=8, size=64, disks=None, version=2, resync=(1 << 64) - 1, name=b"array", bad=()):
+    """A member of an md array, whose data begins at sector 64 (1.2) or 0 (1.0), and which may lack runs of its sectors."""
     start = 64 if version == 2 else 0
     place = 8 if version == 2 else (len(data) // SECTOR + 64 - 16) & ~7
-    head = struct.pack("<4L16s32sQlLQLLlLQlLLl", 0xA92B4EFC, 1, 0, 0, name.rjust(16, b"n"), b"here:" + name, 0, level, layout, size, chunk, disks or len(roles), 0, 0, 0, 0, 0, 0, 0)
-    head += struct.pack("<QQQQLL16sBBHl", start, len(data) // SECTOR, place, 0, number, 0, b"amember", 0, 0, 0, 0)
+    head = struct.pack("<4L16s32sQlLQLLlLQlLLl", 0xA92B4EFC, 1, 8 * bool(bad), 0, name.rjust(16, b"n"), b"here:" + name, 0, level, layout, size, chunk, disks or len(roles), 0, 0, 0, 0, 0, 0, 0)
+    head += struct.pack("<QQQQLL16sBBHl", start, len(data) // SECTOR, place, 0, number, 0, b"amember", 0, 0, bool(bad), 8)
     tail = struct.pack("<QQQ", 0, events, resync)
     table = struct.pack("<%dH" % len(roles), *roles)
     def with_sum(value):
@@ -455,6 +455,9 @@ def member(data, level, number, roles, events, layout=0, chunk=8, size=64, disks
     superblock = with_sum((total & 0xFFFFFFFF) + (total >> 32) & 0xFFFFFFFF)
     image = bytearray(start * SECTOR) + data + bytes((64 - start) * SECTOR)
     image[place * SECTOR:place * SECTOR + len(superblock)] = superblock
+    if bad:
+        log = b"".join(struct.pack("<Q", first << 10 | count) for first, count in bad)
+        image[(place + 8) * SECTOR:(place + 9) * SECTOR] = log.ljust(SECTOR, b"\xff")
     return bytes(image)
 
 
@@ -524,6 +527,9 @@ def check_arrays(tally, pile):
         pile.put("z%d" % number, member(half, 0, number, (0, 1), 0, layout=2, size=0))
     pile.holds(tally, "raid0 of unequal members", "md:array", striped([half[:24 * SECTOR] for half in halves], 8) + halves[1][24 * SECTOR:])
     pile.refuses(tally, "raid0 without a member", "md:array", "is missing", "z0")
+    for number, half in enumerate(halves):
+        pile.put("z%d" % number, member(half[:7 * SECTOR], 0, number, (0, 1), 0, layout=2, size=0))
+    pile.refuses(tally, "raid0 without a whole chunk", "md:array", "its members have no whole chunk", "z0", "z1")
 
 
 def check_nested(tally, pile):

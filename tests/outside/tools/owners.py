@@ -276,6 +276,11 @@ def check_arrays(tally, pile):
     pile.put("m1", struct.pack("<L", 0) * 4096)
     found, _ = agrees(tally, "members beside one that is lost", pile, "m0", {"md:array": data})
     tally.holds("their sectors", found["md:array"], found)
+    for number in range(2):
+        leg = b"".join(chunks[number::2])
+        pile.put("bad%d" % number, member(leg, 0, number, (0, 1), 7, layout=1, size=0, bad=[(70, 3)] * number))
+    got = asked(pile, "bad1 64 64\n", "bad0", "bad1")
+    tally.holds("a member of raid0 with bad blocks", b"bad1 72 8 = md:array 24 = " in got.out and b"superblock" not in got.out, got.out)
 
 
 class Owners(Case, checks=[

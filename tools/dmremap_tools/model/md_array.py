@@ -119,7 +119,8 @@ class Array(arrays.Array):
         is_untabled = self.level == "raid10" and (self.count % near or far > 1 and (near > 1 or is_offset))
         if is_untabled or self.level == "raid10" and self.missing:
             return CopiedChunks(self, self._data)
-        self.tables.add("array", list(arrays.lines_of(self, None)))
+        lines = list(arrays.lines_of(self, None))
+        self.tables.add("array", lines or self.refuse(f"its members have no whole chunk: {START}"))
         return Mapped(self.label, self.tables, "array")
 
     def length(self, member: Member) -> int:
