@@ -27,7 +27,10 @@ def run(words: Namespace) -> bool:
         volume = names.Names(words.ls).device(words.volume, names.Word("VOLUME"))
         begun = started.start(words, source, [volume], room)
         if words.extents is not None:
-            size, extents = extents_of(words.extents)
+            reader = filefrag.Reader(streams.Lines(words.extents))
+            extents, size = list(reader.extents()), reader.size
+            if reader.files > 1:
+                raise Refusal(reader.source.name, "more than one file: give the extents of one")
         else:
             device = begun.loaded.by_path().get(names.MAPPER + volume)
             if device is None:
@@ -86,15 +89,6 @@ def placed(command: List[str], volume: str, todo: List[Extent]) -> Iterator[Tupl
                                           "dmremap as --program")
                 yield at, piece
                 at += piece.count
-
-
-def extents_of(path: str) -> Tuple[int, List[Extent]]:
-    """The length of a file in bytes, and its extents, of what filefrag printed."""
-    reader = filefrag.Reader(streams.Lines(path))
-    extents = list(reader.extents())
-    if reader.files > 1:
-        raise Refusal(reader.source.name, "more than one file: give the extents of one")
-    return reader.size, extents
 
 
 def left(extents: List[Extent], saved: SavedMap) -> Iterator[Extent]:

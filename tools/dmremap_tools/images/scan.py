@@ -85,8 +85,8 @@ def image_row(pile: Pile, spot: Spot) -> Row:
 
 
 def array_row(pile: Pile, array: Array) -> Row:
-    members = [pile.spot_of(member.device).place for member in array.by_role.values()]
-    stale = [pile.spot_of(member.device).place for member in array.stale]
+    members = [pile.spot_of[member.device].place for member in array.by_role.values()]
+    stale = [pile.spot_of[member.device].place for member in array.stale]
     return {"name": array.label, "id": array.identity, "level": array.level, "members": members,
             "missing": array.missing, "stale": stale, "sectors": array.device.size // SECTOR if array.device else None,
             "why": array.why}

@@ -4,7 +4,7 @@ import contextlib
 import errno
 import os
 import stat
-from typing import Iterator, List, Sequence
+from typing import Iterator, Sequence
 
 from dmremap_tools.base import disk_image, quoting, streams, written
 from dmremap_tools.base.numbers import SECTOR
@@ -45,18 +45,18 @@ class Image(Device):
             yield Extent(Missing(why), 0, end - begin) if run else Extent(self, begin, end - begin)
 
     def load(self, start: int, size: int) -> bytes:
-        parts: List[bytes] = []
+        content = b""
         try:
-            while size > 0:
-                part = os.pread(self._descriptor, size, start)
+            while len(content) < size:
+                at = start + len(content)
+                part = os.pread(self._descriptor, size - len(content), at)
                 if not part:
-                    raise Gap(self.name, f"it ends at byte {start}: give an image that nobody changes")
-                parts.append(part)
-                start, size = start + len(part), size - len(part)
+                    raise Gap(self.name, f"it ends at byte {at}: give an image that nobody changes")
+                content += part
         except OSError as fault:
-            why = f"byte {start} and those after it can't be read ({streams.why(fault)})"
+            why = f"byte {at} and those after it can't be read ({streams.why(fault)})"
             raise Gap(self.name, f"{why}: take an image of it by ddrescue")
-        return parts[0] if len(parts) == 1 else b"".join(parts)
+        return content
 
     def runs(self, start: int, end: int) -> Iterator[Run]:
         """The sectors of these bytes that aren't in holes, where the file system tells of holes, as runs of bytes."""

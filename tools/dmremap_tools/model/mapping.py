@@ -67,7 +67,6 @@ class Tables:
             for lower in self.devices[name].lowers():
                 if lower in self.disks:
                     found.disks[lower] = self.disks[lower]
-                    found._names[self.disks[lower]] = lower
                 else:
                     waiting.append(names.of_path(lower))
         found.stores = {name: copy for name, copy in self.stores.items() if name in found.disks}

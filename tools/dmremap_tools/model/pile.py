@@ -66,7 +66,7 @@ class Pile:
         self._members: Dict[bytes, List[Member]] = {}
         # Members with damaged superblocks, and the ids that these give their arrays.
         self._damaged: List[Tuple[Spot, bytes]] = []
-        self._spots: Dict[Device, Spot] = {}
+        self.spot_of: Dict[Device, Spot] = {}
         self._unknown: List[Spot] = []
         images: Dict[object, Image] = {}
         for image in [Image(path, (unread or {}).get(path, ())) for path in paths]:
@@ -91,7 +91,7 @@ class Pile:
         waiting, self._unknown, known = self._unknown, [], len(self.volumes)
         for spot in waiting:
             for volume in physical_volume.volumes_within(spot.image):
-                inner = self._spots[volume.device] = Spot(volume.device, spot.image)
+                inner = self.spot_of[volume.device] = Spot(volume.device, spot.image)
                 self.volumes.append(volume)
                 self.found = [found for found in self.found if found.spot is not spot]
                 self._say(inner, "physical volume", f"found at byte {volume.start} by looking through the whole image")
@@ -103,7 +103,7 @@ class Pile:
     def _group(self) -> None:
         """Puts the groups together. A physical volume that is longer than where it lies is doubted if it was looked
         for, or a text says that it was on an array."""
-        cut = [each for each in self.volumes if self.spot_of(each.device).image and each.size > each.device.size]
+        cut = [each for each in self.volumes if self.spot_of[each.device].image and each.size > each.device.size]
         texts = [text for volume in self.volumes for text in volume.current] if cut else []
         on_arrays = {identity for text in texts for identity in text.on_arrays()}
         damaged = [spot.device for spot, _ in self._damaged]
@@ -114,11 +114,8 @@ class Pile:
 
     def spots(self) -> List[Spot]:
         """All devices that were looked at: images, partitions, arrays and their partitions."""
-        others = [found.spot for found in self.found if found.spot.device not in self._spots]
-        return [*self._spots.values(), *others]
-
-    def spot_of(self, device: Device) -> Spot:
-        return self._spots.get(device) or Spot(device, None)
+        others = [found.spot for found in self.found if found.spot.device not in self.spot_of]
+        return [*self.spot_of.values(), *others]
 
     def _say(self, spot: Spot, what: str, note: str = "") -> None:
         self.found.append(Found(spot, what, note))
@@ -138,9 +135,9 @@ class Pile:
 
     def _is_member(self, spot: Spot) -> bool:
         """Whether it is a member of an array, which is looked into no more."""
-        if len(self._spots) >= MOST_SPOTS:
+        if len(self.spot_of) >= MOST_SPOTS:
             raise Refusal(spot.device.name, MANY)
-        self._spots[spot.device] = spot
+        self.spot_of[spot.device] = spot
         members, old, damaged = md_superblock.members_in(spot.device)
         if members:
             self._members.setdefault(members[-1].superblock.array, []).append(members[-1])

@@ -34,8 +34,6 @@ TIME_BITS, FLAG_BITS, VALID = 24, 16, 1
 MODES = (b"writethrough", b"writeback")
 ONE_TIME = "give images of one time"
 ODD_CACHE = "the cache's metadata maps a block twice, or one that isn't there: run cache_check on a copy of it"
-# A node of a tree: its keys, and for each the block below it or a value.
-Node = NamedTuple("Node", [("is_leaf", bool), ("keys", Tuple[int, ...]), ("values", Tuple[int, ...])])
 # A key with its value; or the keys up to an end of which nothing is known, and why.
 Entry = NamedTuple("Entry", [("key", int), ("end", int), ("value", int), ("why", Optional[str])])
 
@@ -55,19 +53,20 @@ class Tree:
         try:
             if level == MOST_LEVELS:
                 raise damage(self._device, "its tree has too many levels")
-            node = self._node(block)
-            if node.keys and not (bounds[0] <= node.keys[0] and node.keys[-1] < bounds[1]):
+            is_leaf, keys, values = self._node(block)
+            if keys and not (bounds[0] <= keys[0] and keys[-1] < bounds[1]):
                 raise damage(self._device, f"the keys of block {block} of its tree lie in another place")
         except Gap as gap:
             yield Entry(max(bounds[0], wanted[0]), min(bounds[1], wanted[1]), 0, gap.why)
             return
-        for key, end, value in zip(node.keys, [*node.keys[1:], bounds[1]], node.values):
-            if end > wanted[0] and key < wanted[1] and not node.is_leaf:
+        for key, end, value in zip(keys, [*keys[1:], bounds[1]], values):
+            if end > wanted[0] and key < wanted[1] and not is_leaf:
                 yield from self._below(value, (key, end), wanted, level + 1)
             elif wanted[0] <= key < wanted[1]:
                 yield Entry(key, key + 1, value, None)
 
-    def _read(self, block: int) -> Node:
+    def _read(self, block: int) -> Tuple[bool, Tuple[int, ...], Tuple[int, ...]]:
+        """Whether a node is a leaf, its keys, and for each the block below it or a value."""
         content = checked(self._device, block, NODE_SUM)
         _, flags, _, count, most, size, _ = NODE.unpack_from(content)
         is_fitting = size == WORD and count <= most and NODE.size + most * 2 * WORD <= BLOCK
@@ -76,7 +75,7 @@ class Tree:
         keys = struct.unpack_from(f"<{count}Q", content, NODE.size)
         if any(one >= other for one, other in zip(keys, keys[1:])):
             raise damage(self._device, f"the keys of block {block} of its tree are out of order")
-        return Node(flags & LEAF != 0, keys, struct.unpack_from(f"<{count}Q", content, NODE.size + most * WORD))
+        return flags & LEAF != 0, keys, struct.unpack_from(f"<{count}Q", content, NODE.size + most * WORD)
 
 
 def array_values(device: Device, root: int) -> Iterator[int]:
@@ -125,22 +124,16 @@ def checked(device: Device, block: int, changed: int, number_at: int = 8) -> byt
 
 def sum_of(content: bytes) -> int:
     """The CRC-32C of some bytes, as the kernel's crc32c gives it for ~0."""
-    value, (fourth, third, second, first) = 0xFFFFFFFF, TABLES
-    for word, in struct.iter_unpack("<L", content):
-        value ^= word
-        value = first[value & 0xFF] ^ second[value >> 8 & 0xFF] ^ third[value >> 16 & 0xFF] ^ fourth[value >> 24]
+    value, table = 0xFFFFFFFF, TABLE
+    for byte in content:
+        value = table[(value ^ byte) & 0xFF] ^ value >> 8
     return value
 
 
-def _shifted(value: int, bits: int) -> int:
-    """What a sum is after so many more bits of zeros."""
-    for _ in range(bits):
-        value = value >> 1 ^ (POLYNOMIAL if value & 1 else 0)
-    return value
-
-
-# What a byte adds to the sum, if none, one, two or three bytes follow it in its word.
-TABLES = [[_shifted(byte, bits) for byte in range(256)] for bits in (8, 16, 24, 32)]
+# What a byte adds to a sum.
+TABLE = list(range(256))
+for _ in range(8):
+    TABLE = [value >> 1 ^ (POLYNOMIAL if value & 1 else 0) for value in TABLE]
 
 
 class ThinDevice(Device):
