@@ -32,7 +32,6 @@ from dmremap_tools.layouts import rescue_map, systems
 from dmremap_tools.layouts.asked_runs import AskedRuns, Run
 from dmremap_tools.layouts.debugfs import Debugfs, quoted
 from dmremap_tools.layouts.ext_system import ExtSystem
-from dmremap_tools.model import mapping
 from dmremap_tools.model.device import joined, lacking
 from dmremap_tools.model.image import Image
 from dmremap_tools.model.pile import Pile, Target
@@ -51,8 +50,7 @@ def add_words(parser: ArgumentParser) -> None:
 
 
 def run(words: Namespace) -> None:
-    mapping.use(words.program)
-    pile = Pile(words.images, rescue_map.unread_in(words.map, words.images))
+    pile = Pile(words.images, words.program, rescue_map.unread_in(words.map, words.images))
     target = pile.target(words.volume)
     lost = lacking(target.device, target.size)
     runs = [Run(begin // SECTOR, (end - begin) // SECTOR) for begin, end in lost]

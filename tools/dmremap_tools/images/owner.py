@@ -24,7 +24,6 @@ from dmremap_tools.base.numbers import SECTOR
 from dmremap_tools.base.refusal import Refusal
 from dmremap_tools.layers import arrays
 from dmremap_tools.layouts import rescue_map
-from dmremap_tools.model import mapping
 from dmremap_tools.model.contents import Container, Partitions
 from dmremap_tools.model.device import Device, Part, blocks_of
 from dmremap_tools.model.group_owners import Groups
@@ -52,10 +51,9 @@ def add_words(parser: ArgumentParser) -> None:
 
 
 def run(words: Namespace) -> None:
-    mapping.use(words.program)
     unread = rescue_map.unread_in(words.map, words.images)
     mapped = ((path, begin // SECTOR, (end - begin) // SECTOR) for path, runs in unread.items() for begin, end in runs)
-    pile = Pile(words.images)
+    pile = Pile(words.images, words.program)
     owners = Owners(pile)
     for name, first, count in mapped if words.map else asked(words):
         device = pile.device_named(name)

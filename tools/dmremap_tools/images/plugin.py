@@ -10,7 +10,6 @@ import nbdkit  # type: ignore
 from dmremap_tools.base import streams
 from dmremap_tools.base.numbers import SECTOR
 from dmremap_tools.base.refusal import Refusal
-from dmremap_tools.model import mapping
 from dmremap_tools.model.device import ZEROS, Gap, joined
 from dmremap_tools.model.pile import Pile, Target
 
@@ -40,8 +39,7 @@ def config(key: str, value: str) -> None:
 def get_ready() -> None:
     global _target
     try:
-        mapping.use(_given.get("program"))
-        _target = Pile(_images).target(_given["volume"])
+        _target = Pile(_images, _given.get("program")).target(_given["volume"])
     except Refusal as refusal:
         streams.tell(f"dmremap-tools serve: {refusal}")
         os._exit(1)

@@ -27,7 +27,6 @@ from dmremap_tools.base.numbers import SECTOR
 from dmremap_tools.base.refusal import INCOMPLETE, Refusal, WrongWords
 from dmremap_tools.layers import started
 from dmremap_tools.layouts.rescue_map import BAD, FINISHED
-from dmremap_tools.model import mapping
 from dmremap_tools.model.device import ZEROS, Extent, cut, joined
 from dmremap_tools.model.image import Image
 from dmremap_tools.model.pile import Pile, Target
@@ -60,20 +59,20 @@ def run(words: Namespace) -> Optional[int]:
         for option in ("extents", "paths", "ls", "fresh"):
             if getattr(words, option):
                 raise WrongWords(f"--{option} is for FORMAT FILE [DISKS]: leave it out", USAGE)
-        mapping.use(words.program)
-        is_partly = copy(Pile(words.images).target(words.volume), words.target, words.map, words.allow_missing)
+        is_partly = copy(words)
     return INCOMPLETE if is_partly and not words.allow_missing else None
 
 
-def copy(target: Target, path: str, map_path: Optional[str], may_lack: bool) -> bool:
-    """Copies a target, and says whether something is missing. That is refused, unless it was said that it may lack."""
+def copy(words: Namespace) -> bool:
+    """Copies what is asked for, and says whether something is missing."""
+    target = Pile(words.images, words.program).target(words.volume)
     why = target.device.lack(0, target.size)
-    if why and not (map_path or may_lack):
+    if why and not (words.map or words.allow_missing):
         raise Refusal(quoting.shown(target.name), f"{why}; or {PARTLY}")
     if why:
         streams.tell(f"{quoting.shown(target.name)}: {why}")
-    saved = SavedMap(map_path, target.size, [(0, target.size)])
-    return put_together(path, saved, parts(target, saved))
+    saved = SavedMap(words.map, target.size, [(0, target.size)])
+    return put_together(words.target, saved, parts(target, saved))
 
 
 def parts(target: Target, saved: SavedMap) -> "Generator[Part, None, None]":

@@ -24,7 +24,6 @@ from typing import Any, Dict, Iterator, List
 
 from dmremap_tools.base import program, quoting, streams
 from dmremap_tools.base.numbers import SECTOR
-from dmremap_tools.model import mapping
 from dmremap_tools.model.contents import container_in, ways_in
 from dmremap_tools.model.device import Device
 from dmremap_tools.model.groups import WHOLE, Group, Volume
@@ -46,8 +45,7 @@ def add_words(parser: ArgumentParser) -> None:
 
 
 def run(words: Namespace) -> None:
-    mapping.use(words.program)
-    pile = Pile(words.images)
+    pile = Pile(words.images, words.program)
     pile.search()
     if words.json:
         streams.out.write(json.dumps(object_of(pile), indent=1) + "\n")

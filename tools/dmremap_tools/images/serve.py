@@ -19,7 +19,6 @@ from typing import List
 
 from dmremap_tools.base import program, streams
 from dmremap_tools.base.refusal import Refusal
-from dmremap_tools.model import mapping
 from dmremap_tools.model.pile import Pile
 
 EXAMPLE = "dmremap-tools serve vg0/home sda.img sdb.img"
@@ -49,9 +48,8 @@ def run(words: Namespace) -> None:
     nbdkit = shutil.which("nbdkit")
     if not nbdkit:
         raise Refusal("nbdkit", "it isn't here: install nbdkit and its plugin for Python (nbdkit-plugin-python), or use `save`")
-    mapping.use(words.program)
     # What is refused is refused before the server begins.
-    target = Pile(words.images).target(words.volume)
+    target = Pile(words.images, words.program).target(words.volume)
     why = target.device.lack(0, target.size)
     if why:
         streams.tell(f"{target.name}: {why}: reads of that fail")

@@ -14,11 +14,10 @@ from typing import Dict, Tuple, Union
 from dmremap_tools.base import names, program, quoting, streams, tables
 from dmremap_tools.base.numbers import SECTOR
 from dmremap_tools.base.refusal import Refusal
-from dmremap_tools.model import mapping
 from dmremap_tools.model.device import Copies, Device, Part
 from dmremap_tools.model.image import Image
 from dmremap_tools.model.layout import Layout
-from dmremap_tools.model.mapping import Mapped, Tables
+from dmremap_tools.model.mapping import FILES, Mapped, Tables
 from dmremap_tools.model.pile import Pile
 
 EXAMPLE = "dmremap-tools tables vg0 sda.img sdb.img --to vg0.tables"
@@ -33,8 +32,7 @@ def add_words(parser: ArgumentParser) -> None:
 
 
 def run(words: Namespace) -> None:
-    mapping.use(words.program)
-    groups = Pile(words.images).groups_named(words.group)
+    groups = Pile(words.images, words.program).groups_named(words.group)
     if len(groups) > 1:
         raise Refusal(quoting.shown(words.group), "several groups or sides of one are called so: say the id, or give the images of one side")
     group = groups[0]
@@ -44,8 +42,6 @@ def run(words: Namespace) -> None:
     for volume in group.volumes:
         if volume.side is group.side and not volume.is_removed:
             made.add_volume(volume.key)
-    for name, why in made.left_out.items():
-        streams.tell(f"left out: {quoting.shown(name)}: {why}")
     if not made.devices:
         raise Refusal(quoting.shown(words.group), "none of its volumes has a table: `save` and `serve` give those that are computed")
     made.put(words.to)
@@ -53,21 +49,20 @@ def run(words: Namespace) -> None:
 
 class GroupTables(Tables):
     """The tables of a group for dmremap itself: its volumes under the names that lvm2 gives them, the arrays that they
-    lie on, and the images. `left_out` says why a volume isn't among them."""
+    lie on, and the images."""
 
     def __init__(self, layout: Layout) -> None:
         super().__init__()
         layout.check()
         self._layout = layout
-        self.left_out: Dict[str, str] = {}
         self._arrays: Dict[Device, str] = {}
 
     def add_volume(self, name: bytes) -> None:
-        """Adds a volume, or says why it can't be."""
+        """Adds a volume, or tells why it can't be."""
         try:
             self.devices.update(self._volume(name))
         except Refusal as refusal:
-            self.left_out[name.decode("utf-8", "replace")] = refusal.why
+            streams.tell(f"left out: {quoting.shown(name.decode('utf-8', 'replace'))}: {refusal.why}")
 
     def _volume(self, name: bytes) -> Devices:
         layout, record, called = self._layout, self._layout.records.get(name), self._name_of(name)
@@ -138,7 +133,7 @@ class GroupTables(Tables):
             os.makedirs(folder, exist_ok=True)
         except OSError as fault:
             raise streams.OutputFailed(f"{quoting.shown(folder)}: {streams.why(fault)}")
-        for path in (os.path.join(folder, name) for name in mapping.FILES):
+        for path in (os.path.join(folder, name) for name in FILES):
             if os.path.lexists(path):
                 raise Refusal(quoting.shown(path), "it is there already: give another folder, or remove it first")
         places = {name: os.path.abspath(image.path) for name, image in self.disks.items()}

@@ -5,7 +5,7 @@ from typing import Dict, List, NamedTuple, Optional, Sequence, Tuple
 from dmremap_tools.base import quoting
 from dmremap_tools.base.numbers import SECTOR
 from dmremap_tools.base.refusal import Refusal
-from dmremap_tools.model import md_superblock, physical_volume
+from dmremap_tools.model import mapping, md_superblock, physical_volume
 from dmremap_tools.model.contents import BIG_SECTOR, Container, Partitions, container_in, file_system_of, partitions_of
 from dmremap_tools.model.device import Device, Run
 from dmremap_tools.model.groups import REMOVED, Group, Texts, Volume, same_id
@@ -54,9 +54,11 @@ Found = NamedTuple("Found", [("spot", Spot), ("what", str), ("note", str)])
 
 
 class Pile:
-    """What is in some images; of each some runs may not have been read from the disk."""
+    """What is in some images; of each some runs may not have been read from the disk. `program` is what is asked."""
 
-    def __init__(self, paths: Sequence[str], unread: Optional[Dict[str, List[Run]]] = None) -> None:
+    def __init__(self, paths: Sequence[str], program: Optional[str],
+                 unread: Optional[Dict[str, List[Run]]] = None) -> None:
+        mapping.use(program)
         self.found: List[Found] = []
         self.tables: Dict[Device, Partitions] = {}
         self.arrays: List[Array] = []
