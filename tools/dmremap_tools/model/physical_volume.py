@@ -169,9 +169,16 @@ class Text(NamedTuple):
         """By which the same text is known in other places."""
         return hashlib.sha256(self.content).digest()
 
+    @functools.lru_cache(MOST_KEPT)
     def node(self) -> Node:
         """The section of the group. A text that says something else is refused."""
-        return _node(self.group, self.content)
+        if len(self.content) > MOST_TEXT:
+            why = f"its text has {len(self.content)} bytes, and no more than {MOST_TEXT} are read"
+            raise Refusal(self.group, f"{why}: activate it with lvm2")
+        sections = Document(self.group, self.content).top.sections()
+        if not sections:
+            raise Refusal(self.group, "its text has no section: see older ones by `metadata --list`")
+        return sections[0]
 
     @functools.lru_cache(None)
     def fault(self) -> Optional[str]:
@@ -188,17 +195,6 @@ class Text(NamedTuple):
             device, identity = node.value(b"device", bytes), node.value(b"id", bytes)
             if isinstance(device, bytes) and isinstance(identity, bytes) and device.startswith(ARRAYS):
                 yield identity.decode("ascii", "replace")
-
-
-@functools.lru_cache(MOST_KEPT)
-def _node(group: str, content: bytes) -> Node:
-    if len(content) > MOST_TEXT:
-        why = f"its text has {len(content)} bytes, and no more than {MOST_TEXT} are read"
-        raise Refusal(group, f"{why}: activate it with lvm2")
-    sections = Document(group, content).top.sections()
-    if not sections:
-        raise Refusal(group, "its text has no section: see older ones by `metadata --list`")
-    return sections[0]
 
 
 class PhysicalVolume:
