@@ -19,8 +19,7 @@ API_VERSION = 2
 # Of how many bytes a client is told at once what reads as zeros, and in how many extents: it goes on asking.
 MOST_BYTES, MOST_EXTENTS = 1 << 26, 1 << 10
 Answer = TypeVar("Answer")
-_given: Dict[str, str] = {}
-_images: List[str] = []
+_given: Dict[str, List[str]] = {}
 _target: Target
 
 
@@ -30,16 +29,13 @@ def thread_model() -> int:
 
 
 def config(key: str, value: str) -> None:
-    if key == "image":
-        _images.append(value)
-    else:
-        _given[key] = value
+    _given.setdefault(key, []).append(value)
 
 
 def get_ready() -> None:
     global _target
     try:
-        _target = Pile(_images, _given.get("program")).target(_given["volume"])
+        _target = Pile(_given["image"], _given.get("program", [None])[-1]).target(_given["volume"][-1])
     except Refusal as refusal:
         streams.tell(f"dmremap-tools serve: {refusal}")
         os._exit(1)

@@ -108,34 +108,32 @@ class Computed(Device):
         self._rows, self._shape, self._members, self._role = rows, rows.shape, rows.members, role
 
     def lack(self, start: int, size: int) -> Optional[str]:
-        whys = (self._rule(*part)[1] for part in self._rows.parts(start, size))
-        return next(filter(None, whys), None)
+        try:
+            for part in self._rows.parts(start, size):
+                self._gone(*part)
+            return None
+        except Gap as gap:
+            return gap.why
 
     def load(self, start: int, size: int) -> bytes:
-        parts = []
-        for row, at, count in self._rows.parts(start, size):
-            gone, why = self._rule(row, at, count)
-            if why:
-                raise Gap(self.name, why)
-            parts.append(self._solved(self._shape.row(row), gone, at, count))
-        return b"".join(parts)
+        return b"".join(self._solved(*part) for part in self._rows.parts(start, size))
 
-    def _rule(self, row: int, at: int, count: int) -> Tuple[List[int], Optional[str]]:
-        """The roles that are missing in a row, and why they can't be computed."""
+    def _gone(self, row: int, at: int, count: int) -> List[int]:
+        """The roles that are missing in a row; a Gap where they can't be computed."""
         if any(begin < at + count and at < end for begin, end in self._rows.doubtful):
-            return [], f"{self._members[self._role].name}, and {UNCLEAN}"
+            raise Gap(self.name, f"{self._members[self._role].name}, and {UNCLEAN}")
         whys = enumerate(member.lack(at, count) for member in self._members)
         lacks = {role: why for role, why in whys if why is not None}
-        roles, gone = self._shape.row(row), list(lacks)
-        if len(gone) > self._shape.count - self._shape.data:
-            return gone, quoting.some(list(lacks.values()), "; ")
-        if self._shape.level == "raid6" and roles.syndrome is None:
+        if len(lacks) > self._shape.count - self._shape.data:
+            raise Gap(self.name, quoting.some(list(lacks.values()), "; "))
+        if self._shape.level == "raid6" and self._shape.row(row).syndrome is None:
             why = f"no rule is known for parity of the layout {self._shape.layout}: give the missing member"
-            return gone, f"{lacks[self._role]}: {why}"
-        return gone, None
+            raise Gap(self.name, f"{lacks[self._role]}: {why}")
+        return list(lacks)
 
-    def _solved(self, roles: Row, gone: List[int], at: int, count: int) -> bytes:
+    def _solved(self, row: int, at: int, count: int) -> bytes:
         """The bytes of the missing member of this role, where others are missing too."""
+        roles, gone = self._shape.row(row), self._gone(row, at, count)
         have = {role: self._members[role].read(at, count) for role in range(self._shape.count) if role not in gone}
         lost = [role for role in gone if role in roles.data]
         if len(lost) == 1 and roles.parity in have:
