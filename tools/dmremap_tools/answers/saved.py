@@ -4,19 +4,17 @@ import contextlib
 import os
 import stat
 import time
-from typing import Callable, Generator, Iterable, Iterator, List, NamedTuple, Optional, Sequence, Tuple
+from typing import Generator, Iterable, Iterator, List, NamedTuple, Optional, Sequence, Tuple
 
 from dmremap_tools.base import quoting, streams, written
 from dmremap_tools.base.numbers import SECTOR
 from dmremap_tools.base.refusal import Refusal
 from dmremap_tools.layouts import rescue_map
 from dmremap_tools.layouts.rescue_map import FINISHED, UNTRIED, Area
-from dmremap_tools.model.device import Gap, cut
+from dmremap_tools.model.device import BLOCK, cut
 
 HEAD = "# Mapfile. Created by dmremap-tools save\n# current_pos  current_status  current_pass\n"
 PARTLY = "give --map MAP to save the rest: the map says then what is missing"
-# Bytes that are read at once.
-BLOCK = 1 << 20
 ZEROS = bytes(BLOCK)
 # How often a map is written, in seconds.
 STEP = 30
@@ -81,21 +79,6 @@ class SavedMap:
         if (areas[0].begin, areas[-1].end) != (0, self.size) if areas else self.size:
             raise Refusal(quoting.shown(self._path), f"a map of another file than one of {self.size} bytes: give its own")
         return areas
-
-
-def blocks_of(load: Callable[[int, int], bytes], begin: int, end: int) -> Iterator[Tuple[int, bytes, bool]]:
-    """Bytes in blocks, and in halves of these where they can't be read: how many, the bytes, and if they are there."""
-    waiting: List[Tuple[int, int]] = [(start, min(BLOCK, end - start)) for start in reversed(range(begin, end, BLOCK))]
-    while waiting:
-        start, size = waiting.pop()
-        try:
-            yield size, load(start, size), True
-        except (Gap, OSError):
-            half = size // 2 // SECTOR * SECTOR
-            if half:
-                waiting += [(start + half, size - half), (start, half)]
-            else:
-                yield size, b"", False
 
 
 def append(areas: List[Area], area: Area) -> None:

@@ -5,11 +5,11 @@ import os
 import stat
 from typing import Dict, Iterable, Iterator, Optional, Tuple
 
-from dmremap_tools.answers.saved import blocks_of
 from dmremap_tools.base import disk_image, quoting, streams, written
 from dmremap_tools.base.numbers import SECTOR
 from dmremap_tools.base.paths import Place
 from dmremap_tools.base.refusal import Refusal
+from dmremap_tools.model.device import read_blocks
 
 # Disks that are open at once.
 MOST_OPEN = 64
@@ -48,7 +48,7 @@ class Sources:
         if self.missing(name) is None:
             file, begin = self._file(name), self._place(name).start + start * SECTOR
             there = min(size, max(0, (file.seek(0, os.SEEK_END) - begin) // SECTOR * SECTOR))
-            for part, content, _ in blocks_of(functools.partial(read, file.fileno()), begin, begin + there):
+            for part, content, _ in read_blocks(functools.partial(read, file.fileno()), begin, begin + there):
                 yield part, content
         if there < size:
             yield size - there, b""

@@ -21,13 +21,13 @@ from argparse import ArgumentParser, Namespace
 from typing import Generator, Iterator, Optional, Tuple
 
 from dmremap_tools.answers import save as by_tables
-from dmremap_tools.answers.saved import BLOCK, PARTLY, Part, SavedMap, blocks_of, put_together
+from dmremap_tools.answers.saved import PARTLY, Part, SavedMap, put_together
 from dmremap_tools.base import given, names, quoting, streams
 from dmremap_tools.base.numbers import SECTOR
 from dmremap_tools.base.refusal import INCOMPLETE, Refusal, WrongWords
 from dmremap_tools.layers import started
 from dmremap_tools.layouts.rescue_map import BAD, FINISHED
-from dmremap_tools.model.device import ZEROS, Extent, cut, joined
+from dmremap_tools.model.device import BLOCK, ZEROS, Extent, cut, joined, read_blocks
 from dmremap_tools.model.image import Image
 from dmremap_tools.model.pile import Pile, Target
 
@@ -99,4 +99,4 @@ def parts_of(extent: Extent) -> Iterator[Tuple[int, bytes, bool]]:
         # Holes of an image aren't read.
         has_holes = isinstance(source, Image) and extent.size >= BLOCK
         for first, stop, run in cut(list(source.runs(begin, end)) if has_holes else [(begin, end)], begin, end):
-            yield from blocks_of(source.load, first, stop) if run else [(stop - first, b"", True)]
+            yield from read_blocks(source.load, first, stop) if run else [(stop - first, b"", True)]

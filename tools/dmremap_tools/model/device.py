@@ -4,7 +4,7 @@ large blocks, and so that what is missing is known before anything is read."""
 import bisect
 import functools
 from array import array
-from typing import Iterable, Iterator, List, NamedTuple, Optional, Sequence, Tuple
+from typing import Callable, Iterable, Iterator, List, NamedTuple, Optional, Sequence, Tuple
 
 from dmremap_tools.base.numbers import SECTOR
 from dmremap_tools.base.refusal import Refusal
@@ -12,6 +12,8 @@ from dmremap_tools.base.refusal import Refusal
 # The first of some bytes, and the one after them; and the end of what goes on without one.
 Run = Tuple[int, int]
 ALL = 1 << 64
+# Bytes that are read at once.
+BLOCK = 1 << 20
 
 
 class Gap(Refusal):
@@ -188,6 +190,21 @@ def blocks_of(start: int, size: int, block: int) -> Iterator[Tuple[int, int, int
         count = min(size, block - offset)
         yield number, offset, count
         start, size = start + count, size - count
+
+
+def read_blocks(load: Callable[[int, int], bytes], begin: int, end: int) -> Iterator[Tuple[int, bytes, bool]]:
+    """Bytes in blocks, and in halves of these where they can't be read: how many, the bytes, and if they are there."""
+    waiting: List[Tuple[int, int]] = [(start, min(BLOCK, end - start)) for start in reversed(range(begin, end, BLOCK))]
+    while waiting:
+        start, size = waiting.pop()
+        try:
+            yield size, load(start, size), True
+        except (Gap, OSError):
+            half = max(size // 2 // SECTOR, size > SECTOR) * SECTOR
+            if half:
+                waiting += [(start + half, size - half), (start, half)]
+            else:
+                yield size, b"", False
 
 
 def lacking(device: Device, size: int) -> List[Run]:

@@ -2,6 +2,7 @@
 
 import contextlib
 import errno
+import itertools
 import os
 import stat
 from typing import Iterator, Sequence
@@ -9,7 +10,7 @@ from typing import Iterator, Sequence
 from dmremap_tools.base import disk_image, quoting, streams, written
 from dmremap_tools.base.numbers import SECTOR
 from dmremap_tools.base.refusal import Refusal
-from dmremap_tools.model.device import Device, Extent, Gap, Missing, Run, cut
+from dmremap_tools.model.device import Device, Extent, Gap, Missing, Run, cut, read_blocks
 
 
 class Image(Device):
@@ -83,10 +84,5 @@ class Lenient(disk_image.Image):
 
     def read(self, at: int, count: int) -> bytes:
         """The bytes that are there, up to the first sector that isn't."""
-        content, count = b"", max(0, min(count, self.size - at))
-        with contextlib.suppress(Gap):
-            return self._device.read(at, count)
-        with contextlib.suppress(Gap):
-            while len(content) < count:
-                content += self._device.read(at + len(content), min(SECTOR, count - len(content)))
-        return content
+        blocks = read_blocks(self._device.read, at, min(at + count, self.size))
+        return b"".join(content for _, content, _ in itertools.takewhile(lambda block: block[2], blocks))
