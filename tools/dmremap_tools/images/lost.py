@@ -64,7 +64,7 @@ def run(words: Namespace) -> None:
 
 def place_of(target: Target) -> Optional[str]:
     """Where a volume lies, if it is all in one piece of an image."""
-    first, *others = joined(target.device.extents(0, target.size))
+    (_, first), *others = joined(target.device, 0, target.size)
     if others or not isinstance(first.source, Image):
         return None
     return first.source.path + (f"?offset={first.start}" if first.start else "")
@@ -72,9 +72,8 @@ def place_of(target: Target) -> Optional[str]:
 
 def copied(target: Target, path: str) -> str:
     """A copy of a volume, with holes where it has zeros or lacks bytes."""
-    at = 0
     with open(path, "wb") as file:
-        for extent in joined(target.device.extents(0, target.size)):
+        for at, extent in joined(target.device, 0, target.size):
             streams.show_progress(f"copying {target.name}: {at >> 20} of {target.size >> 20} MiB")
             for size, content, _ in parts_of(extent):
                 if content.strip(b"\0"):

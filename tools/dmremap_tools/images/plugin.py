@@ -73,9 +73,9 @@ def found_extents(count: int, offset: int) -> List[Tuple[int, int, int]]:
     first = offset // SECTOR * SECTOR
     end = min(-(-(offset + count) // SECTOR) * SECTOR, _target.size, first + MOST_BYTES)
     found: List[Tuple[int, int, int]] = []
-    for extent in joined(_target.device.extents(first, end - first)):
-        begin, first = max(first, offset), first + extent.size
-        found.append((begin, first - begin, (nbdkit.EXTENT_HOLE | nbdkit.EXTENT_ZERO) * (extent.source is ZEROS)))
+    for at, extent in joined(_target.device, first, end - first):
+        begin, kind = max(at, offset), nbdkit.EXTENT_HOLE | nbdkit.EXTENT_ZERO if extent.source is ZEROS else 0
+        found.append((begin, at + extent.size - begin, kind))
         if len(found) == MOST_EXTENTS:
             break
     return found

@@ -81,10 +81,10 @@ def parts(target: Target, saved: SavedMap) -> "Generator[Part, None, None]":
         for start in range(begin, end, WINDOW):
             first = start // SECTOR * SECTOR
             stop = -(-min(end, start + WINDOW) // SECTOR) * SECTOR
-            for extent in joined(target.device.extents(first, stop - first)):
+            for at, extent in joined(target.device, first, stop - first):
                 for size, content, is_there in parts_of(extent):
-                    yield Part(first, size, content, FINISHED if is_there else BAD, max(start, first))
-                    first += size
+                    yield Part(at, size, content, FINISHED if is_there else BAD, max(start, at))
+                    at += size
 
 
 def parts_of(extent: Extent) -> Iterator[Tuple[int, bytes, bool]]:

@@ -4,7 +4,7 @@ large blocks, and so that what is missing is known before anything is read."""
 import bisect
 import functools
 from array import array
-from typing import Callable, Iterable, Iterator, List, NamedTuple, Optional, Sequence, Tuple
+from typing import Callable, Iterator, List, NamedTuple, Optional, Sequence, Tuple
 
 from dmremap_tools.base.numbers import SECTOR
 from dmremap_tools.base.refusal import Refusal
@@ -55,8 +55,8 @@ class Device:
     def read(self, start: int, size: int) -> bytes:
         """These bytes, all of them; a Gap where some aren't there."""
         first = start // SECTOR * SECTOR
-        extents = joined(self.extents(first, -(-(start + size) // SECTOR) * SECTOR - first))
-        content = b"".join(extent.source.load(extent.start, extent.size) for extent in extents)
+        extents = joined(self, first, -(-(start + size) // SECTOR) * SECTOR - first)
+        content = b"".join(extent.source.load(extent.start, extent.size) for _, extent in extents)
         return content[start - first:start - first + size]
 
     def load(self, start: int, size: int) -> bytes:
@@ -210,27 +210,26 @@ def read_blocks(load: Callable[[int, int], bytes], begin: int, end: int) -> Iter
 def lacking(device: Device, size: int) -> List[Run]:
     """The runs of the first bytes of a device that aren't there."""
     runs: List[Run] = []
-    at = 0
-    for extent in joined(device.extents(0, size)) if device.lack(0, size) is not None else ():
+    for at, extent in joined(device, 0, size) if device.lack(0, size) is not None else ():
         if extent.source.lack(extent.start, extent.size) is not None:
             begin = runs.pop()[0] if runs and runs[-1][1] == at else at
             runs.append((begin, at + extent.size))
-        at += extent.size
     return runs
 
 
-def joined(extents: Iterable[Extent]) -> Iterator[Extent]:
-    """Extents, with those that go on in their source in one."""
+def joined(device: Device, start: int, size: int) -> Iterator[Tuple[int, Extent]]:
+    """Where some bytes of a device lie, with those that go on in their source in one: the first of each, and those."""
     last: Optional[Extent] = None
-    for extent in extents:
+    for extent in device.extents(start, size):
         if last and last.source is extent.source and last.start + last.size == extent.start:
             last = last._replace(size=last.size + extent.size)
-        else:
-            if last:
-                yield last
-            last = extent
+            continue
+        if last:
+            yield start, last
+            start += last.size
+        last = extent
     if last:
-        yield last
+        yield start, last
 
 
 ZEROS = Zeros("zeros")

@@ -38,13 +38,11 @@ class Reading:
     def __init__(self, device: Device) -> None:
         self.lacks: Optional[str] = None
         rows: Dict[Device, List[Tuple[int, int, int]]] = {}
-        at = 0
-        for extent in joined(device.extents(0, device.size)):
+        for at, extent in joined(device, 0, device.size):
             why = extent.source.lack(extent.start, extent.size)
             self.lacks = self.lacks or why
             if why is None and extent.source is not ZEROS:
                 rows.setdefault(extent.source, []).append((extent.start, extent.size, at))
-            at += extent.size
         # The starts, the sizes and the places in the volume, by their sources.
         self._sources = {source: [array("Q", each) for each in zip(*sorted(found))] for source, found in rows.items()}
 
@@ -166,12 +164,11 @@ class Stack:
         """The sectors of a volume that another one reads, which its own layer says. A snapshot's are its own."""
         called, over = self.side.path(upper), None if upper in self._stores else self.on(upper)
         try:
-            reading, at = self._reading(upper), first
-            for extent in joined(self.side.plain(lower).extents(first * SECTOR, (end - first) * SECTOR)):
+            reading = self._reading(upper)
+            for at, extent in joined(self.side.plain(lower), first * SECTOR, (end - first) * SECTOR):
                 for begin, size, place in reading.meeting(extent.source, extent.start, extent.size):
-                    sector = at + (begin - extent.start) // SECTOR
+                    sector = (at + begin - extent.start) // SECTOR
                     yield Run(sector, sector + size // SECTOR, Step(called, place // SECTOR), over)
-                at += extent.size // SECTOR
             why = reading.lacks
         except NoProgram:
             raise

@@ -89,8 +89,6 @@ class Tables:
         if block not in self._refused:
             try:
                 return self._new_child(known[block * MOST_DEVICES:(block + 1) * MOST_DEVICES], name)
-            except NoProgram:
-                raise
             except Refusal:
                 self._refused.add(block)
         return self._new_child([name], name)

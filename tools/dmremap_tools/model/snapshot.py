@@ -60,7 +60,6 @@ def device_of(layout: Layout, record: Record) -> Device:
 def copy(store: Device, chunk: int, path: str) -> None:
     """Writes the file. It ends before the first sector that can't be read, so that zeros are never taken for that."""
     with open(path, "wb") as file:
-        is_whole = True
         for start, length, content in list_of(store, chunk):
             file.seek(start)
             file.write(content)
