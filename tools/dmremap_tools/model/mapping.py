@@ -87,10 +87,9 @@ class Tables:
         known = list(self.devices)
         block = known.index(name) // MOST_DEVICES
         if block not in self._refused:
-            try:
+            with contextlib.suppress(Refusal):
                 return self._new_child(known[block * MOST_DEVICES:(block + 1) * MOST_DEVICES], name)
-            except Refusal:
-                self._refused.add(block)
+            self._refused.add(block)
         return self._new_child([name], name)
 
     def _new_child(self, wanted: Sequence[str], name: str) -> "Child":
