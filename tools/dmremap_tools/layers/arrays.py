@@ -34,7 +34,6 @@ class Array:
         self.there = list(self.by_role.values())
         self.level = examine.same(self.there, "Raid Level")
         self._disks, self._sizes = disks, sizes
-        self._beginnings: Dict[int, Tuple[str, int]] = {}
         is_said = any("Layout" in it.fields for it in self.there)
         self.layout = examine.same(self.there, "Layout") if is_said else ""
         self.chunk = 0 if self.level in ("linear", "raid1") else self._chunk()
@@ -49,13 +48,6 @@ class Array:
             self.refuse("device %d of the array is missing: add what `mdadm --examine` prints of it" % role)
         return self.by_role[role]
 
-    def disk(self, role: int) -> str:
-        path = self.member(role).path
-        name = self._disks.get(path, path)
-        if not names.DISK.fullmatch(name) and not name.startswith(names.MAPPER):
-            self.refuse("no name of a disk, give --path %s=DISK" % quoting.shown(name))
-        return name
-
     @functools.lru_cache(maxsize=1 << 12)
     def role_in(self, row: int, column: int) -> int:
         """The member that has a column of data beside parity."""
@@ -64,11 +56,14 @@ class Array:
             self.refuse("no layout of %s that is known (%s): %s" % (self.level, quoting.shown(self.layout), examine.START))
         return role
 
+    @functools.lru_cache(maxsize=None)
     def beginning(self, role: int) -> Tuple[str, int]:
         """A member's disk, and its first sector of data."""
-        if role not in self._beginnings:
-            self._beginnings[role] = self.disk(role), self.member(role).data_offset()
-        return self._beginnings[role]
+        member = self.member(role)
+        name = self._disks.get(member.path, member.path)
+        if not names.DISK.fullmatch(name) and not name.startswith(names.MAPPER):
+            self.refuse("no name of a disk, give --path %s=DISK" % quoting.shown(name))
+        return name, member.number("Data Offset") if "Data Offset" in member.fields else 0
 
     def spot(self, role: int, row: int = 0) -> List[str]:
         """A member's disk, and a sector of its data, as words of a line."""
@@ -205,31 +200,25 @@ def place(array: Array, number: int, copy: int) -> Tuple[int, int]:
     return (role + at + turn * near) % array.count, row + turn * stride
 
 
-def _role_of_raid5(layout: str, count: int, row: int, column: int) -> Optional[int]:
-    """The role of a column of data in a row, beside one of parity."""
+def _role_of_raid5(layout: str, count: int, row: int, column: int, parities: int = 1) -> Optional[int]:
+    """The role of a column of data in a row, beside one of parity, or beside two that follow each other."""
     if layout in ("parity-first", "parity-last"):
-        return column + (layout == "parity-first")
+        return column + parities * (layout == "parity-first")
     if layout not in ("left-symmetric", "left-asymmetric", "right-symmetric", "right-asymmetric"):
         return None
     parity = count - 1 - row % count if layout.startswith("left") else row % count
-    return (parity + 1 + column) % count if layout.endswith("-symmetric") else column + (column >= parity)
+    if layout.endswith("-symmetric"):
+        return (parity + parities + column) % count
+    # Of two of which the first is on the last device the second is on the first one.
+    return column + (1 if parity + parities > count else parities * (column >= parity))
 
 
 def _role_of_raid6(layout: str, count: int, row: int, column: int) -> Optional[int]:
     """The same beside two of parity. Layouts that end in -6 are those of raid5, with the second on the last device."""
     if layout.endswith("-6"):
         return _role_of_raid5(layout[:-2], count - 1, row, column)
-    if layout in ("parity-first", "parity-last"):
-        return column + 2 * (layout == "parity-first")
     if layout == "ddf-N-continue":
         return (count - row % count + column) % count
     same = {"ddf-zero-restart": ("right-asymmetric", row), "ddf-N-restart": ("left-asymmetric", row + 1)}
     layout, row = same.get(layout, (layout, row))
-    if layout not in ("left-symmetric", "left-asymmetric", "right-symmetric", "right-asymmetric"):
-        return None
-    parity = count - 1 - row % count if layout.startswith("left") else row % count
-    if layout.endswith("-symmetric"):
-        return (parity + 2 + column) % count
-    if parity == count - 1:
-        return column + 1
-    return column + (2 if column >= parity else 0)
+    return _role_of_raid5(layout, count, row, column, 2)

@@ -5,6 +5,7 @@ from typing import Dict, List, NoReturn, Optional, Sequence, Tuple
 
 from dmremap_tools.base import quoting, streams
 from dmremap_tools.base.refusal import Refusal
+from dmremap_tools.model.md_superblock import BAD_BLOCKS, BITMAP, JOURNAL, LAYOUT_SAID, MOST_DEVICES
 
 HEAD = re.compile(r"(/\S+|[^\s:][^:]*):")
 FIELD = re.compile(r" *([A-Z][A-Za-z0-9 ']*?) : (.*)")
@@ -16,15 +17,13 @@ ROLE = re.compile(r"Active device (\d{1,4})")
 AMOUNT = re.compile(r"(\d{1,18})(?: (?:sectors|KiB))?(?: \(.*)?")
 EVENTS = re.compile(r"\d{1,20}(?:\.\d{1,20})?")
 CHUNK = re.compile(r"(\d{1,9})K")
-FEATURES = re.compile(r"0x([0-9a-f]{1,8})")
-# Bits of the feature map that don't change where data lies: a bitmap, bad blocks, a layout of raid0 that is said.
-BAD_BLOCKS = 0x8
-HARMLESS = 0x1 | BAD_BLOCKS | 0x1000
+# What a feature map is, what stands for another one, and the bits that don't change where data lies.
+FEATURES, UNKNOWN = re.compile("0x[0-9a-f]{1,8}"), 1 << 32
+HARMLESS = BITMAP | BAD_BLOCKS | LAYOUT_SAID
 # What to do about a text with faults, and about an array that no table says.
 ANEW, START = "make the text anew by `mdadm --examine`", "start it by `mdadm --assemble --readonly`"
 CHANGING = ("Reshape pos'n", "Delta Devices", "New Level", "New Layout", "New Chunksize", "Recovery Offset")
-JOURNAL = ("Journal Offset", "Journal")
-MOST_DEVICES = 4096
+OF_JOURNAL = ("Journal Offset", "Journal")
 
 
 class Member:
@@ -55,9 +54,6 @@ class Member:
         if not match:
             self.refuse("no number, %s: %s : %s" % (ANEW, keys[0], quoting.shown(text)))
         return int(match[1])
-
-    def data_offset(self) -> int:
-        return self.number("Data Offset") if "Data Offset" in self.fields else 0
 
     def used(self) -> int:
         """How many of its sectors an array of level 4, 5, 6 or 10 uses."""
@@ -91,29 +87,30 @@ class Member:
         """Refuses it if its sum is wrong, or data lies elsewhere than its fields say."""
         if not self.get("Checksum").endswith(" - correct"):
             self.refuse("its sum is wrong: leave it out, or " + ANEW)
-        features = FEATURES.fullmatch(self.fields.get("Feature Map", "0x0"))
-        others = int(features[1], 16) & ~HARMLESS if features else HARMLESS
-        if any(it in self.fields for it in JOURNAL) or others & 0x200:
+        said = self.fields.get("Feature Map", "0x0")
+        features = int(said, 16) if FEATURES.fullmatch(said) else UNKNOWN
+        if features & JOURNAL or any(it in self.fields for it in OF_JOURNAL):
             self.refuse("it has a journal, where the newest data may be: " + START)
-        if others or any(it in self.fields for it in CHANGING):
+        if features & ~HARMLESS or any(it in self.fields for it in CHANGING):
             self.refuse("it is being reshaped or rebuilt, or has features that aren't known (feature map %s): %s"
-                        % (quoting.shown(self.fields.get("Feature Map", "0x0")), START))
-        if features and int(features[1], 16) & BAD_BLOCKS:
+                        % (quoting.shown(said), START))
+        if features & BAD_BLOCKS:
             streams.tell("%s has bad blocks: a kernel reads another copy there" % quoting.shown(self.path))
 
 
 def read(path: str) -> List[Member]:
     found: List[Member] = []
     for number, row in enumerate(streams.rows(path), 1):
+        place = "%s:%d" % (streams.name_of(path), number)
         head, field, device = HEAD.fullmatch(row), FIELD.fullmatch(row), DEVICE.fullmatch(row)
         if head:
-            found.append(Member("%s:%d" % (streams.name_of(path), number), head[1]))
+            found.append(Member(place, head[1]))
         elif found and field:
             found[-1].fields.setdefault(field[1], field[2].strip())
         elif found and device:
             found[-1].states[device[1]] = int(device[2]), device[3]
         elif row.strip() and not DEVICE_HEAD.fullmatch(row):
-            raise Refusal("%s:%d" % (streams.name_of(path), number), "not a line of `mdadm --examine`, leave it out: " + quoting.shown(row))
+            raise Refusal(place, "not a line of `mdadm --examine`, leave it out: " + quoting.shown(row))
     if not found:
         raise Refusal(streams.name_of(path), "no member of an array: " + ANEW)
     return found
@@ -130,9 +127,8 @@ def same(members: Sequence[Member], *keys: str) -> str:
 def by_role(members: Sequence[Member]) -> Tuple[Dict[int, Member], int]:
     """The members by their roles, all of the last state that any of them tells, and how many roles there are."""
     first = members[0]
-    same(members, "Array UUID", "UUID")
-    same(members, "Raid Level")
-    same(members, "Raid Devices")
+    for keys in ("Array UUID", "UUID"), ("Raid Level",), ("Raid Devices",):
+        same(members, *keys)
     count, version = first.number("Raid Devices"), same(members, "Version")
     if version not in ("1.0", "1.1", "1.2") and not OLD_VERSION.fullmatch(version):
         first.refuse(f"metadata of version {quoting.shown(version)}, and only 0.90 and 1.0 to 1.2 are known: {START}")

@@ -22,6 +22,7 @@ from typing import Dict, Iterator, List, Tuple
 from dmremap_tools.base import names, numbers, pieces, quoting, requests, streams
 from dmremap_tools.base.refusal import WrongWords
 from dmremap_tools.layers import arrays, examine
+from dmremap_tools.model.device import blocks_of
 
 # The name of a disk, a sector of it, and how many follow.
 Run = Tuple[str, int, int]
@@ -83,40 +84,28 @@ def follow(array: arrays.Array, disk: str, copy: "int | None", source: pieces.An
         if piece.start + piece.count > array.sectors:
             source.refuse_line(f"{shown} has {array.sectors} sectors, make the answers with that in DISKS")
         runs = _joined(_read(array, piece, copies, copy or 0) if piece.what == "R" else _written(array, piece, copies))
-        head = f"{piece.request} {piece.what}"
-        lines = (f"{head} {name} {start} {count}\n" for name, start, count in runs)
+        lines = (f"{piece.request} {piece.what} {name} {start} {count}\n" for name, start, count in runs)
         for some in iter(lambda: "".join(itertools.islice(lines, AT_ONCE)), ""):
             streams.out.write(some)
 
 
-def _chunks(array: arrays.Array, piece: pieces.Piece) -> Iterator[Tuple[int, int, int]]:
-    """The chunks of a piece: the number, where the piece begins in it, and how many of its sectors it has."""
-    start, end = piece.start, piece.start + piece.count
-    while start < end:
-        number, at = divmod(start, array.chunk)
-        count = min(end - start, array.chunk - at)
-        yield number, at, count
-        start += count
-
-
 def _read(array: arrays.Array, piece: pieces.Piece, copies: int, first: int) -> Iterator[Run]:
     """Where a piece is read: in one of the copies, or in the next one that is there."""
-    for number, at, count in _chunks(array, piece):
-        role, row = arrays.place(array, number, first % copies)
-        if role not in array.by_role:
-            others = (arrays.place(array, number, (first + it) % copies) for it in range(1, copies))
-            role, row = next((it for it in others if it[0] in array.by_role), (role, row))
+    for number, at, count in blocks_of(piece.start, piece.count, array.chunk):
+        places = (arrays.place(array, number, (first + it) % copies) for it in range(copies))
+        there = next((it for it in places if it[0] in array.by_role), None)
+        role, row = there or arrays.place(array, number, first % copies)
         disk, start = array.beginning(role)
         yield disk, start + row * array.chunk + at, count
 
 
 def _written(array: arrays.Array, piece: pieces.Piece, copies: int) -> Iterator[Run]:
     """Where a piece is written: in each copy that is there, one after the other."""
-    for number, _, _ in _chunks(array, piece):
+    for number, _, _ in blocks_of(piece.start, piece.count, array.chunk):
         if not any(arrays.place(array, number, it)[0] in array.by_role for it in range(copies)):
             array.member(arrays.place(array, number, 0)[0])
     for copy in range(copies):
-        for number, at, count in _chunks(array, piece):
+        for number, at, count in blocks_of(piece.start, piece.count, array.chunk):
             role, row = arrays.place(array, number, copy)
             if role in array.by_role:
                 disk, start = array.beginning(role)

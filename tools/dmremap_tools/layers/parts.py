@@ -44,13 +44,14 @@ def device_of(name: str, flags: str, lines: Iterable[tables.Line], part: Optiona
 
 
 def _meeting(lines: Iterable[tables.Line], first: int, end: int) -> Iterator[tables.Line]:
-    left: Optional[int] = None
+    """The lines that have some of these sectors, and `error` before and after them."""
+    last = following = 0
     for line in lines:
-        is_asked = line.start < end and line.start + line.length > first
-        if is_asked and left is not None:
-            yield tables.Line(left, line.start - left, "error", [])
-        if is_asked:
+        following = line.start + line.length
+        if line.start < end and following > first:
+            if line.start > last:
+                yield tables.Line(last, line.start - last, "error", [])
             yield line
-        left, last = None if is_asked else line.start if left is None else left, line.start + line.length
-    if left is not None:
-        yield tables.Line(left, last - left, "error", [])
+            last = following
+    if following > last:
+        yield tables.Line(last, following - last, "error", [])
