@@ -24,25 +24,23 @@ def judge(group: Group) -> None:
             users.setdefault(name, []).append(record)
     waiting = deque(group.records)
     while waiting:
-        while waiting:
-            for name in _judge_record(group, waiting.popleft(), merging):
-                waiting += users.get(name, ())
-        waiting += [record for name in _judge_places(group) for record in users.get(name, ())]
+        gone = _judge_record(group, waiting.popleft(), merging)
+        waiting += [record for name in gone for record in users.get(name, ())]
+        if not waiting:
+            waiting += [record for name in _judge_places(group) for record in users.get(name, ())]
 
 
 def leave_others(group: Group, wanted: List[bytes]) -> None:
     """Leaves out all but the volumes of these names, and the origins of those that are snapshots."""
     records = {it.store: it for it in group.records}
-    waiting: List[Optional[bytes]] = [*wanted]
-    asked = set()
-    while waiting:
-        name = waiting.pop()
-        if name not in asked:
-            asked.add(name)
-            record = records.get(name)
-            waiting += [record.volume.name, record.origin] if record else []
+    asked: List[Optional[bytes]] = [*wanted]
+    for name in asked:
+        # The list grows by what it stands on.
+        record = records.pop(name, None)
+        asked += [record.volume.name, record.origin] if record else []
+    staying = set(asked)
     for volume in group.volumes.values():
-        if volume.name not in asked:
+        if volume.name not in staying:
             volume.why = NOT_ASKED
 
 

@@ -1,11 +1,11 @@
 """A copy of a text, whose lines have their numbers, in the form that dmremap reads, without what it can't pass over."""
 
 import re
+from collections import deque
 from typing import Collection, Dict, List, Optional, Set, Tuple
 
 from dmremap_tools.base import streams
-from dmremap_tools.base.config_text import (ANEW, BARE, DECIMAL, NUMBER, SINGLE, Document, Item, Node,
-                                            is_word_between, shown)
+from dmremap_tools.base.config_text import ANEW, DECIMAL, DOUBLE, NUMBER, Document, Item, Node, is_word_between, shown
 from dmremap_tools.base.plain_text import MARK
 
 # What dmremap takes for a key, a number and a string, and how many sections it takes inside each other.
@@ -35,8 +35,8 @@ class Mending:
         self.document = document
         self.said: List[Tuple[int, str]] = []
         self.left_out: Set[Node] = set()
-        self._replaced: Dict[Tuple[int, int], bytes] = {}
-        self._inserted: List[Change] = []
+        # A word that begins right after a number is cut off, so that a space comes before it.
+        self._written: Dict[Tuple[int, int], bytes] = {(at, at): b"" for at in document.tight}
 
     def say(self, at: int, what: str) -> None:
         self.said.append((self.document.line_at(at), what))
@@ -54,11 +54,11 @@ class Mending:
 
     def write(self, start: int, end: int, content: bytes) -> None:
         """Puts bytes in the place of those from `start` to `end`, also where others were put there before."""
-        self._replaced[start, end] = content
+        self._written[start, end] = content
 
     def insert(self, at: int, content: bytes) -> None:
         """Puts bytes before this one, behind those that were put there before."""
-        self._inserted.append((at, at, content))
+        self.write(at, at, self._written.get((at, at), b"") + content)
 
     def put(self, node: Node, item: Item, content: bytes, why: str) -> None:
         self.write(item.start, item.end, content)
@@ -78,8 +78,7 @@ class Mending:
         return gaps
 
     def content(self) -> bytes:
-        changes = self.gaps() + self._inserted + [(at, at, b"") for at in self.document.tight]
-        changes += [(*place, new) for place, new in self._replaced.items()]
+        changes = self.gaps() + [(*place, new) for place, new in self._written.items()]
         changes.sort(key=lambda it: (it[0], it[0] < it[1], -it[1]))
         pieces, end = [], 0
         for start, following, new in changes:
@@ -174,22 +173,21 @@ def _unreadable(document: Document, node: Node) -> Optional[str]:
             return "a key that is no word"
         for item in node.items:
             fault = _unreadable_item(document.content[item.start:item.end], item.kind)
-            if not fault and node.is_list and (item.comma >= 0) != (item is not node.items[-1]):
-                fault = "a comma too many or too few"
             if fault:
                 return fault
+            if node.is_list and (item.comma >= 0) != (item is not node.items[-1]):
+                return "a comma too many or too few"
     return None
 
 
 def _unreadable_item(text: bytes, kind: str) -> Optional[str]:
     """Why dmremap doesn't read a value, or None."""
-    if kind == DECIMAL:
-        return "a number with a fraction"
+    if kind == NUMBER and not text.isdigit():
+        return "a number with a sign"
     if kind == NUMBER:
-        is_too_large = text.isdigit() and (len(text) > 19 or int(text) >= 1 << 63)
-        return "a number that is too large" if is_too_large else None if text.isdigit() else "a number with a sign"
-    if kind in (SINGLE, BARE):
-        return "a string without double quotes"
+        return "a number that is too large" if len(text) > 19 or int(text) >= 1 << 63 else None
+    if kind != DOUBLE:
+        return "a number with a fraction" if kind == DECIMAL else "a string without double quotes"
     fault = "a string of several lines" if b"\n" in text else "a backslash that stands for itself"
     return None if QUOTED.match(text) else fault
 
@@ -201,8 +199,11 @@ def mended(copy: Mending, content: bytes) -> bytes:
     if b"\0" in content:
         line = 1 + content[:content.index(b"\0")].count(b"\n")
         copy.said.append((line, "left out: the NUL here, and what comes after it"))
+    gaps, reached = deque(sorted(copy.gaps())), 0
     for at in copy.document.tight:
-        if not any(start <= at < end for start, end, _ in copy.gaps()):
+        while gaps and gaps[0][0] <= at:
+            reached = max(reached, gaps.popleft()[1])
+        if at >= reached:
             copy.say(at, "changed: a space is missing")
     made = copy.content()
     return made if _is_readable(made) and not re.search(rb"[\r\v\f]", made) else _with_plain_space(copy, made)

@@ -13,14 +13,14 @@ TYPES = (STRIPED, LINEAR, SNAPSHOT) + NO_STORE
 RAID_PARTS = (b"raids", b"raid0_lvs")
 
 
-class Segment(NamedTuple):
+class Segment:
     """A segment, with what it has of numbers and stripes."""
 
-    node: Node
-    kind: Optional[bytes]
-    count: Optional[int]
-    stripes: List[Tuple[Value, Value]]
-    stripe_size: Optional[int]
+    def __init__(self, node: Node) -> None:
+        self.node, stripes = node, node.values(b"stripes")
+        self.kind: Optional[bytes] = node.value(b"type", bytes)
+        self.count, self.stripe_size = (node.value(it, int) for it in (b"extent_count", b"stripe_size"))
+        self.stripes: List[Tuple[Value, Value]] = list(zip(stripes[::2], stripes[1::2]))
 
 
 class Volume:
@@ -29,7 +29,7 @@ class Volume:
     def __init__(self, node: Node) -> None:
         self.node, self.name = node, node.key
         self.why: Optional[str] = None
-        self.segments = [segment_of(it) for it in node.sections()]
+        self.segments = [Segment(it) for it in node.sections()]
         self.extents = sum(it.count or 0 for it in self.segments)
 
     def record(self) -> "Optional[Record]":
@@ -78,17 +78,11 @@ def sections_in(node: Node, key: bytes) -> List[Node]:
 
 def disk_names(physicals: List[Node]) -> List[str]:
     """The names that dmremap has for these disks: the paths that are names of one disk each, or else the keys."""
-    found = [it.value(b"device", bytes) for it in physicals]
-    count = collections.Counter(found)
+    paths = [it.value(b"device", bytes) or it.key for it in physicals]
+    count = collections.Counter(paths)
     named = []
-    for node, path in zip(physicals, found):
-        text = path.decode("utf-8", "surrogateescape") if isinstance(path, bytes) else ""
+    for node, path in zip(physicals, paths):
+        text = path.decode("utf-8", "surrogateescape")
         is_name = text.startswith("/") and names.DISK.fullmatch(text) and count[path] == 1
         named.append(text if is_name else node.key.decode("utf-8", "surrogateescape"))
     return named
-
-
-def segment_of(node: Node) -> Segment:
-    values = node.values(b"stripes")
-    kind, count, size = node.value(b"type", bytes), node.value(b"extent_count", int), node.value(b"stripe_size", int)
-    return Segment(node, kind, count, list(zip(values[::2], values[1::2])), size)
