@@ -39,7 +39,7 @@ from dmremap_tools.base.config_text import ANEW, Document, Node, shown
 from dmremap_tools.base.plain_text import MARK
 from dmremap_tools.base.refusal import Refusal
 from dmremap_tools.metadata.followed import NOT_ASKED, judge, leave_others
-from dmremap_tools.metadata.mending import LIST, ONE, Mending, mend_section, mended
+from dmremap_tools.metadata.mending import Mending, mend_section, mended
 from dmremap_tools.metadata.volume_group import LINEAR, STRIPED, Group, Volume
 
 EXAMPLE = "dmremap-tools lvm2-text vgm.backup > copy.backup && dmremap table lvm copy.backup"
@@ -47,13 +47,11 @@ EXAMPLE = "dmremap-tools lvm2-text vgm.backup > copy.backup && dmremap table lvm
 MOST_TEXT, MOST_COPY = 8 << 20, 1 << 20
 ADVICE = "take an older text, from /etc/lvm/archive or by `metadata --list`, or leave this out by --only"
 
-# The fields that dmremap reads, and what each has. Others it passes over.
-TOP = dict.fromkeys((b"contents", b"version"), ONE)
-GROUP = {b"extent_size": ONE}
-PHYSICAL = dict.fromkeys((b"device", b"dev_size", b"pe_start", b"pe_count"), ONE)
-VOLUME = {b"status": LIST, b"flags": LIST, b"segment_count": ONE}
-SEGMENT = {b"stripes": LIST, **dict.fromkeys((b"start_extent", b"extent_count", b"type", b"stripe_count",
-                                              b"stripe_size", b"chunk_size", b"origin", b"cow_store"), ONE)}
+# The fields that dmremap reads. Others it passes over.
+TOP, GROUP = {b"contents", b"version"}, {b"extent_size"}
+PHYSICAL, VOLUME = {b"device", b"dev_size", b"pe_start", b"pe_count"}, {b"status", b"flags", b"segment_count"}
+SEGMENT = {b"stripes", b"start_extent", b"extent_count", b"type", b"stripe_count", b"stripe_size", b"chunk_size",
+           b"origin", b"cow_store"}
 
 
 def add_words(parser: argparse.ArgumentParser) -> None:
@@ -99,9 +97,8 @@ def drop_twice(copy: Mending) -> None:
     waiting = [copy.document.top]
     while waiting:
         section = waiting.pop()
-        children = section.children or []
-        last = {it.key: it for it in children}
-        for node in children if len(last) < len(children) else ():
+        last = {it.key: it for it in section.children}
+        for node in section.children:
             counting = last[node.key]
             if counting is node:
                 continue
@@ -110,7 +107,7 @@ def drop_twice(copy: Mending) -> None:
                                             f"{copy.document.line_at(node.start)}: put the two together")
             line = copy.document.line_at(counting.start)
             copy.drop(node, shown(node.key), f"it is there again in line {line}, which counts")
-        section.children = [it for it in children if last[it.key] is it]
+        section.children = [it for it in section.children if last[it.key] is it]
         waiting += section.sections()
 
 
@@ -123,7 +120,7 @@ def group_of(copy: Mending) -> Node:
                       "give a text of /etc/lvm/backup, or what `metadata` prints")
     for node in sections[1:]:
         copy.drop(node, shown(node.key), "lvm2 reads one section of a text, the first")
-    top.children = [it for it in top.children or () if it.children is None or it is sections[0]]
+    top.children = [it for it in top.children if it.children is None or it is sections[0]]
     return sections[0]
 
 
@@ -139,15 +136,14 @@ def drop_volumes(copy: Mending, group: Group) -> None:
             copy.left_out.add(volume.node)
         elif volume.why:
             copy.drop(volume.node, shown(volume.name), volume.why)
-    without: Dict[bytes, List[bytes]] = {}
+    without: Dict[Volume, List[bytes]] = {}
     for record in group.records:
-        origin = group.volumes.get(record.origin or b"")
+        origin = group.volumes.get(record.origin)
         if record.volume.why and origin and not origin.why:
-            without.setdefault(origin.name, []).append(record.store or record.volume.name)
-    for name, snapshots in without.items():
-        copy.say(group.volumes[name].node.start, f"kept: {shown(name)}, without its snapshot "
-                 f"{shown(b', '.join(snapshots))}: on a machine, a write to it also copies what it overwrites, "
-                 "which the answers don't show")
+            without.setdefault(origin, []).append(record.store or record.volume.name)
+    for origin, snapshots in without.items():
+        copy.say(origin.node.start, f"kept: {shown(origin.name)}, without its snapshot {shown(b', '.join(snapshots))}: "
+                 "on a machine, a write to it also copies what it overwrites, which the answers don't show")
     if group.volumes and all(it.why for it in group.volumes.values()):
         copy.tell()
         raise Refusal(copy.document.path, "nothing is left, as dmremap can follow none of its volumes: "
@@ -173,7 +169,7 @@ def mend_group(copy: Mending, group: Group) -> None:
     lists = {it for it in group.node.sections() if it.key in (b"physical_volumes", b"logical_volumes")}
     mend_section(copy, group.node, GROUP, lists)
     for node in lists:
-        mend_section(copy, node, {}, set(node.sections()))
+        mend_section(copy, node, (), set(node.sections()))
     for node in group.physicals.values():
         mend_section(copy, node, PHYSICAL, ())
         _mend_physical(copy, group, node)
@@ -193,10 +189,8 @@ def mend_group(copy: Mending, group: Group) -> None:
 
 def _mend_part(copy: Mending, volume: Volume) -> None:
     """lvm2 loads all parts of raid volumes as writable, whatever their status is."""
-    status = volume.node.child(b"status")
-    if not status or status.children is not None or b"WRITE" in status.own_values():
-        return
-    if b"WRITE_LOCKED" not in volume.node.values(b"flags"):
+    status, flags = volume.node.child(b"status"), volume.node.values(b"flags")
+    if status and status.children is None and b"WRITE" not in status.own_values() and b"WRITE_LOCKED" not in flags:
         at, before = (status.items[-1].end, b", ") if status.items else (status.end - 1, b"")
         copy.insert(at, before + b'"WRITE"')
         why = f"{shown(volume.name)} is part of a raid volume, which lvm2 loads as writable"
@@ -206,18 +200,18 @@ def _mend_part(copy: Mending, volume: Volume) -> None:
 def _mend_physical(copy: Mending, group: Group, node: Node) -> None:
     """Gives a disk the length that its extents need at least, and a name. After a change of its size lvm2 writes
     less, and old versions wrote no size; the true one stands nowhere in the text."""
-    start, count = node.value(b"pe_start", int), node.value(b"pe_count", int)
+    start, count, size = (node.value(it, int) for it in (b"pe_start", b"pe_count", b"dev_size"))
     if start is None or count is None or group.extent_size is None:
         return
-    size, least = node.value(b"dev_size", int), start + count * group.extent_size
+    inside, name, least = node.value_at + 1, shown(node.key), start + count * group.extent_size
     if least == 0 and not size:
-        copy.drop(node, shown(node.key), "it has no sectors")
+        copy.drop(node, name, "it has no sectors")
         return
-    inside, name, size_field = node.value_at + 1, shown(node.key), node.child(b"dev_size")
     long = f"at least {least} sectors long, where its extents end"
     if node.child(b"device") is None:
         copy.insert(inside, b' device = ""')
         copy.say_changed(node.start, b"device", f"{name} has none, so that the disk has this name")
+    size_field = node.child(b"dev_size")
     if size_field is None:
         copy.insert(inside, b" dev_size = %d" % least)
         copy.say_changed(node.start, b"dev_size", f"{name} has none, and is {long}")

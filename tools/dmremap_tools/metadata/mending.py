@@ -13,8 +13,8 @@ WORD = re.compile(rb"[A-Za-z0-9_+.][A-Za-z0-9_+.-]*\Z")
 DIGITS = re.compile(rb"0\Z|[1-9][0-9]{0,18}\Z")
 QUOTED = re.compile(rb'"(?:[^"\\\n]|\\["\\])*"\Z')
 LEVELS = 16
-# What a field has.
-ONE, LIST = "one", "list"
+# The fields that have a list; others have one value.
+LISTS = {b"status", b"flags", b"stripes"}
 BLANK = b" \t\v\f\r"
 # What stands behind a section or a field in its line, up to the end of that.
 REST_OF_LINE = re.compile(rb"[ \t\v\f\r]*(?:#[^\n]*)?(?=\n)")
@@ -99,19 +99,18 @@ def joined(pieces: List[bytes]) -> bytes:
     return b"".join(made)
 
 
-def mend_section(copy: Mending, node: Node, fields: Dict[bytes, str], sections: Collection[Node]) -> None:
+def mend_section(copy: Mending, node: Node, fields: Collection[bytes], sections: Collection[Node]) -> None:
     """Mends the fields and sections of a section that dmremap reads, and leaves out what it can't pass over."""
     for child in node.children or ():
-        wanted, is_field = fields.get(child.key), child.children is None
-        is_as_read = child.is_plain and is_field and (wanted is None or child.is_list == (wanted == LIST))
+        is_field, is_read = child.children is None, child.key in fields
+        is_as_read = child.is_plain and is_field and (not is_read or child.is_list == (child.key in LISTS))
         if is_as_read or child in copy.left_out:
             # Nearly all fields need no second look.
             continue
-        if child in sections:
+        if child in sections or is_field and is_read:
             _mend_key(copy, child)
-        elif is_field and wanted is not None:
-            _mend_key(copy, child)
-            _mend_field(copy, child, wanted)
+            if is_field:
+                _mend_field(copy, child)
         else:
             fault = _unreadable(copy.document, child)
             if fault:
@@ -127,7 +126,7 @@ def _mend_key(copy: Mending, node: Node) -> None:
         copy.say_changed(node.start, node.key, "a key in quotes")
 
 
-def _mend_field(copy: Mending, node: Node, kind: str) -> None:
+def _mend_field(copy: Mending, node: Node) -> None:
     """Writes the value of a field as dmremap reads it: numbers in decimal digits, strings in double quotes."""
     items, is_list = node.items, node.is_list
     for item in items:
@@ -141,11 +140,11 @@ def _mend_field(copy: Mending, node: Node, kind: str) -> None:
         elif not QUOTED.match(text):
             quoted = b'"%s"' % re.sub(rb'(["\\])', rb"\\\1", item.value).replace(b"\n", UNKNOWN)
             copy.put(node, item, quoted + b"\n" * text.count(b"\n"), f"written as {shown(quoted)}")
-    if kind == LIST and not is_list:
+    if not is_list and node.key in LISTS:
         copy.insert(node.value_at, b"[")
         copy.insert(node.end, b"]")
         copy.say_changed(node.start, node.key, "one value in place of a list")
-    elif kind == ONE and is_list and len(items) == 1:
+    elif is_list and node.key not in LISTS and len(items) == 1:
         copy.write(node.value_at, node.value_at + 1, b"")
         copy.write(node.end - 1, node.end, b"")
         copy.say_changed(node.start, node.key, "a list of one value")
