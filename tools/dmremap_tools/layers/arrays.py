@@ -8,18 +8,11 @@ from dmremap_tools.base.refusal import Refusal
 from dmremap_tools.layers import examine
 from dmremap_tools.layers.examine import Member
 
-TABLED = ("linear", "raid0", "raid1", "raid4", "raid10")
 PARITY = ("raid4", "raid5", "raid6")
 # Metadata 0.90 lies in the last 64 KiB of a member that begin at a multiple of that.
 OLD_ROOM = 128
-
-
-class Copies(NamedTuple):
-    """The layout of raid10: how many near copies, how many far ones, and whether these lie in the next row."""
-
-    near: int
-    far: int
-    is_offset: bool
+# The layout of raid10: how many near copies, how many far ones, and whether these lie in the next row.
+Copies = NamedTuple("Copies", [("near", int), ("far", int), ("is_offset", bool)])
 
 
 class Array:
@@ -136,9 +129,8 @@ def _zones(array: Array) -> Iterator[tables.Line]:
     """Rows over all members, then rows over those that are longer, and so on."""
     size = {role: array.available(role) // array.chunk * array.chunk for role in range(array.count)}
     row = start = 0
-    while any(it > row for it in size.values()):
+    for end in sorted(set(size.values()) - {0}):
         longer = [role for role in size if size[role] > row]
-        end = min(size[role] for role in longer)
         if row and array.layout not in ("original", "alternate") and len(longer) > 1:
             array.refuse("members of several lengths, and no layout that is said: write it by `mdadm --assemble --update=layout-original`, "
                          "or -alternate for one that was written to since Linux 3.14")
@@ -173,21 +165,18 @@ def _rows_of_copies(array: Array, copy: Optional[int]) -> Iterator[tables.Line]:
         array.refuse(f"raid10 of {array.count} devices with the layout {array.layout}, which no table can say: follow the answers with --follow")
     if copy is not None and copy >= near * far:
         array.refuse(f"it has {near * far} copies, counted from 0: give a lower --copy")
+    copies = range(near * far) if copy is None else [copy]
     if far > 1:
-        for each in range(far) if copy is None else [copy]:
-            roles = [(it + each) % array.count for it in range(array.count)]
-            if copy is not None or all(it in array.by_role for it in roles):
-                break
+        # Each copy needs all members, so that of one that is missing the last copy tells.
+        each = copies[0 if len(array.by_role) == array.count else -1]
+        roles = [(it + each) % array.count for it in range(array.count)]
         return _rows(array, roles, each * (array.chunks // far) * array.chunk)
-    firsts = range(0, array.count, near)
-    if copy is not None:
-        return _rows(array, [first + copy for first in firsts], 0)
-    return _rows(array, [next((it for it in range(first, first + near) if it in array.by_role), first) for first in firsts], 0)
+    groups = ([first + it for it in copies] for first in range(0, array.count, near))
+    return _rows(array, [next((it for it in group if it in array.by_role), group[0]) for group in groups], 0)
 
 
 def place(array: Array, number: int, copy: int) -> Tuple[int, int]:
-    """The role and the row of a chunk of an array of raid4, 5, 6 or 10. In raid10 the far copies of each near one have numbers that
-    follow each other."""
+    """The role and the row of a chunk. In raid10 the far copies of each near one have numbers that follow each other."""
     if array.level != "raid10":
         row, column = divmod(number, array.count - (2 if array.level == "raid6" else 1))
         # Layouts that end in -6 come again after one row less.

@@ -1,5 +1,6 @@
 """Why dmremap loads no stack with this snapshot or this store, and what a kernel does with it, in words."""
 
+import functools
 import re
 from typing import Callable, Dict, Iterator, List, NamedTuple, Optional
 
@@ -15,8 +16,6 @@ OVERFLOWS = "a kernel lets reads of kind PO go on when the store is full, and dm
 ANOTHER_KIND = "a kernel refuses this kind of store: write that which `dmsetup table` has"
 FEATURES = "a kernel takes features of a snapshot, which change discards alone, and dmremap takes none: let the line end after the chunk"
 BESIDE = "a kernel takes it beside other lines, and dmremap doesn't: give it a device of its own, and write a linear line to that here"
-NO_CHUNK = "a kernel takes a chunk of 0 for 32 sectors: write 32"
-WRONG_CHUNK = "a kernel refuses this chunk: write that which `dmsetup table` has"
 LONG_CHUNK = "a kernel takes this chunk, and dmremap none of more than %d sectors: read it through a kernel" % store_places.MOST_IN_CHUNK
 LONGER = "a kernel refuses it, as it is longer than its origin: see what `dmsetup table` has"
 SHORTER = "a kernel takes it, though it is shorter than its origin, and dmremap doesn't"
@@ -36,19 +35,8 @@ COPY = "; dmremap-tools lvm2-text makes a copy without it"
 OF_STORE = {"store": NOTHING_KEPT, "limit": PLACES}
 ODD_RECORD = "lvm2 writes no such record of a snapshot: take an older text, from /etc/lvm/archive"
 OTHER_COPY = "dmremap can't follow what stands there; dmremap-tools lvm2-text makes a copy without it"
-
-
-class Row(NamedTuple):
-    """A line of a device as it stands in a text, whose words may make no sense."""
-
-    number: int
-    device: str
-    flags: str
-    words: List[str]
-
-    @property
-    def target(self) -> str:
-        return "".join(self.words[2:3])
+# A line as it stands in a text, whose words may make no sense, with the path and the flags of its device.
+Row = NamedTuple("Row", [("path", str), ("flags", str), ("words", List[str]), ("target", str)])
 
 
 def told(name: str, form: str, text: str, sizes: Callable[[], Dict[str, int]], said: str) -> "tuple[str, str]":
@@ -74,13 +62,13 @@ class Rows:
     def __init__(self, form: str, text: str, sizes: Callable[[], Dict[str, int]]) -> None:
         self.by_number: Dict[int, List[Row]] = {}
         self._by_path: Dict[str, List[Row]] = {}
-        self._sizes = sizes
-        for number, said in enumerate(text.rstrip("\n").split("\n" if form == "table" else ";"), 1):
-            device, *fields = said.split(",") if form != "table" else said.partition(": ")
-            for line in fields[3:] if form != "table" else fields[1:]:
-                row = Row(number, device, fields[2] if form != "table" else "", line.split())
+        self._sizes, is_table = functools.lru_cache(None)(sizes), form == "table"
+        for number, said in enumerate(text.rstrip("\n").split("\n" if is_table else ";"), 1):
+            device, *fields = said.partition(": ") if is_table else said.split(",")
+            for words in map(str.split, fields[1 if is_table else 3:]):
+                row = Row(names.MAPPER + device, "" if is_table else fields[2], words, "".join(words[2:3]))
                 self.by_number.setdefault(number, []).append(row)
-                self._by_path.setdefault(names.MAPPER + device, []).append(row)
+                self._by_path.setdefault(row.path, []).append(row)
 
     def why(self, word: str, row: Row) -> Optional[str]:
         """What a kernel does with a line that dmremap refuses with this word, or None."""
@@ -96,7 +84,7 @@ class Rows:
         if row.target not in ("snapshot", "snapshot-origin"):
             return None
         if word == "snapshot":
-            if len(self._by_path[names.MAPPER + row.device]) > 1:
+            if len(self._by_path[row.path]) > 1:
                 return BESIDE
             why = _why_chunk(int(row.words[6])) if row.target == "snapshot" else None
             return why or (LONGER if int(row.words[1]) > self._length(row.words[3]) else ORIGIN_BETWEEN)
@@ -138,9 +126,9 @@ def _why_kind(kind: str) -> Optional[str]:
 
 def _why_chunk(chunk: int) -> Optional[str]:
     if chunk == 0:
-        return NO_CHUNK
+        return "a kernel takes a chunk of 0 for 32 sectors: write 32"
     if not store_places.is_chunk(chunk):
-        return WRONG_CHUNK
+        return "a kernel refuses this chunk: write that which `dmsetup table` has"
     return LONG_CHUNK if chunk > store_places.MOST_IN_CHUNK else None
 
 

@@ -12,8 +12,7 @@ from dmremap_tools.machines.disks import of_group
 
 
 class Stack(NamedTuple):
-    """The devices in their order, and the length of each disk in sectors; `group` is the file with the metadata that it was
-    loaded from."""
+    """The devices in their order, and the sectors of each disk; `group` is the file of the metadata that say them."""
 
     devices: List[tables.Device]
     sizes: Dict[str, int]
@@ -54,7 +53,6 @@ def load(asked: str, given: Given, room: str) -> Stack:
 
 
 def sizes_of(given: Given) -> Dict[str, int]:
-    """The sectors of the disks."""
     return dict(of_group(given.file)) if given.disks is None else disks.read(given.disks)
 
 

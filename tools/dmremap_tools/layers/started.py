@@ -17,26 +17,18 @@ from dmremap_tools.machines.placed import by_ids
 NEXT = "--paths says where disks are, and --fresh takes every snapshot as new"
 INVALID = ("it is invalid, as it was full once: what the origin overwrote since is lost, and nothing of the snapshot is read; --fresh "
            "takes what the origin has")
-
-
-class Started(NamedTuple):
-    """The words with which dmremap maps; the whole stack, and where its disks are."""
-
-    words: List[str]
-    loaded: stack.Stack
-    places: Dict[str, Place]
+# The words with which dmremap maps; the whole stack, and where its disks are.
+Started = NamedTuple("Started", [("words", List[str]), ("loaded", stack.Stack), ("places", Dict[str, Place])])
 
 
 def add_words(parser: argparse.ArgumentParser) -> None:
-    """Adds which dmremap is asked, and what is said of disks and stores."""
     program.add_words(parser)
     paths.add_words(parser)
     parser.add_argument("--fresh", action="store_true", help="take every snapshot as new, with nothing in its store")
 
 
 def start(words: argparse.Namespace, source: Given, devices: Optional[Iterable[str]], room: str) -> Started:
-    """Starts for these devices of a source, or for all. What dmremap reads goes into a folder. Snapshots whose stores can't be
-    read, or that are invalid, are refused."""
+    """Starts for these devices of a source, or for all. Refuses snapshots whose stores can't be read or are invalid."""
     asked, places = program.dmremap(words.program), paths.places(words.paths)
     loaded = stack.load(asked, source, room)
     paths.check_known(words.paths, places, loaded.sizes)
@@ -50,17 +42,16 @@ def start(words: argparse.Namespace, source: Given, devices: Optional[Iterable[s
     if snapshots:
         disks = part.below(it.lines[0].words[1] for it in snapshots)[1]
         stores = {disk: places.get(disk) or Place(disk) for disk in sorted(disks)}
+        here = {disk: place for disk, place in stores.items() if os.path.exists(place.path)}
         command += ["--paths", os.path.join(room, "PATHS")]
-        put(command[-1], rows_of(stores))
-        check(command, snapshots, [disk for disk, place in stores.items() if not os.path.exists(place.path)])
+        put(command[-1], rows_of(here))
+        check(command, snapshots, [disk for disk in stores if disk not in here])
     return Started(command, loaded, places)
 
 
 def rows_of(places: Dict[str, Place]) -> Iterator[str]:
-    """PATHS, with the disks that are here."""
+    """PATHS, with these disks."""
     for disk, place in places.items():
-        if not os.path.exists(place.path):
-            continue
         place.check_sectors(disk)
         descriptor = opened(place.path)
         if stat.S_ISBLK(os.fstat(descriptor).st_mode):
