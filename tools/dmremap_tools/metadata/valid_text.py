@@ -63,42 +63,29 @@ def _searched_areas(image: Image, why: List[str]) -> List[Area]:
 
 
 def valid_text(image: Image, areas: List[Area]) -> bytes:
-    """The text with the highest number, of those that are sound."""
+    """The text with the highest number, of those that are sound. Refuses texts of different groups, and different
+    texts with that number."""
     sound = [it for it in areas if it.text is not None]
     if not sound:
         why = "; ".join(f"{_places([it])}: {it.fault}" for it in areas)
         is_cut = any(it.fault == MISSING for it in areas)
         raise Refusal(image.path, f"{why}: " + ("take more of the disk" if is_cut else f"{OTHER}, or {OLDER}"))
-    _check_agreement(image, sound)
-    chosen = max(sound, key=_seqno)
+    beginnings = [beginning_of(it.text) for it in sound]
+    numbers = [it.seqno if it else -1 for it in beginnings]
+    newest = [area for area, number in zip(sound, numbers) if number == max(numbers)]
+    are_of_one = len(sound) == 1 or all(beginnings) and len({it.identity for it in beginnings}) == 1
+    if not are_of_one or len({without_time(it.text) for it in newest}) > 1:
+        for area in sound:
+            streams.tell(f"{image.path}: {_places([area])}: {summary(area.text)}")
+        why = "have different texts with one seqno" if are_of_one else "have texts of different groups"
+        raise Refusal(image.path, f"{_places(sound)} {why}: {OTHER}")
     for area in areas:
         if area.fault:
             streams.tell(f"{image.path}: passed over: {_places([area])}: {area.fault}")
-        elif _seqno(area) != _seqno(chosen):
-            for said, it in ("passed over", area), ("taken", chosen):
-                older = "its text is older: " if it is area else ""
-                streams.tell(f"{image.path}: {said}: {_places([it])}: {older}{summary(it.text or b'')}")
-    return chosen.text or b""
-
-
-def _check_agreement(image: Image, sound: List[Area]) -> None:
-    """Refuses texts of different groups, and different texts with the highest number."""
-    beginnings = [beginning_of(it.text or b"") for it in sound]
-    highest = max(map(_seqno, sound))
-    if len(sound) > 1 and (not all(beginnings) or len({it.identity for it in beginnings if it}) > 1):
-        why = "have texts of different groups"
-    elif len({without_time(it.text or b"") for it in sound if _seqno(it) == highest}) > 1:
-        why = "have different texts with one seqno"
-    else:
-        return
-    for area in sound:
-        streams.tell(f"{image.path}: {_places([area])}: {summary(area.text or b'')}")
-    raise Refusal(image.path, f"{_places(sound)} {why}: {OTHER}")
-
-
-def _seqno(area: Area) -> int:
-    beginning = beginning_of(area.text or b"")
-    return beginning.seqno if beginning else -1
+        elif area not in newest:
+            streams.tell(f"{image.path}: passed over: {_places([area])}: its text is older: {summary(area.text)}")
+            streams.tell(f"{image.path}: taken: {_places(newest[:1])}: {summary(newest[0].text)}")
+    return newest[0].text
 
 
 def _places(areas: List[Area]) -> str:
